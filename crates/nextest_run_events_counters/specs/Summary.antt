@@ -1,0 +1,48 @@
+-- What a record of counters comes to.
+use Rattle.std.specs.Prelude.{ℕ, ◌+◌, ◌-◌, ◌==◌, Bool, true, false, nat_lt, Option, None, Some, if◌then◌else◌}
+use Rattle.nextest_run_events_results.specs.declared.cancel_reason.CancelReason.{CancelReason}
+use Rattle.nextest_run_events_results.specs.declared.cancel_reason.CancelReason.TheVariants as why
+use Rattle.nextest_run_events_counters.specs.declared.run_stats.RunStats.{RunStats}
+use Rattle.nextest_run_events_counters.specs.declared.summary.FinalRunStats.{FinalRunStats}
+use Rattle.nextest_run_events_counters.specs.declared.summary.FinalRunStats.TheVariants as summed
+use Rattle.nextest_run_events_counters.specs.declared.summary.RunStatsFailureKind.{RunStatsFailureKind}
+use Rattle.nextest_run_events_counters.specs.declared.summary.RunStatsFailureKind.TheVariants as at
+
+-- how many scripts failed, in whichever way
+abbrev pub failed_setup_script_count : RunStats → ℕ
+failed_setup_script_count stats = stats.setup_scripts_failed + stats.setup_scripts_exec_failed + stats.setup_scripts_timed_out
+
+-- how many tests failed, in whichever way
+abbrev pub failed_count : RunStats → ℕ
+failed_count stats = stats.failed + stats.exec_failed + stats.failed_timed_out
+
+-- at the tests: how many were to run, and how many of them did not finish
+abbrev pub at_tests : RunStats → RunStatsFailureKind
+at_tests stats = at.Test stats.initial_run_count (stats.initial_run_count - stats.finished_count)
+
+-- a failure is one of the run's own where no reason stands, or one that the run's own failures give
+abbrev pub is_own : Option CancelReason → Bool
+is_own None = true
+is_own (Some why.SetupScriptFailure) = true
+is_own (Some why.TestFailure) = true
+is_own (Some why.TestFailureImmediate) = true
+is_own (Some why.ReportError) = false
+is_own (Some why.GlobalTimeout) = false
+is_own (Some why.Signal) = false
+is_own (Some why.Interrupt) = false
+is_own (Some why.SecondSignal) = false
+
+-- a failure at a place, under the reason that stands
+abbrev pub failure_at : RunStats → RunStatsFailureKind → FinalRunStats
+failure_at stats kind = if is_own stats.cancel_reason then summed.Failed kind else summed.Cancelled stats.cancel_reason kind
+
+-- the first case that holds: a failing script, an unfinished script, a failing test, an unfinished test, nothing
+-- finished, success
+abbrev pub summary_of : RunStats → FinalRunStats
+summary_of stats =
+    if nat_lt 0 (failed_setup_script_count stats) then failure_at stats at.SetupScript
+    else if nat_lt stats.setup_scripts_finished_count stats.setup_scripts_initial_count then summed.Cancelled stats.cancel_reason at.SetupScript
+    else if nat_lt 0 (failed_count stats) then failure_at stats (at_tests stats)
+    else if nat_lt stats.finished_count stats.initial_run_count then summed.Cancelled stats.cancel_reason (at_tests stats)
+    else if stats.finished_count == 0 then summed.NoTestsRun
+    else summed.Success

@@ -1,0 +1,13 @@
+//! The counters of a run and their summary.
+//!
+//! The types stand here with the rows that say what each finished script and test counts as, and with the summary
+//! of a record of counters. What adds to the counters as a run goes on is built on these.
+#![tactic(auto)]
+
+mod run_stats;
+mod summary;
+#[cfg(test)]
+mod tests;
+
+pub use run_stats::RunStats;
+pub use summary::{FinalRunStats, RunStatsFailureKind};

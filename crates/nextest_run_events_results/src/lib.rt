@@ -1,0 +1,10 @@
+//! How an attempt ended, and why a run was cancelled: the plain results that events, counters and logs share.
+#![tactic(auto)]
+
+mod cancel_reason;
+mod result;
+#[cfg(test)]
+mod tests;
+
+pub use cancel_reason::CancelReason;
+pub use result::{AbortDescription, ExecutionResultDescription, FailureDescription};
