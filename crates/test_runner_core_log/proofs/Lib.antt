@@ -1,0 +1,4 @@
+pub mod Fields
+pub mod Spellings
+pub mod Lines
+pub mod Refusals

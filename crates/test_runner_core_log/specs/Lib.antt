@@ -1,0 +1,5 @@
+pub mod Spelling
+pub mod Fields
+pub mod Lent
+pub mod Reading
+pub mod Laws

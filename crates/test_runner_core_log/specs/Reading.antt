@@ -1,0 +1,20 @@
+-- What reading a line gives.
+use Rattle.std.specs.Prelude.{◌≡◌, ◌≢◌, ℕ, List, [], Option, Some, None, Result, Ok, Err, ⊤}
+use Rattle.std.specs.Str.{IsUtf8}
+use Rattle.test_runner_core_log.specs.Spelling.{Spells}
+use Rattle.test_runner_core_log.specs.declared.log_line.LogLine.{LogLine}
+use Rattle.test_runner_core_log.specs.declared.parse_line_error.ParseLineError.{ParseLineError}
+use Rattle.test_runner_core_log.specs.declared.parse_line_error.ParseLineError.TheVariants as fault
+
+-- an empty line is no event, any other is the event that it spells. A line that isn't UTF-8 is refused as that, and
+-- else as bad where it isn't empty and spells no event. Want of memory says nothing
+abbrev pub ReadsLine : List ℕ → Result (Option LogLine) ParseLineError → Type 0
+ReadsLine bytes (Ok None) = bytes ≡ []
+ReadsLine bytes (Ok (Some line)) = Spells line bytes
+ReadsLine bytes (Err fault.NotUtf8) = IsUtf8 bytes → ⊥
+ReadsLine bytes (Err fault.BadLine) = IsUtf8 bytes × (bytes ≢ []) × ((line : LogLine) → Spells line bytes → ⊥)
+ReadsLine bytes (Err fault.OutOfMemory) = ⊤
+
+-- the line spells some event
+abbrev pub SpellsEvent : List ℕ → Type 0
+SpellsEvent bytes = (line : LogLine) × Spells line bytes

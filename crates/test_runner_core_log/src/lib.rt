@@ -1,0 +1,14 @@
+//! The lines of a log: what each says, and how it is spelled.
+#![tactic(auto)]
+
+pub mod laws;
+mod lent;
+mod log_line;
+mod parse_line_error;
+mod reading;
+#[cfg(test)]
+mod tests;
+mod writing;
+
+pub use log_line::LogLine;
+pub use parse_line_error::ParseLineError;

@@ -1,0 +1,137 @@
+// Reading an event from its line, field by field, with no memory.
+ghost use Rattle.std.specs.Prelude.{◌≡◌, [], ◌∷◌, List, ℕ, codes, MatchOption};
+ghost use Rattle.test_runner_core_log.specs.Spelling.{SpellsResult, SpellsSlow, SpellsNanos, SpellsStream, SpellsRecord, SpellsFields, Spells};
+ghost use Rattle.test_runner_core_log.specs.Fields.{fields_of, Reads};
+ghost use Rattle.test_runner_core_log.specs.Lent.{result_meant, stream_meant, record_meant, line_meant};
+
+use super::lent::{LentLine, LentRecord, LentResult, LentStream};
+use nextest_text::{i32_of_decimal, u64_of_decimal};
+
+// The first field, and what follows its tab.
+fn next_field(rest: &str) -> Option<(&str, &str)>
+    ensures { MatchOption result
+        (fields_of rest.now ≡ rest.now ∷ [])
+        (λ parts. fields_of rest.now ≡ parts.0.now ∷ fields_of parts.1.now) }
+{
+    rest.split_once('\t')
+}
+
+// The field that is the last, if no tab follows it.
+fn last_field(rest: &str) -> Option<&str>
+    ensures { MatchOption result
+        ((first second : List ℕ) × (more : List (List ℕ)) × (fields_of rest.now ≡ first ∷ second ∷ more))
+        (λ field. fields_of rest.now ≡ field.now ∷ []) }
+{
+    match next_field(rest) {
+        None => Some(rest),
+        Some(_) => None,
+    }
+}
+
+fn result_of(field: &str) -> Option<LentResult>
+    ensures { Reads result_meant (λ told. SpellsResult told field.now) result }
+{
+    if field == "pass" {
+        return Some(LentResult::Pass);
+    }
+    let code = i32_of_decimal(field.strip_prefix("fail:")?)?;
+    if code == 0 {
+        return None;
+    }
+    Some(LentResult::ExitCode(code))
+}
+
+fn slow_of(field: &str) -> Option<bool>
+    ensures { Reads (λ slow. slow) (λ told. SpellsSlow told field.now) result }
+{
+    match field {
+        "slow" => Some(true),
+        "-" => Some(false),
+        _ => None,
+    }
+}
+
+fn nanos_of(field: &str) -> Option<u64>
+    ensures { Reads (λ nanos. nanos) (λ told. SpellsNanos told field.now) result }
+{
+    u64_of_decimal(field)
+}
+
+fn stream_of(field: &str) -> Option<LentStream>
+    ensures { Reads stream_meant (λ told. SpellsStream told field.now) result }
+{
+    match field {
+        "-" => Some(LentStream::NotCaptured),
+        _ => None,
+    }
+}
+
+// The record that ends a line.
+fn record_of(rest: &str) -> Option<LentRecord>
+    ensures { Reads record_meant (λ told. SpellsRecord told (fields_of rest.now)) result }
+{
+    let (result_field, after_result) = next_field(rest)?;
+    let (slow_field, after_slow) = next_field(after_result)?;
+    let (nanos_field, after_nanos) = next_field(after_slow)?;
+    let (out_field, after_out) = next_field(after_nanos)?;
+    let err_field = last_field(after_out)?;
+    Some(LentRecord {
+        result: result_of(result_field)?,
+        slow: slow_of(slow_field)?,
+        nanos: nanos_of(nanos_field)?,
+        out: stream_of(out_field)?,
+        err: stream_of(err_field)?,
+    })
+}
+
+fn script_of(rest: &str) -> Option<LentLine<'_>>
+    ensures { Reads line_meant (λ told. SpellsFields told (codes "script" ∷ fields_of rest.now)) result }
+{
+    let (id, after_id) = next_field(rest)?;
+    let record = record_of(after_id)?;
+    Some(LentLine::Script { id, record })
+}
+
+fn start_of(rest: &str) -> Option<LentLine<'_>>
+    ensures { Reads line_meant (λ told. SpellsFields told (codes "start" ∷ fields_of rest.now)) result }
+{
+    let (binary, after_binary) = next_field(rest)?;
+    let name = last_field(after_binary)?;
+    Some(LentLine::Start { binary, name })
+}
+
+fn end_of(rest: &str) -> Option<LentLine<'_>>
+    ensures { Reads line_meant (λ told. SpellsFields told (codes "end" ∷ fields_of rest.now)) result }
+{
+    let (binary, after_binary) = next_field(rest)?;
+    let (name, after_name) = next_field(after_binary)?;
+    let record = record_of(after_name)?;
+    Some(LentLine::End {
+        binary,
+        name,
+        record,
+    })
+}
+
+// What the fields of a line say.
+fn fields_say(line: &str) -> Option<LentLine<'_>>
+    ensures { Reads line_meant (λ told. SpellsFields told (fields_of line.now)) result }
+{
+    let (word, rest) = next_field(line)?;
+    match word {
+        "script" => script_of(rest),
+        "start" => start_of(rest),
+        "end" => end_of(rest),
+        _ => None,
+    }
+}
+
+/// The event that a line spells, its line feed left aside; `None` where it spells none.
+pub fn lent_line_of(line: &str) -> Option<LentLine<'_>>
+    ensures { Reads line_meant (λ told. Spells told line.now) result }
+{
+    if line.contains('\n') {
+        return None;
+    }
+    fields_say(line)
+}

@@ -1,0 +1,1 @@
+// The rules of the spelling, at values from the rules.

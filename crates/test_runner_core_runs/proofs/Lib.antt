@@ -1,0 +1,6 @@
+pub mod Counting
+pub mod Fates
+pub mod Tests
+pub mod Scripts
+pub mod Tracking
+pub mod DueStatus

@@ -1,0 +1,8 @@
+// What holds of all runs. Each law is the contract of a function without parameters.
+ghost use Rattle.test_runner_core_runs.specs.Laws.{EndsWithDueStatus};
+
+/// Any complete run that agrees with an assignment and holds no stop event ends with that assignment's due status,
+/// for every plan and limit and in every order, scripts included.
+pub fn due_status()
+    ensures { EndsWithDueStatus }
+{}

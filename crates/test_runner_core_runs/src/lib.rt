@@ -1,0 +1,15 @@
+//! What a run is: the definitions that a session, a report and their laws speak of.
+//!
+//! `specs/` has the plan as a run sees it, the assignment with a test's fate and the due status, the state of a run
+//! with its counters, the step that each event takes, and what whole runs are. All of them speak of places in the
+//! plan, counted from 0; ids and names come in above. `laws` has what is proved of them.
+#![tactic(auto)]
+
+mod event;
+pub mod laws;
+mod mark;
+mod step_refusal;
+
+pub use event::Event;
+pub use mark::Mark;
+pub use step_refusal::StepRefusal;
