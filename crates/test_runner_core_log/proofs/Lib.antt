@@ -2,3 +2,4 @@ pub mod Fields
 pub mod Spellings
 pub mod Lines
 pub mod Refusals
+pub mod Writable

@@ -60,11 +60,11 @@ one_spelling told x y of_x of_y = of_x.whole ∙ ap joined (line_has_one told of
 pub nothing_empty : (event : LogLine) (bytes : List ℕ) → bytes ≡ [] → Spells event bytes → ⊥
 nothing_empty event bytes empty spells = one_field event [] (subst (λ (x : List ℕ). SpellsFields event (fields_of x)) empty (fields_spell event bytes spells))
   where
-  one_field : (event : LogLine) (field : List ℕ) → SpellsFields event (field ∷ []) → ⊥
-  one_field (line.Script id told) field spelled = spelled
-  one_field (line.Start binary name) field spelled = spelled
-  one_field (line.End binary name told) field spelled = spelled
-  one_field (line.Stop reason) field spelled = spelled
+    one_field : (event : LogLine) (field : List ℕ) → SpellsFields event (field ∷ []) → ⊥
+    one_field (line.Script id told) field spelled = spelled
+    one_field (line.Start binary name) field spelled = spelled
+    one_field (line.End binary name told) field spelled = spelled
+    one_field (line.Stop reason) field spelled = spelled
 
 abbrev Outcome : Type 0
 Outcome = Result (Option LogLine) ParseLineError

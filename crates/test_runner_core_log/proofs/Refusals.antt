@@ -1,8 +1,9 @@
 -- Why what is refused spells nothing.
-use Rattle.std.proofs.Common.{◌≡◌, ◌≢◌, ℕ, ◌<◌, ◌≤◌, Bool, true, false, List, [], ◌∷◌, ◌++◌, length, get_or, Option, Some, None, MatchBool, refl, sym, ap, subst, ◌∙◌, lit<}
+use Rattle.std.proofs.Common.{◌≡◌, ◌≢◌, ℕ, ◌<◌, ◌≤◌, Bool, true, false, List, [], ◌∷◌, ◌++◌, length, get_or, Option, Some, None, MatchBool, refl, sym, ap, ◌∙◌}
 use Rattle.std.specs.Prelude.{ℤ, pos, FitsSigned, codes}
 use Rattle.std.specs.Fmt.{signed_decimal}
 use Rattle.std.specs.Int.{w32}
+use Rattle.std.specs.List.{AllByRecursion}
 use Rattle.std.specs.Str.Pattern.{FindsChar}
 use Rattle.std.proofs.Math.Facts.{to_z-of_z}
 use mir.Val.{to_z, of_z}
@@ -18,13 +19,12 @@ use Rattle.test_runner_core_records.specs.declared.record.Record.{Record}
 use Rattle.test_runner_core_log.specs.declared.log_line.LogLine.{LogLine}
 use Rattle.test_runner_core_log.specs.declared.log_line.LogLine.TheVariants as line
 use Rattle.test_runner_core_log.specs.Spelling.{SpellsResult, SpellsRecord, SpellsFields}
-use Rattle.test_runner_core_log.proofs.Fields.{HasNoLineFeed}
 use Rattle.test_runner_core_log.proofs.Spellings.{mag_fits, script_fields, start_fields, end_fields}
 
 -- ---- a code of 0
 
 -- the code 0 is no other code
-zero_is : (code : ℤ) → FitsSigned w32 code → of_z w32 code ≡ 0 → code ≡ pos 0
+pub zero_is : (code : ℤ) → FitsSigned w32 code → of_z w32 code ≡ 0 → code ≡ pos 0
 zero_is code fits zero = sym (to_z-of_z fits) ∙ ap (to_z w32) zero
 
 pub zero_code : (field rest : List ℕ) (code : ℤ) → field ≡ codes "fail:" ++ rest → rest ≡ signed_decimal code → FitsSigned w32 code → of_z w32 code ≡ 0
@@ -38,6 +38,10 @@ zero_code field rest code front back fits zero (ended.Fail (failed_by.Abort abor
 zero_code field rest code front back fits zero (ended.Leak judged) spelled = spelled
 zero_code field rest code front back fits zero ended.ExecFail spelled = spelled
 zero_code field rest code front back fits zero (ended.Timeout judged) spelled = spelled
+
+-- bits that aren't 0 are no code 0
+pub other_code : (code : ℤ) → of_z w32 code ≢ 0 → code ≢ pos 0
+other_code code bits zero = bits (ap (of_z w32) zero)
 
 -- ---- an event without its record, or without its word
 
@@ -62,18 +66,18 @@ unknown_word word fields not_script not_start not_end (line.Start binary name) s
 unknown_word word fields not_script not_start not_end (line.End binary name told) spelled = let are = (end_fields binary name told (word ∷ fields) spelled).are in not_end cc
 unknown_word word fields not_script not_start not_end (line.Stop reason) spelled = spelled
 
--- ---- a line feed
+-- ---- a byte that must not stand in a text
 
--- what `contains` says of a line feed
-abbrev SaysOfFeed : List ℕ → Bool → Type 0
-SaysOfFeed bytes has = MatchBool has ((i : ℕ) × (j : ℕ) × FindsChar 10 bytes (Some (i, j)) × (i ≤ j) × (j ≤ length bytes)) (FindsChar 10 bytes None)
+-- what `contains` says of an ASCII character
+abbrev SaysOfByte : ℕ → List ℕ → Bool → Type 0
+SaysOfByte ascii bytes has = MatchBool has ((i : ℕ) × (j : ℕ) × FindsChar ascii bytes (Some (i, j)) × (i ≤ j) × (j ≤ length bytes)) (FindsChar ascii bytes None)
 
-pub feed_found : (bytes : List ℕ) (has : Bool) → SaysOfFeed bytes has → has ≡ true → HasNoLineFeed bytes → ⊥
-feed_found bytes has says found none =
-    let place = (contains_char 10 bytes has says (lit< tt)).0 found in
-    All-get_or (λ byte. byte ≢ 10) bytes place.0 0 place.1 (All-from_recursion (λ byte. byte ≢ 10) bytes none) place.2
+pub byte_found : (ascii : ℕ) (bytes : List ℕ) (has : Bool) → ascii < 128 → SaysOfByte ascii bytes has → has ≡ true → AllByRecursion (λ byte. byte ≢ ascii) bytes → ⊥
+byte_found ascii bytes has low says found none =
+    let place = (contains_char ascii bytes has says low).0 found in
+    All-get_or (λ byte. byte ≢ ascii) bytes place.0 0 place.1 (All-from_recursion (λ byte. byte ≢ ascii) bytes none) place.2
 
-pub feed_none : (bytes : List ℕ) (has : Bool) → SaysOfFeed bytes has → has ≡ false → HasNoLineFeed bytes
-feed_none bytes has says none =
-    recursion_from_All (λ byte. byte ≢ 10) bytes (All-from_get_or (λ byte. byte ≢ 10) bytes 0 (λ i lt ten.
-      both_ways has none ((contains_char 10 bytes has says (lit< tt)).1 i lt ten)))
+pub byte_none : (ascii : ℕ) (bytes : List ℕ) (has : Bool) → ascii < 128 → SaysOfByte ascii bytes has → has ≡ false → AllByRecursion (λ byte. byte ≢ ascii) bytes
+byte_none ascii bytes has low says none =
+    recursion_from_All (λ byte. byte ≢ ascii) bytes (All-from_get_or (λ byte. byte ≢ ascii) bytes 0 (λ i lt same.
+    both_ways has none ((contains_char ascii bytes has says low).1 i lt same)))

@@ -44,9 +44,9 @@ result_is_one a b field of_a of_b =
     elim (result_cases a field of_a) [
       | inl x ↦ elim (result_cases b field of_b) [ inl y ↦ x.0 ∙ sym y.0 | inr y ↦ absurd (cc (x.1, y.1.2)) ]
       | inr x ↦ elim (result_cases b field of_b) [
-          | inl y ↦ absurd (cc (x.1.2, y.1))
-          | inr y ↦ x.1.0 ∙ ap (λ (code : ℤ). ended.Fail (failed_by.ExitCode code) false) (code_is_one x.0 y.0 field x.1.1 y.1.1 x.1.2 y.1.2) ∙ sym y.1.0
-        ]
+        | inl y ↦ absurd (cc (x.1.2, y.1))
+        | inr y ↦ x.1.0 ∙ ap (λ (code : ℤ). ended.Fail (failed_by.ExitCode code) false) (code_is_one x.0 y.0 field x.1.1 y.1.1 x.1.2 y.1.2) ∙ sym y.1.0
+      ]
     ]
 
 result_has_one : (told : ExecutionResultDescription) (x y : List ℕ) → SpellsResult told x → SpellsResult told y → x ≡ y
@@ -133,10 +133,10 @@ record_is_one a b fields of_a of_b =
     let x = five_fields a fields of_a in
     let spelled : SpellsRecord b (x.result ∷ x.slow ∷ x.nanos ∷ x.out ∷ x.err ∷ []) = subst (λ (f : List (List ℕ)). SpellsRecord b f) x.are of_b in
     record_same a b
-      (result_is_one a.result b.result x.result x.spells_result spelled.0)
-      (slow_is_one a.slow b.slow x.slow x.spells_slow spelled.1)
-      (nanos_is_one a.nanos b.nanos x.nanos x.spells_nanos spelled.2)
-      (output_is_one a.output b.output x.out x.err x.spells_output spelled.3)
+    (result_is_one a.result b.result x.result x.spells_result spelled.0)
+    (slow_is_one a.slow b.slow x.slow x.spells_slow spelled.1)
+    (nanos_is_one a.nanos b.nanos x.nanos x.spells_nanos spelled.2)
+    (output_is_one a.output b.output x.out x.err x.spells_output spelled.3)
 
 record_has_one : (told : Record) (first second : List (List ℕ)) → SpellsRecord told first → SpellsRecord told second → first ≡ second
 record_has_one told first second of_first of_second =

@@ -2,4 +2,5 @@ pub mod Spelling
 pub mod Fields
 pub mod Lent
 pub mod Reading
+pub mod Writing
 pub mod Laws

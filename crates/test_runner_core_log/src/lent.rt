@@ -37,9 +37,19 @@ pub struct LentRecord {
 /// What a line says, its texts lent.
 #[derive(Clone, Copy)]
 pub enum LentLine<'a> {
-    Script { id: &'a str, record: LentRecord },
-    Start { binary: &'a str, name: &'a str },
-    End { binary: &'a str, name: &'a str, record: LentRecord },
+    Script {
+        id: &'a str,
+        record: LentRecord,
+    },
+    Start {
+        binary: &'a str,
+        name: &'a str,
+    },
+    End {
+        binary: &'a str,
+        name: &'a str,
+        record: LentRecord,
+    },
 }
 
 impl LentResult {

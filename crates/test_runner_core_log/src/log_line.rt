@@ -5,6 +5,7 @@ ghost use Rattle.test_runner_core_log.specs.Reading.{ReadsLine, SpellsEvent};
 
 use super::parse_line_error::ParseLineError;
 use super::reading::lent_line_of;
+use super::writing::{are_fields, is_field, push_field, push_record, record_is_spellable};
 use nextest_run_events_results::CancelReason;
 use nextest_text::Text;
 use std::alloc::{AllocError, Global};
@@ -65,5 +66,54 @@ impl LogLine {
             return Err(ParseLineError::BadLine);
         };
         Ok(Some(lent.own(alloc)?))
+    }
+
+    /// Whether some line spells the event, which is what `print` requires.
+    pub fn has_spelling(&self) -> bool
+        ensures { IsTrue result ↔ HasSpelling self.now }
+    {
+        match self {
+            LogLine::Script { id, record } => is_field(id.as_str()) && record_is_spellable(record),
+            LogLine::Start { binary, name } => are_fields(binary.as_str(), name.as_str()),
+            LogLine::End {
+                binary,
+                name,
+                record,
+            } => are_fields(binary.as_str(), name.as_str()) && record_is_spellable(record),
+            LogLine::Stop { .. } => false,
+        }
+    }
+
+    /// The line that spells the event, with no line feed at its end. Only want of memory refuses it.
+    pub fn print(&self, alloc: Global) -> Result<String, AllocError>
+        requires { HasSpelling self.now }
+        ensures { IfOk result (λ text. Spells self.now (string_bytes text)) }
+    {
+        match self {
+            LogLine::Script { id, record } => {
+                let mut line = String::from_str(alloc, "script")?;
+                push_field(&mut line, id.as_str())?;
+                push_record(&mut line, record)?;
+                Ok(line)
+            }
+            LogLine::Start { binary, name } => {
+                let mut line = String::from_str(alloc, "start")?;
+                push_field(&mut line, binary.as_str())?;
+                push_field(&mut line, name.as_str())?;
+                Ok(line)
+            }
+            LogLine::End {
+                binary,
+                name,
+                record,
+            } => {
+                let mut line = String::from_str(alloc, "end")?;
+                push_field(&mut line, binary.as_str())?;
+                push_field(&mut line, name.as_str())?;
+                push_record(&mut line, record)?;
+                Ok(line)
+            }
+            LogLine::Stop { .. } => unreachable!(),
+        }
     }
 }

@@ -1,5 +1,5 @@
 -- What a call of a reader or a writer did: whether it failed, and what it moved.
-use Rattle.std.specs.Prelude.{◌≡◌, ℕ, zero, suc, ◌+◌, ◌-◌, ◌==◌, ◌&&◌, Bool, true, false, List, length, Option, None, Some, Result, Ok, Err, is_err, nat_lt, nat_le, min, MatchResult, if◌then◌else◌}
+use Rattle.std.specs.Prelude.{◌≡◌, ℕ, zero, suc, ◌+◌, ◌-◌, ◌<◌, ◌≤◌, ◌==◌, ◌&&◌, Bool, true, List, length, Option, None, Some, Result, Ok, Err, is_err, nat_lt, nat_le, min, MatchResult, if◌then◌else◌}
 use Rattle.std.specs.IoError.{error_kind}
 use Rattle.std.specs.declared.io.Error.{Error as IoError}
 use Rattle.std.specs.declared.io.ErrorKind.{ErrorKind}
@@ -58,6 +58,12 @@ pub record MemoryWritten : Type 0 where
   pub fails_after : Option (ℕ × WriteFailure)
   pub failures : ℕ
   pub last_failed : Bool
+
+-- a writer into memory moves some bytes a call, took no more than it has room for, and has memory for all its room
+pub record HasItsRoom (piece taken room capacity : ℕ) : Type 0 where
+  pub some_piece : 0 < piece
+  pub within : taken ≤ room
+  pub has_memory : room ≤ capacity
 
 -- how many calls come before the one that fails, and how that fails, after one more call
 abbrev pub counted_down_to : Option (ℕ × WriteFailure) → Option (ℕ × WriteFailure)

@@ -1,5 +1,5 @@
 // A writer into memory.
-ghost use Rattle.std.specs.Prelude.{◌≡◌, ℕ, ◌+◌, ◌-◌, ◌^◌, ◌<◌, ◌≤◌, ◌++◌, [], false, Some, None, IsOk, IfOk, OnOk, OnErr, length, max, vec_capacity};
+ghost use Rattle.std.specs.Prelude.{◌≡◌, ◌-◌, ◌^◌, ◌<◌, ◌≤◌, ◌++◌, [], false, Some, IsOk, IfOk, OnOk, OnErr, length, max, vec_capacity};
 ghost use Rattle.std.specs.Io.{WritesAtMost};
 ghost use Rattle.std.specs.Io.KnownBytes.{WriteAppends};
 ghost use Rattle.test_runner_core_streams.specs.Streams.{write_fails, counted, counted_down_to, chosen_failure, memory_answer, piece_answer, Answers};
@@ -32,14 +32,14 @@ pub struct MemoryWriter {
 }
 
 impl Model for MemoryWriter {
-    ghost use Rattle.std.specs.Prelude.{◌<◌, ◌≤◌, length, vec_capacity};
-    ghost use Rattle.test_runner_core_streams.specs.Streams.{MemoryWritten};
+    ghost use Rattle.std.specs.Prelude.{length, vec_capacity};
+    ghost use Rattle.test_runner_core_streams.specs.Streams.{HasItsRoom, MemoryWritten};
 
     ghost Value = { MemoryWritten };
 
     ghost view = { λ w. record { written = w.written.items; room = w.room; piece = w.piece; fails_after = w.fails_after; failures = w.failures; last_failed = w.last_failed } };
 
-    ghost invariant = { λ w. (0 < w.piece) × (length w.written.items ≤ w.room) × (w.room ≤ vec_capacity w.written) };
+    ghost invariant = { λ w. HasItsRoom w.piece (length w.written.items) w.room (vec_capacity w.written) };
 }
 
 impl MemoryWriter {
@@ -61,7 +61,7 @@ impl MemoryWriter {
     }
 
     /// The same writer, where the call after `calls` more calls fails in the way `how`, at 0 the next one. The
-    /// others fail only where the room is full.
+    /// others fail only where what they would take doesn't fit into the room that is left.
     pub fn failing_after(self, calls: u64, how: WriteFailure) -> Self
         ensures { result ≡ record self { fails_after = Some (calls, how) } }
     {

@@ -1,8 +1,5 @@
 // The two streams over std's `Read` and `Write`.
-ghost use Rattle.std.specs.Prelude.{◌≡◌, ◌+◌, ◌^◌, ◌<◌, ◌≤◌, Bool, true, false, is_err};
-ghost use Rattle.std.specs.Io.{ReadsAtMost, WritesAtMost};
-ghost use Rattle.std.specs.Io.KnownBytes.{ReadConsumes, WriteAppends};
-ghost use Rattle.test_runner_core_streams.specs.Streams.{read_fails, write_fails, counted};
+ghost use Rattle.std.specs.Prelude.{◌≡◌, false};
 
 use super::traits::{LogReader, ReportWriter, write_failed};
 use std::io;

@@ -1,6 +1,6 @@
 // What no clause says: that the calls succeed, what a stream over std tells of one that fails in mid-stream, and
 // that no byte is lost or moved twice where a call fails.
-ghost use Rattle.std.specs.Prelude.{◌≡◌, ◌^◌, ◌<◌};
+ghost use Rattle.std.specs.Prelude.{◌^◌, ◌<◌};
 
 use super::{
     LogReader, MemoryReader, MemoryWriter, ReportWriter, StdReader, StdWriter, WriteFailure,

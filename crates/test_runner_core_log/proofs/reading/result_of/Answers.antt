@@ -9,4 +9,4 @@ returns-then-code-eq0 c =
     let stripped = c.in_ok-strip_prefix.ensures.cases in
     let fits : FitsSigned w32 c.in_ok-code.code = search rules in
     zero_code c.args.field.now c.in_ok-strip_prefix.field-0.now c.in_ok-code.code
-      (stripped.1.1 ∙ ap (λ (rest : List ℕ). codes "fail:" ++ rest) (sym stripped.2)) c.in_ok-code.ensures.found fits c.if-code-eq0.true
+    (stripped.1.1 ∙ ap (λ (rest : List ℕ). codes "fail:" ++ rest) (sym stripped.2)) c.in_ok-code.ensures.found fits c.if-code-eq0.true

@@ -1,0 +1,12 @@
+-- Line feeds in bytes.
+use Rattle.std.specs.Prelude.{◌≡◌, ◌≢◌, ℕ, ◌+◌, ◌<◌, List, ◌∷◌, ◌++◌, Option, None, Some, length, take, drop}
+use Rattle.std.specs.List.{AllByRecursion}
+
+-- no line feed stands in the bytes
+abbrev pub IsPlain : List ℕ → Type 0
+IsPlain = AllByRecursion (λ byte. byte ≢ 10)
+
+-- the first line feed stands at a place, or nowhere
+abbrev pub IsFirstFeed : List ℕ → Option ℕ → Type 0
+IsFirstFeed bytes None = IsPlain bytes
+IsFirstFeed bytes (Some at) = (at < length bytes) × IsPlain (take at bytes) × (drop at bytes ≡ 10 ∷ drop (at + 1) bytes)

@@ -1,0 +1,5 @@
+pub mod Items
+pub mod Feeds
+pub mod Cursor
+pub mod Calls
+pub mod Inside

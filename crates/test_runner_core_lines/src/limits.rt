@@ -1,0 +1,7 @@
+// How long a line and a log may be.
+
+/// How many bytes a line has at most, its line feed left aside.
+pub const LINE_LIMIT: usize = 1_048_576;
+
+/// How many bytes a log has at most, its line feeds among them.
+pub const LOG_LIMIT: usize = 1_073_741_824;

@@ -1,0 +1,168 @@
+// The lines of a log, one at a time.
+ghost use Rattle.std.specs.Prelude.{◌≡◌, ℕ, ◌+◌, ◌-◌, ◌^◌, ◌<◌, ◌≤◌, [], false, IfOk, OnErr, length};
+ghost use Rattle.std.specs.Io.KnownBytes.{IsAtEnd};
+ghost use Rattle.test_runner_core_lines.specs.Items.{line_fault};
+ghost use Rattle.test_runner_core_lines.specs.Cursor.{Unmoved, received};
+ghost use Rattle.test_runner_core_lines.specs.Feeds.{IsFirstFeed};
+ghost use Rattle.test_runner_core_lines.specs.Calls.{Hands, Scanned, TellsFailure, idle_reads, KeepsAhead, WaitsMore, end_of, scan_of as scan_told};
+
+use super::buffer::{read_behind, with_room};
+use super::fault::{LineFault, LogFault, fault_of};
+use super::limits::LOG_LIMIT;
+use super::next::{Next, Scan};
+use memchr::memchr;
+use std::alloc::Global;
+use std::marker::Model;
+use test_runner_core_streams::LogReader;
+
+/// Cuts the bytes of a reader into lines. The reader is passed to each call; it has to be the same one.
+#[derive(Drop)]
+pub struct LogLines {
+    buffer: Vec<u8>,
+    line_start: usize,
+    line_end: usize,
+    start: usize,
+    scanned: usize,
+    end: usize,
+    handed: usize,
+}
+
+impl Model for LogLines {
+    ghost use Rattle.test_runner_core_lines.specs.Items.{line_fault};
+    ghost use Rattle.test_runner_core_lines.specs.Cursor.{Cursor};
+
+    ghost Value = { Cursor };
+
+    ghost use Rattle.test_runner_core_lines.specs.Inside.{cursor_of, IsInOrder};
+
+    ghost view = { cursor_of };
+
+    ghost invariant = { IsInOrder };
+}
+
+impl LogLines {
+    /// At the beginning of a log. Takes no memory; the first call of `next` does.
+    pub fn new(alloc: Global) -> Self
+        ensures { result ≡ record { line = []; waiting = []; handed = 0 } }
+    {
+        LogLines {
+            buffer: Vec::new(alloc),
+            line_start: 0,
+            line_end: 0,
+            start: 0,
+            scanned: 0,
+            end: 0,
+            handed: 0,
+        }
+    }
+
+    /// The line that the last call of `next` found, without its line feed; no bytes where it found none.
+    pub fn line(&self) -> &[u8]
+        ensures { result.now ≡ self.now.line }
+    {
+        &self.buffer[self.line_start..self.line_end]
+    }
+
+    /// Finds the next line, and reads as far as that needs. `Line` hands it out, and `line` lends it until the next
+    /// call. A refusal or the end stays ahead, and so does all else where the reader fails or there is no memory for
+    /// the line; the reader is never asked past the first byte that is over the log's limit.
+    pub fn next<R: LogReader>(&mut self, reader: &mut R) -> Result<Next, LogFault>
+        requires calls_fit { R.calls reader.old + 2 ^ 31 ≤ 2 ^ 63 }
+        requires failures_fit { R.failures reader.old < 2 ^ 63 }
+        ensures items { Hands self.old (R.left reader.old) self.new (R.left reader.new) result }
+        ensures reads { R.calls reader.new + received self.old ≤ R.calls reader.old + received self.new + idle_reads result }
+        ensures limit { received self.new + idle_reads result ≤ LOG_LIMIT + 1 }
+        ensures failures { TellsFailure result (R.failures reader.old) (R.failures reader.new) (R.last_failed reader.new) }
+    {
+        loop {
+            match self.scan() {
+                Scan::Line => return Ok(Next::Line),
+                Scan::Refused(fault) => return Ok(Next::Refused(fault)),
+                Scan::Waits => {}
+            }
+            let count = self.fill(reader)?;
+            if count == 0 {
+                return Ok(self.at_end());
+            }
+        }
+    }
+
+    // Looks for a line in the bytes that wait, from where the last look ended. It forgets the line before.
+    fn scan(&mut self) -> Scan
+        ensures { Scanned result self.old self.new }
+    {
+        self.line_start = 0;
+        self.line_end = 0;
+        let Some(at) = first_feed(&self.buffer[self.scanned..self.end]) else {
+            self.scanned = self.end;
+            return scan_of(fault_of(self.handed, self.end - self.start, false));
+        };
+        let line_end = self.scanned + at;
+        let length = line_end - self.start;
+        if let Some(fault) = fault_of(self.handed, length, true) {
+            return Scan::Refused(fault);
+        }
+        self.line_start = self.start;
+        self.line_end = line_end;
+        self.start = line_end + 1;
+        self.scanned = line_end + 1;
+        self.handed += length + 1;
+        Scan::Line
+    }
+
+    // One read behind the bytes that wait. Takes memory where the buffer is full.
+    fn fill<R: LogReader>(&mut self, reader: &mut R) -> Result<usize, LogFault>
+        requires more { received self.old ≤ LOG_LIMIT }
+        requires calls_fit { R.calls reader.old < 2 ^ 63 }
+        requires failures_fit { R.failures reader.old < 2 ^ 63 }
+        ensures ahead { KeepsAhead self.old (R.left reader.old) self.new (R.left reader.new) }
+        ensures handed { self.new.handed ≡ self.old.handed }
+        ensures ok { IfOk result (WaitsMore self.old self.new) }
+        ensures err { OnErr result (WaitsMore self.old self.new 0) }
+        ensures limit { received self.new ≤ LOG_LIMIT + 1 }
+        ensures end { IfOk result (λ count. count ≡ 0 → IsAtEnd (R.left reader.new)) }
+        ensures called { R.calls reader.new ≤ R.calls reader.old + 1 }
+        ensures failures { TellsFailure result (R.failures reader.old) (R.failures reader.new) (R.last_failed reader.new) }
+    {
+        self.line_start = 0;
+        self.line_end = 0;
+        let begin = with_room(&mut self.buffer, self.start, self.end)?;
+        self.scanned = begin + (self.scanned - self.start);
+        self.end = begin + (self.end - self.start);
+        self.start = begin;
+        let unread = LOG_LIMIT + 1 - self.handed - (self.end - begin);
+        let most = unread.min(self.buffer.len() - self.end);
+        let count = read_behind(reader, &mut self.buffer, self.end, most)?;
+        self.end += count;
+        Ok(count)
+    }
+
+    // What the bytes that wait are at the log's end.
+    fn at_end(&self) -> Next
+        ensures { result ≡ end_of (line_fault self.now.handed (length self.now.waiting) false) }
+    {
+        match fault_of(self.handed, self.end - self.start, false) {
+            Some(fault) => Next::Refused(fault),
+            None => Next::End,
+        }
+    }
+}
+
+// Where the first line feed stands.
+fn first_feed(bytes: &[u8]) -> Option<usize>
+    ensures { IsFirstFeed bytes.now result }
+{
+    memchr(b'\n', bytes)
+}
+
+// What bytes without a line feed tell, by what would be wrong with them at the log's end.
+fn scan_of(fault: Option<LineFault>) -> Scan
+    ensures { result ≡ scan_told fault }
+{
+    match fault {
+        Some(LineFault::LineTooLong) => Scan::Refused(LineFault::LineTooLong),
+        Some(LineFault::LogTooLong) => Scan::Refused(LineFault::LogTooLong),
+        Some(LineFault::NoLineEnd) => Scan::Waits,
+        None => Scan::Waits,
+    }
+}
