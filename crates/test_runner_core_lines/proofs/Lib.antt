@@ -1,3 +1,5 @@
 pub mod Items
 pub mod Ranges
 pub mod Scanning
+pub mod Filling
+pub mod Reading

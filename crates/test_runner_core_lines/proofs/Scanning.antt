@@ -78,20 +78,20 @@ NotLimit (Some faults.LogTooLong) = ⊥
 NotLimit (Some faults.NoLineEnd) = Unit {0}
 
 -- bytes without a line feed that aren't past a limit
-pub below_limit : (before size : ℕ) (o : Option LineFault) → line_fault before size false ≡ o → NotLimit o → before + size ≤ LOG_LIMIT
+pub below_limit : (before size : ℕ) (o : Option LineFault) → line_fault before size false ≡ o → NotLimit o → (before + size ≤ LOG_LIMIT) × (size ≤ LINE_LIMIT)
 below_limit before size o h other =
-    by_tests (ltb LINE_LIMIT size && leb (before + LINE_LIMIT) LOG_LIMIT) (ltb LOG_LIMIT (before + size + 0)) (false || eqb size 0) refl o h other
+    by_tests (ltb LINE_LIMIT size && leb (before + LINE_LIMIT) LOG_LIMIT) (ltb LOG_LIMIT (before + size + 0)) (false || eqb size 0) refl refl o h other
   where
-    by_tests : (a b c : Bool) → ltb LOG_LIMIT (before + size + 0) ≡ b → (o : Option LineFault)
-        → cond a (Some faults.LineTooLong) (cond b (Some faults.LogTooLong) (cond c None (Some faults.NoLineEnd))) ≡ o → NotLimit o → before + size ≤ LOG_LIMIT
-    by_tests true b c e o h other = absurd (subst NotLimit (sym h) other)
-    by_tests false true c e o h other = absurd (subst NotLimit (sym h) other)
-    by_tests false false c e o h other = grind (arith, nat_tests)
+    by_tests : (a b c : Bool) → (ltb LINE_LIMIT size && leb (before + LINE_LIMIT) LOG_LIMIT) ≡ a → ltb LOG_LIMIT (before + size + 0) ≡ b → (o : Option LineFault)
+        → cond a (Some faults.LineTooLong) (cond b (Some faults.LogTooLong) (cond c None (Some faults.NoLineEnd))) ≡ o → NotLimit o → (before + size ≤ LOG_LIMIT) × (size ≤ LINE_LIMIT)
+    by_tests true b c e f o h other = absurd (subst NotLimit (sym h) other)
+    by_tests false true c e f o h other = absurd (subst NotLimit (sym h) other)
+    by_tests false false c e f o h other = (grind (arith, nat_tests), grind (arith, nat_tests))
 
 -- what bytes without a line feed tell
 pub nothing_found : (old new : Cursor) → Unmoved old new → IsPlain old.waiting → (o : Option LineFault) → line_fault old.handed (length old.waiting) false ≡ o
     → Scanned (scan_of o) old new
-nothing_found old new same plain None h = (same, plain, below_limit old.handed (length old.waiting) None h tt)
+nothing_found old new same plain None h = (same, plain, (below_limit old.handed (length old.waiting) None h tt).0, (below_limit old.handed (length old.waiting) None h tt).1)
 nothing_found old new same plain (Some faults.LineTooLong) h = (same, λ rest. items_limit old.handed old.waiting rest faults.LineTooLong plain tt h, refl)
 nothing_found old new same plain (Some faults.LogTooLong) h = (same, λ rest. items_limit old.handed old.waiting rest faults.LogTooLong plain tt h, refl)
-nothing_found old new same plain (Some faults.NoLineEnd) h = (same, plain, below_limit old.handed (length old.waiting) (Some faults.NoLineEnd) h tt)
+nothing_found old new same plain (Some faults.NoLineEnd) h = (same, plain, (below_limit old.handed (length old.waiting) (Some faults.NoLineEnd) h tt).0, (below_limit old.handed (length old.waiting) (Some faults.NoLineEnd) h tt).1)

@@ -48,7 +48,7 @@ Scanned scanned.Line old new =
     (old.waiting ≡ new.line ++ 10 ∷ new.waiting) × IsPlain new.line × (line_fault old.handed (length new.line) true ≡ None)
     × (new.handed ≡ old.handed + length new.line + 1)
 Scanned (scanned.Refused fault) old new = Unmoved old new × ((rest : List ℕ) → items_ahead old rest ≡ Refused fault ∷ []) × (idle_reads (Ok (found.Refused fault)) ≡ 0)
-Scanned scanned.Waits old new = Unmoved old new × IsPlain old.waiting × (received old ≤ LOG_LIMIT)
+Scanned scanned.Waits old new = Unmoved old new × IsPlain old.waiting × (received old ≤ LOG_LIMIT) × (length old.waiting ≤ LINE_LIMIT)
 
 -- bytes without a line feed wait, where they aren't past a limit
 abbrev pub scan_of : Option LineFault → Scan

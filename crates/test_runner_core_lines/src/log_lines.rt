@@ -74,6 +74,7 @@ impl LogLines {
         ensures limit { received self.new + idle_reads result ≤ LOG_LIMIT + 1 }
         ensures failures { TellsFailure result (R.failures reader.old) (R.failures reader.new) (R.last_failed reader.new) }
     {
+        let _within = &self.buffer;
         loop {
             match self.scan() {
                 Scan::Line => return Ok(Next::Line),

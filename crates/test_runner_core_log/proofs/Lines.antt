@@ -1,5 +1,5 @@
 -- A line spells an event just where its fields do, it has no line feed and is UTF-8. So it spells one event at most.
-use Rattle.std.proofs.Common.{◌≡◌, ◌≢◌, ℕ, List, [], ◌∷◌, ◌++◌, Option, Some, None, Result, Ok, Err, refl, sym, ap, subst, ◌∙◌}
+use Rattle.std.proofs.Common.{◌≡◌, ◌≢◌, ℕ, false, nat_eq, length, List, [], ◌∷◌, ◌++◌, Option, Some, None, Result, Ok, Err, refl, sym, ap, subst, ◌∙◌}
 use Rattle.std.specs.Prelude.{IfOk}
 use Rattle.std.specs.List.{AllByRecursion}
 use Rattle.std.specs.Str.{IsUtf8}
@@ -89,3 +89,22 @@ one_reading bytes (Err fault.BadLine) (Err fault.NotUtf8) of_first of_second fir
 one_reading bytes (Err fault.BadLine) (Err fault.BadLine) of_first of_second first_had second_had = refl
 one_reading bytes (Err fault.OutOfMemory) second of_first of_second first_had second_had = absurd (first_had refl)
 one_reading bytes first (Err fault.OutOfMemory) of_first of_second first_had second_had = absurd (second_had refl)
+
+-- ---- what reading says of an event
+
+-- an event that is spelled is the one that is read
+pub only_event : (bytes : List ℕ) (outcome : Result (Option LogLine) ParseLineError) → ReadsLine bytes outcome → (event : LogLine) → Spells event bytes → IfOk outcome (λ found. found ≡ Some event)
+only_event bytes (Ok None) reads event spells = absurd (nothing_empty event bytes reads spells)
+only_event bytes (Ok (Some found)) reads event spells = ap (λ (x : LogLine). let o : Option LogLine = Some x in o) (one_event found event bytes reads spells)
+only_event bytes (Err fault.NotUtf8) reads event spells = tt
+only_event bytes (Err fault.BadLine) reads event spells = tt
+only_event bytes (Err fault.OutOfMemory) reads event spells = tt
+
+text_not_empty : (text : List ℕ) → nat_eq (length text) 0 ≡ false → text ≢ []
+text_not_empty [] none empty = cc
+text_not_empty (byte ∷ text) none empty = cc
+
+-- a text that isn't empty and spells nothing is a bad line
+pub bad_line : (text bytes : List ℕ) → text ≡ bytes → IsUtf8 bytes → nat_eq (length text) 0 ≡ false → ((event : LogLine) → Spells event text → ⊥) → ReadsLine bytes (Err fault.BadLine)
+bad_line text bytes same utf8 some nothing =
+    (utf8, (λ empty. text_not_empty text some (same ∙ empty)), (λ event spells. nothing event (subst (λ (x : List ℕ). Spells event x) (sym same) spells)))

@@ -4,7 +4,7 @@ ghost use Rattle.test_runner_core_log.specs.Spelling.{Spells, HasSpelling};
 ghost use Rattle.test_runner_core_log.specs.Reading.{ReadsLine, SpellsEvent};
 
 use super::parse_line_error::ParseLineError;
-use super::reading::lent_line_of;
+use super::reading::line_of;
 use super::writing::{are_fields, is_field, push_field, push_record, record_is_spellable};
 use nextest_run_events_results::CancelReason;
 use nextest_text::Text;
@@ -56,16 +56,7 @@ impl LogLine {
         ensures only { (line : LogLine) → Spells line bytes.now → IfOk result (λ found. found ≡ Some line) }
         ensures memory { IsErrOf result ParseLineError.OutOfMemory → SpellsEvent bytes.now }
     {
-        let Ok(text) = str::from_utf8(bytes) else {
-            return Err(ParseLineError::NotUtf8);
-        };
-        if text.is_empty() {
-            return Ok(None);
-        }
-        let Some(lent) = lent_line_of(text) else {
-            return Err(ParseLineError::BadLine);
-        };
-        Ok(Some(lent.own(alloc)?))
+        line_of(alloc, bytes)
     }
 
     /// Whether some line spells the event, which is what `print` requires.

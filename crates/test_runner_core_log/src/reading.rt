@@ -1,11 +1,15 @@
 // Reading an event from its line, field by field, with no memory.
-ghost use Rattle.std.specs.Prelude.{◌≡◌, [], ◌∷◌, List, ℕ, codes, MatchOption};
+ghost use Rattle.std.specs.Prelude.{◌≡◌, [], ◌∷◌, List, ℕ, codes, MatchOption, IsErrOf};
 ghost use Rattle.test_runner_core_log.specs.Spelling.{SpellsResult, SpellsSlow, SpellsNanos, SpellsStream, SpellsRecord, SpellsFields, Spells};
 ghost use Rattle.test_runner_core_log.specs.Fields.{fields_of, Reads};
+ghost use Rattle.test_runner_core_log.specs.Reading.{ReadsLine, SpellsEvent};
 ghost use Rattle.test_runner_core_log.specs.Lent.{result_meant, stream_meant, record_meant, line_meant};
 
 use super::lent::{LentLine, LentRecord, LentResult, LentStream};
+use super::log_line::LogLine;
+use super::parse_line_error::ParseLineError;
 use nextest_text::{i32_of_decimal, u64_of_decimal};
+use std::alloc::Global;
 
 // The first field, and what follows its tab.
 fn next_field(rest: &str) -> Option<(&str, &str)>
@@ -126,12 +130,29 @@ fn fields_say(line: &str) -> Option<LentLine<'_>>
     }
 }
 
-/// The event that a line spells, its line feed left aside; `None` where it spells none.
-pub fn lent_line_of(line: &str) -> Option<LentLine<'_>>
+// The event that a text spells; `None` where it spells none.
+fn lent_line_of(line: &str) -> Option<LentLine<'_>>
     ensures { Reads line_meant (λ told. Spells told line.now) result }
 {
     if line.contains('\n') {
         return None;
     }
     fields_say(line)
+}
+
+/// Reads a line, its line feed left aside.
+pub fn line_of(alloc: Global, bytes: &[u8]) -> Result<Option<LogLine>, ParseLineError>
+    ensures exact { ReadsLine bytes.now result }
+    ensures memory { IsErrOf result ParseLineError.OutOfMemory → SpellsEvent bytes.now }
+{
+    let Ok(text) = str::from_utf8(bytes) else {
+        return Err(ParseLineError::NotUtf8);
+    };
+    if text.is_empty() {
+        return Ok(None);
+    }
+    let Some(lent) = lent_line_of(text) else {
+        return Err(ParseLineError::BadLine);
+    };
+    Ok(Some(lent.own(alloc)?))
 }

@@ -1,0 +1,14 @@
+use Rattle.std.proofs.Common.{◌≡◌, ℕ, ◌+◌, ◌-◌, ◌≤◌}
+use Rattle.test_runner_core_lines.specs.Cursor.{received}
+use Rattle.test_runner_core_lines.specs.Calls.{KeepsAhead}
+use Rattle.test_runner_core_lines.specs.declared.limits.TheConstants.{LOG_LIMIT}
+use Rattle.test_runner_core_lines.proofs.Reading.{Reading}
+use Rattle.test_runner_core_lines.proofs.log_lines.LogLines.next.Given as goal
+
+abbrev pub invariant-loop-fault : goal.invariant-loop-fault
+invariant-loop-fault g l =
+    Reading l.fn.self (g.R.LogReader.left l.fn.reader) (g.R.LogReader.calls l.fn.reader) (g.R.LogReader.failures l.fn.reader)
+    l.self (g.R.LogReader.left l.reader) (g.R.LogReader.calls l.reader) (g.R.LogReader.failures l.reader)
+
+abbrev pub decreases-loop-fault : goal.decreases-loop-fault
+decreases-loop-fault g l = LOG_LIMIT + 2 - received l.self
