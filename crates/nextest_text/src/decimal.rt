@@ -14,8 +14,8 @@ pub fn u64_of_decimal(text: &str) -> Option<u64>
     let Ok(number) = text.parse::<u64>() else {
         return None;
     };
-    let mut buffer = Buffer::new();
-    if buffer.format(number) == text {
+    let mut digits = Buffer::new();
+    if digits.format(number) == text {
         Some(number)
     } else {
         None

@@ -1,5 +1,5 @@
 // An owned list, seen as the plain list of its elements.
-ghost use Rattle.std.specs.Prelude.{◌≡◌, nat_eq, [], ◌∷◌, ◌++◌, Some, IfOk, IfErr, OnOk, OnErr, length};
+ghost use Rattle.std.specs.Prelude.{◌≡◌, nat_eq, [], ◌∷◌, ◌++◌, IfErr, OnOk, OnErr, length};
 ghost use Rattle.std.specs.Cmp.Lexicographic.{pointwise, slice_cmp, slice_partial_cmp, lists_equiv, lists_agrees, lists_total, lists_ties, lists_po, lists_per};
 ghost use Rattle.std.specs.Hash as fed;
 ghost use Rattle.std.specs.Hash.{items_Alike};
@@ -88,7 +88,7 @@ impl<T> AsSlice<T> for Listing<T> {
     ghost items = { λ list. list };
 
     fn as_slice(&self) -> &[T] {
-        self.items.as_slice()
+        Listing::as_slice(self)
     }
 }
 

@@ -1,5 +1,5 @@
 // Owned text, seen as the list of its bytes.
-ghost use Rattle.std.specs.Prelude.{◌≡◌, nat_eq, [], ◌++◌, Some, None, IfOk, OnOk, OnErr, length, string_bytes, refl};
+ghost use Rattle.std.specs.Prelude.{◌≡◌, nat_eq, [], Some, IfOk, length, string_bytes, refl};
 ghost use Rattle.std.specs.Cmp.{partial_equiv_from_equiv};
 ghost use Rattle.std.specs.Cmp.Lexicographic.{pointwise, slice_cmp, nat_list_eq_equiv, nat_list_cmp_total, texts_ties, texts_po};
 ghost use Rattle.std.specs.Hash as fed;
@@ -88,7 +88,7 @@ impl AsStr for Text {
     ghost text = { λ text. text };
 
     fn as_str(&self) -> &str {
-        self.string.as_str()
+        Text::as_str(self)
     }
 }
 

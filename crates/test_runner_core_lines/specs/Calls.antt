@@ -27,6 +27,13 @@ Hands old None new rest result = ⊤
 Hands old (Some left) new None result = ⊥
 Hands old (Some left) new (Some rest) result = HandsItem result new (items_ahead old left) (items_ahead new rest)
 
+-- a line and its line feed are handed out, whatever the reader's bytes; else nothing is
+abbrev pub HandsBytes : Result Next LogFault → Cursor → Cursor → Type 0
+HandsBytes (Ok found.Line) old new = new.handed ≡ old.handed + length new.line + 1
+HandsBytes (Ok (found.Refused fault)) old new = new.handed ≡ old.handed
+HandsBytes (Ok found.End) old new = new.handed ≡ old.handed
+HandsBytes (Err fault) old new = new.handed ≡ old.handed
+
 -- the calls of the reader that brought no byte: one where the log's end was seen or a call failed, else none
 abbrev pub idle_reads : Result Next LogFault → ℕ
 idle_reads (Ok found.Line) = 0

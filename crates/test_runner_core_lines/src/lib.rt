@@ -10,6 +10,8 @@ mod fault;
 mod limits;
 mod log_lines;
 mod next;
+#[cfg(test)]
+mod tests;
 
 pub use fault::{LineFault, LogFault};
 pub use limits::{LINE_LIMIT, LOG_LIMIT};

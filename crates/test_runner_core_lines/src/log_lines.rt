@@ -4,7 +4,7 @@ ghost use Rattle.std.specs.Io.KnownBytes.{IsAtEnd};
 ghost use Rattle.test_runner_core_lines.specs.Items.{line_fault};
 ghost use Rattle.test_runner_core_lines.specs.Cursor.{Unmoved, received};
 ghost use Rattle.test_runner_core_lines.specs.Feeds.{IsFirstFeed};
-ghost use Rattle.test_runner_core_lines.specs.Calls.{Hands, Scanned, TellsFailure, idle_reads, KeepsAhead, WaitsMore, end_of, scan_of as scan_told};
+ghost use Rattle.test_runner_core_lines.specs.Calls.{Hands, HandsBytes, Scanned, TellsFailure, idle_reads, KeepsAhead, WaitsMore, end_of, scan_of as scan_told};
 
 use super::buffer::{read_behind, with_room};
 use super::fault::{LineFault, LogFault, fault_of};
@@ -70,6 +70,7 @@ impl LogLines {
         requires calls_fit { R.calls reader.old + 2 ^ 31 ≤ 2 ^ 63 }
         requires failures_fit { R.failures reader.old < 2 ^ 63 }
         ensures items { Hands self.old (R.left reader.old) self.new (R.left reader.new) result }
+        ensures handed { HandsBytes result self.old self.new }
         ensures reads { R.calls reader.new + received self.old ≤ R.calls reader.old + received self.new + idle_reads result }
         ensures limit { received self.new + idle_reads result ≤ LOG_LIMIT + 1 }
         ensures failures { TellsFailure result (R.failures reader.old) (R.failures reader.new) (R.last_failed reader.new) }

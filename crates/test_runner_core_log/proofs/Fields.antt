@@ -1,10 +1,10 @@
 -- The fields of a line are its parts between tabs: to join them gives the line, and to part a line gives its fields.
-use Rattle.std.proofs.Common.{◌≡◌, ◌≢◌, ℕ, ◌<◌, Bool, true, false, nat_eq, List, [], ◌∷◌, ◌++◌, length, get_or, Option, Some, None, MatchOption, All, Bor, refl, sym, ap, ◌∙◌, arith, inl, inr}
-use Rattle.std.specs.List.{AllByRecursion, slice_split, onto_first, before_first, after_first, position_or_len}
+use Rattle.std.proofs.Common.{◌≡◌, ◌≢◌, ℕ, ◌<◌, Bool, false, nat_eq, List, [], ◌∷◌, ◌++◌, length, Option, Some, None, MatchOption, Bor, refl, sym, ap, ◌∙◌, arith, inl, inr}
+use Rattle.std.specs.List.{AllByRecursion, onto_first, before_first, after_first, position_or_len}
 use Rattle.std.proofs.lemmas.Bool.{eqb-true, eqb-false, ne_eqb, cases_Bool}
 use Rattle.std.proofs.lemmas.List.Splits.{slice_split-cons_yes, slice_split-cons_no, slice_split_none, slice_split_at, slice_split_first}
 use Rattle.std.proofs.lemmas.List.Sums.{fails_before_first}
-use Rattle.std.proofs.lemmas.List.Elements.{All-from_recursion, recursion_from_All, All-from_get_or}
+use Rattle.std.proofs.lemmas.List.Elements.{All-from_recursion}
 use Rattle.test_runner_core_log.specs.Spelling.{IsField, joined}
 use Rattle.test_runner_core_log.specs.Fields.{fields_of}
 
@@ -35,9 +35,6 @@ fields_first (byte ∷ bytes) =
     ]
 
 -- to join what a line was parted into gives the line
-
-joined-cons : (first : List ℕ) (second : List ℕ) (rest : List (List ℕ)) (bytes : List ℕ) → joined (second ∷ rest) ≡ bytes → joined (first ∷ second ∷ rest) ≡ first ++ 9 ∷ bytes
-joined-cons first second rest bytes same = ap (λ (x : List ℕ). first ++ 9 ∷ x) same
 
 joined-onto_first : (byte : ℕ) (first : List ℕ) (rest : List (List ℕ)) → joined ((byte ∷ first) ∷ rest) ≡ byte ∷ joined (first ∷ rest)
 joined-onto_first byte first [] = refl

@@ -1,12 +1,12 @@
 -- Which events have a line: those whose texts can be fields, and whose record has a spelling.
-use Rattle.std.proofs.Common.{◌≡◌, ◌≢◌, ℕ, suc, ◌^◌, ◌+◌, ◌<◌, ◌≤◌, Bool, true, false, List, [], ◌∷◌, ◌++◌, length, get_or, Option, Some, None, refl, sym, ap, subst, ◌∙◌, append_assoc, arith, nat_lt, lit<}
+use Rattle.std.proofs.Common.{◌≡◌, ◌≢◌, ℕ, suc, ◌^◌, ◌<◌, Bool, true, false, List, [], ◌∷◌, ◌++◌, length, get_or, Option, Some, None, refl, sym, ap, subst, ◌∙◌, append_assoc, arith, nat_lt, lit<}
 use Rattle.std.specs.Prelude.{ℤ, pos, negsuc, FitsSigned, codes, decimal, ◌&&◌, not, is_some, IsTrue, ◌↔◌}
 use Rattle.std.specs.Fmt.{signed_decimal}
 use Rattle.std.specs.Int.{w32, IsInRange}
 use Rattle.std.specs.Int.Signed.{mag}
 use Rattle.std.specs.List.{AllByRecursion}
 use Rattle.std.specs.Str.{IsUtf8, IsAscii}
-use Rattle.std.proofs.lemmas.Bool.{and_parts, ltb-true, not-true}
+use Rattle.std.proofs.lemmas.Bool.{and_parts, ltb-true}
 use Rattle.std.proofs.lemmas.Fmt.{digits_decimal, IsAscii-signed, IsAscii-decimal}
 use Rattle.std.proofs.lemmas.List.Elements.{recursion_from_All, All-from_get_or}
 use Rattle.std.proofs.lemmas.Str.{IsUtf8-append, IsUtf8-from_ascii}
@@ -23,7 +23,7 @@ use Rattle.test_runner_core_log.specs.declared.log_line.LogLine.TheVariants as l
 use Rattle.test_runner_core_log.specs.Spelling.{SpellsResult, SpellsSlow, SpellsStream, SpellsOutput, SpellsRecord, SpellsFields, Spells, IsField, joined, HasSpelling}
 use Rattle.test_runner_core_log.specs.Writing.{IsSpellable, SpellsBothStreams, SpellsRecordText}
 use Rattle.test_runner_core_log.proofs.Lines.{spells_joined}
-use Rattle.test_runner_core_log.proofs.Spellings.{mag_fits, FiveFields, five_fields, EndsIn, script_fields, start_fields, end_fields}
+use Rattle.test_runner_core_log.proofs.Spellings.{mag_fits, five_fields, script_fields, start_fields, end_fields}
 
 -- ---- a field
 
@@ -207,16 +207,6 @@ joined_behind before told (field ∷ fields) spelled = refl
 
 three_parts : (a b c : List ℕ) → (a ++ 9 ∷ b) ++ 9 ∷ c ≡ a ++ 9 ∷ (b ++ 9 ∷ c)
 three_parts a b c = append_assoc a (9 ∷ b) (9 ∷ c)
-
-pub script_printed : (id : List ℕ) (told : Record) (fields : List (List ℕ)) (bytes : List ℕ) → HasSpelling (line.Script id told) → SpellsRecord told fields
-    → bytes ≡ (codes "script" ++ 9 ∷ id) ++ 9 ∷ joined fields → Spells (line.Script id told) bytes
-script_printed id told fields bytes has spelled is =
-    spells_joined (line.Script id told) (codes "script" ∷ id ∷ fields) bytes has (refl, refl, spelled)
-    (is ∙ three_parts (codes "script") id (joined fields) ∙ ap (λ (rest : List ℕ). codes "script" ++ 9 ∷ rest) (sym (joined_behind id told fields spelled)))
-
-pub start_printed : (binary name bytes : List ℕ) → HasSpelling (line.Start binary name) → bytes ≡ (codes "start" ++ 9 ∷ binary) ++ 9 ∷ name → Spells (line.Start binary name) bytes
-start_printed binary name bytes has is =
-    spells_joined (line.Start binary name) (codes "start" ∷ binary ∷ name ∷ []) bytes has (refl, refl, refl) (is ∙ three_parts (codes "start") binary name)
 
 pub end_printed : (binary name : List ℕ) (told : Record) (fields : List (List ℕ)) (bytes : List ℕ) → HasSpelling (line.End binary name told) → SpellsRecord told fields
     → bytes ≡ ((codes "end" ++ 9 ∷ binary) ++ 9 ∷ name) ++ 9 ∷ joined fields → Spells (line.End binary name told) bytes

@@ -15,6 +15,11 @@ pub enum ParseLineError {
 }
 
 impl fmt::Display for ParseLineError {
+    ghost use Rattle.std.specs.Prelude.{Some};
+    ghost use Rattle.test_runner_core_log.specs.Message.{message_of};
+
+    ghost output = { λ error. Some (message_of error) };
+
     fn fmt<W: fmt::Write>(&self, f: &mut fmt::Formatter<W>) -> fmt::Result {
         match self {
             ParseLineError::NotUtf8 => write!(f, "the line isn't UTF-8"),

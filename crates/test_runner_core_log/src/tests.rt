@@ -18,10 +18,6 @@ fn record(outcome: ExecutionResultDescription, slow: bool, nanos: u64) -> Record
     }
 }
 
-fn passed() -> Record {
-    record(ExecutionResultDescription::Pass, false, 0)
-}
-
 fn failed(code: i32, leaked: bool) -> ExecutionResultDescription {
     ExecutionResultDescription::Fail {
         failure: FailureDescription::ExitCode { code },
@@ -51,41 +47,55 @@ fn end(alloc: Global, binary: &str, name: &str, record: Record) -> Result<LogLin
     })
 }
 
-#[test]
-fn lines_are_read(rt: HostRuntime) -> Result<(), Fail> {
-    let alloc = rt.alloc();
-    assert!(rt; LogLine::parse(alloc, b"")?.is_none());
-    for (line, event) in [
-        (
-            "script\tdb\tpass\t-\t12\t-\t-",
-            script(
-                alloc,
-                "db",
-                record(ExecutionResultDescription::Pass, false, 12),
-            )?,
-        ),
-        (
-            "script\t\tfail:-2147483648\tslow\t18446744073709551615\t-\t-",
-            script(alloc, "", record(failed(i32::MIN, false), true, u64::MAX))?,
-        ),
-        ("start\tlib\ta b", start(alloc, "lib", "a b")?),
-        ("start\t\t", start(alloc, "", "")?),
-        (
-            "end\tlib\tna\u{ef}ve\tfail:101\tslow\t7\t-\t-",
-            end(
-                alloc,
-                "lib",
-                "na\u{ef}ve",
-                record(failed(101, false), true, 7),
-            )?,
-        ),
-        ("end\t\t\tpass\t-\t0\t-\t-", end(alloc, "", "", passed())?),
-    ] {
-        assert!(rt;
-            LogLine::parse(alloc, line.as_bytes())? == Some(event),
-            "{line}"
-        );
+// Whether the line is read as the event.
+fn is_read_as(alloc: Global, line: &str, event: LogLine) -> Result<bool, ParseLineError> {
+    Ok(LogLine::parse(alloc, line.as_bytes())? == Some(event))
+}
+
+// Whether the event is printed as the line, which is read as the event.
+fn is_printed_as(alloc: Global, event: LogLine, line: &str) -> Result<bool, ParseLineError> {
+    if !event.has_spelling() {
+        return Ok(false);
     }
+    let printed = event.print(alloc)?;
+    Ok(printed.as_str() == line && is_read_as(alloc, printed.as_str(), event)?)
+}
+
+#[test]
+fn an_empty_line_is_no_event(rt: HostRuntime) -> Result<(), Fail> {
+    assert!(rt; LogLine::parse(rt.alloc(), b"")?.is_none());
+    Ok(())
+}
+
+#[test]
+fn a_script_is_read(rt: HostRuntime) -> Result<(), Fail> {
+    let event = script(
+        rt.alloc(),
+        "",
+        record(failed(i32::MIN, false), true, u64::MAX),
+    )?;
+    let line = "script\t\tfail:-2147483648\tslow\t18446744073709551615\t-\t-";
+    assert!(rt; is_read_as(rt.alloc(), line, event)?);
+    Ok(())
+}
+
+#[test]
+fn a_start_is_read(rt: HostRuntime) -> Result<(), Fail> {
+    let event = start(rt.alloc(), "", "a b")?;
+    assert!(rt; is_read_as(rt.alloc(), "start\t\ta b", event)?);
+    Ok(())
+}
+
+#[test]
+fn an_end_is_read(rt: HostRuntime) -> Result<(), Fail> {
+    let event = end(
+        rt.alloc(),
+        "lib",
+        "na\u{ef}ve",
+        record(failed(101, false), true, 7),
+    )?;
+    let line = "end\tlib\tna\u{ef}ve\tfail:101\tslow\t7\t-\t-";
+    assert!(rt; is_read_as(rt.alloc(), line, event)?);
     Ok(())
 }
 
@@ -156,67 +166,69 @@ fn bytes_that_are_no_text_are_told_first(rt: HostRuntime) {
 }
 
 #[test]
-fn what_is_printed_is_read_again(rt: HostRuntime) -> Result<(), Fail> {
-    let alloc = rt.alloc();
-    for (event, line) in [
-        (
-            script(alloc, "db", record(failed(-1, false), false, 5))?,
-            "script\tdb\tfail:-1\t-\t5\t-\t-",
-        ),
-        (start(alloc, "lib", "")?, "start\tlib\t"),
-        (
-            end(
-                alloc,
-                "lib",
-                "a",
-                record(ExecutionResultDescription::Pass, true, 1000),
-            )?,
-            "end\tlib\ta\tpass\tslow\t1000\t-\t-",
-        ),
-    ] {
-        assert!(rt; event.has_spelling(), "{line}");
-        let printed = event.print(alloc)?;
-        assert_eq!(rt; printed.as_str(), line);
+fn a_script_is_printed_and_read(rt: HostRuntime) -> Result<(), Fail> {
+    let event = script(rt.alloc(), "db", record(failed(-1, false), false, 5))?;
+    assert!(rt; is_printed_as(rt.alloc(), event, "script\tdb\tfail:-1\t-\t5\t-\t-")?);
+    Ok(())
+}
+
+#[test]
+fn a_start_is_printed_and_read(rt: HostRuntime) -> Result<(), Fail> {
+    let event = start(rt.alloc(), "lib", "")?;
+    assert!(rt; is_printed_as(rt.alloc(), event, "start\tlib\t")?);
+    Ok(())
+}
+
+#[test]
+fn an_end_is_printed_and_read(rt: HostRuntime) -> Result<(), Fail> {
+    let outcome = record(ExecutionResultDescription::Pass, true, 1000);
+    let event = end(rt.alloc(), "lib", "a", outcome)?;
+    assert!(rt; is_printed_as(rt.alloc(), event, "end\tlib\ta\tpass\tslow\t1000\t-\t-")?);
+    Ok(())
+}
+
+#[test]
+fn a_tab_or_a_line_feed_has_no_spelling(rt: HostRuntime) -> Result<(), Fail> {
+    for (binary, name) in [("lib", "a\tb"), ("li\nb", "a"), ("\t", ""), ("", "\n")] {
         assert!(rt;
-            LogLine::parse(alloc, printed.as_bytes())? == Some(event),
-            "{line}"
+            !start(rt.alloc(), binary, name)?.has_spelling(),
+            "{binary:?} {name:?}"
         );
     }
     Ok(())
 }
 
 #[test]
-fn some_events_have_no_spelling(rt: HostRuntime) -> Result<(), Fail> {
-    let alloc = rt.alloc();
-    let mut captured = passed();
-    captured.output = RecordOutput::Streams {
-        out: Some(Listing::new(alloc)),
-        err: None,
-    };
-    let mut unstarted = passed();
-    unstarted.output = RecordOutput::Message(Text::new(alloc));
-    for event in [
-        start(alloc, "lib", "a\tb")?,
-        start(alloc, "li\nb", "a")?,
-        script(alloc, "\t", passed())?,
-        end(alloc, "lib", "a\n", passed())?,
-        end(alloc, "lib", "a", record(failed(0, false), false, 1))?,
-        end(alloc, "lib", "a", record(failed(1, true), false, 1))?,
-        end(
-            alloc,
+fn other_results_have_no_spelling(rt: HostRuntime) -> Result<(), Fail> {
+    for (code, leaked) in [(0, false), (1, true), (0, true)] {
+        let event = end(
+            rt.alloc(),
             "lib",
             "a",
-            record(ExecutionResultDescription::ExecFail, false, 1),
-        )?,
-        end(alloc, "lib", "a", captured)?,
-        script(alloc, "db", unstarted)?,
-        LogLine::Stop {
-            reason: CancelReason::Interrupt,
-        },
-    ] {
-        assert!(rt; !event.has_spelling(), "{event:?}");
+            record(failed(code, leaked), false, 1),
+        )?;
+        assert!(rt; !event.has_spelling(), "{code} {leaked}");
     }
     Ok(())
+}
+
+#[test]
+fn captured_output_has_no_spelling(rt: HostRuntime) -> Result<(), Fail> {
+    let mut captured = record(ExecutionResultDescription::Pass, false, 0);
+    captured.output = RecordOutput::Streams {
+        out: Some(Listing::new(rt.alloc())),
+        err: None,
+    };
+    assert!(rt; !script(rt.alloc(), "db", captured)?.has_spelling());
+    Ok(())
+}
+
+#[test]
+fn a_stop_has_no_spelling(rt: HostRuntime) {
+    let stop = LogLine::Stop {
+        reason: CancelReason::Interrupt,
+    };
+    assert!(rt; !stop.has_spelling());
 }
 
 #[test]

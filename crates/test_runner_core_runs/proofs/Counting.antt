@@ -9,9 +9,9 @@ pub counts_some : {X : Type 0} (p : X → Bool) (xs : List X) → ltb 0 (count_b
 counts_some p [] = refl
 counts_some p (x ∷ xs) = rw (sum_by-cons (λ y. cond (p y) 1 0) x xs) (by_first (p x) _ _ (counts_some p xs))
   where
-  by_first : (first : Bool) (n : ℕ) (more : Bool) → ltb 0 n ≡ more → ltb 0 (cond first 1 0 + n) ≡ (first || more)
-  by_first true n more h = grind (arith, nat_tests)
-  by_first false n more h = grind (arith, nat_tests)
+    by_first : (first : Bool) (n : ℕ) (more : Bool) → ltb 0 n ≡ more → ltb 0 (cond first 1 0 + n) ≡ (first || more)
+    by_first true n more h = grind (arith, nat_tests)
+    by_first false n more h = grind (arith, nat_tests)
 
 -- the same of three counts
 pub three_count_some : {X : Type 0} (p q r : X → Bool) (xs : List X)
@@ -21,21 +21,21 @@ three_count_some p q r (x ∷ xs) =
     rw (sum_by-cons (λ y. cond (p y) 1 0) x xs, sum_by-cons (λ y. cond (q y) 1 0) x xs, sum_by-cons (λ y. cond (r y) 1 0) x xs)
     (by_first (p x) (q x) (r x) _ _ _ _ (three_count_some p q r xs))
   where
-  by_first : (a b c : Bool) (k m n : ℕ) (more : Bool) → ltb 0 (k + m + n) ≡ more
-      → ltb 0 ((cond a 1 0 + k) + (cond b 1 0 + m) + (cond c 1 0 + n)) ≡ ((a || b || c) || more)
-  by_first true b c k m n more h = grind (arith, nat_tests)
-  by_first false true c k m n more h = grind (arith, nat_tests)
-  by_first false false true k m n more h = grind (arith, nat_tests)
-  by_first false false false k m n more h = grind (arith, nat_tests)
+    by_first : (a b c : Bool) (k m n : ℕ) (more : Bool) → ltb 0 (k + m + n) ≡ more
+        → ltb 0 ((cond a 1 0 + k) + (cond b 1 0 + m) + (cond c 1 0 + n)) ≡ ((a || b || c) || more)
+    by_first true b c k m n more h = grind (arith, nat_tests)
+    by_first false true c k m n more h = grind (arith, nat_tests)
+    by_first false false true k m n more h = grind (arith, nat_tests)
+    by_first false false false k m n more h = grind (arith, nat_tests)
 
 -- where all elements count, the count is their number
 pub counts_all : {X : Type 0} (p : X → Bool) (xs : List X) → list_all p xs ≡ true → count_by p xs ≡ length xs
 counts_all p [] h = refl
 counts_all p (x ∷ xs) h = rw (sum_by-cons (λ y. cond (p y) 1 0) x xs) (by_first (p x) (list_all p xs) _ _ h (counts_all p xs))
   where
-  by_first : (first more : Bool) (n m : ℕ) → (first && more) ≡ true → (more ≡ true → n ≡ m) → cond first 1 0 + n ≡ suc m
-  by_first true more n m h rest = let e : n ≡ m = rest h in omega arith
-  by_first false more n m h rest = cc
+    by_first : (first more : Bool) (n m : ℕ) → (first && more) ≡ true → (more ≡ true → n ≡ m) → cond first 1 0 + n ≡ suc m
+    by_first true more n m h rest = let e : n ≡ m = rest h in omega arith
+    by_first false more n m h rest = cc
 
 -- a sum over the elements that pass is above 0 only where one passes
 pub weighs_some : {X : Type 0} (p : X → Bool) (w : X → ℕ) (xs : List X) → 0 < sum_by (λ x. cond (p x) (w x) 0) xs → list_any p xs ≡ true
@@ -43,6 +43,6 @@ weighs_some p w [] h = absurd (omega arith)
 weighs_some p w (x ∷ xs) h =
     by_first (p x) (w x) _ (list_any p xs) (rw (sum_by-cons (λ y. cond (p y) (w y) 0) x xs) at h) (weighs_some p w xs)
   where
-  by_first : (first : Bool) (weight rest : ℕ) (more : Bool) → 0 < cond first weight 0 + rest → (0 < rest → more ≡ true) → (first || more) ≡ true
-  by_first true weight rest more h go = refl
-  by_first false weight rest more h go = go (omega arith)
+    by_first : (first : Bool) (weight rest : ℕ) (more : Bool) → 0 < cond first weight 0 + rest → (0 < rest → more ≡ true) → (first || more) ≡ true
+    by_first true weight rest more h go = refl
+    by_first false weight rest more h go = go (omega arith)

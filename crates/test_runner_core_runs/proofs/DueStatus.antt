@@ -40,10 +40,10 @@ any_implies : {X : Type 0} (p q : X → Bool) (xs : List X) → ((x : X) → p x
 any_implies p q [] implies h = h
 any_implies p q (x ∷ xs) implies h = by_first (p x) (q x) (list_any p xs) (list_any q xs) h (implies x) (any_implies p q xs implies)
   where
-  by_first : (a b more then_more : Bool) → (a || more) ≡ true → (a ≡ true → b ≡ true) → (more ≡ true → then_more ≡ true) → (b || then_more) ≡ true
-  by_first true b more then_more h' first go = ap (λ (x : Bool). x || then_more) (first refl)
-  by_first false true more then_more h' first go = refl
-  by_first false false more then_more h' first go = go h'
+    by_first : (a b more then_more : Bool) → (a || more) ≡ true → (a ≡ true → b ≡ true) → (more ≡ true → then_more ≡ true) → (b || then_more) ≡ true
+    by_first true b more then_more h' first go = ap (λ (x : Bool). x || then_more) (first refl)
+    by_first false true more then_more h' first go = refl
+    by_first false false more then_more h' first go = go h'
 
 -- a script that stops the run counts as failing
 stop_fails : (result : ExecutionResultDescription) → not (is_success result) ≡ true → fails_script result ≡ true
@@ -59,13 +59,13 @@ stop_fails (ended.Timeout timeout_judged.Fail) h = refl
 counts_three : (p q r : Finished → Bool) (test : TestState) → (counts p test || counts q test || counts r test) ≡ counts (λ t. p t || q t || r t) test
 counts_three p q r test = by_finished (is_finished test) (last_record test.records)
   where
-  by_finished : (over : Bool) (last : Option Record)
-      → ((over && option_map_or (λ told. p (finished_as test told)) last false) || (over && option_map_or (λ told. q (finished_as test told)) last false)
-          || (over && option_map_or (λ told. r (finished_as test told)) last false))
+    by_finished : (over : Bool) (last : Option Record)
+        → ((over && option_map_or (λ told. p (finished_as test told)) last false) || (over && option_map_or (λ told. q (finished_as test told)) last false)
+        || (over && option_map_or (λ told. r (finished_as test told)) last false))
         ≡ (over && option_map_or (λ told. p (finished_as test told) || q (finished_as test told) || r (finished_as test told)) last false)
-  by_finished true None = refl
-  by_finished true (Some told) = refl
-  by_finished false last = refl
+    by_finished true None = refl
+    by_finished true (Some told) = refl
+    by_finished false last = refl
 
 abbrev fails_told : Record → Bool
 fails_told told = fails_script told.result
@@ -76,34 +76,38 @@ status_by script pending test unfinished nothing = cond script 105 (cond pending
 
 status_is : (state : State)
     → status state ≡ status_by (list_any fails_told state.scripts) (ltb (length state.scripts) state.planned_scripts) (list_any (counts fails_test) state.tests)
-        (ltb (count_by is_finished state.tests) (length state.tests)) (eqb (count_by is_finished state.tests) 0)
+    (ltb (count_by is_finished state.tests) (length state.tests)) (eqb (count_by is_finished state.tests) 0)
 status_is state =
     by_tests (ltb 0 (failed_setup_script_count stats)) (ltb stats.setup_scripts_finished_count stats.setup_scripts_initial_count) (ltb 0 (failed_count stats))
-      (ltb stats.finished_count stats.initial_run_count) (eqb stats.finished_count 0)
+    (ltb stats.finished_count stats.initial_run_count) (eqb stats.finished_count 0)
     ∙ ap (λ (b : Bool). status_by b (ltb (length state.scripts) state.planned_scripts) (ltb 0 (failed_count stats)) (ltb (count_by is_finished state.tests) (length state.tests)) (eqb (count_by is_finished state.tests) 0)) scripts
     ∙ ap (λ (b : Bool). status_by (list_any fails_told state.scripts) (ltb (length state.scripts) state.planned_scripts) b (ltb (count_by is_finished state.tests) (length state.tests)) (eqb (count_by is_finished state.tests) 0)) tests
   where
-  stats : RunStats
-  stats = counters state
-  scripts : ltb 0 (failed_setup_script_count (counters state)) ≡ list_any fails_told state.scripts
-  scripts = three_count_some (λ told. script_failed told.result) (λ told. script_exec_failed told.result) (λ told. script_timed_out told.result) state.scripts
-  tests : ltb 0 (failed_count (counters state)) ≡ list_any (counts fails_test) state.tests
-  tests =
-      three_count_some (counts failed) (counts exec_failed) (counts failed_timed_out) state.tests
-      ∙ any_same (λ t. counts failed t || counts exec_failed t || counts failed_timed_out t) (counts fails_test) state.tests (counts_three failed exec_failed failed_timed_out)
-  failure : (kind : RunStatsFailureKind) (own : Bool) → status_of (cond own (summed.Failed kind) (summed.Cancelled state.reason kind)) ≡ status_at kind
-  failure kind true = refl
-  failure kind false = refl
-  by_tests : (script pending test unfinished nothing : Bool)
-      → status_of (cond script (failure_at (counters state) at.SetupScript) (cond pending (summed.Cancelled state.reason at.SetupScript)
-          (cond test (failure_at (counters state) (at_tests (counters state))) (cond unfinished (summed.Cancelled state.reason (at_tests (counters state))) (cond nothing summed.NoTestsRun summed.Success)))))
+    stats : RunStats
+    stats = counters state
+
+    scripts : ltb 0 (failed_setup_script_count (counters state)) ≡ list_any fails_told state.scripts
+    scripts = three_count_some (λ told. script_failed told.result) (λ told. script_exec_failed told.result) (λ told. script_timed_out told.result) state.scripts
+
+    tests : ltb 0 (failed_count (counters state)) ≡ list_any (counts fails_test) state.tests
+    tests =
+        three_count_some (counts failed) (counts exec_failed) (counts failed_timed_out) state.tests
+        ∙ any_same (λ t. counts failed t || counts exec_failed t || counts failed_timed_out t) (counts fails_test) state.tests (counts_three failed exec_failed failed_timed_out)
+
+    failure : (kind : RunStatsFailureKind) (own : Bool) → status_of (cond own (summed.Failed kind) (summed.Cancelled state.reason kind)) ≡ status_at kind
+    failure kind true = refl
+    failure kind false = refl
+
+    by_tests : (script pending test unfinished nothing : Bool)
+        → status_of (cond script (failure_at (counters state) at.SetupScript) (cond pending (summed.Cancelled state.reason at.SetupScript)
+        (cond test (failure_at (counters state) (at_tests (counters state))) (cond unfinished (summed.Cancelled state.reason (at_tests (counters state))) (cond nothing summed.NoTestsRun summed.Success)))))
         ≡ status_by script pending test unfinished nothing
-  by_tests true pending test unfinished nothing = failure at.SetupScript (is_own state.reason)
-  by_tests false true test unfinished nothing = refl
-  by_tests false false true unfinished nothing = failure (at_tests (counters state)) (is_own state.reason)
-  by_tests false false false true nothing = refl
-  by_tests false false false false true = refl
-  by_tests false false false false false = refl
+    by_tests true pending test unfinished nothing = failure at.SetupScript (is_own state.reason)
+    by_tests false true test unfinished nothing = refl
+    by_tests false false true unfinished nothing = failure (at_tests (counters state)) (is_own state.reason)
+    by_tests false false false true nothing = refl
+    by_tests false false false false true = refl
+    by_tests false false false false false = refl
 
 -- the due status by its three tests
 abbrev due_by : Bool → Bool → Bool → ℕ
@@ -134,18 +138,18 @@ script_due plan assigned state ok tracks some =
     let there = some_script-more fails_told assigned.script (length state.scripts) plan.scripts few here in
     by_empty (eqb (length plan.tests) 0) refl there
   where
-  by_empty : (empty : Bool) → eqb (length plan.tests) 0 ≡ empty → some_script fails_told assigned.script plan.scripts ≡ true → due_status plan assigned ≡ 105
-  by_empty true e there = let none : some_script fails_told assigned.script 0 ≡ true = subst (λ (n : ℕ). some_script fails_told assigned.script n ≡ true) (ok.no_lone_script (is_empty plan.tests e)) there in cc
-  by_empty false e there =
-      ap (λ (b : Bool). due_by b (some_script fails_told assigned.script plan.scripts) (some_test_fails plan.tests assigned.attempt)) e
-      ∙ ap (λ (b : Bool). due_by false b (some_test_fails plan.tests assigned.attempt)) there
+    by_empty : (empty : Bool) → eqb (length plan.tests) 0 ≡ empty → some_script fails_told assigned.script plan.scripts ≡ true → due_status plan assigned ≡ 105
+    by_empty true e there = let none : some_script fails_told assigned.script 0 ≡ true = subst (λ (n : ℕ). some_script fails_told assigned.script n ≡ true) (ok.no_lone_script (is_empty plan.tests e)) there in cc
+    by_empty false e there =
+        ap (λ (b : Bool). due_by b (some_script fails_told assigned.script plan.scripts) (some_test_fails plan.tests assigned.attempt)) e
+        ∙ ap (λ (b : Bool). due_by false b (some_test_fails plan.tests assigned.attempt)) there
 
 -- a run with a failing script has status 105, wherever it is
 script_status : (state : State) → list_any fails_told state.scripts ≡ true → status state ≡ 105
 script_status state some =
     status_is state
     ∙ ap (λ (b : Bool). status_by b (ltb (length state.scripts) state.planned_scripts) (list_any (counts fails_test) state.tests)
-        (ltb (count_by is_finished state.tests) (length state.tests)) (eqb (count_by is_finished state.tests) 0)) some
+    (ltb (count_by is_finished state.tests) (length state.tests)) (eqb (count_by is_finished state.tests) 0)) some
 
 -- where all scripts ended well, the status goes by the tests
 tests_status : (state : State) → list_any fails_told state.scripts ≡ false → length state.scripts ≡ state.planned_scripts
@@ -154,9 +158,9 @@ tests_status state none over =
     let pending : ltb (length state.scripts) state.planned_scripts ≡ false = grind (arith, nat_tests) in
     status_is state
     ∙ ap (λ (b : Bool). status_by b (ltb (length state.scripts) state.planned_scripts) (list_any (counts fails_test) state.tests)
-        (ltb (count_by is_finished state.tests) (length state.tests)) (eqb (count_by is_finished state.tests) 0)) none
+    (ltb (count_by is_finished state.tests) (length state.tests)) (eqb (count_by is_finished state.tests) 0)) none
     ∙ ap (λ (b : Bool). status_by false b (list_any (counts fails_test) state.tests)
-        (ltb (count_by is_finished state.tests) (length state.tests)) (eqb (count_by is_finished state.tests) 0)) pending
+    (ltb (count_by is_finished state.tests) (length state.tests)) (eqb (count_by is_finished state.tests) 0)) pending
 
 due_of_tests : (plan : Plan) (assigned : Assignment) → some_script fails_told assigned.script plan.scripts ≡ false
     → due_status plan assigned ≡ due_by (eqb (length plan.tests) 0) false (some_test_fails plan.tests assigned.attempt)
@@ -166,12 +170,12 @@ due_of_tests plan assigned none = ap (λ (b : Bool). due_by (eqb (length plan.te
 failing_ends : (plan : Plan) (assigned : Assignment) (state : State) → IsPlan plan → Tracks plan assigned state → Failing plan assigned state → status state ≡ due_status plan assigned
 failing_ends plan assigned state ok tracks h = by_script (list_any fails_told state.scripts) refl
   where
-  by_script : (some : Bool) → list_any fails_told state.scripts ≡ some → status state ≡ due_status plan assigned
-  by_script true e = script_status state e ∙ sym (script_due plan assigned state ok tracks e)
-  by_script false e =
-      tests_status state e h.ended
-      ∙ ap (λ (b : Bool). status_by false false b (ltb (count_by is_finished state.tests) (length state.tests)) (eqb (count_by is_finished state.tests) 0)) h.failed
-      ∙ sym (due_of_tests plan assigned (sym (ended_scripts plan assigned state tracks h.ended) ∙ e)
+    by_script : (some : Bool) → list_any fails_told state.scripts ≡ some → status state ≡ due_status plan assigned
+    by_script true e = script_status state e ∙ sym (script_due plan assigned state ok tracks e)
+    by_script false e =
+        tests_status state e h.ended
+        ∙ ap (λ (b : Bool). status_by false false b (ltb (count_by is_finished state.tests) (length state.tests)) (eqb (count_by is_finished state.tests) 0)) h.failed
+        ∙ sym (due_of_tests plan assigned (sym (ended_scripts plan assigned state tracks h.ended) ∙ e)
         ∙ ap (λ (b : Bool). due_by b false (some_test_fails plan.tests assigned.attempt)) (not_empty plan.tests assigned.attempt h.due)
         ∙ ap (due_by false false) h.due)
 
@@ -180,61 +184,66 @@ going_ends : (plan : Plan) (assigned : Assignment) (state : State) → IsPlan pl
     → length state.scripts ≡ state.planned_scripts → list_all is_finished state.tests ≡ true → status state ≡ due_status plan assigned
 going_ends plan assigned state ok tracks now over all = by_script (list_any fails_told state.scripts) refl
   where
-  count : count_by is_finished state.tests ≡ length state.tests
-  count = counts_all is_finished state.tests all
-  number : length state.tests ≡ length plan.tests
-  number = sym (length-map state.tests plan_of) ∙ ap length tracks.plans
-  same : list_any (counts fails_test) state.tests ≡ some_test_fails plan.tests assigned.attempt
-  same = finished_is_due state.tests assigned.attempt now.fit all ∙ ap (λ (ps : List TestPlan). some_test_fails ps assigned.attempt) tracks.plans
-  by_test : (some : Bool) → some_test_fails plan.tests assigned.attempt ≡ some
-      → status_by false false (list_any (counts fails_test) state.tests) (ltb (count_by is_finished state.tests) (length state.tests)) (eqb (count_by is_finished state.tests) 0)
+    count : count_by is_finished state.tests ≡ length state.tests
+    count = counts_all is_finished state.tests all
+
+    number : length state.tests ≡ length plan.tests
+    number = sym (length-map state.tests plan_of) ∙ ap length tracks.plans
+
+    same : list_any (counts fails_test) state.tests ≡ some_test_fails plan.tests assigned.attempt
+    same = finished_is_due state.tests assigned.attempt now.fit all ∙ ap (λ (ps : List TestPlan). some_test_fails ps assigned.attempt) tracks.plans
+
+    by_test : (some : Bool) → some_test_fails plan.tests assigned.attempt ≡ some
+        → status_by false false (list_any (counts fails_test) state.tests) (ltb (count_by is_finished state.tests) (length state.tests)) (eqb (count_by is_finished state.tests) 0)
         ≡ due_by (eqb (length plan.tests) 0) false (some_test_fails plan.tests assigned.attempt)
-  by_test true e =
-      ap (λ (b : Bool). status_by false false b (ltb (count_by is_finished state.tests) (length state.tests)) (eqb (count_by is_finished state.tests) 0)) (same ∙ e)
-      ∙ sym (ap (λ (b : Bool). due_by b false (some_test_fails plan.tests assigned.attempt)) (not_empty plan.tests assigned.attempt e) ∙ ap (due_by false false) e)
-  by_test false e =
-      let finished : ltb (count_by is_finished state.tests) (length state.tests) ≡ false = let c = count in grind (arith, nat_tests) in
-      ap (λ (b : Bool). status_by false false b (ltb (count_by is_finished state.tests) (length state.tests)) (eqb (count_by is_finished state.tests) 0)) (same ∙ e)
-      ∙ ap (λ (b : Bool). status_by false false false b (eqb (count_by is_finished state.tests) 0)) finished
-      ∙ ap (λ (n : ℕ). cond (eqb n 0) 4 0) (count ∙ number)
-      ∙ sym (ap (due_by (eqb (length plan.tests) 0) false) e)
-  by_script : (some : Bool) → list_any fails_told state.scripts ≡ some → status state ≡ due_status plan assigned
-  by_script true e = script_status state e ∙ sym (script_due plan assigned state ok tracks e)
-  by_script false e =
-      tests_status state e over
-      ∙ by_test (some_test_fails plan.tests assigned.attempt) refl
-      ∙ sym (due_of_tests plan assigned (sym (ended_scripts plan assigned state tracks over) ∙ e))
+    by_test true e =
+        ap (λ (b : Bool). status_by false false b (ltb (count_by is_finished state.tests) (length state.tests)) (eqb (count_by is_finished state.tests) 0)) (same ∙ e)
+        ∙ sym (ap (λ (b : Bool). due_by b false (some_test_fails plan.tests assigned.attempt)) (not_empty plan.tests assigned.attempt e) ∙ ap (due_by false false) e)
+    by_test false e =
+        let finished : ltb (count_by is_finished state.tests) (length state.tests) ≡ false = let c = count in grind (arith, nat_tests) in
+        ap (λ (b : Bool). status_by false false b (ltb (count_by is_finished state.tests) (length state.tests)) (eqb (count_by is_finished state.tests) 0)) (same ∙ e)
+        ∙ ap (λ (b : Bool). status_by false false false b (eqb (count_by is_finished state.tests) 0)) finished
+        ∙ ap (λ (n : ℕ). cond (eqb n 0) 4 0) (count ∙ number)
+        ∙ sym (ap (due_by (eqb (length plan.tests) 0) false) e)
+
+    by_script : (some : Bool) → list_any fails_told state.scripts ≡ some → status state ≡ due_status plan assigned
+    by_script true e = script_status state e ∙ sym (script_due plan assigned state ok tracks e)
+    by_script false e =
+        tests_status state e over
+        ∙ by_test (some_test_fails plan.tests assigned.attempt) refl
+        ∙ sym (due_of_tests plan assigned (sym (ended_scripts plan assigned state tracks over) ∙ e))
 
 -- what complete says where no reason stands
 complete_going : (state : State) → state.reason ≡ None → is_complete state ≡ true → (length state.scripts ≡ state.planned_scripts) × (list_all is_finished state.tests ≡ true)
 complete_going state going complete =
     by_tests (eqb (length state.scripts) state.planned_scripts) (list_all is_finished state.tests) (is_some state.reason) _ refl refl (ap is_some going) complete
   where
-  by_tests : (scripts tests some rest : Bool) → eqb (length state.scripts) state.planned_scripts ≡ scripts → list_all is_finished state.tests ≡ tests → some ≡ false
-      → ((scripts && tests) || (some && rest)) ≡ true → (length state.scripts ≡ state.planned_scripts) × (list_all is_finished state.tests ≡ true)
-  by_tests true true some rest s t n h = (grind (arith, nat_tests), t)
-  by_tests true false false rest s t n h = cc
-  by_tests true false true rest s t n h = cc
-  by_tests false tests false rest s t n h = cc
-  by_tests false tests true rest s t n h = cc
+    by_tests : (scripts tests some rest : Bool) → eqb (length state.scripts) state.planned_scripts ≡ scripts → list_all is_finished state.tests ≡ tests → some ≡ false
+        → ((scripts && tests) || (some && rest)) ≡ true → (length state.scripts ≡ state.planned_scripts) × (list_all is_finished state.tests ≡ true)
+    by_tests true true some rest s t n h = (grind (arith, nat_tests), t)
+    by_tests true false false rest s t n h = cc
+    by_tests true false true rest s t n h = cc
+    by_tests false tests false rest s t n h = cc
+    by_tests false tests true rest s t n h = cc
 
 tracked_ends : (plan : Plan) (assigned : Assignment) (state : State) → IsPlan plan → Tracks plan assigned state → is_complete state ≡ true → status state ≡ due_status plan assigned
 tracked_ends plan assigned state ok tracks complete = by_reason state.reason refl
   where
-  was : (reason : Option CancelReason) → state.reason ≡ reason → Standing plan assigned state reason
-  was reason e = subst (Standing plan assigned state) e tracks.standing
-  by_reason : (reason : Option CancelReason) → state.reason ≡ reason → status state ≡ due_status plan assigned
-  by_reason None e = let over = complete_going state e complete in going_ends plan assigned state ok tracks (was None e) over.0 over.1
-  by_reason (Some why.SetupScriptFailure) e =
-      let some = any_implies stops fails_told state.scripts (λ told. stop_fails told.result) (was (Some why.SetupScriptFailure) e) in
-      script_status state some ∙ sym (script_due plan assigned state ok tracks some)
-  by_reason (Some why.TestFailure) e = failing_ends plan assigned state ok tracks (was (Some why.TestFailure) e)
-  by_reason (Some why.TestFailureImmediate) e = failing_ends plan assigned state ok tracks (was (Some why.TestFailureImmediate) e)
-  by_reason (Some why.ReportError) e = absurd (was (Some why.ReportError) e)
-  by_reason (Some why.GlobalTimeout) e = absurd (was (Some why.GlobalTimeout) e)
-  by_reason (Some why.Signal) e = absurd (was (Some why.Signal) e)
-  by_reason (Some why.Interrupt) e = absurd (was (Some why.Interrupt) e)
-  by_reason (Some why.SecondSignal) e = absurd (was (Some why.SecondSignal) e)
+    was : (reason : Option CancelReason) → state.reason ≡ reason → Standing plan assigned state reason
+    was reason e = subst (Standing plan assigned state) e tracks.standing
+
+    by_reason : (reason : Option CancelReason) → state.reason ≡ reason → status state ≡ due_status plan assigned
+    by_reason None e = let over = complete_going state e complete in going_ends plan assigned state ok tracks (was None e) over.0 over.1
+    by_reason (Some why.SetupScriptFailure) e =
+        let some = any_implies stops fails_told state.scripts (λ told. stop_fails told.result) (was (Some why.SetupScriptFailure) e) in
+        script_status state some ∙ sym (script_due plan assigned state ok tracks some)
+    by_reason (Some why.TestFailure) e = failing_ends plan assigned state ok tracks (was (Some why.TestFailure) e)
+    by_reason (Some why.TestFailureImmediate) e = failing_ends plan assigned state ok tracks (was (Some why.TestFailureImmediate) e)
+    by_reason (Some why.ReportError) e = absurd (was (Some why.ReportError) e)
+    by_reason (Some why.GlobalTimeout) e = absurd (was (Some why.GlobalTimeout) e)
+    by_reason (Some why.Signal) e = absurd (was (Some why.Signal) e)
+    by_reason (Some why.Interrupt) e = absurd (was (Some why.Interrupt) e)
+    by_reason (Some why.SecondSignal) e = absurd (was (Some why.SecondSignal) e)
 
 pub ends_with_due_status : EndsWithDueStatus
 ends_with_due_status plan assigned run last ok happens agrees plain complete =

@@ -71,11 +71,11 @@ first_success-within attempt zero number h = cc
 first_success-within attempt (suc tries) number h =
     by_before (first_success attempt tries) (is_success (attempt (suc tries)).result) h (λ k e. first_success-within attempt tries k e)
   where
-  by_before : (before : Option ℕ) (succeeds : Bool) → found_or before succeeds (suc tries) ≡ Some number
-      → ((k : ℕ) → before ≡ Some k → k ≤ tries) → number ≤ suc tries
-  by_before (Some k) succeeds h within = let e : k ≡ number = cc in let small = within k refl in omega arith
-  by_before None true h within = let e : suc tries ≡ number = cc in omega arith
-  by_before None false h within = cc
+    by_before : (before : Option ℕ) (succeeds : Bool) → found_or before succeeds (suc tries) ≡ Some number
+        → ((k : ℕ) → before ≡ Some k → k ≤ tries) → number ≤ suc tries
+    by_before (Some k) succeeds h within = let e : k ≡ number = cc in let small = within k refl in omega arith
+    by_before None true h within = let e : suc tries ≡ number = cc in omega arith
+    by_before None false h within = cc
 
 -- more tries don't change a first success
 pub first_success-stays : (attempt : ℕ → Record) (tries all number : ℕ) → tries ≤ all → first_success attempt tries ≡ Some number
@@ -83,8 +83,9 @@ pub first_success-stays : (attempt : ℕ → Record) (tries all number : ℕ) �
 first_success-stays attempt tries zero number within h = let e : tries ≡ 0 = omega arith in subst (λ (n : ℕ). first_success attempt n ≡ Some number) e h
 first_success-stays attempt tries (suc all) number within h =
     elim (cases_lt tries (suc all)) [
-      inl less ↦ ap (λ (before : Option ℕ). found_or before (is_success (attempt (suc all)).result) (suc all)) (first_success-stays attempt tries all number (omega arith) h)
-    | inr more ↦ let e : tries ≡ suc all = omega arith in subst (λ (n : ℕ). first_success attempt n ≡ Some number) e h ]
+      | inl less ↦ ap (λ (before : Option ℕ). found_or before (is_success (attempt (suc all)).result) (suc all)) (first_success-stays attempt tries all number (omega arith) h)
+      | inr more ↦ let e : tries ≡ suc all = omega arith in subst (λ (n : ℕ). first_success attempt n ≡ Some number) e h
+    ]
 
 -- how far a test is that has so many records of its assignment
 abbrev pub FitsMark : (ℕ → Record) → ℕ → ℕ → Mark → Type 0
@@ -111,43 +112,46 @@ last_counts attempt plan records kept (suc tries) some e n fate =
     ap (λ (o : Option Record). option_map_or (λ told. fails_test (finished_as (record { plan = plan; records = records; mark = kept }) told)) o false) last
     ∙ by_fate (first_success attempt tries) (is_success (attempt (suc tries)).result) refl refl fate
   where
-  by_fate : (before : Option ℕ) (succeeds : Bool) → first_success attempt tries ≡ before → is_success (attempt (suc tries)).result ≡ succeeds
-      → ((first_success attempt (suc tries) ≡ Some (suc tries)) × (suc tries ≤ plan.tries)) ⊎ ((first_success attempt (suc tries) ≡ None) × (suc tries ≡ plan.tries))
-      → fails_test (finished_as (record { plan = plan; records = records; mark = kept }) (attempt (suc tries))) ≡ fails plan attempt
-  by_fate (Some k) succeeds b s fate =
-      let small = first_success-within attempt tries k b in
-      let now : first_success attempt (suc tries) ≡ Some k = ap (λ (o : Option ℕ). found_or o (is_success (attempt (suc tries)).result) (suc tries)) b in
-      elim fate [
-        inl won ↦ let same : Some k ≡ Some (suc tries) = sym now ∙ won.0 in let e : k ≡ suc tries = cc in absurd (omega arith)
-      | inr lost ↦ let same : Some k ≡ None = sym now ∙ lost.0 in cc ]
-  by_fate None true b s fate =
-      let now : first_success attempt (suc tries) ≡ Some (suc tries) =
-      ap (λ (o : Option ℕ). found_or o (is_success (attempt (suc tries)).result) (suc tries)) b ∙ ap (λ (t : Bool). found_or None t (suc tries)) s in
-      elim fate [
-        inl won ↦
-          success_fails (attempt (suc tries)).result (attempt (suc tries)).slow (ltb 1 (length records)) plan.flaky s
-          ∙ ap (λ (m : ℕ). ltb 1 m && forbids_late plan.flaky) n
-          ∙ sym (ap (is_failing_fate plan.flaky) (first_success-stays attempt (suc tries) plan.tries (suc tries) won.1 now))
-      | inr lost ↦ let same : Some (suc tries) ≡ None = sym now ∙ lost.0 in cc ]
-  by_fate None false b s fate =
-      let now : first_success attempt (suc tries) ≡ None =
-      ap (λ (o : Option ℕ). found_or o (is_success (attempt (suc tries)).result) (suc tries)) b ∙ ap (λ (t : Bool). found_or None t (suc tries)) s in
-      elim fate [
-        inl won ↦ let same : Some (suc tries) ≡ None = sym won.0 ∙ now in cc
-      | inr lost ↦
-          failure_fails (attempt (suc tries)).result (attempt (suc tries)).slow (ltb 1 (length records)) plan.flaky s
-          ∙ sym (ap (is_failing_fate plan.flaky) (ap (first_success attempt) (sym lost.1) ∙ now)) ]
+    by_fate : (before : Option ℕ) (succeeds : Bool) → first_success attempt tries ≡ before → is_success (attempt (suc tries)).result ≡ succeeds
+        → ((first_success attempt (suc tries) ≡ Some (suc tries)) × (suc tries ≤ plan.tries)) ⊎ ((first_success attempt (suc tries) ≡ None) × (suc tries ≡ plan.tries))
+        → fails_test (finished_as (record { plan = plan; records = records; mark = kept }) (attempt (suc tries))) ≡ fails plan attempt
+    by_fate (Some k) succeeds b s fate =
+        let small = first_success-within attempt tries k b in
+        let now : first_success attempt (suc tries) ≡ Some k = ap (λ (o : Option ℕ). found_or o (is_success (attempt (suc tries)).result) (suc tries)) b in
+        elim fate [
+          | inl won ↦ let same : Some k ≡ Some (suc tries) = sym now ∙ won.0 in let e : k ≡ suc tries = cc in absurd (omega arith)
+          | inr lost ↦ let same : Some k ≡ None = sym now ∙ lost.0 in cc
+        ]
+    by_fate None true b s fate =
+        let now : first_success attempt (suc tries) ≡ Some (suc tries) =
+        ap (λ (o : Option ℕ). found_or o (is_success (attempt (suc tries)).result) (suc tries)) b ∙ ap (λ (t : Bool). found_or None t (suc tries)) s in
+        elim fate [
+          | inl won ↦
+              success_fails (attempt (suc tries)).result (attempt (suc tries)).slow (ltb 1 (length records)) plan.flaky s
+              ∙ ap (λ (m : ℕ). ltb 1 m && forbids_late plan.flaky) n
+              ∙ sym (ap (is_failing_fate plan.flaky) (first_success-stays attempt (suc tries) plan.tries (suc tries) won.1 now))
+          | inr lost ↦ let same : Some (suc tries) ≡ None = sym now ∙ lost.0 in cc
+        ]
+    by_fate None false b s fate =
+        let now : first_success attempt (suc tries) ≡ None =
+        ap (λ (o : Option ℕ). found_or o (is_success (attempt (suc tries)).result) (suc tries)) b ∙ ap (λ (t : Bool). found_or None t (suc tries)) s in
+        elim fate [
+          | inl won ↦ let same : Some (suc tries) ≡ None = sym won.0 ∙ now in cc
+          | inr lost ↦
+              failure_fails (attempt (suc tries)).result (attempt (suc tries)).slow (ltb 1 (length records)) plan.flaky s
+              ∙ sym (ap (is_failing_fate plan.flaky) (ap (first_success attempt) (sym lost.1) ∙ now))
+        ]
 
 pub finished_counts : (attempt : ℕ → Record) (test : TestState) → Fits attempt test → is_finished test ≡ true → counts fails_test test ≡ fails test.plan attempt
 finished_counts attempt test fits over = by_mark test.mark refl
   where
-  by_mark : (mark : Mark) → test.mark ≡ mark → counts fails_test test ≡ fails test.plan attempt
-  by_mark marks.Waiting e = let no = ap is_finished_mark e in cc
-  by_mark marks.Running e = let no = ap is_finished_mark e in cc
-  by_mark marks.Between e = let no = ap is_finished_mark e in cc
-  by_mark (marks.Finished reason) e =
-      ap (λ (b : Bool). b && option_map_or (λ told. fails_test (finished_as test told)) (last_record test.records) false) over
-      ∙ last_counts attempt test.plan test.records test.mark (length test.records) fits.tries fits.records refl
+    by_mark : (mark : Mark) → test.mark ≡ mark → counts fails_test test ≡ fails test.plan attempt
+    by_mark marks.Waiting e = let no = ap is_finished_mark e in cc
+    by_mark marks.Running e = let no = ap is_finished_mark e in cc
+    by_mark marks.Between e = let no = ap is_finished_mark e in cc
+    by_mark (marks.Finished reason) e =
+        ap (λ (b : Bool). b && option_map_or (λ told. fails_test (finished_as test told)) (last_record test.records) false) over
+        ∙ last_counts attempt test.plan test.records test.mark (length test.records) fits.tries fits.records refl
         (subst (FitsMark attempt test.plan.tries (length test.records)) e fits.marked)
 
 -- a test that isn't finished doesn't count

@@ -4,3 +4,4 @@ pub mod Tests
 pub mod Scripts
 pub mod Tracking
 pub mod DueStatus
+pub mod Taken

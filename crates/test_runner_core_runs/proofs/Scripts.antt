@@ -15,9 +15,9 @@ first_scripts script (suc scripts) = first_scripts script scripts ++ script scri
 pub any_push : (test : Record → Bool) (told : List Record) (last : Record) → list_any test (told ++ last ∷ []) ≡ (list_any test told || test last)
 any_push test told last = list_any-append test told (last ∷ []) ∙ ap (λ (b : Bool). list_any test told || b) (or_false (test last))
   where
-  or_false : (b : Bool) → (b || false) ≡ b
-  or_false true = refl
-  or_false false = refl
+    or_false : (b : Bool) → (b || false) ≡ b
+    or_false true = refl
+    or_false false = refl
 
 pub any_first : (test : Record → Bool) (script : ℕ → Record) (scripts : ℕ) → list_any test (first_scripts script scripts) ≡ some_script test script scripts
 any_first test script zero = refl
@@ -29,8 +29,9 @@ pub some_script-more : (test : Record → Bool) (script : ℕ → Record) (few m
 some_script-more test script few zero within h = let e : few ≡ 0 = omega arith in subst (λ (n : ℕ). some_script test script n ≡ true) e h
 some_script-more test script few (suc many) within h =
     elim (cases_lt few (suc many)) [
-      inl less ↦ ap (λ (b : Bool). b || test (script many)) (some_script-more test script few many (omega arith) h)
-    | inr more ↦ let e : few ≡ suc many = omega arith in subst (λ (n : ℕ). some_script test script n ≡ true) e h ]
+      | inl less ↦ ap (λ (b : Bool). b || test (script many)) (some_script-more test script few many (omega arith) h)
+      | inr more ↦ let e : few ≡ suc many = omega arith in subst (λ (n : ℕ). some_script test script n ≡ true) e h
+    ]
 
 -- behind a guard that refuses, nothing was refused
 pub guard_ok : {E Y : Type 0} (b : Bool) (refusal : E) (more : Result Y E) (y : Y) → cond b (Err refusal) more ≡ Ok y → (b ≡ false) × (more ≡ Ok y)

@@ -55,15 +55,15 @@ any_set p (first ∷ tests) zero old new found fails_it some =
     let no : p first ≡ false = ap p e ∙ fails_it in
     by_first (p new) (list_any p tests) (ap (λ (b : Bool). b || list_any p tests) (sym no) ∙ some)
   where
-  by_first : (b more : Bool) → more ≡ true → (b || more) ≡ true
-  by_first true more h = refl
-  by_first false more h = h
+    by_first : (b more : Bool) → more ≡ true → (b || more) ≡ true
+    by_first true more h = refl
+    by_first false more h = h
 any_set p (first ∷ tests) (suc place) old new found fails_it some =
     by_first (p first) (list_any p tests) some (any_set p tests place old new found fails_it)
   where
-  by_first : (b more : Bool) → (b || more) ≡ true → (more ≡ true → list_any p (slice_set tests place new) ≡ true) → (b || list_any p (slice_set tests place new)) ≡ true
-  by_first true more h go = refl
-  by_first false more h go = go h
+    by_first : (b more : Bool) → (b || more) ≡ true → (more ≡ true → list_any p (slice_set tests place new) ≡ true) → (b || list_any p (slice_set tests place new)) ≡ true
+    by_first true more h go = refl
+    by_first false more h go = go h
 
 -- a stop changes no plan
 pub plans_stopped : (reason : CancelReason) (tests : List TestState) → map plan_of (map (finished_by reason) tests) ≡ map plan_of tests
@@ -74,12 +74,12 @@ plans_stopped reason (test ∷ tests) = ap (λ (ps : List TestPlan). test.plan �
 counts_stopped : (row : Finished → Bool) (reason : CancelReason) (test : TestState) → counts row test ≡ true → counts row (finished_by reason test) ≡ true
 counts_stopped row reason test h = by_mark test.mark refl
   where
-  by_mark : (mark : Mark) → test.mark ≡ mark → counts row (finished_by reason test) ≡ true
-  by_mark marks.Waiting e = let no = unfinished_counts row test (ap is_finished_mark e) in cc
-  by_mark marks.Running e = let no = unfinished_counts row test (ap is_finished_mark e) in cc
-  by_mark marks.Between e = let no = unfinished_counts row test (ap is_finished_mark e) in cc
-  by_mark (marks.Finished kept) e =
-      subst (λ (mark : Mark). counts row (record { plan = test.plan; records = test.records; mark = mark }) ≡ true) (e ∙ sym (ap (stopped_mark reason) e)) h
+    by_mark : (mark : Mark) → test.mark ≡ mark → counts row (finished_by reason test) ≡ true
+    by_mark marks.Waiting e = let no = unfinished_counts row test (ap is_finished_mark e) in cc
+    by_mark marks.Running e = let no = unfinished_counts row test (ap is_finished_mark e) in cc
+    by_mark marks.Between e = let no = unfinished_counts row test (ap is_finished_mark e) in cc
+    by_mark (marks.Finished kept) e =
+        subst (λ (mark : Mark). counts row (record { plan = test.plan; records = test.records; mark = mark }) ≡ true) (e ∙ sym (ap (stopped_mark reason) e)) h
 
 pub any_stopped : (row : Finished → Bool) (reason : CancelReason) (tests : List TestState)
     → list_any (counts row) tests ≡ true → list_any (counts row) (map (finished_by reason) tests) ≡ true
@@ -87,11 +87,11 @@ any_stopped row reason [] some = some
 any_stopped row reason (test ∷ tests) some =
     by_first (counts row test) (list_any (counts row) tests) (counts row (finished_by reason test)) some (counts_stopped row reason test) (any_stopped row reason tests)
   where
-  by_first : (b more now : Bool) → (b || more) ≡ true → (b ≡ true → now ≡ true) → (more ≡ true → list_any (counts row) (map (finished_by reason) tests) ≡ true)
-      → (now || list_any (counts row) (map (finished_by reason) tests)) ≡ true
-  by_first true more now h first go = ap (λ (x : Bool). x || list_any (counts row) (map (finished_by reason) tests)) (first refl)
-  by_first false more true h first go = refl
-  by_first false more false h first go = go h
+    by_first : (b more now : Bool) → (b || more) ≡ true → (b ≡ true → now ≡ true) → (more ≡ true → list_any (counts row) (map (finished_by reason) tests) ≡ true)
+        → (now || list_any (counts row) (map (finished_by reason) tests)) ≡ true
+    by_first true more now h first go = ap (λ (x : Bool). x || list_any (counts row) (map (finished_by reason) tests)) (first refl)
+    by_first false more true h first go = refl
+    by_first false more false h first go = go h
 
 -- where a finished test counts as failing, a test of the assignment fails
 pub failed_is_due : (tests : List TestState) (attempt : ℕ → ℕ → Record) → AllFit tests attempt
@@ -100,25 +100,25 @@ failed_is_due [] attempt fits some = some
 failed_is_due (test ∷ tests) attempt fits some =
     by_first (is_finished test) refl (list_any (counts fails_test) tests) some (failed_is_due tests (λ p. attempt (suc p)) fits.1)
   where
-  by_first : (over : Bool) → is_finished test ≡ over → (more : Bool) → (counts fails_test test || more) ≡ true
-      → (more ≡ true → some_test_fails (map plan_of tests) (λ p. attempt (suc p)) ≡ true)
-      → (fails test.plan (attempt 0) || some_test_fails (map plan_of tests) (λ p. attempt (suc p))) ≡ true
-  by_first true e more h go =
-      let same = finished_counts (attempt 0) test fits.0 e in
-      by_both (fails test.plan (attempt 0)) more (sym (ap (λ (b : Bool). b || more) same) ∙ h) go
-    where
-    by_both : (b m : Bool) → (b || m) ≡ true → (m ≡ true → some_test_fails (map plan_of tests) (λ p. attempt (suc p)) ≡ true)
-        → (b || some_test_fails (map plan_of tests) (λ p. attempt (suc p))) ≡ true
-    by_both true m h' go' = refl
-    by_both false m h' go' = go' h'
-  by_first false e more h go =
-      let none = unfinished_counts fails_test test e in
-      let rest = go (sym (ap (λ (b : Bool). b || more) none) ∙ h) in
-      by_either (fails test.plan (attempt 0)) _ rest
-    where
-    by_either : (b m : Bool) → m ≡ true → (b || m) ≡ true
-    by_either true m h' = refl
-    by_either false m h' = h'
+    by_first : (over : Bool) → is_finished test ≡ over → (more : Bool) → (counts fails_test test || more) ≡ true
+        → (more ≡ true → some_test_fails (map plan_of tests) (λ p. attempt (suc p)) ≡ true)
+        → (fails test.plan (attempt 0) || some_test_fails (map plan_of tests) (λ p. attempt (suc p))) ≡ true
+    by_first true e more h go =
+        let same = finished_counts (attempt 0) test fits.0 e in
+        by_both (fails test.plan (attempt 0)) more (sym (ap (λ (b : Bool). b || more) same) ∙ h) go
+      where
+        by_both : (b m : Bool) → (b || m) ≡ true → (m ≡ true → some_test_fails (map plan_of tests) (λ p. attempt (suc p)) ≡ true)
+            → (b || some_test_fails (map plan_of tests) (λ p. attempt (suc p))) ≡ true
+        by_both true m h' go' = refl
+        by_both false m h' go' = go' h'
+    by_first false e more h go =
+        let none = unfinished_counts fails_test test e in
+        let rest = go (sym (ap (λ (b : Bool). b || more) none) ∙ h) in
+        by_either (fails test.plan (attempt 0)) _ rest
+      where
+        by_either : (b m : Bool) → m ≡ true → (b || m) ≡ true
+        by_either true m h' = refl
+        by_either false m h' = h'
 
 -- where all tests finished, one counts as failing exactly if one of the assignment fails
 pub finished_is_due : (tests : List TestState) (attempt : ℕ → ℕ → Record) → AllFit tests attempt → list_all is_finished tests ≡ true
@@ -127,13 +127,13 @@ finished_is_due [] attempt fits all = refl
 finished_is_due (test ∷ tests) attempt fits all =
     by_first (is_finished test) refl (list_all is_finished tests) all (finished_is_due tests (λ p. attempt (suc p)) fits.1)
   where
-  by_first : (over : Bool) → is_finished test ≡ over → (more : Bool) → (over && more) ≡ true
-      → (more ≡ true → list_any (counts fails_test) tests ≡ some_test_fails (map plan_of tests) (λ p. attempt (suc p)))
-      → (counts fails_test test || list_any (counts fails_test) tests) ≡ (fails test.plan (attempt 0) || some_test_fails (map plan_of tests) (λ p. attempt (suc p)))
-  by_first true e more h go =
-      let same = finished_counts (attempt 0) test fits.0 e in
-      let rest = go h in cc
-  by_first false e more h go = cc
+    by_first : (over : Bool) → is_finished test ≡ over → (more : Bool) → (over && more) ≡ true
+        → (more ≡ true → list_any (counts fails_test) tests ≡ some_test_fails (map plan_of tests) (λ p. attempt (suc p)))
+        → (counts fails_test test || list_any (counts fails_test) tests) ≡ (fails test.plan (attempt 0) || some_test_fails (map plan_of tests) (λ p. attempt (suc p)))
+    by_first true e more h go =
+        let same = finished_counts (attempt 0) test fits.0 e in
+        let rest = go h in cc
+    by_first false e more h go = cc
 
 -- how far a test is after one more try, in a run that nothing stopped
 mark_after : (attempt : ℕ → Record) (tries number : ℕ) (told : Record) (reason : Option CancelReason)
@@ -143,14 +143,14 @@ mark_after attempt tries number told reason same going less none =
     subst (λ (r : Option CancelReason). FitsMark attempt tries (suc number) (cond (is_success told.result || leb tries (number + 1) || is_some r) (marks.Finished r) marks.Between)) (sym going)
     (by_tests (is_success told.result) (leb tries (number + 1)) (ap (λ (r : Record). is_success r.result) (sym same)) refl)
   where
-  by_tests : (succeeds last : Bool) → is_success (attempt (suc number)).result ≡ succeeds → leb tries (number + 1) ≡ last
-      → FitsMark attempt tries (suc number) (cond (succeeds || last || false) (marks.Finished None) marks.Between)
-  by_tests true last s l =
-      inl (ap (λ (o : Option ℕ). found_or o (is_success (attempt (suc number)).result) (suc number)) none ∙ ap (λ (b : Bool). found_or None b (suc number)) s, omega arith)
-  by_tests false true s l =
-      inr (ap (λ (o : Option ℕ). found_or o (is_success (attempt (suc number)).result) (suc number)) none ∙ ap (λ (b : Bool). found_or None b (suc number)) s, grind (arith, nat_tests))
-  by_tests false false s l =
-      (grind (arith, nat_tests), ap (λ (o : Option ℕ). found_or o (is_success (attempt (suc number)).result) (suc number)) none ∙ ap (λ (b : Bool). found_or None b (suc number)) s)
+    by_tests : (succeeds last : Bool) → is_success (attempt (suc number)).result ≡ succeeds → leb tries (number + 1) ≡ last
+        → FitsMark attempt tries (suc number) (cond (succeeds || last || false) (marks.Finished None) marks.Between)
+    by_tests true last s l =
+        inl (ap (λ (o : Option ℕ). found_or o (is_success (attempt (suc number)).result) (suc number)) none ∙ ap (λ (b : Bool). found_or None b (suc number)) s, omega arith)
+    by_tests false true s l =
+        inr (ap (λ (o : Option ℕ). found_or o (is_success (attempt (suc number)).result) (suc number)) none ∙ ap (λ (b : Bool). found_or None b (suc number)) s, grind (arith, nat_tests))
+    by_tests false false s l =
+        (grind (arith, nat_tests), ap (λ (o : Option ℕ). found_or o (is_success (attempt (suc number)).result) (suc number)) none ∙ ap (λ (b : Bool). found_or None b (suc number)) s)
 
 -- an attempt that ran and agrees leaves the test fitting, where nothing stopped the run
 pub fits_after : (attempt : ℕ → Record) (state : State) (test : TestState) (told : Record)
@@ -166,7 +166,7 @@ fits_after attempt state test told fits running going same =
       tries = fits.tries;
       records = ap (λ (xs : List Record). xs ++ told ∷ []) fits.records ∙ ap (λ (r : Record). tried attempt number ++ r ∷ []) same_next ∙ sym (ap (tried attempt) count);
       marked = subst (λ (m : ℕ). FitsMark attempt test.plan.tries m (cond (finishes state test told) (marks.Finished state.reason) marks.Between)) (sym count)
-        (mark_after attempt test.plan.tries number told state.reason same_next going open_still.0 open_still.1);
+          (mark_after attempt test.plan.tries number told state.reason same_next going open_still.0 open_still.1);
     }
 
 -- a test that starts fits as before
@@ -174,12 +174,12 @@ pub fits_started : (attempt : ℕ → Record) (test : TestState) → Fits attemp
 fits_started attempt test fits open_still =
     record { tries = fits.tries; records = fits.records; marked = by_mark test.mark (open_still) fits.marked }
   where
-  by_mark : (mark : Mark) → is_finished_mark mark ≡ false → FitsMark attempt test.plan.tries (length test.records) mark
-      → FitsMark attempt test.plan.tries (length test.records) marks.Running
-  by_mark marks.Waiting o h = h
-  by_mark marks.Running o h = h
-  by_mark marks.Between o h = h
-  by_mark (marks.Finished kept) o h = cc
+    by_mark : (mark : Mark) → is_finished_mark mark ≡ false → FitsMark attempt test.plan.tries (length test.records) mark
+        → FitsMark attempt test.plan.tries (length test.records) marks.Running
+    by_mark marks.Waiting o h = h
+    by_mark marks.Running o h = h
+    by_mark marks.Between o h = h
+    by_mark (marks.Finished kept) o h = cc
 
 -- all tests fit in the state in which nothing ended
 pub fits_initial : (tests : List TestPlan) (attempt : ℕ → ℕ → Record) → AllByRecursion (λ test. 0 < test.tries) tests → AllFit (map waiting tests) attempt

@@ -4,4 +4,6 @@ pub mod State
 pub mod Counters
 pub mod Step
 pub mod Runs
+pub mod Decisions
 pub mod Laws
+pub mod WorkedRows

@@ -5,11 +5,17 @@
 //! plan, counted from 0; ids and names come in above. `laws` has what is proved of them.
 #![tactic(auto)]
 
+mod decisions;
 mod event;
 pub mod laws;
 mod mark;
+mod script_order;
 mod step_refusal;
+#[cfg(test)]
+mod tests;
 
+pub use decisions::{end_refusal, start_refusal, stop_refusal};
 pub use event::Event;
 pub use mark::Mark;
+pub use script_order::script_refusal;
 pub use step_refusal::StepRefusal;

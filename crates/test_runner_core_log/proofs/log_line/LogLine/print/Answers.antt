@@ -1,6 +1,6 @@
-use Rattle.std.proofs.Common.{◌≡◌, ◌∷◌, ◌++◌, List, ℕ}
+use Rattle.std.proofs.Common.{◌≡◌, ◌∷◌, ◌++◌}
 use Rattle.std.specs.Prelude.{codes, string_bytes}
-use Rattle.test_runner_core_log.specs.Spelling.{joined, HasSpelling}
+use Rattle.test_runner_core_log.specs.Spelling.{joined}
 use Rattle.test_runner_core_log.proofs.Writable.{script_record, end_record, end_printed}
 use Rattle.test_runner_core_log.proofs.log_line.LogLine.print.Goals as goal
 
