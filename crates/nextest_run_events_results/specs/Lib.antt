@@ -1,1 +1,2 @@
+pub mod Cancel
 pub mod Result

@@ -2,6 +2,7 @@
 #![tactic(auto)]
 
 mod cancel_reason;
+pub mod laws;
 mod result;
 #[cfg(test)]
 mod tests;

@@ -17,6 +17,11 @@ pub enum LineRefusal {
 }
 
 impl fmt::Display for LineRefusal {
+    ghost use Rattle.std.specs.Prelude.{Some};
+    ghost use Rattle.test_runner_core.specs.Texts.{text_of};
+
+    ghost output = { λ it. Some (text_of it) };
+
     fn fmt<W: fmt::Write>(&self, f: &mut fmt::Formatter<W>) -> fmt::Result {
         match self {
             LineRefusal::LineTooLong => write!(f, "LineTooLong"),

@@ -3,3 +3,4 @@ pub mod Feeds
 pub mod Cursor
 pub mod Calls
 pub mod Inside
+pub mod Texts

@@ -19,6 +19,11 @@ pub enum LineFault {
 }
 
 impl fmt::Display for LineFault {
+    ghost use Rattle.std.specs.Prelude.{Some};
+    ghost use Rattle.test_runner_core_lines.specs.Texts.{text_of};
+
+    ghost output = { λ it. Some (text_of it) };
+
     fn fmt<W: fmt::Write>(&self, f: &mut fmt::Formatter<W>) -> fmt::Result {
         match self {
             LineFault::LineTooLong => write!(f, "the line is too long"),

@@ -7,3 +7,4 @@ pub mod Runs
 pub mod Decisions
 pub mod Laws
 pub mod WorkedRows
+pub mod Texts

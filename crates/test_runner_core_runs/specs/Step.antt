@@ -4,6 +4,7 @@ use Rattle.std.specs.Option.{option_map_or}
 use Rattle.nextest_config_elements_plain.specs.MaxFail.{mode_at}
 use Rattle.nextest_config_elements_plain.specs.declared.max_fail.TerminateMode.{TerminateMode}
 use Rattle.nextest_config_elements_plain.specs.declared.max_fail.TerminateMode.TheVariants as modes
+use Rattle.nextest_run_events_results.specs.Cancel.{graver_reason}
 use Rattle.nextest_run_events_results.specs.Result.{is_success}
 use Rattle.nextest_run_events_results.specs.declared.cancel_reason.CancelReason.{CancelReason}
 use Rattle.nextest_run_events_results.specs.declared.cancel_reason.CancelReason.TheVariants as why
@@ -15,21 +16,6 @@ use Rattle.test_runner_core_runs.specs.declared.event.Event.{Event}
 use Rattle.test_runner_core_runs.specs.declared.event.Event.TheVariants as events
 use Rattle.test_runner_core_runs.specs.declared.step_refusal.StepRefusal.{StepRefusal}
 use Rattle.test_runner_core_runs.specs.declared.step_refusal.StepRefusal.TheVariants as refused
-
--- how grave a reason is
-abbrev pub gravity : CancelReason → ℕ
-gravity why.SetupScriptFailure = 0
-gravity why.TestFailure = 1
-gravity why.ReportError = 2
-gravity why.TestFailureImmediate = 3
-gravity why.GlobalTimeout = 4
-gravity why.Signal = 5
-gravity why.Interrupt = 6
-gravity why.SecondSignal = 7
-
--- the graver of two reasons
-abbrev pub graver_reason : CancelReason → CancelReason → CancelReason
-graver_reason old new = if nat_lt (gravity old) (gravity new) then new else old
 
 -- a stop under a reason finishes a test that is between two attempts, and no other
 abbrev pub stopped_mark : CancelReason → Mark → Mark

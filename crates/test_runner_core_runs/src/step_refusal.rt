@@ -26,6 +26,11 @@ pub enum StepRefusal {
 }
 
 impl fmt::Display for StepRefusal {
+    ghost use Rattle.std.specs.Prelude.{Some};
+    ghost use Rattle.test_runner_core_runs.specs.Texts.{text_of};
+
+    ghost output = { λ it. Some (text_of it) };
+
     fn fmt<W: fmt::Write>(&self, f: &mut fmt::Formatter<W>) -> fmt::Result {
         match self {
             StepRefusal::UnknownScript => write!(f, "the plan has no such script"),
