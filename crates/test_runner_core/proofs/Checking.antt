@@ -1,9 +1,9 @@
 -- What stays true while the lines of a log are checked.
-use Rattle.std.proofs.Common.{◌≡◌, ℕ, ◌+◌, ◌≤◌, List, [], ◌∷◌, ◌++◌, length, Option, Some, None, IfSome, Ok, refl, sym, ap, ◌∙◌, subst, arith, inl, inr}
+use Rattle.std.proofs.Common.{◌≡◌, ℕ, ◌+◌, ◌≤◌, List, [], Option, Some, None, IfSome, Ok, refl, sym, subst, inl, inr}
 use Rattle.test_runner_core_lines.specs.declared.limits.TheConstants.{LOG_LIMIT}
 use Rattle.test_runner_core_lines.specs.declared.fault.LineFault.{LineFault}
 use Rattle.test_runner_core_lines.specs.declared.next.Next.TheVariants as found_is
-use Rattle.test_runner_core_lines.specs.Items.{Item, Line, Refused, items}
+use Rattle.test_runner_core_lines.specs.Items.{Item, items}
 use Rattle.test_runner_core_lines.specs.Cursor.{Cursor, received, items_ahead}
 use Rattle.test_runner_core_lines.specs.Calls.{Hands}
 use Rattle.test_runner_core.specs.Check.{FirstRefused, refusal_of, IsReading}

@@ -1,5 +1,5 @@
 // The first line of a log that is refused whatever the plan.
-ghost use Rattle.std.specs.Prelude.{◌≡◌, ℕ, ◌+◌, ◌^◌, ◌<◌, ◌≤◌, IfOk, IfSome, List, IsErrOf};
+ghost use Rattle.std.specs.Prelude.{◌≡◌, ◌+◌, ◌^◌, ◌<◌, ◌≤◌, IfOk, IfSome};
 ghost use Rattle.test_runner_core_lines.specs.Items.{items};
 ghost use Rattle.test_runner_core_lines.specs.Calls.{TellsFailure};
 ghost use Rattle.test_runner_core.specs.Check.{FirstRefused, refusal_of, IsReading};

@@ -1,5 +1,5 @@
 -- What a read behind the bytes that wait leaves.
-use Rattle.std.proofs.Common.{suc, zero, ◌≡◌, ℕ, ◌+◌, ◌-◌, ◌<◌, ◌≤◌, List, [], ◌∷◌, ◌++◌, length, take, drop, Option, Some, None, Result, Ok, Err, OnErr, refl, sym, ap, ◌∙◌, subst, arith, append_assoc, append-nil, length-append}
+use Rattle.std.proofs.Common.{◌≡◌, ℕ, ◌+◌, ◌-◌, ◌≤◌, List, [], ◌++◌, length, take, drop, Option, Some, None, Result, Ok, Err, OnErr, refl, sym, ap, ◌∙◌, subst, arith, append_assoc, append-nil, length-append}
 use Rattle.std.specs.List.{slice_range}
 use Rattle.std.specs.Io.KnownBytes.{Consumes, Keeps}
 use Rattle.std.proofs.lemmas.Slice.{between_is}
@@ -7,7 +7,7 @@ use Rattle.std.proofs.lemmas.List.{take_at}
 use Rattle.test_runner_core_lines.specs.Feeds.{IsPlain}
 use Rattle.test_runner_core_lines.specs.Cursor.{Cursor}
 use Rattle.test_runner_core_lines.specs.Calls.{KeepsAhead, WaitsMore}
-use Rattle.test_runner_core_lines.proofs.Ranges.{range_join, take-range, length-range}
+use Rattle.test_runner_core_lines.proofs.Ranges.{range_join, take-range}
 
 -- what holds in any case holds at an `Err`
 pub on_err : {T E : Type 0} (result : Result T E) (P : Type 0) → P → OnErr result P

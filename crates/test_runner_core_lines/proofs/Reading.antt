@@ -1,5 +1,5 @@
 -- What stays true while lines are looked for and the reader is asked for more, and what a call hands out by it.
-use Rattle.std.proofs.Common.{◌≡◌, ℕ, ◌+◌, ◌-◌, ◌<◌, ◌≤◌, Bool, true, false, cond, ltb, leb, eqb, ◌&&◌, ◌||◌, List, [], ◌∷◌, ◌++◌, length, take, Option, Some, None, Ok, refl, sym, ap, ◌∙◌, subst, arith, append_assoc, append-nil}
+use Rattle.std.proofs.Common.{◌≡◌, ℕ, ◌+◌, ◌≤◌, Bool, true, false, cond, ltb, leb, eqb, ◌&&◌, ◌||◌, List, [], ◌∷◌, ◌++◌, length, Option, Some, None, Ok, refl, sym, ap, ◌∙◌, subst, arith, append_assoc, append-nil}
 use Rattle.std.specs.Option.{option_map_or}
 use Rattle.std.specs.Io.KnownBytes.{IsAtEnd}
 use Rattle.std.proofs.lemmas.List.{take_all}
@@ -11,7 +11,7 @@ use Rattle.test_runner_core_lines.specs.declared.next.Next.TheVariants as found
 use Rattle.test_runner_core_lines.specs.declared.next.Scan.TheVariants as scanned
 use Rattle.test_runner_core_lines.specs.Feeds.{IsPlain}
 use Rattle.test_runner_core_lines.specs.Items.{Item, Line, Refused, line_fault, items}
-use Rattle.test_runner_core_lines.specs.Cursor.{Cursor, Unmoved, received, items_ahead}
+use Rattle.test_runner_core_lines.specs.Cursor.{Cursor, received, items_ahead}
 use Rattle.test_runner_core_lines.specs.Calls.{KeepsAhead, Hands, HandsItem, Scanned, WaitsMore, idle_reads, end_of}
 use Rattle.test_runner_core_lines.proofs.Items.{items_line, items_end}
 

@@ -1,5 +1,5 @@
 -- What a look at the bytes that wait tells.
-use Rattle.std.proofs.Common.{suc, zero, ◌≡◌, ℕ, ◌+◌, ◌-◌, ◌<◌, ◌≤◌, Bool, true, false, cond, ltb, leb, eqb, ◌&&◌, ◌||◌, List, [], ◌∷◌, ◌++◌, length, take, drop, Option, Some, None, Ok, refl, sym, ap, ◌∙◌, subst, arith, append_assoc}
+use Rattle.std.proofs.Common.{◌≡◌, ℕ, ◌+◌, ◌-◌, ◌<◌, ◌≤◌, Bool, true, false, cond, ltb, leb, eqb, ◌&&◌, ◌||◌, List, [], ◌∷◌, ◌++◌, length, take, drop, Option, Some, None, Ok, refl, sym, ap, ◌∙◌, subst, arith, append_assoc}
 use Rattle.std.specs.List.{slice_range}
 use Rattle.std.specs.Option.{option_map_or}
 use Rattle.std.proofs.lemmas.List.{take-append-drop}
@@ -9,10 +9,10 @@ use Rattle.test_runner_core_lines.specs.declared.fault.LineFault.{LineFault}
 use Rattle.test_runner_core_lines.specs.declared.fault.LineFault.TheVariants as faults
 use Rattle.test_runner_core_lines.specs.declared.next.Next.TheVariants as found
 use Rattle.test_runner_core_lines.specs.Feeds.{IsPlain, IsFirstFeed}
-use Rattle.test_runner_core_lines.specs.Items.{Item, Line, Refused, line_fault, items}
-use Rattle.test_runner_core_lines.specs.Cursor.{Cursor, Unmoved, items_ahead}
+use Rattle.test_runner_core_lines.specs.Items.{Line, Refused, line_fault, items}
+use Rattle.test_runner_core_lines.specs.Cursor.{Cursor, Unmoved}
 use Rattle.test_runner_core_lines.specs.Calls.{idle_reads, Scanned, scan_of}
-use Rattle.test_runner_core_lines.proofs.Items.{items_line, items_limit, IsLimit}
+use Rattle.test_runner_core_lines.proofs.Items.{items_line, items_limit}
 use Rattle.test_runner_core_lines.proofs.Ranges.{range_join, take-range, drop-range, length-range, plain-append}
 
 -- no line feed in what was looked at before, and none in the rest

@@ -1,5 +1,5 @@
 -- What a call of a reader of lines did.
-use Rattle.std.specs.Prelude.{◌≡◌, ℕ, ◌+◌, ◌≤◌, Bool, true, false, length, List, [], ◌∷◌, ◌++◌, Option, None, Some, Result, Ok, Err, ⊤, take}
+use Rattle.std.specs.Prelude.{◌≡◌, ℕ, ◌+◌, ◌≤◌, Bool, true, length, List, [], ◌∷◌, ◌++◌, Option, None, Some, Result, Ok, Err, ⊤, take}
 use Rattle.test_runner_core_lines.specs.Items.{Item, Line, Refused, line_fault}
 use Rattle.test_runner_core_lines.specs.Cursor.{Cursor, received, items_ahead, Unmoved}
 use Rattle.test_runner_core_lines.specs.Feeds.{IsPlain}

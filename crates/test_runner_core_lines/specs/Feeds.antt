@@ -1,5 +1,5 @@
 -- Line feeds in bytes.
-use Rattle.std.specs.Prelude.{◌≡◌, ◌≢◌, ℕ, ◌+◌, ◌<◌, List, ◌∷◌, ◌++◌, Option, None, Some, length, take, drop}
+use Rattle.std.specs.Prelude.{◌≡◌, ◌≢◌, ℕ, ◌+◌, ◌<◌, List, ◌∷◌, Option, None, Some, length, take, drop}
 use Rattle.std.specs.List.{AllByRecursion}
 
 -- no line feed stands in the bytes

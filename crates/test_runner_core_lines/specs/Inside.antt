@@ -1,5 +1,5 @@
 -- What a reader of lines keeps inside.
-use Rattle.std.specs.Prelude.{ℕ, ◌+◌, ◌-◌, ◌≤◌, vec_len}
+use Rattle.std.specs.Prelude.{◌+◌, ◌-◌, ◌≤◌, vec_len}
 use Rattle.std.specs.List.{slice_range}
 use Rattle.test_runner_core_lines.specs.Cursor.{Cursor}
 use Rattle.test_runner_core_lines.specs.Feeds.{IsPlain}

@@ -1,8 +1,8 @@
 // The lines of a log, one at a time.
-ghost use Rattle.std.specs.Prelude.{◌≡◌, ℕ, ◌+◌, ◌-◌, ◌^◌, ◌<◌, ◌≤◌, [], false, IfOk, OnErr, length};
+ghost use Rattle.std.specs.Prelude.{◌≡◌, ◌+◌, ◌-◌, ◌^◌, ◌<◌, ◌≤◌, [], false, IfOk, OnErr, length};
 ghost use Rattle.std.specs.Io.KnownBytes.{IsAtEnd};
 ghost use Rattle.test_runner_core_lines.specs.Items.{line_fault};
-ghost use Rattle.test_runner_core_lines.specs.Cursor.{Unmoved, received};
+ghost use Rattle.test_runner_core_lines.specs.Cursor.{received};
 ghost use Rattle.test_runner_core_lines.specs.Feeds.{IsFirstFeed};
 ghost use Rattle.test_runner_core_lines.specs.Calls.{Hands, HandsBytes, Scanned, TellsFailure, idle_reads, KeepsAhead, WaitsMore, end_of, scan_of as scan_told};
 

@@ -1,7 +1,7 @@
 -- The status of a run, and that it is the due one.
-use Rattle.std.proofs.Common.{suc, zero, ◌≡◌, ℕ, ◌+◌, ◌<◌, ◌≤◌, Bool, true, false, cond, ltb, eqb, not, ◌||◌, ◌&&◌, List, [], ◌∷◌, length, Option, Some, None, map, refl, sym, ap, ◌∙◌, subst, arith, count_by}
+use Rattle.std.proofs.Common.{◌≡◌, ℕ, ◌≤◌, Bool, true, false, cond, ltb, eqb, not, ◌||◌, ◌&&◌, List, [], ◌∷◌, length, Option, Some, None, refl, sym, ap, ◌∙◌, subst, arith, count_by}
 use Rattle.std.specs.Prelude.{is_some}
-use Rattle.std.specs.List.{list_any, list_all, AllByRecursion}
+use Rattle.std.specs.List.{list_any, list_all}
 use Rattle.std.specs.Option.{option_map_or}
 use Rattle.std.proofs.lemmas.List.{length-map}
 use Rattle.std.proofs.lemmas.Bool.Decides.{nat_tests}
@@ -15,7 +15,6 @@ use Rattle.nextest_run_events_results.specs.Result.{is_success}
 use Rattle.nextest_run_events_counters.specs.Rows.{Finished, fails_script, script_failed, script_exec_failed, script_timed_out, fails_test, failed, exec_failed, failed_timed_out}
 use Rattle.nextest_run_events_counters.specs.Summary.{failure_at, at_tests, is_own, failed_count, failed_setup_script_count}
 use Rattle.nextest_run_events_counters.specs.declared.run_stats.RunStats.{RunStats}
-use Rattle.nextest_run_events_counters.specs.declared.summary.FinalRunStats.{FinalRunStats}
 use Rattle.nextest_run_events_counters.specs.declared.summary.FinalRunStats.TheVariants as summed
 use Rattle.nextest_run_events_counters.specs.declared.summary.RunStatsFailureKind.{RunStatsFailureKind}
 use Rattle.nextest_run_events_counters.specs.declared.summary.RunStatsFailureKind.TheVariants as at
@@ -24,11 +23,11 @@ use Rattle.test_runner_core_runs.specs.Plan.{TestPlan, Plan, IsPlan}
 use Rattle.test_runner_core_runs.specs.Assignment.{Assignment, some_script, some_test_fails, due_status}
 use Rattle.test_runner_core_runs.specs.State.{TestState, State, initial, counts, is_finished, last_record, finished_as}
 use Rattle.test_runner_core_runs.specs.Counters.{counters, status, status_of, status_at}
-use Rattle.test_runner_core_runs.specs.Runs.{Run, Agrees, IsNoStop, is_complete}
+use Rattle.test_runner_core_runs.specs.Runs.{is_complete}
 use Rattle.test_runner_core_runs.specs.Laws.{EndsWithDueStatus}
-use Rattle.test_runner_core_runs.proofs.Counting.{counts_some, three_count_some, counts_all}
-use Rattle.test_runner_core_runs.proofs.Scripts.{first_scripts, any_first, some_script-more}
-use Rattle.test_runner_core_runs.proofs.Tests.{plan_of, finished_is_due}
+use Rattle.test_runner_core_runs.proofs.Counting.{three_count_some, counts_all}
+use Rattle.test_runner_core_runs.proofs.Scripts.{any_first, some_script-more}
+use Rattle.test_runner_core_runs.proofs.TestStates.{plan_of, finished_is_due}
 use Rattle.test_runner_core_runs.proofs.Tracking.{Tracks, Standing, Going, Failing, stops, tracks_initial, run_tracks}
 
 -- tests that answer alike find alike

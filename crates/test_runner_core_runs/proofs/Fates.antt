@@ -1,9 +1,8 @@
 -- A test whose records are those of its assignment fares as the assignment says.
-use Rattle.std.proofs.Common.{suc, zero, ◌≡◌, ℕ, ◌+◌, ◌-◌, ◌<◌, ◌≤◌, Bool, true, false, cond, ltb, leb, not, ◌||◌, ◌&&◌, List, [], ◌∷◌, ◌++◌, length, Option, Some, None, refl, sym, ap, ◌∙◌, subst, arith, ◌⊎◌, inl, inr, length-append}
+use Rattle.std.proofs.Common.{suc, zero, ◌≡◌, ℕ, ◌-◌, ◌<◌, ◌≤◌, Bool, true, false, ltb, ◌||◌, ◌&&◌, List, [], ◌∷◌, ◌++◌, length, Option, Some, None, refl, sym, ap, ◌∙◌, subst, arith, ◌⊎◌, inl, inr, length-append}
 use Rattle.std.specs.List.{slice_get}
 use Rattle.std.specs.Option.{option_map_or}
 use Rattle.std.proofs.lemmas.Bool.{cases_lt}
-use Rattle.std.proofs.lemmas.Bool.Decides.{nat_tests}
 use Rattle.nextest_config_elements_plain.specs.declared.timeouts.FlakyResult.{FlakyResult}
 use Rattle.nextest_config_elements_plain.specs.declared.timeouts.LeakTimeoutResult.TheVariants as leak_judged
 use Rattle.nextest_config_elements_plain.specs.declared.timeouts.SlowTimeoutResult.TheVariants as timeout_judged

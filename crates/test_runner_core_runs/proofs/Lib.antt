@@ -1,6 +1,6 @@
 pub mod Counting
 pub mod Fates
-pub mod Tests
+pub mod TestStates
 pub mod Scripts
 pub mod Tracking
 pub mod DueStatus

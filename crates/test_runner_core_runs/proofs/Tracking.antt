@@ -1,5 +1,5 @@
 -- What holds of every run that agrees with an assignment and that nobody told to stop.
-use Rattle.std.proofs.Common.{suc, zero, ◌≡◌, ℕ, ◌+◌, ◌<◌, ◌≤◌, Bool, true, false, cond, ltb, leb, eqb, not, ◌||◌, ◌&&◌, List, [], ◌∷◌, ◌++◌, length, Option, Some, None, Result, Ok, Err, map, refl, sym, ap, ◌∙◌, subst, arith, ◌⊎◌, inl, inr, length-append}
+use Rattle.std.proofs.Common.{suc, zero, ◌≡◌, ℕ, ◌+◌, ◌<◌, ◌≤◌, Bool, true, false, cond, ltb, leb, eqb, not, ◌||◌, ◌&&◌, List, [], ◌∷◌, ◌++◌, length, Option, Some, None, Ok, map, refl, sym, ap, ◌∙◌, subst, arith, ◌⊎◌, inl, inr, length-append}
 use Rattle.std.specs.Prelude.{slice_get, slice_set, is_some}
 use Rattle.std.specs.Option.{option_map_or}
 use Rattle.std.specs.List.{list_any, list_all, AllByRecursion}
@@ -17,17 +17,16 @@ use Rattle.test_runner_core_records.specs.declared.record.Record.{Record}
 use Rattle.test_runner_core_runs.specs.Plan.{TestPlan, Plan, IsPlan, IsLimit, weight}
 use Rattle.test_runner_core_runs.specs.Assignment.{Assignment, some_test_fails}
 use Rattle.test_runner_core_runs.specs.State.{TestState, State, initial, waiting, counts, is_finished, is_finished_mark, failed_weight}
-use Rattle.test_runner_core_runs.specs.Step.{step, script_ended, after_script, started, start_of, start_from, attempt_ended, end_from, with_test, after_attempt, finishes, limited, limit_reason, stopped_by, finished_by}
+use Rattle.test_runner_core_runs.specs.Step.{step, script_ended, after_script, started, start_of, start_from, attempt_ended, end_from, with_test, after_attempt, finishes, limited, limit_reason, stopped_by}
 use Rattle.test_runner_core_runs.specs.Runs.{Run, Agrees, AgreesWith, EventAgrees, IsNoStop, try_at}
 use Rattle.test_runner_core_runs.specs.declared.mark.Mark.{Mark}
 use Rattle.test_runner_core_runs.specs.declared.mark.Mark.TheVariants as marks
 use Rattle.test_runner_core_runs.specs.declared.event.Event.{Event}
 use Rattle.test_runner_core_runs.specs.declared.event.Event.TheVariants as events
-use Rattle.test_runner_core_runs.specs.declared.step_refusal.StepRefusal.{StepRefusal}
 use Rattle.test_runner_core_runs.specs.declared.step_refusal.StepRefusal.TheVariants as refused
 use Rattle.test_runner_core_runs.proofs.Counting.{weighs_some}
-use Rattle.test_runner_core_runs.proofs.Fates.{Fits, unfinished_counts}
-use Rattle.test_runner_core_runs.proofs.Tests.{plan_of, AllFit, fit_at, fit_set, plans_set, any_set, plans_stopped, any_stopped, failed_is_due, fits_after, fits_started, fits_initial, plans_initial}
+use Rattle.test_runner_core_runs.proofs.Fates.{unfinished_counts}
+use Rattle.test_runner_core_runs.proofs.TestStates.{plan_of, AllFit, fit_at, fit_set, plans_set, any_set, plans_stopped, any_stopped, failed_is_due, fits_after, fits_started, fits_initial, plans_initial}
 use Rattle.test_runner_core_runs.proofs.Scripts.{first_scripts, any_push, guard_ok, found_ok, ok_is}
 
 abbrev pub stops : Record → Bool

@@ -1,11 +1,9 @@
 -- Which steps are refused, by what a state shows of them.
-use Rattle.std.specs.Prelude.{◌≡◌, ℕ, Bool, length, Option, None, Some, Result, Ok, Err, is_some, slice_get, nat_lt}
-use Rattle.nextest_run_events_results.specs.declared.cancel_reason.CancelReason.{CancelReason}
+use Rattle.std.specs.Prelude.{◌≡◌, ℕ, Bool, length, Option, None, Some, Ok, Err, is_some, slice_get}
 use Rattle.test_runner_core_runs.specs.State.{TestState, State}
 use Rattle.test_runner_core_runs.specs.Step.{step}
 use Rattle.test_runner_core_runs.specs.declared.mark.Mark.{Mark}
 use Rattle.test_runner_core_runs.specs.declared.event.Event.{Event}
-use Rattle.test_runner_core_runs.specs.declared.event.Event.TheVariants as events
 use Rattle.test_runner_core_runs.specs.declared.step_refusal.StepRefusal.{StepRefusal}
 
 -- the step of an event has this refusal, or it is taken

@@ -1,5 +1,5 @@
 -- Whole runs: what they are, when they are complete, and when they agree with an assignment.
-use Rattle.std.specs.Prelude.{◌≡◌, ℕ, ◌+◌, ◌==◌, Bool, true, false, ◌&&◌, ◌||◌, not, length, List, [], ◌∷◌, Option, None, Some, Result, Ok, is_some, slice_get, ⊤, ◌⊎◌}
+use Rattle.std.specs.Prelude.{◌≡◌, ℕ, ◌+◌, ◌==◌, Bool, false, ◌&&◌, ◌||◌, not, length, List, [], ◌∷◌, Option, None, Some, Ok, is_some, slice_get, ⊤, ◌⊎◌}
 use Rattle.std.specs.List.{list_all}
 use Rattle.std.specs.Option.{option_map_or}
 use Rattle.nextest_run_events_results.specs.Result.{is_success}

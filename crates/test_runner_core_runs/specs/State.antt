@@ -1,5 +1,5 @@
 -- The state of a run.
-use Rattle.std.specs.Prelude.{ℕ, Bool, true, false, ◌-◌, length, List, [], Option, None, Some, map, nat_lt, slice_get, if◌then◌else◌, sum_by, ◌&&◌}
+use Rattle.std.specs.Prelude.{ℕ, Bool, true, false, ◌-◌, length, List, [], Option, None, map, nat_lt, slice_get, if◌then◌else◌, sum_by, ◌&&◌}
 use Rattle.std.specs.Option.{option_map_or}
 use Rattle.nextest_config_elements_plain.specs.declared.max_fail.MaxFail.{MaxFail}
 use Rattle.nextest_run_events_results.specs.declared.cancel_reason.CancelReason.{CancelReason}

@@ -1,5 +1,5 @@
 -- Worked rows: small runs of two tests, a and b, and where they end.
-use Rattle.std.specs.Prelude.{◌≡◌, ℕ, Bool, true, false, pos, List, [], ◌∷◌, ◌++◌, Option, None, Some, Result, Ok, Err}
+use Rattle.std.specs.Prelude.{◌≡◌, ℕ, false, pos, List, [], ◌∷◌, ◌++◌, None, Some, Result, Ok, Err}
 use Rattle.nextest_config_elements_plain.specs.declared.timeouts.FlakyResult.{FlakyResult}
 use Rattle.nextest_config_elements_plain.specs.declared.timeouts.FlakyResult.TheVariants as flaky_rule
 use Rattle.nextest_config_elements_plain.specs.declared.timeouts.SlowTimeoutResult.TheVariants as timeout_judged
@@ -16,7 +16,7 @@ use Rattle.nextest_run_events_counters.specs.declared.summary.FinalRunStats.TheV
 use Rattle.nextest_run_events_counters.specs.declared.summary.RunStatsFailureKind.TheVariants as at
 use Rattle.test_runner_core_records.specs.declared.record.Record.{Record}
 use Rattle.test_runner_core_records.specs.declared.record.RecordOutput.TheVariants as wrote
-use Rattle.test_runner_core_runs.specs.Plan.{TestPlan, Plan}
+use Rattle.test_runner_core_runs.specs.Plan.{Plan}
 use Rattle.test_runner_core_runs.specs.State.{State, initial}
 use Rattle.test_runner_core_runs.specs.Counters.{summary, status}
 use Rattle.test_runner_core_runs.specs.Step.{step}

@@ -1,8 +1,7 @@
-use Rattle.std.proofs.Common.{◌≡◌, ℕ, ◌+◌, ◌-◌, ◌≤◌, ◌++◌, List, length, take, vec_len, Option, refl, sym, ap, ◌∙◌, subst, arith}
+use Rattle.std.proofs.Common.{◌≡◌, ℕ, ◌+◌, ◌-◌, ◌≤◌, ◌++◌, List, take, vec_len, ap, ◌∙◌, subst, arith}
 use Rattle.std.specs.List.{slice_range}
 use Rattle.std.specs.Io.KnownBytes.{Consumes}
 use Rattle.test_runner_core_lines.specs.Cursor.{Cursor}
-use Rattle.test_runner_core_lines.specs.Calls.{KeepsAhead, WaitsMore}
 use Rattle.test_runner_core_lines.proofs.Ranges.{take-range, length-range}
 use Rattle.test_runner_core_lines.proofs.Filling.{on_err, kept_range, kept_plain, more_range, ahead_moved, ahead_kept, waits_more, waits_same}
 use Rattle.test_runner_core_lines.proofs.log_lines.LogLines.fill.Goals as goal

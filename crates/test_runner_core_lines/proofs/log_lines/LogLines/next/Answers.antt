@@ -1,11 +1,11 @@
-use Rattle.std.proofs.Common.{◌≡◌, ℕ, ◌+◌, ◌-◌, ◌≤◌, length, false, Ok, refl, sym, ap, ◌∙◌, subst, arith}
+use Rattle.std.proofs.Common.{◌≡◌, ◌+◌, ◌≤◌, length, Ok, refl, sym, ap, ◌∙◌, subst, arith}
 use Rattle.test_runner_core_lines.specs.Cursor.{Cursor, received}
 use Rattle.test_runner_core_lines.specs.Feeds.{IsPlain}
 use Rattle.test_runner_core_lines.specs.Calls.{idle_reads, Hands, WaitsMore}
 use Rattle.test_runner_core_lines.specs.declared.limits.TheConstants.{LOG_LIMIT}
 use Rattle.test_runner_core_lines.specs.declared.next.Next.{Next}
 use Rattle.test_runner_core_lines.proofs.Ranges.{length-range}
-use Rattle.test_runner_core_lines.proofs.Reading.{Reading, ahead_refl, ahead_unmoved, ahead_then, hands_line, hands_end, end_is_idle}
+use Rattle.test_runner_core_lines.proofs.Reading.{ahead_refl, ahead_unmoved, ahead_then, hands_line, hands_end, end_is_idle}
 use Rattle.test_runner_core_lines.proofs.log_lines.LogLines.next.Goals as goal
 
 pub loop-fault-init : goal.loop-fault-init

@@ -1,6 +1,5 @@
-use Rattle.std.proofs.Common.{◌≡◌, ℕ, ◌+◌, ◌-◌, ◌≤◌}
+use Rattle.std.proofs.Common.{◌+◌, ◌-◌}
 use Rattle.test_runner_core_lines.specs.Cursor.{received}
-use Rattle.test_runner_core_lines.specs.Calls.{KeepsAhead}
 use Rattle.test_runner_core_lines.specs.declared.limits.TheConstants.{LOG_LIMIT}
 use Rattle.test_runner_core_lines.proofs.Reading.{Reading}
 use Rattle.test_runner_core_lines.proofs.log_lines.LogLines.next.Given as goal

@@ -1,9 +1,9 @@
-use Rattle.std.proofs.Common.{◌≡◌, ℕ, ◌+◌, ◌-◌, ◌≤◌, List, length, true, false, Option, Some, None, refl, sym, ap, ◌∙◌, subst, arith}
+use Rattle.std.proofs.Common.{◌≡◌, ℕ, ◌+◌, ◌-◌, ◌≤◌, List, length, true, false, Some, sym, ap, ◌∙◌, subst, arith}
 use Rattle.std.specs.List.{slice_range}
 use Rattle.test_runner_core_lines.specs.Items.{line_fault}
 use Rattle.test_runner_core_lines.specs.Feeds.{IsPlain, IsFirstFeed}
-use Rattle.test_runner_core_lines.specs.Cursor.{Cursor, Unmoved}
-use Rattle.test_runner_core_lines.specs.Calls.{Scanned, scan_of}
+use Rattle.test_runner_core_lines.specs.Cursor.{Cursor}
+use Rattle.test_runner_core_lines.specs.Calls.{Scanned}
 use Rattle.test_runner_core_lines.specs.declared.next.Scan.{Scan}
 use Rattle.test_runner_core_lines.proofs.Ranges.{length-range}
 use Rattle.test_runner_core_lines.proofs.Scanning.{all_plain, line_found, refused_line, nothing_found}
