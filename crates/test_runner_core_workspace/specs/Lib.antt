@@ -1,0 +1,4 @@
+pub mod Ids
+pub mod Lister
+pub mod Texts
+pub mod Workspace
