@@ -1,5 +1,5 @@
 // The limit at its two sides.
-use super::{FlakyResult, MaxFail, TerminateMode};
+use super::{FlakyResult, MaxFail, NextestRunMode, TerminateMode};
 
 #[test]
 fn a_limit_is_exceeded_from_its_number_on(rt: HostRuntime) {
@@ -11,4 +11,5 @@ fn a_limit_is_exceeded_from_its_number_on(rt: HostRuntime) {
     assert_eq!(rt; limit.is_exceeded(3), Some(TerminateMode::Wait));
     assert_eq!(rt; MaxFail::All.is_exceeded(usize::MAX), None);
     assert_eq!(rt; FlakyResult::default(), FlakyResult::Pass);
+    assert_eq!(rt; NextestRunMode::default(), NextestRunMode::Test);
 }

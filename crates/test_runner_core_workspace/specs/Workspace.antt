@@ -26,9 +26,13 @@ binary_ids workspace = map (λ it. it.id) workspace.binaries
 abbrev pub is_known_link : List (List ℕ) → Link → Bool
 is_known_link ids link = is_among ids link.from && is_among ids link.to
 
+-- a text has a tab, a line feed or a carriage return in it
+abbrev pub has_separator : List ℕ → Bool
+has_separator text = list_any (λ byte. byte == 9 || byte == 10 || byte == 13) text
+
 -- an id is empty or has a tab, a line feed or a carriage return in it
 abbrev pub is_bad_id : List ℕ → Bool
-is_bad_id id = length id == 0 || list_any (λ byte. byte == 9 || byte == 10 || byte == 13) id
+is_bad_id id = length id == 0 || has_separator id
 
 -- why a record is refused, if it is: each reason is looked for in the whole record before the next
 abbrev pub refusal_of : WorkspaceRecord → Option WorkspaceError

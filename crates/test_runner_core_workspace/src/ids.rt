@@ -90,18 +90,18 @@ fn is_separator(byte: u8) -> bool
     byte == b'\t' || byte == b'\n' || byte == b'\r'
 }
 
-// Whether a text has a tab, a line feed or a carriage return in it.
-fn has_separator(text: &[u8]) -> bool
-    ensures { result ≡ list_any (λ byte. byte == 9 || byte == 10 || byte == 13) text.now }
+/// Whether a text has a tab, a line feed or a carriage return in it, which divide what a log and a report have.
+pub fn has_separator(text: &str) -> bool
+    ensures { result ≡ refusing.has_separator text.now }
 {
-    text.iter().any(|&byte| is_separator(byte))
+    text.as_bytes().iter().any(|&byte| is_separator(byte))
 }
 
 // Whether an id is empty or has a tab, a line feed or a carriage return in it.
 fn is_bad(id: &str) -> bool
     ensures { result ≡ refusing.is_bad_id id.now }
 {
-    id.is_empty() || has_separator(id.as_bytes())
+    id.is_empty() || has_separator(id)
 }
 
 // Whether some id is bad.

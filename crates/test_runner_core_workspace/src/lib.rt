@@ -11,6 +11,7 @@ mod tests;
 mod workspace;
 mod workspace_error;
 
+pub use ids::has_separator;
 pub use list_fault::ListFault;
 pub use lister::Lister;
 pub use record::{Binary, BinaryKind, BinaryTests, BuildPlatform, Link, Package, WorkspaceRecord};

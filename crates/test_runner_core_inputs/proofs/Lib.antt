@@ -1,0 +1,6 @@
+pub mod Lists
+pub mod Meets
+pub mod Bytes
+pub mod Fits
+pub mod FitsInputs
+pub mod Firsts

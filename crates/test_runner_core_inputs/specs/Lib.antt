@@ -1,0 +1,9 @@
+pub mod Given
+pub mod Values
+pub mod Reading
+pub mod Calls
+pub mod Paths
+pub mod Texts
+pub mod Shape
+pub mod Faults
+pub mod Laws

@@ -1,0 +1,60 @@
+// The version that a configuration's demands are judged by.
+ghost use Rattle.std.specs.Prelude.{◌≡◌};
+ghost use Rattle.semver.specs.Identifiers.{parts_of};
+ghost use Rattle.test_runner_core_inputs.specs.Reading as read;
+ghost use Rattle.test_runner_core_inputs.specs.Values as value_of;
+
+use crate::fault::Fault;
+use crate::form::Form;
+use semver::{Error, Version};
+use serde_json::Value;
+use std::alloc::{AllocError, Global};
+use std::marker::Model;
+
+/// The version that a configuration's demands are judged by. In a clause it is its parts: three numbers, the text of
+/// the pre-release and that of the build.
+#[derive(Drop)]
+pub struct CurrentVersion {
+    version: Version,
+}
+
+impl Model for CurrentVersion {
+    ghost use Rattle.semver.specs.Parse.{Parts};
+    ghost use Rattle.semver.specs.Identifiers.{parts_of};
+
+    ghost Value = { Parts };
+
+    ghost view = { λ it. parts_of it.version };
+}
+
+impl CurrentVersion {
+    /// The version, lent.
+    pub fn version(&self) -> &Version
+        ensures { parts_of result.now ≡ self.now }
+    {
+        &self.version
+    }
+}
+
+impl From<Version> for CurrentVersion {
+    ghost from_gives = { λ version current. current ≡ parts_of version };
+
+    fn from(version: Version) -> CurrentVersion {
+        CurrentVersion { version }
+    }
+}
+
+impl Form for CurrentVersion {
+    ghost reading = { read.leaf value_of.version };
+
+    fn from_value(alloc: Global, value: &Value) -> Result<CurrentVersion, Fault> {
+        let Value::String(text) = value else {
+            return Err(Fault::here(alloc));
+        };
+        match Version::parse(alloc, text.as_str()) {
+            Ok(version) => Ok(CurrentVersion { version }),
+            Err(error) if error == Error::from(AllocError) => Err(Fault::OutOfMemory),
+            Err(_) => Err(Fault::here(alloc)),
+        }
+    }
+}

@@ -1,0 +1,59 @@
+// Where reading stopped, and why.
+use crate::steps::{Step, Steps};
+use std::alloc::{AllocError, AllocFailed, Global};
+
+// Why nothing was read.
+#[derive(Drop)]
+pub(crate) enum Fault {
+    // what stands at this path is missing, ill-typed or not allowed
+    At(Steps),
+    OutOfMemory,
+}
+
+impl From<AllocError> for Fault {
+    ghost use Rattle.std.specs.Prelude.{◌≡◌};
+    ghost use Rattle.test_runner_core_inputs.specs.declared.fault.Fault.TheVariants.{OutOfMemory};
+
+    ghost from_gives = { λ _ fault. fault ≡ OutOfMemory };
+
+    fn from(_error: AllocError) -> Fault {
+        Fault::OutOfMemory
+    }
+}
+
+impl<T: Drop> From<AllocFailed<T>> for Fault {
+    ghost use Rattle.std.specs.Prelude.{◌≡◌};
+    ghost use Rattle.test_runner_core_inputs.specs.declared.fault.Fault.TheVariants.{OutOfMemory};
+
+    ghost from_gives = { λ _ fault. fault ≡ OutOfMemory };
+
+    fn from(_error: AllocFailed<T>) -> Fault {
+        Fault::OutOfMemory
+    }
+}
+
+impl Fault {
+    ghost use Rattle.std.specs.Prelude.{◌≡◌, [], ◌∷◌};
+    ghost use Rattle.test_runner_core_inputs.specs.Calls.{IsBelow};
+    ghost use Rattle.test_runner_core_inputs.specs.Paths.{step_text};
+
+    // What is read here itself is missing, ill-typed or not allowed.
+    pub(crate) fn here(alloc: Global) -> Fault
+        ensures { result ≡ Fault.At [] }
+    {
+        Fault::At(Steps::new(alloc))
+    }
+
+    // The same fault, told from one step further out.
+    pub(crate) fn below(self, step: Step) -> Fault
+        ensures { IsBelow self (step_text step) result }
+    {
+        match self {
+            Fault::At(path) => match path.below(step) {
+                Ok(longer) => Fault::At(longer),
+                Err(_) => Fault::OutOfMemory,
+            },
+            Fault::OutOfMemory => Fault::OutOfMemory,
+        }
+    }
+}

@@ -1,0 +1,120 @@
+// The inputs of a run.
+ghost use Rattle.std.specs.Prelude.{◌≡◌, codes};
+ghost use Rattle.serde_json.specs.View.{view};
+ghost use Rattle.test_runner_core_inputs.specs.Calls.{Gives, Parses, Reads};
+ghost use Rattle.test_runner_core_inputs.specs.Given as given;
+ghost use Rattle.test_runner_core_inputs.specs.Reading as read;
+
+use crate::current_version::CurrentVersion;
+use crate::fault::Fault;
+use crate::form::{Form, defaulted, optional, required};
+use crate::inputs_error::InputsError;
+use crate::leaves::Positive;
+use crate::platform::PlatformRecord;
+use crate::source::ConfigSource;
+use crate::steps::Step;
+use nextest_config_elements_plain::NextestRunMode;
+use nextest_text::{Listing, Text};
+use serde_json::{Category, Value};
+use std::alloc::Global;
+use test_runner_core_workspace::WorkspaceRecord;
+
+// The most bytes that inputs may have.
+const MAX_LEN: usize = 1 << 24;
+
+/// The inputs of a run.
+#[derive(Drop)]
+pub struct Inputs {
+    /// The packages and test binaries, not yet checked.
+    pub workspace: WorkspaceRecord,
+    /// The sources of the configuration.
+    pub sources: Listing<ConfigSource>,
+    /// The version that the configuration's demands are judged by.
+    pub current_version: CurrentVersion,
+    /// The name of the chosen profile.
+    pub profile: Text,
+    /// What is run.
+    pub mode: NextestRunMode,
+    /// The platform that is built on, not yet checked.
+    pub host: PlatformRecord,
+    /// The platform that is built for, where it is another, not yet checked.
+    pub target: Option<PlatformRecord>,
+    /// The filterset that is to hold on each test, where there is one.
+    pub filterset: Option<Text>,
+    /// Whether the profile's default filter is left aside.
+    pub ignore_default_filter: bool,
+    /// Whether demands on the version are left aside.
+    pub override_version_check: bool,
+    /// The number of processors, at least 1 in what `from_json` gives.
+    pub processors: u64,
+    /// The root of the workspace.
+    pub root: Text,
+}
+
+impl Form for Inputs {
+    ghost reading = { read.inputs_of };
+
+    fn from_value(alloc: Global, value: &Value) -> Result<Inputs, Fault> {
+        if !value.is_object() {
+            return Err(Fault::here(alloc).below(Step::Name("workspace")));
+        }
+        Ok(Inputs {
+            workspace: required(alloc, value, "workspace")?,
+            sources: required(alloc, value, "sources")?,
+            current_version: required(alloc, value, "current_version")?,
+            profile: profile_of(alloc, value)?,
+            mode: defaulted(alloc, value, "mode", NextestRunMode::Test)?,
+            host: defaulted(alloc, value, "host", PlatformRecord::empty(alloc))?,
+            target: optional(alloc, value, "target")?,
+            filterset: optional(alloc, value, "filterset")?,
+            ignore_default_filter: defaulted(alloc, value, "ignore_default_filter", false)?,
+            override_version_check: defaulted(alloc, value, "override_version_check", false)?,
+            processors: defaulted(alloc, value, "processors", Positive::one())?.get(),
+            root: defaulted(alloc, value, "root", Text::new(alloc))?,
+        })
+    }
+}
+
+// The name of the chosen profile.
+fn profile_of(alloc: Global, inputs: &Value) -> Result<Text, Fault>
+    ensures { Gives result (read.defaulted (codes "profile") read.text (codes "default") (view inputs.now)) }
+{
+    match optional(alloc, inputs, "profile")? {
+        Some(profile) => Ok(profile),
+        None => Ok(Text::from_str(alloc, "default")?),
+    }
+}
+
+impl Inputs {
+    /// The inputs that `bytes` are: one JSON object in UTF-8, at most 16,777,216 bytes. Null is absent, other fields
+    /// are read past, and of repeated fields the last counts. An `Err` says that the bytes are no JSON, or where the
+    /// first thing stands, in the written order, that is missing, ill-typed or not allowed, or that there was no
+    /// memory, which says nothing of the bytes.
+    pub fn from_json(alloc: Global, bytes: &[u8]) -> Result<Inputs, InputsError>
+        ensures exact { Reads bytes.now result }
+    {
+        let value = value_of(alloc, bytes)?;
+        match Inputs::from_value(alloc, &value) {
+            Ok(inputs) => Ok(inputs),
+            Err(Fault::At(path)) => Err(InputsError::Field(path.dotted(alloc)?)),
+            Err(Fault::OutOfMemory) => Err(InputsError::OutOfMemory),
+        }
+    }
+}
+
+// The JSON value that bytes are.
+fn value_of(alloc: Global, bytes: &[u8]) -> Result<Value, InputsError>
+    ensures { Parses result (given.value_of bytes.now) }
+{
+    if bytes.len() > MAX_LEN {
+        return Err(InputsError::Syntax);
+    }
+    let Ok(text) = str::from_utf8(bytes) else {
+        return Err(InputsError::Syntax);
+    };
+    match Value::from_str(alloc, text) {
+        Ok(value) => Ok(value),
+        Err(error) if error.classify() == Category::Memory => Err(InputsError::OutOfMemory),
+        Err(_) => Err(InputsError::Syntax),
+    }
+}

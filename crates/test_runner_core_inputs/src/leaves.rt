@@ -1,0 +1,196 @@
+// The parts that have no parts.
+ghost use Rattle.test_runner_core_inputs.specs.Reading as read;
+ghost use Rattle.test_runner_core_inputs.specs.Values as value_of;
+
+use crate::fault::Fault;
+use crate::form::Form;
+use nextest_config_elements_identifiers::{InvalidIdentifier, ToolName};
+use nextest_config_elements_plain::NextestRunMode;
+use nextest_text::Text;
+use serde_json::Value;
+use std::alloc::Global;
+use std::marker::Model;
+use test_runner_core_workspace::{BinaryKind, BuildPlatform, has_separator};
+
+impl Form for Text {
+    ghost reading = { read.text };
+
+    fn from_value(alloc: Global, value: &Value) -> Result<Text, Fault> {
+        match value {
+            Value::String(text) => Ok(Text::from_str(alloc, text.as_str())?),
+            _ => Err(Fault::here(alloc)),
+        }
+    }
+}
+
+impl Form for bool {
+    ghost reading = { read.leaf value_of.truth };
+
+    fn from_value(alloc: Global, value: &Value) -> Result<bool, Fault> {
+        match value {
+            Value::Bool(truth) => Ok(*truth),
+            _ => Err(Fault::here(alloc)),
+        }
+    }
+}
+
+impl Form for BinaryKind {
+    ghost reading = { read.leaf value_of.kind };
+
+    fn from_value(alloc: Global, value: &Value) -> Result<BinaryKind, Fault> {
+        let Value::String(word) = value else {
+            return Err(Fault::here(alloc));
+        };
+        match word.as_str() {
+            "lib" => Ok(BinaryKind::Lib),
+            "test" => Ok(BinaryKind::Test),
+            "bench" => Ok(BinaryKind::Bench),
+            "bin" => Ok(BinaryKind::Bin),
+            "example" => Ok(BinaryKind::Example),
+            "proc-macro" => Ok(BinaryKind::ProcMacro),
+            _ => Err(Fault::here(alloc)),
+        }
+    }
+}
+
+impl Form for BuildPlatform {
+    ghost reading = { read.leaf value_of.platform };
+
+    fn from_value(alloc: Global, value: &Value) -> Result<BuildPlatform, Fault> {
+        let Value::String(word) = value else {
+            return Err(Fault::here(alloc));
+        };
+        match word.as_str() {
+            "host" => Ok(BuildPlatform::Host),
+            "target" => Ok(BuildPlatform::Target),
+            _ => Err(Fault::here(alloc)),
+        }
+    }
+}
+
+impl Form for NextestRunMode {
+    ghost reading = { read.leaf value_of.mode };
+
+    fn from_value(alloc: Global, value: &Value) -> Result<NextestRunMode, Fault> {
+        let Value::String(word) = value else {
+            return Err(Fault::here(alloc));
+        };
+        match word.as_str() {
+            "test" => Ok(NextestRunMode::Test),
+            "benchmark" => Ok(NextestRunMode::Benchmark),
+            _ => Err(Fault::here(alloc)),
+        }
+    }
+}
+
+// A text without tab, line feed and carriage return.
+#[derive(Drop)]
+pub(crate) struct UndividedText {
+    text: Text,
+}
+
+impl Model for UndividedText {
+    ghost use Rattle.std.specs.Prelude.{List, ℕ};
+
+    ghost Value = { List ℕ };
+
+    ghost view = { λ it. it.text };
+}
+
+impl UndividedText {
+    ghost use Rattle.std.specs.Prelude.{◌≡◌};
+
+    pub(crate) fn into_text(self) -> Text
+        ensures { result ≡ self }
+    {
+        let UndividedText { text } = self;
+        text
+    }
+}
+
+impl Form for UndividedText {
+    ghost reading = { read.leaf value_of.undivided };
+
+    fn from_value(alloc: Global, value: &Value) -> Result<UndividedText, Fault> {
+        let Value::String(text) = value else {
+            return Err(Fault::here(alloc));
+        };
+        if has_separator(text.as_str()) {
+            return Err(Fault::here(alloc));
+        }
+        Ok(UndividedText {
+            text: Text::from_str(alloc, text.as_str())?,
+        })
+    }
+}
+
+// The value true.
+#[derive(Drop)]
+pub(crate) struct OnlyTrue;
+
+impl Form for OnlyTrue {
+    ghost reading = { read.leaf value_of.only_true };
+
+    fn from_value(alloc: Global, value: &Value) -> Result<OnlyTrue, Fault> {
+        match value {
+            Value::Bool(true) => Ok(OnlyTrue),
+            _ => Err(Fault::here(alloc)),
+        }
+    }
+}
+
+// A number from 1 on.
+#[derive(Drop)]
+pub(crate) struct Positive {
+    count: u64,
+}
+
+impl Model for Positive {
+    ghost use Rattle.std.specs.Prelude.{ℕ};
+
+    ghost Value = { ℕ };
+
+    ghost view = { λ it. it.count };
+}
+
+impl Positive {
+    ghost use Rattle.std.specs.Prelude.{◌≡◌};
+
+    pub(crate) fn one() -> Positive
+        ensures { result ≡ 1 }
+    {
+        Positive { count: 1 }
+    }
+
+    pub(crate) fn get(&self) -> u64
+        ensures { result ≡ self.now }
+    {
+        self.count
+    }
+}
+
+impl Form for Positive {
+    ghost reading = { read.leaf value_of.positive };
+
+    fn from_value(alloc: Global, value: &Value) -> Result<Positive, Fault> {
+        match value.as_u64() {
+            Some(count) if count > 0 => Ok(Positive { count }),
+            _ => Err(Fault::here(alloc)),
+        }
+    }
+}
+
+impl Form for ToolName {
+    ghost reading = { read.leaf value_of.tool };
+
+    fn from_value(alloc: Global, value: &Value) -> Result<ToolName, Fault> {
+        let Value::String(name) = value else {
+            return Err(Fault::here(alloc));
+        };
+        match ToolName::new(alloc, name.as_str()) {
+            Ok(name) => Ok(name),
+            Err(InvalidIdentifier::OutOfMemory) => Err(Fault::OutOfMemory),
+            Err(_) => Err(Fault::here(alloc)),
+        }
+    }
+}

@@ -1,0 +1,97 @@
+// The sources of the configuration.
+ghost use Rattle.std.specs.Prelude.{◌≡◌};
+ghost use Rattle.serde_json.specs.View.{view};
+ghost use Rattle.test_runner_core_inputs.specs.Calls.{Gives};
+ghost use Rattle.test_runner_core_inputs.specs.Reading as read;
+
+use crate::fault::Fault;
+use crate::form::{Form, has_member, required};
+use crate::leaves::{OnlyTrue, UndividedText};
+use crate::source_word::SourceWord;
+use nextest_config_elements_identifiers::ToolName;
+use nextest_text::Text;
+use serde_json::Value;
+use std::alloc::Global;
+
+/// Where a source of the configuration comes from.
+#[derive(Clone, Debug, PartialEq, Eq, Drop)]
+pub enum ConfigSourceKind {
+    /// A tool brings it.
+    Tool(ToolName),
+    /// It is the repository's, and was named.
+    ExplicitRepository,
+    /// It is the repository's, and was looked for.
+    DiscoveredRepository,
+}
+
+/// What came of reading a source.
+#[derive(Clone, Debug, PartialEq, Eq, Drop)]
+pub enum ConfigSourceOutcome {
+    /// Its text.
+    Text(Text),
+    /// There is none.
+    NotFound,
+    /// It could not be read, for this cause.
+    Failed(Text),
+}
+
+/// A source of the configuration.
+#[derive(Clone, Debug, PartialEq, Eq, Drop)]
+pub struct ConfigSource {
+    /// Where it comes from.
+    pub kind: ConfigSourceKind,
+    /// Its path, as reports name it; `Inputs::from_json` takes none with a tab, a line feed or a carriage return in it.
+    pub path: Text,
+    /// What came of reading it.
+    pub outcome: ConfigSourceOutcome,
+}
+
+// The kind of a source.
+fn kind_of_source(alloc: Global, source: &Value) -> Result<ConfigSourceKind, Fault>
+    ensures { Gives result (read.kind_of_source (view source.now)) }
+{
+    match required::<SourceWord>(alloc, source, "kind")? {
+        SourceWord::Tool => Ok(ConfigSourceKind::Tool(required(alloc, source, "tool")?)),
+        SourceWord::Explicit => Ok(ConfigSourceKind::ExplicitRepository),
+        SourceWord::Discovered => Ok(ConfigSourceKind::DiscoveredRepository),
+    }
+}
+
+// What came of reading a source, told in one of three forms.
+fn outcome_of(alloc: Global, source: &Value) -> Result<ConfigSourceOutcome, Fault>
+    ensures { Gives result (read.outcome_of (view source.now)) }
+{
+    let forms = (
+        has_member(source, "text"),
+        has_member(source, "missing"),
+        has_member(source, "failed"),
+    );
+    match forms {
+        (true, false, false) => Ok(ConfigSourceOutcome::Text(required(alloc, source, "text")?)),
+        (false, true, false) => {
+            let _missing: OnlyTrue = required(alloc, source, "missing")?;
+            Ok(ConfigSourceOutcome::NotFound)
+        }
+        (false, false, true) => Ok(ConfigSourceOutcome::Failed(required(
+            alloc, source, "failed",
+        )?)),
+        _ => Err(Fault::here(alloc)),
+    }
+}
+
+impl Form for ConfigSource {
+    ghost reading = { read.source_of };
+
+    fn from_value(alloc: Global, value: &Value) -> Result<ConfigSource, Fault> {
+        if !value.is_object() {
+            return Err(Fault::here(alloc));
+        }
+        let kind = kind_of_source(alloc, value)?;
+        let path: UndividedText = required(alloc, value, "path")?;
+        Ok(ConfigSource {
+            kind,
+            path: path.into_text(),
+            outcome: outcome_of(alloc, value)?,
+        })
+    }
+}

@@ -1,0 +1,25 @@
+use Rattle.std.proofs.Common.{◌≡◌, Option, Some, Ok, ap, sym, subst, ◌∙◌}
+use Rattle.std.specs.Option.{option_map_or}
+use Rattle.nextest_run_events_results.specs.Cancel.{graver_reason}
+use Rattle.nextest_run_events_results.specs.declared.cancel_reason.CancelReason.{CancelReason}
+use Rattle.test_runner_core_runs.specs.State.{State}
+use Rattle.test_runner_core_runs.specs.Step.{stopped, stopped_by}
+use Rattle.test_runner_core_progress.specs.contracts.progress.Progress.{the_view}
+use Rattle.test_runner_core_progress.proofs.Taken.{stop_leads}
+use Rattle.test_runner_core_progress.proofs.progress.Progress.stop.Goals as goal
+
+pub returns-in-Some-reason : goal.returns-in-Some-reason
+returns-in-Some-reason c =
+    let state = the_view c.self.inside in
+    subst (λ (s : State). stopped s c.args.reason ≡ Ok (record state { reason = Some c.graver.result })) c.self.view_is
+    (stop_leads state c.args.reason (c.in_default.ensures state)
+    ∙ ap (λ (o : Option CancelReason). Ok (option_map_or (λ old. record state { reason = Some (graver_reason old c.args.reason) }) o (stopped_by c.args.reason state))) c.in-Some-reason.is
+    ∙ ap (λ (r : CancelReason). Ok (record state { reason = Some r })) (sym c.graver.ensures))
+
+pub returns-in-None : goal.returns-in-None
+returns-in-None c =
+    let state = c.args.self.now in
+    stop_leads state c.args.reason (c.in_default.ensures state)
+    ∙ ap (λ (o : Option CancelReason). Ok (option_map_or (λ old. record state { reason = Some (graver_reason old c.args.reason) }) o (stopped_by c.args.reason state)))
+    (sym (ap (λ (s : State). s.reason) c.self.view_is) ∙ c.in-None.is)
+    ∙ ap (λ (s : State). Ok s) (sym c.stop_for.ensures)

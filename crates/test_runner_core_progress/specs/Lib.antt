@@ -1,0 +1,4 @@
+pub mod Plans
+pub mod Parts
+pub mod Progress
+pub mod Texts

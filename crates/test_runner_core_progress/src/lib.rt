@@ -1,0 +1,16 @@
+//! How far one run of tests is: the state of a run, kept so that each event takes constant time but for the one that
+//! stops the run. It speaks of scripts and tests by their places in the plan, from 0.
+#![tactic(auto)]
+
+mod all_tests;
+mod planned_test;
+mod progress;
+mod scripts;
+mod start_fault;
+mod test_progress;
+#[cfg(test)]
+mod tests;
+
+pub use planned_test::PlannedTest;
+pub use progress::Progress;
+pub use start_fault::StartFault;
