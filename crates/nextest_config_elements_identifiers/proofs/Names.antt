@@ -17,7 +17,8 @@ name_of-empty : (characters : List ℕ) → length (encode_utf8_all characters) 
 name_of-empty [] none = refl
 name_of-empty (first ∷ further) none = absurd (omega (arith, length-le-encodes (first ∷ further)))
 
-name_of-plain : (characters : List ℕ) → is_plain characters ≡ true → name_of characters ≡ Ok (encode_utf8_all characters)
+name_of-plain : (characters : List ℕ) → is_plain characters ≡ true
+    → name_of characters ≡ Ok (encode_utf8_all characters)
 name_of-plain [] plain = cc
 name_of-plain (first ∷ further) plain = cond-true _ _ _ plain
 

@@ -1,5 +1,8 @@
 // The version that a configuration's demands are judged by.
-ghost use Rattle.std.specs.Prelude.{◌≡◌};
+ghost use Rattle.std.specs.Prelude.{◌≡◌, nat_eq};
+ghost use Rattle.std.specs.Cmp.{and_equiv, on_equiv, nat_eq_equiv, partial_equiv_from_equiv};
+ghost use Rattle.std.specs.Cmp.Lexicographic.{pointwise, nat_list_eq_equiv};
+ghost use Rattle.std.specs.Ordering.{on, eq_of_both};
 ghost use Rattle.semver.specs.Identifiers.{parts_of};
 ghost use Rattle.test_runner_core_inputs.specs.Reading as read;
 ghost use Rattle.test_runner_core_inputs.specs.Values as value_of;
@@ -9,6 +12,7 @@ use crate::form::Form;
 use semver::{Error, Version};
 use serde_json::Value;
 use std::alloc::{AllocError, Global};
+use std::fmt;
 use std::marker::Model;
 
 /// The version that a configuration's demands are judged by. In a clause it is its parts: three numbers, the text of
@@ -56,5 +60,35 @@ impl Form for CurrentVersion {
             Err(error) if error == Error::from(AllocError) => Err(Fault::OutOfMemory),
             Err(_) => Err(Fault::here(alloc)),
         }
+    }
+}
+
+impl Clone for CurrentVersion {
+    ghost is_clone = { λ original copy. copy ≡ original };
+
+    fn clone(&self) -> Result<CurrentVersion, AllocError> {
+        Ok(CurrentVersion {
+            version: self.version.clone()?,
+        })
+    }
+}
+
+impl PartialEq for CurrentVersion {
+    ghost eq = { eq_of_both (on (λ it. it.0) nat_eq) (eq_of_both (on (λ it. it.1) nat_eq) (eq_of_both (on (λ it. it.2) nat_eq) (eq_of_both (on (λ it. it.3) (pointwise nat_eq)) (on (λ it. it.4) (pointwise nat_eq))))) };
+
+    ghost laws = { partial_equiv_from_equiv (and_equiv (on_equiv (λ it. it.0) nat_eq_equiv) (and_equiv (on_equiv (λ it. it.1) nat_eq_equiv) (and_equiv (on_equiv (λ it. it.2) nat_eq_equiv) (and_equiv (on_equiv (λ it. it.3) nat_list_eq_equiv) (on_equiv (λ it. it.4) nat_list_eq_equiv))))) };
+
+    fn eq(&self, other: &CurrentVersion) -> bool {
+        self.version == other.version
+    }
+}
+
+impl Eq for CurrentVersion {
+    ghost laws = { and_equiv (on_equiv (λ it. it.0) nat_eq_equiv) (and_equiv (on_equiv (λ it. it.1) nat_eq_equiv) (and_equiv (on_equiv (λ it. it.2) nat_eq_equiv) (and_equiv (on_equiv (λ it. it.3) nat_list_eq_equiv) (on_equiv (λ it. it.4) nat_list_eq_equiv)))) };
+}
+
+impl fmt::Debug for CurrentVersion {
+    fn fmt<W: fmt::Write>(&self, f: &mut fmt::Formatter<W>) -> fmt::Result {
+        fmt::Debug::fmt(&self.version, f)
     }
 }

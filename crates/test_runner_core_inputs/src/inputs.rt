@@ -23,7 +23,7 @@ use test_runner_core_workspace::WorkspaceRecord;
 const MAX_LEN: usize = 1 << 24;
 
 /// The inputs of a run.
-#[derive(Drop)]
+#[derive(Clone, Debug, PartialEq, Eq, Drop)]
 pub struct Inputs {
     /// The packages and test binaries, not yet checked.
     pub workspace: WorkspaceRecord,

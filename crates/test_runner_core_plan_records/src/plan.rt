@@ -1,0 +1,37 @@
+// The plan of a run.
+use nextest_config_elements_plain::{FlakyResult, MaxFail};
+use nextest_run_events_instances::OwnedTestInstanceId;
+use nextest_text::{Listing, Text};
+
+/// The settings of a selected test.
+#[derive(Clone, Copy, Debug, PartialEq, Eq)]
+pub struct PlanSettings {
+    /// What becomes of it where a later attempt than its first passes.
+    pub flaky_result: FlakyResult,
+}
+
+/// A selected test.
+#[derive(Clone, Debug, PartialEq, Eq, Drop)]
+pub struct PlanTest {
+    /// Which test of which binary.
+    pub instance: OwnedTestInstanceId,
+    /// Its settings.
+    pub settings: PlanSettings,
+    /// How many attempts it has at most, from 1 on in a plan that was built.
+    pub tries: u32,
+}
+
+/// The plan of a run.
+#[derive(Clone, Debug, PartialEq, Eq, Drop)]
+pub struct Plan {
+    /// The ids of the setup scripts that are to run, in their order.
+    pub scripts: Listing<Text>,
+    /// The selected tests: by greater priority, then by binary id, then by name.
+    pub tests: Listing<PlanTest>,
+    /// The ids of the listed binaries, in the workspace's order.
+    pub listed: Listing<Text>,
+    /// How many listed tests aren't selected.
+    pub skipped: usize,
+    /// How many failing tests stop the run.
+    pub limit: MaxFail,
+}
