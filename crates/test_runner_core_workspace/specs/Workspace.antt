@@ -44,6 +44,12 @@ refusal_of workspace =
     else if list_any is_bad_id (binary_ids workspace) then Some refused.BadId
     else None
 
+-- a check passes where nothing refuses the record, and else tells the reason; want of memory says nothing
+abbrev pub Checks : {T : Type 0} → WorkspaceRecord → Result T WorkspaceError → Type 0
+Checks given (Ok done) = refusal_of given ≡ None
+Checks given (Err refused.OutOfMemory) = Unit {0}
+Checks given (Err refusal) = refusal_of given ≡ Some refusal
+
 -- a read gives the record itself where nothing refuses it, and else the reason; want of memory says nothing
 abbrev pub Reads : WorkspaceRecord → Result WorkspaceRecord WorkspaceError → Type 0
 Reads given (Ok workspace) = (workspace ≡ given) × (refusal_of given ≡ None)

@@ -1,6 +1,6 @@
 // A workspace whose record was checked.
 ghost use Rattle.std.specs.Prelude.{◌≡◌, IfOk, None};
-ghost use Rattle.test_runner_core_workspace.specs.Workspace.{refusal_of, Reads};
+ghost use Rattle.test_runner_core_workspace.specs.Workspace.{refusal_of, Checks, Reads};
 
 use crate::ids::{
     has_bad, has_repeated, ids_of_binaries, ids_of_packages, links_are_known, packages_are_known,
@@ -35,10 +35,8 @@ impl Workspace {
     pub fn read(alloc: Global, record: WorkspaceRecord) -> Result<Workspace, WorkspaceError>
         ensures exact { Reads «record» result }
     {
-        match refusal(alloc, &record)? {
-            Some(refused) => Err(refused),
-            None => Ok(Workspace { record }),
-        }
+        record.check(alloc)?;
+        Ok(Workspace { record })
     }
 
     /// The record, lent.
@@ -56,6 +54,19 @@ impl Workspace {
     {
         let Workspace { record } = self;
         record
+    }
+}
+
+impl WorkspaceRecord {
+    /// Whether the record is a workspace. An `Err` says why it is none, each reason being looked for in the whole
+    /// record before the next, or that there was no memory, which says nothing of the record.
+    pub fn check(&self, alloc: Global) -> Result<(), WorkspaceError>
+        ensures exact { Checks self.now result }
+    {
+        match refusal(alloc, self)? {
+            Some(refused) => Err(refused),
+            None => Ok(()),
+        }
     }
 }
 

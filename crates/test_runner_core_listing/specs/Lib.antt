@@ -1,0 +1,3 @@
+pub mod Filter
+pub mod Listing
+pub mod Texts

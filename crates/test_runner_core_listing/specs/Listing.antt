@@ -1,0 +1,108 @@
+-- What the listed binaries answer, and which of their tests are selected.
+use Rattle.std.specs.Prelude.{◌≡◌, ℕ, ◌+◌, ◌-◌, ◌==◌, length, List, [], ◌∷◌, ◌++◌, Option, None, Some, Result, Ok, Err, map, filter, if◌then◌else◌}
+use Rattle.std.specs.Ordering.{nat_cmp, ordering_then}
+use Rattle.std.specs.declared.cmp.Ordering.{Ordering}
+use Rattle.std.specs.Cmp.Lexicographic.{slice_cmp}
+use Rattle.std.specs.List.Sorted.{IsSorted, IsPermutation}
+use Rattle.nextest_run_events_instances.specs.declared.instance.OwnedTestInstanceId.{OwnedTestInstanceId}
+use Rattle.test_runner_core_workspace.specs.Lister.{Answer}
+use Rattle.test_runner_core_workspace.specs.Workspace.{is_among, has_separator}
+use Rattle.test_runner_core_workspace.specs.declared.record.Binary.{Binary}
+use Rattle.test_runner_core_listing.specs.Filter.{holds, may_hold}
+use Rattle.test_runner_core_listing.specs.declared.filter.Filter.{Filter}
+use Rattle.test_runner_core_listing.specs.declared.listing_fault.ListingFault.{ListingFault}
+use Rattle.test_runner_core_listing.specs.declared.listing_fault.ListingFault.TheVariants as refused
+use Rattle.test_runner_core_listing.specs.declared.selection.Selection.{Selection}
+use Rattle.test_runner_core_listing.specs.declared.listing.Found.{Found}
+
+-- the first name of a binary that is refused, and as what: each name is looked at whole before the next
+abbrev pub refused_name : List (List ℕ) → List (List ℕ) → Option ListingFault
+refused_name before [] = None
+refused_name before (name ∷ names) =
+    if length name == 0 then Some refused.EmptyTestName
+    else if has_separator name then Some refused.BadTestName
+    else if is_among before name then Some refused.RepeatedTest
+    else refused_name (before ++ name ∷ []) names
+
+-- the names of a binary, or why its answer is refused
+abbrev pub accepted_names : List (List ℕ) → Option ListingFault → Result (List (List ℕ)) ListingFault
+accepted_names names None = Ok names
+accepted_names names (Some refusal) = Err refusal
+
+abbrev pub accepted : Answer → Result (List (List ℕ)) ListingFault
+accepted (Ok names) = accepted_names names (refused_name [] names)
+accepted (Err cause) = Err (refused.ListFault cause)
+
+-- a call gives the names that are accepted; want of memory says nothing
+abbrev pub Accepts : Result (List (List ℕ)) ListingFault → Result (List (List ℕ)) ListingFault → Type 0
+Accepts (Ok names) given = given ≡ Ok names
+Accepts (Err refused.OutOfMemory) given = Unit {0}
+Accepts (Err refusal) given = given ≡ Err refusal
+
+-- the listed binaries: those of which some test may be selected
+abbrev pub listed_of : Filter → List Binary → List Binary
+listed_of chosen binaries = if may_hold chosen then binaries else []
+
+-- the tests of a binary on which a filter holds
+abbrev pub selected_in : Filter → Binary → List (List ℕ) → List OwnedTestInstanceId
+selected_in chosen binary names = map (λ name. record { binary_id = binary.id; test_name = name }) (filter (holds chosen) names)
+
+-- how many names aren't selected
+abbrev pub skipped_in : Filter → List (List ℕ) → ℕ
+skipped_in chosen names = length names - length (filter (holds chosen) names)
+
+infixl 10 ◌>>=◌
+abbrev pub ◌>>=◌ : {A B : Type 0} → Result A ListingFault → (A → Result B ListingFault) → Result B ListingFault
+Ok x >>= next = next x
+Err refusal >>= next = Err refusal
+
+-- what binaries give one after another, up to the first whose answer is refused
+abbrev pub listing : (Binary → Answer) → Filter → List Binary → Result Found ListingFault
+listing answer chosen [] = Ok (record { tests = []; skipped = 0 })
+listing answer chosen (binary ∷ binaries) = do
+  names ← accepted (answer binary)
+  rest ← listing answer chosen binaries
+  Ok (record { tests = selected_in chosen binary names ++ rest.tests; skipped = skipped_in chosen names + rest.skipped })
+
+-- the ids of the binaries that are asked: up to the first whose answer is refused
+abbrev pub asked_after : {A : Type 0} → Result A ListingFault → List (List ℕ) → List (List ℕ)
+asked_after (Ok names) rest = rest
+asked_after (Err refusal) rest = []
+
+abbrev pub asked_of : (Binary → Answer) → List Binary → List (List ℕ)
+asked_of answer [] = []
+asked_of answer (binary ∷ binaries) = binary.id ∷ asked_after (accepted (answer binary)) (asked_of answer binaries)
+
+-- one binary's tests are added to what was found; want of memory says nothing
+abbrev pub Adds : {T : Type 0} → Result T ListingFault → Result (List (List ℕ)) ListingFault → Filter → Binary → Found → Found → Type 0
+Adds (Ok done) answered chosen binary old new =
+    (names : List (List ℕ)) × (answered ≡ Ok names) × (new.tests ≡ old.tests ++ selected_in chosen binary names) × (new.skipped ≡ old.skipped + skipped_in chosen names)
+Adds (Err refused.OutOfMemory) answered chosen binary old new = Unit {0}
+Adds (Err refusal) answered chosen binary old new = answered ≡ Err refusal
+
+-- a call lists these binaries; want of memory says nothing
+abbrev pub Lists : Result Found ListingFault → Result Found ListingFault → Type 0
+Lists (Ok found) given = given ≡ Ok found
+Lists (Err refused.OutOfMemory) given = Unit {0}
+Lists (Err refusal) given = given ≡ Err refusal
+
+-- tests rise by binary id, and then by name, by bytes
+abbrev pub instance_cmp : OwnedTestInstanceId → OwnedTestInstanceId → Ordering
+instance_cmp a b = ordering_then (slice_cmp nat_cmp a.binary_id b.binary_id) (slice_cmp nat_cmp a.test_name b.test_name)
+
+-- a selection has the listed tests in rising order
+pub record Selects (listed : Found) (selection : Selection) : Type 0 where
+  pub tests : IsPermutation listed.tests selection.tests
+  pub order : IsSorted instance_cmp selection.tests
+  pub skipped : selection.skipped ≡ listed.skipped
+
+-- a call gives what the listed binaries give; want of memory says nothing
+abbrev pub Gives : Result Selection ListingFault → Result Found ListingFault → Type 0
+Gives (Ok selection) found = (listed : Found) × (found ≡ Ok listed) × Selects listed selection
+Gives (Err refused.OutOfMemory) found = Unit {0}
+Gives (Err refusal) found = found ≡ Err refusal
+
+-- the list of ids asked for grows by those that are asked; where there was no memory by a front of them
+abbrev pub Asks : {T : Type 0} → Result T ListingFault → List (List ℕ) → List (List ℕ) → List (List ℕ) → Type 0
+Asks (Err refused.OutOfMemory) old ids new = (front : List (List ℕ)) × ((rest : List (List ℕ)) × ((new ≡ old ++ front) × (ids ≡ front ++ rest)))
+Asks result old ids new = new ≡ old ++ ids

@@ -1,0 +1,13 @@
+//! Which tests a run selects: the listed binaries are asked for their tests, and a filter is tried on each.
+#![tactic(auto)]
+
+mod filter;
+mod listing;
+mod listing_fault;
+mod names;
+mod selection;
+
+pub use filter::Filter;
+pub use listing::select;
+pub use listing_fault::ListingFault;
+pub use selection::Selection;

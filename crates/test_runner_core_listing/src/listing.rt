@@ -1,0 +1,140 @@
+// Which tests are selected.
+ghost use Rattle.std.specs.Prelude.{◌≡◌, ◌∷◌, [], ◌++◌, IfOk, OnOk};
+ghost use Rattle.std.specs.List.Sorted.{IsSorted, IsPermutation};
+ghost use Rattle.test_runner_core_listing.specs.Listing as words;
+ghost use Rattle.test_runner_core_workspace.specs.declared.record.Binary.{Binary};
+
+use crate::filter::Filter;
+use crate::listing_fault::ListingFault;
+use crate::names::refusal;
+use crate::selection::Selection;
+use nextest_run_events_instances::OwnedTestInstanceId;
+use nextest_text::{Listing, Text};
+use std::alloc::{AllocError, Global};
+use test_runner_core_workspace::{Binary, ListFault, Lister};
+
+// The selected tests as they were listed, and how many weren't selected.
+#[derive(Drop)]
+pub(crate) struct Found {
+    tests: Listing<OwnedTestInstanceId>,
+    skipped: usize,
+}
+
+// The names that a binary answers.
+fn names_of<L: Lister>(
+    alloc: Global,
+    binary: &Binary,
+    lister: &mut L,
+) -> Result<Listing<Text>, ListingFault>
+    ensures names { words.Accepts result (words.accepted (L.answer lister.old binary.now)) }
+    ensures stays { (other : Binary) → L.answer lister.new other ≡ L.answer lister.old other }
+    ensures asks { words.Asks result (L.asked lister.old) (binary.now.id ∷ []) (L.asked lister.new) }
+{
+    let names = match lister.list(binary) {
+        Ok(names) => names,
+        Err(ListFault::Cause(cause)) => return Err(ListingFault::ListFault(cause)),
+        Err(ListFault::OutOfMemory) => return Err(ListingFault::OutOfMemory),
+    };
+    match refusal(alloc, names.as_slice())? {
+        Some(refused) => Err(refused),
+        None => Ok(names),
+    }
+}
+
+// Adds the tests of a binary on which the filter holds.
+fn add_selected(
+    alloc: Global,
+    binary: &Binary,
+    names: &[Text],
+    filter: &Filter,
+    tests: &mut Listing<OwnedTestInstanceId>,
+) -> Result<(), AllocError>
+    ensures { OnOk result (tests.new ≡ tests.old ++ words.selected_in filter.now binary.now names.now) }
+{
+    for name in names {
+        if filter.holds(name.as_str()) {
+            tests.push(OwnedTestInstanceId {
+                binary_id: binary.id.clone()?,
+                test_name: name.clone()?,
+            })?;
+        }
+    }
+    Ok(())
+}
+
+// Adds what one binary gives.
+fn list_one<L: Lister>(
+    alloc: Global,
+    binary: &Binary,
+    filter: &Filter,
+    lister: &mut L,
+    found: &mut Found,
+) -> Result<(), ListingFault>
+    ensures adds { words.Adds result (words.accepted (L.answer lister.old binary.now)) filter.now binary.now found.old found.new }
+    ensures stays { (other : Binary) → L.answer lister.new other ≡ L.answer lister.old other }
+    ensures asks { words.Asks result (L.asked lister.old) (binary.now.id ∷ []) (L.asked lister.new) }
+{
+    let names = names_of(alloc, binary, lister)?;
+    let before = found.tests.len();
+    add_selected(alloc, binary, names.as_slice(), filter, &mut found.tests)?;
+    let selected = found.tests.len().saturating_sub(before);
+    let more = names.len().saturating_sub(selected);
+    let Some(skipped) = found.skipped.checked_add(more) else {
+        return Err(ListingFault::OutOfMemory);
+    };
+    found.skipped = skipped;
+    Ok(())
+}
+
+// What binaries give one after another.
+fn list_each<L: Lister>(
+    alloc: Global,
+    binaries: &[Binary],
+    filter: &Filter,
+    lister: &mut L,
+) -> Result<Found, ListingFault>
+    ensures lists { words.Lists result (words.listing (L.answer lister.old) filter.now binaries.now) }
+    ensures stays { (other : Binary) → L.answer lister.new other ≡ L.answer lister.old other }
+    ensures asks { words.Asks result (L.asked lister.old) (words.asked_of (L.answer lister.old) binaries.now) (L.asked lister.new) }
+{
+    let mut found = Found {
+        tests: Listing::new(alloc),
+        skipped: 0,
+    };
+    for binary in binaries {
+        list_one(alloc, binary, filter, lister, &mut found)?;
+    }
+    Ok(found)
+}
+
+/// The tests of the binaries on which the filter holds, rising by binary id and then by name. Only binaries of which some
+/// test may be one are asked, each once, in their order, up to the first whose answer is refused. An `Err` says
+/// why: the binary can't list its tests, or a name is empty, has a tab or a line end in it, or stands twice, each
+/// name being looked at whole before the next; or that there was no memory, which says nothing of the binaries.
+pub fn select<L: Lister>(
+    alloc: Global,
+    binaries: &[Binary],
+    filter: &Filter,
+    lister: &mut L,
+) -> Result<Selection, ListingFault>
+    ensures selects { words.Gives result (words.listing (L.answer lister.old) filter.now (words.listed_of filter.now binaries.now)) }
+    ensures stays { (other : Binary) → L.answer lister.new other ≡ L.answer lister.old other }
+    ensures asks { words.Asks result (L.asked lister.old) (words.asked_of (L.answer lister.old) (words.listed_of filter.now binaries.now)) (L.asked lister.new) }
+{
+    let listed = if filter.may_hold() { binaries } else { &[] };
+    let Found { tests, skipped } = list_each(alloc, listed, filter, lister)?;
+    Ok(Selection {
+        tests: sorted(tests),
+        skipped,
+    })
+}
+
+// Tests, rising by binary id and then by name.
+fn sorted(tests: Listing<OwnedTestInstanceId>) -> Listing<OwnedTestInstanceId>
+    ensures same { IsPermutation tests result }
+    ensures order { IsSorted words.instance_cmp result }
+{
+    let mut sorted = Vec::from(tests);
+    sorted.sort_unstable();
+    Listing::from(sorted)
+}
