@@ -28,9 +28,9 @@ shape_there (Some given) inputs e = (given, refl, ((inputs_fit given).ok inputs 
 -- bytes are read exactly if they have the shape
 pub accepted : (bytes : List ℕ) (inputs : Inputs) → (read_inputs bytes ≡ Ok inputs) ↔ AreInputs bytes inputs
 accepted bytes inputs = (
-      λ e. let s = shape_there (value_of bytes) inputs e in record { given = s.0; json = s.1; shape = s.2 },
-      λ s. ap read_of s.json ∙ ap refused_at ((inputs_fit s.given).back inputs s.shape),
-    )
+  λ e. let s = shape_there (value_of bytes) inputs e in record { given = s.0; json = s.1; shape = s.2 },
+  λ s. ap read_of s.json ∙ ap refused_at ((inputs_fit s.given).back inputs s.shape),
+)
 
 abbrev told : Path → InputsError
 told path = errors.Field (dotted path)

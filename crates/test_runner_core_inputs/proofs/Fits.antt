@@ -25,8 +25,8 @@ package_parts : (given : Data) → Meets (read.package_parts given) (wrong.all_o
 package_parts given =
     meets_as (shape.IsPackage given)
     (meets_then _ _ (text_of (codes "id") given) (λ id _.
-      meets_then _ _ (text_of (codes "name") given) (λ name _.
-      meets_ok (record { id = id; name = name }))))
+    meets_then _ _ (text_of (codes "name") given) (λ name _.
+    meets_ok (record { id = id; name = name }))))
     (λ it s. subst (shape.IsPackage given) (sym s.1.1.1.1) (record { id = s.1.0; name = s.1.1.1.0 }))
     (λ it s. (it.id, (s.id, (it.name, (s.name, refl)))))
 
@@ -69,20 +69,20 @@ link_with (Some (a ∷ [])) = meets_err _ (λ it s. absurd (let e : Some (a ∷ 
 link_with (Some (a ∷ b ∷ [])) =
     meets_as _
     (meets_then _ _ (meets_under (decimal 0) _ (texts.at a)) (λ from _.
-      meets_then _ _ (meets_under (decimal 1) _ (texts.at b)) (λ to _. meets_ok (record { from = from; to = to }))))
+    meets_then _ _ (meets_under (decimal 1) _ (texts.at b)) (λ to _. meets_ok (record { from = from; to = to }))))
     (λ it s. subst (LinkOn (Some (a ∷ b ∷ []))) (sym s.1.1.1.1) (a, (b, (refl, s.1.0, s.1.1.1.0))))
     (λ it s.
-      let e : Some (a ∷ b ∷ []) ≡ Some (s.0 ∷ s.1.0 ∷ []) = s.1.1.0 in
-      let f : s.0 ≡ a = cc in
-      let g : s.1.0 ≡ b = cc in
-      (it.from, (subst (λ (d : Data). shape.Is value.text d it.from) f s.1.1.1, (it.to, (subst (λ (d : Data). shape.Is value.text d it.to) g s.1.1.2, refl)))))
+    let e : Some (a ∷ b ∷ []) ≡ Some (s.0 ∷ s.1.0 ∷ []) = s.1.1.0 in
+    let f : s.0 ≡ a = cc in
+    let g : s.1.0 ≡ b = cc in
+    (it.from, (subst (λ (d : Data). shape.Is value.text d it.from) f s.1.1.1, (it.to, (subst (λ (d : Data). shape.Is value.text d it.to) g s.1.1.2, refl)))))
 link_with (Some (a ∷ b ∷ c ∷ more)) =
     let found = Some (a ∷ b ∷ c ∷ more) in
     subst
     (λ (test : Bool). Meets
-      (cond test (read.◌>>=◌ (part_on 0 read.text found) (λ from. read.◌>>=◌ (part_on 1 read.text found) (λ to. Ok (record { from = from; to = to })))) (Err []))
-      (cond test (wrong.all_of (wrong_on 0 (wrong.is value.text) found ∷ wrong_on 1 (wrong.is value.text) found ∷ [])) wrong.itself)
-      (LinkOn found))
+    (cond test (read.◌>>=◌ (part_on 0 read.text found) (λ from. read.◌>>=◌ (part_on 1 read.text found) (λ to. Ok (record { from = from; to = to })))) (Err []))
+    (cond test (wrong.all_of (wrong_on 0 (wrong.is value.text) found ∷ wrong_on 1 (wrong.is value.text) found ∷ [])) wrong.itself)
+    (LinkOn found))
     (sym (not_two (length more)))
     (meets_err _ (λ it s. absurd (let e : Some (a ∷ b ∷ c ∷ more) ≡ Some (s.0 ∷ s.1.0 ∷ []) = s.1.1.0 in cc)))
 
@@ -120,6 +120,7 @@ tests_with given None e = meets_as _ (meets_object read.tests_fault wrong.tests_
   where
     there : (it : BinaryTests) → Then (shape.Has (codes "fault") (shape.Is value.text) given) (λ cause it. it ≡ tests.Fault cause) it → TestsOn given None it
     there it s = subst (TestsOn given None) (sym s.1.1) s.1.0
+
     back : (it : BinaryTests) → TestsOn given None it → Then (shape.Has (codes "fault") (shape.Is value.text) given) (λ cause it. it ≡ tests.Fault cause) it
     back (tests.Names names) s = absurd (let e : None ≡ Some s.0 = s.1 in cc)
     back (tests.Fault cause) s = (cause, (s, refl))
@@ -127,6 +128,7 @@ tests_with given (Some found) e = meets_as _ (meets_map _ (λ names. tests.Names
   where
     there : (it : BinaryTests) → Then (shape.AreEach (shape.Is value.text) found) (λ names it. it ≡ tests.Names names) it → TestsOn given (Some found) it
     there it s = subst (TestsOn given (Some found)) (sym s.1.1) (found, refl, s.1.0)
+
     back : (it : BinaryTests) → TestsOn given (Some found) it → Then (shape.AreEach (shape.Is value.text) found) (λ names it. it ≡ tests.Names names) it
     back (tests.Names names) s =
         let f : Some found ≡ Some s.0 = s.1 in
@@ -140,6 +142,7 @@ tests_at given = meets_as (shape.AreTests given) (tests_with given (items given)
     there : (it : BinaryTests) → TestsOn given (items given) it → shape.AreTests given it
     there (tests.Names names) s = s
     there (tests.Fault cause) s = s
+
     back : (it : BinaryTests) → shape.AreTests given it → TestsOn given (items given) it
     back (tests.Names names) s = s
     back (tests.Fault cause) s = s
@@ -151,12 +154,12 @@ binary_parts : (given : Data) → Meets (read.binary_parts given) (wrong.all_of 
 binary_parts given =
     meets_as (shape.IsBinary given)
     (meets_then _ _ (text_of (codes "id") given) (λ id _.
-      meets_then _ _ (text_of (codes "name") given) (λ name _.
-      meets_then _ _ (text_of (codes "package") given) (λ owner _.
-      meets_then _ _ (meets_required (codes "kind") (leaves value.kind) given) (λ kind _.
-      meets_then _ _ (meets_required (codes "platform") (leaves value.platform) given) (λ platform _.
-      meets_then _ _ (meets_required (codes "tests") all_tests given) (λ listed _.
-      meets_ok (record { id = id; name = name; «package» = owner; kind = kind; platform = platform; tests = listed }))))))))
+    meets_then _ _ (text_of (codes "name") given) (λ name _.
+    meets_then _ _ (text_of (codes "package") given) (λ owner _.
+    meets_then _ _ (meets_required (codes "kind") (leaves value.kind) given) (λ kind _.
+    meets_then _ _ (meets_required (codes "platform") (leaves value.platform) given) (λ platform _.
+    meets_then _ _ (meets_required (codes "tests") all_tests given) (λ listed _.
+    meets_ok (record { id = id; name = name; «package» = owner; kind = kind; platform = platform; tests = listed }))))))))
     (λ it s. subst (shape.IsBinary given) (sym s.1.1.1.1.1.1.1.1.1.1.1.1) (record { id = s.1.0; name = s.1.1.1.0; owner = s.1.1.1.1.1.0; kind = s.1.1.1.1.1.1.1.0; platform = s.1.1.1.1.1.1.1.1.1.0; tests = s.1.1.1.1.1.1.1.1.1.1.1.0 }))
     (λ it s. (it.id, (s.id, (it.name, (s.name, (it.«package», (s.owner, (it.kind, (s.kind, (it.platform, (s.platform, (it.tests, (s.tests, refl)))))))))))))
 
@@ -167,12 +170,11 @@ workspace_parts : (given : Data) → Meets (read.workspace_parts given) (wrong.a
 workspace_parts given =
     meets_as (shape.IsWorkspace given)
     (meets_then _ _ (meets_required (codes "packages") (lists packages) given) (λ found _.
-      meets_then _ _ (meets_required (codes "links") (lists links) given) (λ between _.
-      meets_then _ _ (meets_required (codes "binaries") (lists binaries) given) (λ built _.
-      meets_ok (record { packages = found; links = between; binaries = built })))))
+    meets_then _ _ (meets_required (codes "links") (lists links) given) (λ between _.
+    meets_then _ _ (meets_required (codes "binaries") (lists binaries) given) (λ built _.
+    meets_ok (record { packages = found; links = between; binaries = built })))))
     (λ it s. subst (shape.IsWorkspace given) (sym s.1.1.1.1.1.1) (record { packages = s.1.0; links = s.1.1.1.0; binaries = s.1.1.1.1.1.0 }))
     (λ it s. (it.packages, (s.packages, (it.links, (s.links, (it.binaries, (s.binaries, refl)))))))
 
 pub workspaces : MeetsAll read.workspace_of wrong.workspace_faults shape.IsWorkspace
 workspaces = record { at = λ given. meets_object read.workspace_parts wrong.workspace_parts given (workspace_parts given) (λ it s. has_is_object (codes "packages") (shape.IsListOf shape.IsPackage) given _ s.packages) }
-

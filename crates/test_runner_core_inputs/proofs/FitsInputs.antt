@@ -44,13 +44,14 @@ kinds_fit : (given : Data) → Meets (read.kind_of_source given)
 kinds_fit given =
     meets_as (shape.IsOfKind given)
     (meets_then _ _ (meets_required (codes "kind") (leaves value.source_word) given) (λ word e.
-      meets_faults _ (ap (λ (found : Option SourceWord). wrong.tool_faults found given) (the_word given word e)) (by_word given word)))
+    meets_faults _ (ap (λ (found : Option SourceWord). wrong.tool_faults found given) (the_word given word e)) (by_word given word)))
     (λ it s. there it s.0 s.1.0 s.1.1) back
   where
     there : (it : ConfigSourceKind) (word : SourceWord) → shape.Has (codes "kind") (shape.Is value.source_word) given word → KindBy given word it → shape.IsOfKind given it
     there it words.Tool w k = subst (shape.IsOfKind given) (sym k.1.1) (w, k.1.0)
     there it words.Explicit w k = subst (shape.IsOfKind given) (sym k) w
     there it words.Discovered w k = subst (shape.IsOfKind given) (sym k) w
+
     back : (it : ConfigSourceKind) → shape.IsOfKind given it → Then (shape.Has (codes "kind") (shape.Is value.source_word) given) (λ word kind. KindBy given word kind) it
     back (kinds.Tool name) s = (words.Tool, (s.0, (name, (s.1, refl))))
     back kinds.ExplicitRepository s = (words.Explicit, (s, refl))
@@ -149,10 +150,10 @@ source_parts : (given : Data) → Meets (read.source_parts given) (wrong.all_of 
 source_parts given =
     meets_as (shape.IsSource given)
     (meets_faults _ (append_assoc (wrong.has (codes "kind") (wrong.is value.source_word) given) _ _)
-      (meets_then _ _ (kinds_fit given) (λ kind _.
-        meets_then _ _ (meets_required (codes "path") (leaves value.undivided) given) (λ path _.
-        meets_then _ _ (outcomes_fit given) (λ outcome _.
-        meets_ok (record { kind = kind; path = path; outcome = outcome }))))))
+    (meets_then _ _ (kinds_fit given) (λ kind _.
+    meets_then _ _ (meets_required (codes "path") (leaves value.undivided) given) (λ path _.
+    meets_then _ _ (outcomes_fit given) (λ outcome _.
+    meets_ok (record { kind = kind; path = path; outcome = outcome }))))))
     (λ it s. subst (shape.IsSource given) (sym s.1.1.1.1.1.1) (record { kind = s.1.0; path = s.1.1.1.0; outcome = s.1.1.1.1.1.0 }))
     (λ it s. (it.kind, (s.kind, (it.path, (s.path, (it.outcome, (s.outcome, refl)))))))
 
@@ -220,7 +221,7 @@ fact_with (Some (x ∷ [])) = meets_err _ (no_fact (Some (x ∷ [])) (λ a b e. 
 fact_with (Some (x ∷ y ∷ [])) =
     meets_as _
     (meets_then _ _ (meets_under (decimal 0) _ (texts.at x)) (λ name _.
-      meets_then _ _ (meets_under (decimal 1) _ (truths.at y)) (λ holds _. meets_ok (record { name = name; value = None; holds = holds }))))
+    meets_then _ _ (meets_under (decimal 1) _ (truths.at y)) (λ holds _. meets_ok (record { name = name; value = None; holds = holds }))))
     (λ it s. subst (FactOn (Some (x ∷ y ∷ []))) (sym s.1.1.1.1) (inl (x, (y, (refl, s.1.0, refl, s.1.1.1.0)))))
     back
   where
@@ -234,8 +235,8 @@ fact_with (Some (x ∷ y ∷ [])) =
 fact_with (Some (x ∷ y ∷ z ∷ [])) =
     meets_as _
     (meets_then _ _ (meets_under (decimal 0) _ (texts.at x)) (λ name _.
-      meets_then _ _ (meets_under (decimal 1) _ (texts.at y)) (λ about _.
-      meets_then _ _ (meets_under (decimal 2) _ (truths.at z)) (λ holds _. meets_ok (record { name = name; value = Some about; holds = holds })))))
+    meets_then _ _ (meets_under (decimal 1) _ (texts.at y)) (λ about _.
+    meets_then _ _ (meets_under (decimal 2) _ (truths.at z)) (λ holds _. meets_ok (record { name = name; value = Some about; holds = holds })))))
     (λ it s. subst (FactOn (Some (x ∷ y ∷ z ∷ []))) (sym s.1.1.1.1.1.1) (inr (x, (y, (z, (s.1.1.0, (refl, s.1.0, s.1.1.1.0, refl, s.1.1.1.1.1.0)))))))
     back
   where
@@ -247,9 +248,19 @@ fact_with (Some (x ∷ y ∷ z ∷ [])) =
         let e : Some (x ∷ y ∷ z ∷ []) ≡ Some (s.0 ∷ s.1.0 ∷ s.1.1.0 ∷ []) = t.0 in
         let f : s.0 ≡ x = cc in
         let g : s.1.0 ≡ y = cc in
-        let h : s.1.1.0 ≡ z = cc in
-        (it.name, (subst (λ (d : Data). shape.Is value.text d it.name) f t.1, (s.1.1.1.0, (subst (λ (d : Data). shape.Is value.text d s.1.1.1.0) g t.2,
-          (it.holds, (subst (λ (d : Data). shape.Is value.truth d it.holds) h t.4, ap (with_value it) t.3))))))
+        let h : s.1.1.0 ≡ z = cc in (
+          it.name,
+          (
+            subst (λ (d : Data). shape.Is value.text d it.name) f t.1,
+            (
+              s.1.1.1.0,
+              (
+                subst (λ (d : Data). shape.Is value.text d s.1.1.1.0) g t.2,
+                (it.holds, (subst (λ (d : Data). shape.Is value.truth d it.holds) h t.4, ap (with_value it) t.3)),
+              ),
+            ),
+          ),
+        )
 fact_with (Some (x ∷ y ∷ z ∷ w ∷ more)) =
     of_no_length (Some (x ∷ y ∷ z ∷ w ∷ more)) (not_two (suc (length more))) (not_three (length more))
     (no_fact (Some (x ∷ y ∷ z ∷ w ∷ more)) (λ a b e. absurd (cc)) (λ a b c e. absurd (cc)))
@@ -262,6 +273,7 @@ fact_at given = meets_as (shape.IsFact given) (fact_with (items given)) there ba
     there it (inr s) =
         let t = s.1.1.1.1 in
         inr (record { first = s.0; second = s.1.0; third = s.1.1.0; whole = t.0; name = t.1; about = s.1.1.1.0; told = t.2; has_value = t.3; holds = t.4 })
+
     back : (it : FactRecord) → shape.IsFact given it → FactOn (items given) it
     back it (inl s) = inl (s.first, (s.second, (s.whole, s.name, s.no_value, s.holds)))
     back it (inr s) = inr (s.first, (s.second, (s.third, (s.about, (s.whole, s.name, s.told, s.has_value, s.holds)))))
@@ -275,13 +287,19 @@ platform_parts : (given : Data) → Meets (read.platform_parts given) (wrong.all
 platform_parts given =
     meets_as (shape.IsPlatform given)
     (meets_then _ _ (text_of (codes "triple") given) (λ triple _.
-      meets_then _ _ (meets_required (codes "facts") (lists facts) given) (λ known _.
-      meets_ok (record { triple = triple; facts = known }))))
+    meets_then _ _ (meets_required (codes "facts") (lists facts) given) (λ known _.
+    meets_ok (record { triple = triple; facts = known }))))
     (λ it s. subst (shape.IsPlatform given) (sym s.1.1.1.1) (record {
       triple = s.1.0;
-      facts = s.1.1.1.0 }))
-    (λ it s. (it.triple, (s.triple, 
-      (it.facts, (s.facts, refl)))))
+      facts = s.1.1.1.0;
+    }))
+    (λ it s. (
+      it.triple,
+      (
+        s.triple,
+        (it.facts, (s.facts, refl)),
+      ),
+    ))
 
 platforms : MeetsAll read.platform_of wrong.platform_faults shape.IsPlatform
 platforms = record { at = λ given. meets_object read.platform_parts wrong.platform_parts given (platform_parts given) (λ it s. has_is_object (codes "triple") (shape.Is value.text) given it.triple s.triple) }
@@ -290,18 +308,18 @@ inputs_parts : (given : Data) → Meets (read.inputs_parts given) (wrong.all_of 
 inputs_parts given =
     meets_as (shape.IsInputs given)
     (meets_then _ _ (meets_required (codes "workspace") workspaces given) (λ x_workspace _.
-      meets_then _ _ (meets_required (codes "sources") (lists sources) given) (λ x_sources _.
-      meets_then _ _ (meets_required (codes "current_version") (leaves value.version) given) (λ x_current_version _.
-      meets_then _ _ (meets_defaulted (codes "profile") (codes "default") texts given) (λ x_profile _.
-      meets_then _ _ (meets_defaulted (codes "mode") modes.Test (leaves value.mode) given) (λ x_mode _.
-      meets_then _ _ (meets_defaulted (codes "host") read.no_platform platforms given) (λ x_host _.
-      meets_then _ _ (meets_optional (codes "target") platforms given) (λ x_target _.
-      meets_then _ _ (meets_optional (codes "filterset") texts given) (λ x_filterset _.
-      meets_then _ _ (meets_defaulted (codes "ignore_default_filter") false truths given) (λ x_ignore_default_filter _.
-      meets_then _ _ (meets_defaulted (codes "override_version_check") false truths given) (λ x_override_version_check _.
-      meets_then _ _ (meets_defaulted (codes "processors") 1 (leaves value.positive) given) (λ x_processors _.
-      meets_then _ _ (meets_defaulted (codes "root") [] texts given) (λ x_root _.
-      meets_ok (record { workspace = x_workspace; sources = x_sources; current_version = x_current_version; profile = x_profile; mode = x_mode; host = x_host; target = x_target; filterset = x_filterset; ignore_default_filter = x_ignore_default_filter; override_version_check = x_override_version_check; processors = x_processors; root = x_root }))))))))))))))
+    meets_then _ _ (meets_required (codes "sources") (lists sources) given) (λ x_sources _.
+    meets_then _ _ (meets_required (codes "current_version") (leaves value.version) given) (λ x_current_version _.
+    meets_then _ _ (meets_defaulted (codes "profile") (codes "default") texts given) (λ x_profile _.
+    meets_then _ _ (meets_defaulted (codes "mode") modes.Test (leaves value.mode) given) (λ x_mode _.
+    meets_then _ _ (meets_defaulted (codes "host") read.no_platform platforms given) (λ x_host _.
+    meets_then _ _ (meets_optional (codes "target") platforms given) (λ x_target _.
+    meets_then _ _ (meets_optional (codes "filterset") texts given) (λ x_filterset _.
+    meets_then _ _ (meets_defaulted (codes "ignore_default_filter") false truths given) (λ x_ignore_default_filter _.
+    meets_then _ _ (meets_defaulted (codes "override_version_check") false truths given) (λ x_override_version_check _.
+    meets_then _ _ (meets_defaulted (codes "processors") 1 (leaves value.positive) given) (λ x_processors _.
+    meets_then _ _ (meets_defaulted (codes "root") [] texts given) (λ x_root _.
+    meets_ok (record { workspace = x_workspace; sources = x_sources; current_version = x_current_version; profile = x_profile; mode = x_mode; host = x_host; target = x_target; filterset = x_filterset; ignore_default_filter = x_ignore_default_filter; override_version_check = x_override_version_check; processors = x_processors; root = x_root }))))))))))))))
     (λ it s. subst (shape.IsInputs given) (sym s.1.1.1.1.1.1.1.1.1.1.1.1.1.1.1.1.1.1.1.1.1.1.1.1) (record {
       workspace = s.1.0;
       sources = s.1.1.1.0;
@@ -314,19 +332,75 @@ inputs_parts given =
       ignore_default_filter = s.1.1.1.1.1.1.1.1.1.1.1.1.1.1.1.1.1.0;
       override_version_check = s.1.1.1.1.1.1.1.1.1.1.1.1.1.1.1.1.1.1.1.0;
       processors = s.1.1.1.1.1.1.1.1.1.1.1.1.1.1.1.1.1.1.1.1.1.0;
-      root = s.1.1.1.1.1.1.1.1.1.1.1.1.1.1.1.1.1.1.1.1.1.1.1.0 }))
-    (λ it s. (it.workspace, (s.workspace, 
-      (it.sources, (s.sources, 
-      (it.current_version, (s.current_version, 
-      (it.profile, (s.profile, 
-      (it.mode, (s.mode, 
-      (it.host, (s.host, 
-      (it.target, (s.target, 
-      (it.filterset, (s.filterset, 
-      (it.ignore_default_filter, (s.ignore_default_filter, 
-      (it.override_version_check, (s.override_version_check, 
-      (it.processors, (s.processors, 
-      (it.root, (s.root, refl)))))))))))))))))))))))))
+      root = s.1.1.1.1.1.1.1.1.1.1.1.1.1.1.1.1.1.1.1.1.1.1.1.0;
+    }))
+    (λ it s. (
+      it.workspace,
+      (
+        s.workspace,
+        (
+          it.sources,
+          (
+            s.sources,
+            (
+              it.current_version,
+              (
+                s.current_version,
+                (
+                  it.profile,
+                  (
+                    s.profile,
+                    (
+                      it.mode,
+                      (
+                        s.mode,
+                        (
+                          it.host,
+                          (
+                            s.host,
+                            (
+                              it.target,
+                              (
+                                s.target,
+                                (
+                                  it.filterset,
+                                  (
+                                    s.filterset,
+                                    (
+                                      it.ignore_default_filter,
+                                      (
+                                        s.ignore_default_filter,
+                                        (
+                                          it.override_version_check,
+                                          (
+                                            s.override_version_check,
+                                            (
+                                              it.processors,
+                                              (
+                                                s.processors,
+                                                (it.root, (s.root, refl)),
+                                              ),
+                                            ),
+                                          ),
+                                        ),
+                                      ),
+                                    ),
+                                  ),
+                                ),
+                              ),
+                            ),
+                          ),
+                        ),
+                      ),
+                    ),
+                  ),
+                ),
+              ),
+            ),
+          ),
+        ),
+      ),
+    ))
 
 pub inputs_fit : (given : Data) → Meets (read.inputs_of given) (wrong.inputs_faults given) (shape.IsInputs given)
 inputs_fit given = by_test (is_some (as_object given)) refl

@@ -70,8 +70,8 @@ meets_then read next {first = first} {rest = rest} m n =
           (ap (λ (f : Faults). f ++ rest) h.0 ∙ k.0, (r.0, (h.1, k.1)));
       err = λ path e.
           elim (bind_err read next path e) [
-            inl r ↦ let h = m.err path r in (h.0 ++ rest, ap (λ (f : Faults). f ++ rest) h.1)
-          | inr r ↦ let h = (n r.0 r.1).err path r.2 in (h.0, ap (λ (f : Faults). f ++ rest) (m.ok r.0 r.1).0 ∙ h.1)
+            | inl r ↦ let h = m.err path r in (h.0 ++ rest, ap (λ (f : Faults). f ++ rest) h.1)
+            | inr r ↦ let h = (n r.0 r.1).err path r.2 in (h.0, ap (λ (f : Faults). f ++ rest) (m.ok r.0 r.1).0 ∙ h.1)
           ];
       back = λ y s.
           let r = m.back s.0 s.1.0 in
@@ -90,8 +90,8 @@ meets_map read made m =
           (h.0, (r.0, (h.1, cc)));
       err = λ path e.
           elim (bind_err read (λ x. Ok (made x)) path e) [
-            inl r ↦ m.err path r
-          | inr r ↦ absurd (let f : Ok (made r.0) ≡ Err path = r.2 in cc)
+            | inl r ↦ m.err path r
+            | inr r ↦ absurd (let f : Ok (made r.0) ≡ Err path = r.2 in cc)
           ];
       back = λ y s. ap (λ (p : Result _ Path). p >>= λ x. Ok (made x)) (m.back s.0 s.1.0) ∙ ap Ok (sym s.1.1);
     }
@@ -166,6 +166,7 @@ meets_maybe {A = A} {S = S} m None =
     absent : (x : Option A) → x ≡ None → MayBe S None x
     absent (Some x) e = absurd (cc)
     absent None e = refl
+
     nothing : (x : Option A) → MayBe S None x → x ≡ None
     nothing (Some x) s = absurd (let e : None ≡ Some s.0 = s.1 in cc)
     nothing None s = refl
@@ -182,6 +183,7 @@ meets_maybe {A = A} {reads = reads} {faults = faults} {S = S} m (Some given) =
     present : (x : Option A) (y : A) → x ≡ Some y → S given y → MayBe S (Some given) x
     present (Some x) y e s = let f : y ≡ x = cc in (given, refl, subst (λ (z : A). S given z) f s)
     present None y e s = absurd (cc)
+
     read_back : (x : Option A) → MayBe S (Some given) x → some (reads given) ≡ Ok x
     read_back (Some x) s =
         let e : Some given ≡ Some s.0 = s.1 in
@@ -197,6 +199,7 @@ meets_optional {A = A} name {S = S} m given = meets_under name _ (meets_as (MayH
     there : (x : Option A) → MayBe S (member name given) x → MayHave name S given x
     there (Some x) s = s
     there None s = s
+
     back : (x : Option A) → MayHave name S given x → MayBe S (member name given) x
     back (Some x) s = s
     back None s = s
@@ -234,17 +237,19 @@ meets_each {A = A} {S = S} m position [] = meets_as _ (meets_ok []) (λ xs e. no
     none_of : (xs : List A) → xs ≡ [] → AreEach S [] xs
     none_of [] e = tt
     none_of (x ∷ xs) e = absurd (cc)
+
     is_none : (xs : List A) → AreEach S [] xs → xs ≡ []
     is_none [] s = refl
     is_none (x ∷ xs) s = absurd s
 meets_each {A = A} {reads = reads} {faults = faults} {S = S} m position (given ∷ more) =
     meets_as _
     (meets_then _ _ (meets_under (decimal position) _ (m.at given))
-      (λ first _. meets_map _ (λ rest. first ∷ rest) (meets_each m (position + 1) more)))
+    (λ first _. meets_map _ (λ rest. first ∷ rest) (meets_each m (position + 1) more)))
     there back
   where
     there : (xs : List A) → Then (S given) (λ first. Then (AreEach S more) (λ rest all. all ≡ first ∷ rest)) xs → AreEach S (given ∷ more) xs
     there xs s = subst (AreEach S (given ∷ more)) (sym s.1.1.1.1) (s.1.0, s.1.1.1.0)
+
     back : (xs : List A) → AreEach S (given ∷ more) xs → Then (S given) (λ first. Then (AreEach S more) (λ rest all. all ≡ first ∷ rest)) xs
     back [] s = absurd s
     back (x ∷ xs) s = (x, (s.0, (xs, (s.1, refl))))

@@ -1,5 +1,6 @@
 pub mod Given
 pub mod Values
+pub mod Versions
 pub mod Reading
 pub mod Calls
 pub mod Paths

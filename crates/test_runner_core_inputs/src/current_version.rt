@@ -1,11 +1,10 @@
 // The version that a configuration's demands are judged by.
-ghost use Rattle.std.specs.Prelude.{◌≡◌, nat_eq};
-ghost use Rattle.std.specs.Cmp.{and_equiv, on_equiv, nat_eq_equiv, partial_equiv_from_equiv};
-ghost use Rattle.std.specs.Cmp.Lexicographic.{pointwise, nat_list_eq_equiv};
-ghost use Rattle.std.specs.Ordering.{on, eq_of_both};
+ghost use Rattle.std.specs.Prelude.{◌≡◌};
+ghost use Rattle.std.specs.Cmp.{partial_equiv_from_equiv};
 ghost use Rattle.semver.specs.Identifiers.{parts_of};
 ghost use Rattle.test_runner_core_inputs.specs.Reading as read;
 ghost use Rattle.test_runner_core_inputs.specs.Values as value_of;
+ghost use Rattle.test_runner_core_inputs.specs.Versions.{is_same, is_same_equiv};
 
 use crate::fault::Fault;
 use crate::form::Form;
@@ -74,9 +73,9 @@ impl Clone for CurrentVersion {
 }
 
 impl PartialEq for CurrentVersion {
-    ghost eq = { eq_of_both (on (λ it. it.0) nat_eq) (eq_of_both (on (λ it. it.1) nat_eq) (eq_of_both (on (λ it. it.2) nat_eq) (eq_of_both (on (λ it. it.3) (pointwise nat_eq)) (on (λ it. it.4) (pointwise nat_eq))))) };
+    ghost eq = { is_same };
 
-    ghost laws = { partial_equiv_from_equiv (and_equiv (on_equiv (λ it. it.0) nat_eq_equiv) (and_equiv (on_equiv (λ it. it.1) nat_eq_equiv) (and_equiv (on_equiv (λ it. it.2) nat_eq_equiv) (and_equiv (on_equiv (λ it. it.3) nat_list_eq_equiv) (on_equiv (λ it. it.4) nat_list_eq_equiv))))) };
+    ghost laws = { partial_equiv_from_equiv is_same_equiv };
 
     fn eq(&self, other: &CurrentVersion) -> bool {
         self.version == other.version
@@ -84,7 +83,7 @@ impl PartialEq for CurrentVersion {
 }
 
 impl Eq for CurrentVersion {
-    ghost laws = { and_equiv (on_equiv (λ it. it.0) nat_eq_equiv) (and_equiv (on_equiv (λ it. it.1) nat_eq_equiv) (and_equiv (on_equiv (λ it. it.2) nat_eq_equiv) (and_equiv (on_equiv (λ it. it.3) nat_list_eq_equiv) (on_equiv (λ it. it.4) nat_list_eq_equiv)))) };
+    ghost laws = { is_same_equiv };
 }
 
 impl fmt::Debug for CurrentVersion {

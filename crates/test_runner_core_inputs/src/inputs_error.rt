@@ -26,7 +26,10 @@ impl fmt::Display for InputsError {
         match self {
             InputsError::Syntax => write!(f, "the inputs are no JSON, or too long"),
             InputsError::Field(path) => {
-                write!(f, "the inputs have at {path} what is missing, ill-typed or not allowed")
+                write!(
+                    f,
+                    "the inputs have at {path} what is missing, ill-typed or not allowed"
+                )
             }
             InputsError::OutOfMemory => write!(f, "out of memory"),
         }

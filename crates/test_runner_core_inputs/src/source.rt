@@ -72,9 +72,7 @@ fn outcome_of(alloc: Global, source: &Value) -> Result<ConfigSourceOutcome, Faul
             let _missing: OnlyTrue = required(alloc, source, "missing")?;
             Ok(ConfigSourceOutcome::NotFound)
         }
-        (false, false, true) => Ok(ConfigSourceOutcome::Failed(required(
-            alloc, source, "failed",
-        )?)),
+        (false, false, true) => Ok(ConfigSourceOutcome::Failed(required(alloc, source, "failed")?)),
         _ => Err(Fault::here(alloc)),
     }
 }

@@ -5,30 +5,30 @@ use Rattle.test_runner_core_workspace.specs.Lister.{Answer}
 use Rattle.test_runner_core_workspace.specs.declared.record.Binary.{Binary}
 use Rattle.test_runner_core_listing.specs.Listing.{◌>>=◌, accepted, selected_in, skipped_in, listing, asked_of, asked_after, Adds, Asks}
 use Rattle.test_runner_core_listing.specs.declared.filter.Filter.{Filter}
-use Rattle.test_runner_core_listing.specs.declared.listing.Found.{Found}
+use Rattle.test_runner_core_listing.specs.declared.selection.Selection.{Selection}
 use Rattle.test_runner_core_listing.specs.declared.listing_fault.ListingFault.{ListingFault}
 use Rattle.test_runner_core_listing.specs.declared.listing_fault.ListingFault.TheVariants as refused
 
 -- what was found so far, and then what the rest gives
-abbrev pub behind : Found → Result Found ListingFault → Result Found ListingFault
+abbrev pub behind : Selection → Result Selection ListingFault → Result Selection ListingFault
 behind found read = read >>= λ rest. Ok (record { tests = found.tests ++ rest.tests; skipped = found.skipped + rest.skipped })
 
 -- the tests of a binary before those of the rest
-abbrev joined : Filter → Binary → List (List ℕ) → Found → Found
+abbrev joined : Filter → Binary → List (List ℕ) → Selection → Selection
 joined chosen binary names rest = record { tests = selected_in chosen binary names ++ rest.tests; skipped = skipped_in chosen names + rest.skipped }
 
-abbrev first_of : (Binary → Answer) → Filter → Binary → List Binary → Result (List (List ℕ)) ListingFault → Result Found ListingFault
+abbrev first_of : (Binary → Answer) → Filter → Binary → List Binary → Result (List (List ℕ)) ListingFault → Result Selection ListingFault
 first_of answer chosen binary more read = read >>= λ names. listing answer chosen more >>= λ rest. Ok (joined chosen binary names rest)
 
 -- a binary was listed
-pub one_listed : (answer : Binary → Answer) (chosen : Filter) (binary : Binary) (more : List Binary) (names : List (List ℕ)) (old new : Found)
+pub one_listed : (answer : Binary → Answer) (chosen : Filter) (binary : Binary) (more : List Binary) (names : List (List ℕ)) (old new : Selection)
     → accepted (answer binary) ≡ Ok names → new.tests ≡ old.tests ++ selected_in chosen binary names → new.skipped ≡ old.skipped + skipped_in chosen names
     → behind new (listing answer chosen more) ≡ behind old (listing answer chosen (binary ∷ more))
 one_listed answer chosen binary more names old new known tests skipped =
     by_rest (listing answer chosen more)
     ∙ sym (ap (λ (read : Result (List (List ℕ)) ListingFault). behind old (first_of answer chosen binary more read)) known)
   where
-    by_rest : (rest : Result Found ListingFault) → behind new rest ≡ behind old (rest >>= λ r. Ok (joined chosen binary names r))
+    by_rest : (rest : Result Selection ListingFault) → behind new rest ≡ behind old (rest >>= λ r. Ok (joined chosen binary names r))
     by_rest (Ok rest) =
         ap (λ (t : List OwnedTestInstanceId). Ok (record { tests = t ++ rest.tests; skipped = new.skipped + rest.skipped })) tests
         ∙ ap (λ (t : List OwnedTestInstanceId). Ok (record { tests = t; skipped = new.skipped + rest.skipped })) (append_assoc old.tests (selected_in chosen binary names) rest.tests)
@@ -36,7 +36,7 @@ one_listed answer chosen binary more names old new known tests skipped =
     by_rest (Err refusal) = refl
 
 -- a binary was refused
-pub one_refused : (answer : Binary → Answer) (chosen : Filter) (binary : Binary) (more : List Binary) (old : Found) (refusal : ListingFault)
+pub one_refused : (answer : Binary → Answer) (chosen : Filter) (binary : Binary) (more : List Binary) (old : Selection) (refusal : ListingFault)
     → accepted (answer binary) ≡ Err refusal → behind old (listing answer chosen (binary ∷ more)) ≡ Err refusal
 one_refused answer chosen binary more old refusal known = ap (λ (read : Result (List (List ℕ)) ListingFault). behind old (first_of answer chosen binary more read)) known
 
@@ -49,10 +49,10 @@ known_end answer binary more refusal initial walked old new all known asked befo
     asked ∙ ap (λ (ids : List (List ℕ)). ids ++ binary.id ∷ []) before ∙ append_assoc initial walked (binary.id ∷ []) ∙ ap (λ (ids : List (List ℕ)). initial ++ ids) (sym last)
 
 -- what was asked for, where a binary is refused
-pub asks_refused : (refusal : ListingFault) (answer : Binary → Answer) (chosen : Filter) (binary : Binary) (more : List Binary) (found new_found : Found) (initial walked old new all : List (List ℕ))
+pub asks_refused : (refusal : ListingFault) (answer : Binary → Answer) (chosen : Filter) (binary : Binary) (more : List Binary) (found new_found : Selection) (initial walked old new all : List (List ℕ))
     → Adds {T = Unit {0}} (Err refusal) (accepted (answer binary)) chosen binary found new_found → Asks {T = Unit {0}} (Err refusal) old (binary.id ∷ []) new
     → old ≡ initial ++ walked → all ≡ walked ++ asked_of answer (binary ∷ more)
-    → Asks {T = Found} (Err refusal) initial all new
+    → Asks {T = Selection} (Err refusal) initial all new
 asks_refused (refused.ListFault cause) answer chosen binary more found new_found initial walked old new all adds asks before ahead =
     known_end answer binary more (refused.ListFault cause) initial walked old new all adds asks before ahead
 asks_refused refused.EmptyTestName answer chosen binary more found new_found initial walked old new all adds asks before ahead =

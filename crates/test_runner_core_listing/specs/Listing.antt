@@ -13,7 +13,6 @@ use Rattle.test_runner_core_listing.specs.declared.filter.Filter.{Filter}
 use Rattle.test_runner_core_listing.specs.declared.listing_fault.ListingFault.{ListingFault}
 use Rattle.test_runner_core_listing.specs.declared.listing_fault.ListingFault.TheVariants as refused
 use Rattle.test_runner_core_listing.specs.declared.selection.Selection.{Selection}
-use Rattle.test_runner_core_listing.specs.declared.listing.Found.{Found}
 
 -- the first name of a binary that is refused, and as what: each name is looked at whole before the next
 abbrev pub refused_name : List (List ℕ) → List (List ℕ) → Option ListingFault
@@ -57,7 +56,7 @@ Ok x >>= next = next x
 Err refusal >>= next = Err refusal
 
 -- what binaries give one after another, up to the first whose answer is refused
-abbrev pub listing : (Binary → Answer) → Filter → List Binary → Result Found ListingFault
+abbrev pub listing : (Binary → Answer) → Filter → List Binary → Result Selection ListingFault
 listing answer chosen [] = Ok (record { tests = []; skipped = 0 })
 listing answer chosen (binary ∷ binaries) = do
   names ← accepted (answer binary)
@@ -74,14 +73,14 @@ asked_of answer [] = []
 asked_of answer (binary ∷ binaries) = binary.id ∷ asked_after (accepted (answer binary)) (asked_of answer binaries)
 
 -- one binary's tests are added to what was found; want of memory says nothing
-abbrev pub Adds : {T : Type 0} → Result T ListingFault → Result (List (List ℕ)) ListingFault → Filter → Binary → Found → Found → Type 0
+abbrev pub Adds : {T : Type 0} → Result T ListingFault → Result (List (List ℕ)) ListingFault → Filter → Binary → Selection → Selection → Type 0
 Adds (Ok done) answered chosen binary old new =
     (names : List (List ℕ)) × (answered ≡ Ok names) × (new.tests ≡ old.tests ++ selected_in chosen binary names) × (new.skipped ≡ old.skipped + skipped_in chosen names)
 Adds (Err refused.OutOfMemory) answered chosen binary old new = Unit {0}
 Adds (Err refusal) answered chosen binary old new = answered ≡ Err refusal
 
 -- a call lists these binaries; want of memory says nothing
-abbrev pub Lists : Result Found ListingFault → Result Found ListingFault → Type 0
+abbrev pub Lists : Result Selection ListingFault → Result Selection ListingFault → Type 0
 Lists (Ok found) given = given ≡ Ok found
 Lists (Err refused.OutOfMemory) given = Unit {0}
 Lists (Err refusal) given = given ≡ Err refusal
@@ -91,14 +90,14 @@ abbrev pub instance_cmp : OwnedTestInstanceId → OwnedTestInstanceId → Orderi
 instance_cmp a b = ordering_then (slice_cmp nat_cmp a.binary_id b.binary_id) (slice_cmp nat_cmp a.test_name b.test_name)
 
 -- a selection has the listed tests in rising order
-pub record Selects (listed : Found) (selection : Selection) : Type 0 where
+pub record Selects (listed : Selection) (selection : Selection) : Type 0 where
   pub tests : IsPermutation listed.tests selection.tests
   pub order : IsSorted instance_cmp selection.tests
   pub skipped : selection.skipped ≡ listed.skipped
 
 -- a call gives what the listed binaries give; want of memory says nothing
-abbrev pub Gives : Result Selection ListingFault → Result Found ListingFault → Type 0
-Gives (Ok selection) found = (listed : Found) × (found ≡ Ok listed) × Selects listed selection
+abbrev pub Gives : Result Selection ListingFault → Result Selection ListingFault → Type 0
+Gives (Ok selection) found = (listed : Selection) × (found ≡ Ok listed) × Selects listed selection
 Gives (Err refused.OutOfMemory) found = Unit {0}
 Gives (Err refusal) found = found ≡ Err refusal
 

@@ -13,13 +13,6 @@ use nextest_text::{Listing, Text};
 use std::alloc::{AllocError, Global};
 use test_runner_core_workspace::{Binary, ListFault, Lister};
 
-// The selected tests as they were listed, and how many weren't selected.
-#[derive(Drop)]
-pub(crate) struct Found {
-    tests: Listing<OwnedTestInstanceId>,
-    skipped: usize,
-}
-
 // The names that a binary answers.
 fn names_of<L: Lister>(
     alloc: Global,
@@ -68,7 +61,7 @@ fn list_one<L: Lister>(
     binary: &Binary,
     filter: &Filter,
     lister: &mut L,
-    found: &mut Found,
+    found: &mut Selection,
 ) -> Result<(), ListingFault>
     ensures adds { words.Adds result (words.accepted (L.answer lister.old binary.now)) filter.now binary.now found.old found.new }
     ensures stays { (other : Binary) → L.answer lister.new other ≡ L.answer lister.old other }
@@ -92,12 +85,12 @@ fn list_each<L: Lister>(
     binaries: &[Binary],
     filter: &Filter,
     lister: &mut L,
-) -> Result<Found, ListingFault>
+) -> Result<Selection, ListingFault>
     ensures lists { words.Lists result (words.listing (L.answer lister.old) filter.now binaries.now) }
     ensures stays { (other : Binary) → L.answer lister.new other ≡ L.answer lister.old other }
     ensures asks { words.Asks result (L.asked lister.old) (words.asked_of (L.answer lister.old) binaries.now) (L.asked lister.new) }
 {
-    let mut found = Found {
+    let mut found = Selection {
         tests: Listing::new(alloc),
         skipped: 0,
     };
@@ -122,7 +115,7 @@ pub fn select<L: Lister>(
     ensures asks { words.Asks result (L.asked lister.old) (words.asked_of (L.answer lister.old) (words.listed_of filter.now binaries.now)) (L.asked lister.new) }
 {
     let listed = if filter.may_hold() { binaries } else { &[] };
-    let Found { tests, skipped } = list_each(alloc, listed, filter, lister)?;
+    let Selection { tests, skipped } = list_each(alloc, listed, filter, lister)?;
     Ok(Selection {
         tests: sorted(tests),
         skipped,

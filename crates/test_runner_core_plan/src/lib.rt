@@ -1,13 +1,10 @@
-// A library with one function.
+//! The plan of a run: which tests it selects of which binaries, with which settings, or why inputs have no plan.
 #![tactic(auto)]
 
-ghost use Rattle.std.specs.Prelude.{◌≡◌};
-ghost use Rattle.test_runner_core_plan.specs.Echo.{echo_of};
+mod asked;
+mod build;
+mod plan;
+mod plan_fault;
 
-// The `ensures` clause is the contract: what `echo` returns is `echo_of` of its argument, a definition
-// in `specs/Echo.antt`, which a caller's clause can cite too.
-pub fn echo(x: usize) -> usize
-    ensures { result ≡ echo_of x }
-{
-    x
-}
+pub use plan::{Plan, PlanSettings, PlanTest};
+pub use plan_fault::{LoadFault, PlanFault};

@@ -1,13 +1,14 @@
-// A library with one function.
+//! What a configuration's text sets, as far as it is read: how often a failing test is tried again, and which failing
+//! tests stop a run.
 #![tactic(auto)]
 
-ghost use Rattle.std.specs.Prelude.{◌≡◌};
-ghost use Rattle.test_runner_core_settings.specs.Echo.{echo_of};
+mod places;
+mod refusals;
+mod settings;
+mod settings_fault;
+#[cfg(test)]
+mod tests;
+mod values;
 
-// The `ensures` clause is the contract: what `echo` returns is `echo_of` of its argument, a definition
-// in `specs/Echo.antt`, which a caller's clause can cite too.
-pub fn echo(x: usize) -> usize
-    ensures { result ≡ echo_of x }
-{
-    x
-}
+pub use settings::Settings;
+pub use settings_fault::SettingsFault;

@@ -10,11 +10,11 @@ returns-in_err-part g c =
     let values = c.args.values.now in
     let within : c.loop-position.position < length values = omega arith in
     rw (p.1, p.2) (refused_item view g.T.Form.reading values c.loop-position.found c.loop-position.position c.index-values-position.result _ _
-      within c.index-values-position.is c.in_err-part.ensures c.loop-position.invariant)
+    within c.index-values-position.is c.in_err-part.ensures c.loop-position.invariant)
 
 pub loop-position-preserved : goal.loop-position-preserved
 loop-position-preserved g c =
     let values = c.args.values.now in
     let within : c.loop-position.position < length values = omega arith in
     rw (c.in_ok-push.ensures.ok) (one_more view g.T.Form.reading values c.loop-position.found c.loop-position.position c.index-values-position.result c.in_ok-part.field-0 _
-      within c.index-values-position.is c.in_ok-part.ensures c.loop-position.invariant)
+    within c.index-values-position.is c.in_ok-part.ensures c.loop-position.invariant)

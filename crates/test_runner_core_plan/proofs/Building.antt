@@ -1,0 +1,73 @@
+-- How a plan follows from its parts.
+use Rattle.std.proofs.Common.{◌≡◌, ◌<◌, ◌^◌, ◌+◌, ◌==◌, ◌&&◌, ℕ, ◌∷◌, ◌++◌, [], List, Bool, true, false, length, map, min, nat_lt, Result, Ok, Err, refl, ap, sym, ◌∙◌, cond, arith}
+use Rattle.std.proofs.lemmas.Bool.{eqb-false, le-leb}
+use Rattle.std.proofs.lemmas.List.{append-nil}
+use Rattle.std.proofs.lemmas.List.Sorted.{length_permutation}
+use Rattle.nextest_run_events_instances.specs.declared.instance.OwnedTestInstanceId.{OwnedTestInstanceId}
+use Rattle.test_runner_core_inputs.specs.declared.inputs.Inputs.{Inputs}
+use Rattle.test_runner_core_listing.specs.Listing.{Selects, listing, listed_of}
+use Rattle.test_runner_core_listing.specs.declared.selection.Selection.{Selection}
+use Rattle.test_runner_core_settings.specs.declared.settings.Settings.{Settings}
+use Rattle.test_runner_core_workspace.specs.Lister.{Answer}
+use Rattle.test_runner_core_workspace.specs.declared.record.Binary.{Binary}
+use Rattle.test_runner_core_plan.specs.Plan.{◌>>=◌, asked_in, listed_in, found_by, has_too_many, Planned, planned, asked_for, plan_test, with_tries, tries_of, Gives, Asks}
+use Rattle.test_runner_core_plan.specs.declared.asked.Asked.{Asked}
+use Rattle.test_runner_core_plan.specs.declared.plan.Plan.{Plan}
+use Rattle.test_runner_core_plan.specs.declared.plan_fault.PlanFault.{PlanFault}
+use Rattle.test_runner_core_plan.specs.declared.plan_fault.PlanFault.TheVariants as refused
+
+nothing : (answer : Binary → Answer) (inputs : Inputs) (refusal : PlanFault) (old : List (List ℕ)) (given : Result Asked PlanFault) → given ≡ Err refusal → old ≡ old ++ asked_for answer inputs given
+nothing answer inputs refusal old given e = sym (ap (λ (g : Result Asked PlanFault). old ++ asked_for answer inputs g) e ∙ append-nil old)
+
+-- nobody is asked where the inputs are refused before
+pub asks_nothing : (answer : Binary → Answer) (inputs : Inputs) (refusal : PlanFault) (old : List (List ℕ)) → Gives {A = Asked} (Err refusal) (asked_in inputs)
+    → Asks {A = Plan} (Err refusal) old (asked_for answer inputs (asked_in inputs)) old
+asks_nothing answer inputs refused.RepeatedPackage old g = nothing answer inputs refused.RepeatedPackage old (asked_in inputs) g
+asks_nothing answer inputs refused.UnknownLink old g = nothing answer inputs refused.UnknownLink old (asked_in inputs) g
+asks_nothing answer inputs refused.RepeatedBinary old g = nothing answer inputs refused.RepeatedBinary old (asked_in inputs) g
+asks_nothing answer inputs refused.UnknownPackage old g = nothing answer inputs refused.UnknownPackage old (asked_in inputs) g
+asks_nothing answer inputs refused.BadId old g = nothing answer inputs refused.BadId old (asked_in inputs) g
+asks_nothing answer inputs refused.VersionSource old g = nothing answer inputs refused.VersionSource old (asked_in inputs) g
+asks_nothing answer inputs (refused.Load fault) old g = nothing answer inputs (refused.Load fault) old (asked_in inputs) g
+asks_nothing answer inputs refused.NotYet old g = nothing answer inputs refused.NotYet old (asked_in inputs) g
+asks_nothing answer inputs (refused.ListFault cause) old g = nothing answer inputs (refused.ListFault cause) old (asked_in inputs) g
+asks_nothing answer inputs refused.EmptyTestName old g = nothing answer inputs refused.EmptyTestName old (asked_in inputs) g
+asks_nothing answer inputs refused.BadTestName old g = nothing answer inputs refused.BadTestName old (asked_in inputs) g
+asks_nothing answer inputs refused.RepeatedTest old g = nothing answer inputs refused.RepeatedTest old (asked_in inputs) g
+asks_nothing answer inputs refused.RetriesTooMany old g = nothing answer inputs refused.RetriesTooMany old (asked_in inputs) g
+asks_nothing answer inputs refused.OutOfMemory old g = ([], (asked_for answer inputs (asked_in inputs), (sym (append-nil old), refl)))
+
+-- what is planned once all tests are listed
+abbrev pub finished : Asked → Selection → Result Planned PlanFault
+finished asked found = cond (has_too_many asked found) (Err refused.RetriesTooMany) (Ok (record { asked = asked; found = found }))
+
+pub planned_is : (answer : Binary → Answer) (inputs : Inputs) (asked : Asked) (found : Selection) → asked_in inputs ≡ Ok asked → listing answer asked.filter (listed_in inputs asked) ≡ Ok found
+    → planned answer inputs ≡ finished asked found
+planned_is answer inputs asked found a f =
+    ap (λ (r : Result Asked PlanFault). r >>= λ x. found_by (listing answer x.filter (listed_in inputs x)) >>= finished x) a
+    ∙ ap (λ r. found_by r >>= finished asked) f
+
+-- the sorted tests are as many as the listed ones
+pub as_many : (asked : Asked) (found selection : Selection) → Selects found selection → has_too_many asked found ≡ has_too_many asked selection
+as_many asked found selection s = ap (λ (n : ℕ). asked.settings.retries == 4294967295 && nat_lt 0 n) (sym (length_permutation found.tests selection.tests s.tests))
+
+few_tries : (retries : ℕ) (is_last some : Bool) → retries < 2 ^ 32 → (retries == 4294967295) ≡ is_last → some ≡ true → (is_last && some) ≡ false → min (retries + 1) 4294967295 ≡ retries + 1
+few_tries retries true true fits e h f = absurd (let g : true ≡ false = f in cc)
+few_tries retries true false fits e h f = absurd (let g : false ≡ true = h in cc)
+few_tries retries false some fits e h f = let g : retries ≡ 4294967295 → ⊥ = eqb-false retries 4294967295 e in omega arith
+
+-- the tries of a test that isn't refused
+pub tries_fit : (settings : Settings) (tests : List OwnedTestInstanceId) → settings.retries < 2 ^ 32 → (settings.retries == 4294967295 && nat_lt 0 (length tests)) ≡ false
+    → map (with_tries (tries_of settings)) tests ≡ map (plan_test settings) tests
+tries_fit settings [] fits few = refl
+tries_fit settings (test ∷ tests) fits few =
+    let some : nat_lt 0 (length (test ∷ tests)) ≡ true = le-leb 1 (length (test ∷ tests)) (omega arith) in
+    ap (λ (n : ℕ). map (with_tries n) (test ∷ tests)) (few_tries settings.retries (settings.retries == 4294967295) (nat_lt 0 (length (test ∷ tests))) fits refl some few)
+
+-- what is refused for too many retries
+pub refused_tries : (answer : Binary → Answer) (inputs : Inputs) (asked : Asked) (binaries : List Binary) (found selection : Selection) (test : Bool) → binaries ≡ inputs.workspace.binaries
+    → asked_in inputs ≡ Ok asked → listing answer asked.filter (listed_of asked.filter binaries) ≡ Ok found → Selects found selection → has_too_many asked selection ≡ test
+    → planned answer inputs ≡ cond test (Err refused.RetriesTooMany) (Ok (record { asked = asked; found = found }))
+refused_tries answer inputs asked binaries found selection test same a f s t =
+    planned_is answer inputs asked found a (ap (λ (bs : List Binary). listing answer asked.filter (listed_of asked.filter bs)) (sym same) ∙ f)
+    ∙ ap (λ (b : Bool). cond b (Err refused.RetriesTooMany) (Ok (record { asked = asked; found = found }))) (as_many asked found selection s ∙ t)

@@ -1,0 +1,25 @@
+-- The names of refusals, and the texts of errors.
+use Rattle.std.specs.Prelude.{ℕ, List, ◌++◌, codes}
+use Rattle.test_runner_core_plan.specs.declared.plan_fault.LoadFault.TheVariants as load
+use Rattle.test_runner_core_plan.specs.declared.plan_fault.PlanFault.{PlanFault}
+use Rattle.test_runner_core_plan.specs.declared.plan_fault.PlanFault.TheVariants as fault
+
+abbrev pub name_of : PlanFault → List ℕ
+name_of fault.RepeatedPackage = codes "RepeatedPackage"
+name_of fault.UnknownLink = codes "UnknownLink"
+name_of fault.RepeatedBinary = codes "RepeatedBinary"
+name_of fault.UnknownPackage = codes "UnknownPackage"
+name_of fault.BadId = codes "BadId"
+name_of fault.VersionSource = codes "VersionSource"
+name_of (fault.Load load.BadValue) = codes "Load.BadValue"
+name_of fault.NotYet = codes "NotYet"
+name_of (fault.ListFault cause) = codes "ListFault"
+name_of fault.EmptyTestName = codes "EmptyTestName"
+name_of fault.BadTestName = codes "BadTestName"
+name_of fault.RepeatedTest = codes "RepeatedTest"
+name_of fault.RetriesTooMany = codes "RetriesTooMany"
+name_of fault.OutOfMemory = codes "OutOfMemory"
+
+abbrev pub text_of : PlanFault → List ℕ
+text_of (fault.ListFault cause) = codes "ListFault: " ++ cause
+text_of other = name_of other
