@@ -52,8 +52,8 @@ part_there : (part text : List ℕ) → has_part part text ≡ true → HasSubsl
 part_there part [] e = let r = begins_there [] part e in ([], r.0, r.1)
 part_there part (b ∷ text) e =
     elim (either (begins (b ∷ text) part) (has_part part text) e) [
-      inl h ↦ let r = begins_there (b ∷ text) part h in ([], r.0, r.1)
-    | inr h ↦ let r = part_there part text h in (b ∷ r.0, r.1, ap (λ (xs : List ℕ). b ∷ xs) r.2)
+      | inl h ↦ let r = begins_there (b ∷ text) part h in ([], r.0, r.1)
+      | inr h ↦ let r = part_there part text h in (b ∷ r.0, r.1, ap (λ (xs : List ℕ). b ∷ xs) r.2)
     ]
 
 part_back : (part before after : List ℕ) → has_part part (before ++ (part ++ after)) ≡ true
@@ -101,16 +101,16 @@ in_range low high byte e = leb-true byte high (both (nat_le low byte) (nat_le by
 small : (byte : ℕ) → is_word_byte byte ≡ true → byte < 128
 small byte e =
     elim (either (is_ascii_alphanumeric byte) (byte == 95) e) [
-      inl alphanumeric ↦
-        elim (either (is_in_range 48 57 byte || is_in_range 65 90 byte) (is_in_range 97 122 byte) alphanumeric) [
-          inl other ↦
-            elim (either (is_in_range 48 57 byte) (is_in_range 65 90 byte) other) [
-              inl digit ↦ (let h = in_range 48 57 byte digit in omega arith)
-            | inr upper ↦ (let h = in_range 65 90 byte upper in omega arith)
-            ]
-        | inr lower ↦ (let h = in_range 97 122 byte lower in omega arith)
-        ]
-    | inr line ↦ (let h : byte ≡ 95 = (Decides-eqb byte 95).0 line in omega arith)
+      | inl alphanumeric ↦
+          elim (either (is_in_range 48 57 byte || is_in_range 65 90 byte) (is_in_range 97 122 byte) alphanumeric) [
+            | inl other ↦
+                elim (either (is_in_range 48 57 byte) (is_in_range 65 90 byte) other) [
+                  | inl digit ↦ (let h = in_range 48 57 byte digit in omega arith)
+                  | inr upper ↦ (let h = in_range 65 90 byte upper in omega arith)
+                ]
+            | inr lower ↦ (let h = in_range 97 122 byte lower in omega arith)
+          ]
+      | inr line ↦ (let h : byte ≡ 95 = (Decides-eqb byte 95).0 line in omega arith)
     ]
 
 -- a word is ASCII

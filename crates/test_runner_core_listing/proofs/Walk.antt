@@ -45,7 +45,7 @@ known_end : (answer : Binary → Answer) (binary : Binary) (more : List Binary) 
     → new ≡ initial ++ all
 known_end answer binary more refusal initial walked old new all known asked before ahead =
     let last : all ≡ walked ++ binary.id ∷ [] =
-        ahead ∙ ap (λ (read : Result (List (List ℕ)) ListingFault). walked ++ binary.id ∷ asked_after read (asked_of answer more)) known in
+    ahead ∙ ap (λ (read : Result (List (List ℕ)) ListingFault). walked ++ binary.id ∷ asked_after read (asked_of answer more)) known in
     asked ∙ ap (λ (ids : List (List ℕ)). ids ++ binary.id ∷ []) before ∙ append_assoc initial walked (binary.id ∷ []) ∙ ap (λ (ids : List (List ℕ)). initial ++ ids) (sym last)
 
 -- what was asked for, where a binary is refused
@@ -64,10 +64,16 @@ asks_refused refused.RepeatedTest answer chosen binary more found new_found init
 asks_refused refused.OutOfMemory answer chosen binary more found new_found initial walked old new all adds asks before ahead =
     let tail = asked_after (accepted (answer binary)) (asked_of answer more) in
     let front = asks.0 in
-    let rest = asks.1.0 in
-    (walked ++ front, (rest ++ tail, (
-      asks.1.1.0 ∙ ap (λ (ids : List (List ℕ)). ids ++ front) before ∙ append_assoc initial walked front,
-      ahead ∙ ap (λ (ids : List (List ℕ)). walked ++ (ids ++ tail)) asks.1.1.1 ∙ ap (λ (ids : List (List ℕ)). walked ++ ids) (append_assoc front rest tail) ∙ sym (append_assoc walked front (rest ++ tail)))))
+    let rest = asks.1.0 in (
+      walked ++ front,
+      (
+        rest ++ tail,
+        (
+          asks.1.1.0 ∙ ap (λ (ids : List (List ℕ)). ids ++ front) before ∙ append_assoc initial walked front,
+          ahead ∙ ap (λ (ids : List (List ℕ)). walked ++ (ids ++ tail)) asks.1.1.1 ∙ ap (λ (ids : List (List ℕ)). walked ++ ids) (append_assoc front rest tail) ∙ sym (append_assoc walked front (rest ++ tail)),
+        ),
+      ),
+    )
 
 -- the rest of binaries, at its first
 pub rest_of : (binaries : List Binary) (i : ℕ) (binary : Binary) → i < length binaries → binary ≡ get_or binaries i binary → drop i binaries ≡ binary ∷ drop (i + 1) binaries

@@ -100,13 +100,7 @@ fn word_part(text: &[u8]) -> Option<&[u8]>
 {
     match text.strip_prefix(b"test(~") {
         Some(rest) => match rest.strip_suffix(b")") {
-            Some(inside) => {
-                if is_word(inside) {
-                    Some(inside)
-                } else {
-                    None
-                }
-            }
+            Some(inside) => { if is_word(inside) { Some(inside) } else { None } }
             None => None,
         },
         None => None,

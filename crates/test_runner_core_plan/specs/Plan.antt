@@ -14,7 +14,6 @@ use Rattle.test_runner_core_listing.specs.Filter.{filter_of}
 use Rattle.test_runner_core_listing.specs.Listing.{Selects, listing, listed_of, asked_of}
 use Rattle.test_runner_core_listing.specs.declared.filter.Filter.{Filter}
 use Rattle.test_runner_core_listing.specs.declared.filter.Filter.TheVariants as filters
-
 use Rattle.test_runner_core_listing.specs.declared.listing_fault.ListingFault.{ListingFault}
 use Rattle.test_runner_core_listing.specs.declared.selection.Selection.{Selection}
 use Rattle.test_runner_core_settings.specs.Settings.{settings_of, default_settings}

@@ -61,7 +61,11 @@ fn plan_of(
     ensures limit { IfOk result (λ plan. plan.limit ≡ asked.settings.max_fail) }
     ensures scripts { IfOk result (λ plan. plan.scripts ≡ []) }
 {
-    let listed = if asked.filter.may_hold() { binaries } else { &[] };
+    let listed = if asked.filter.may_hold() {
+        binaries
+    } else {
+        &[]
+    };
     let tries = asked.settings.retries.saturating_add(1);
     Ok(Plan {
         scripts: Listing::new(alloc),

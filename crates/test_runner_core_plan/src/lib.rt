@@ -5,6 +5,8 @@ mod asked;
 mod build;
 mod plan;
 mod plan_fault;
+#[cfg(test)]
+mod tests;
 
 pub use plan::{Plan, PlanSettings, PlanTest};
 pub use plan_fault::{LoadFault, PlanFault};

@@ -19,6 +19,6 @@ returns-in-None-strip_suffix-clause-value c =
     let rest = c.in-Some.rest.now in
     let front : text ≡ codes "test(~" ++ rest = strip_prefix_is Decides-eqb text (codes "test(~") (Some c.in-Some.rest) c.in-Some.ensures.cases in
     sym (no_word text (λ (word : List ℕ) (e : text ≡ codes "test(~" ++ (word ++ codes ")")).
-      let f : codes "test(~" ++ rest ≡ codes "test(~" ++ (word ++ codes ")") = sym front ∙ e in
-      let g : rest ≡ word ++ codes ")" = cc in
-      strip_suffix_is Decides-eqb rest (codes ")") None c.in-None-strip_suffix.ensures.cases word g))
+    let f : codes "test(~" ++ rest ≡ codes "test(~" ++ (word ++ codes ")") = sym front ∙ e in
+    let g : rest ≡ word ++ codes ")" = cc in
+    strip_suffix_is Decides-eqb rest (codes ")") None c.in-None-strip_suffix.ensures.cases word g))

@@ -28,8 +28,8 @@ returns-clause-builds g c =
     let selects = c.in_ok-selection.ensures.selects in
     let selection = c.in_ok-selection.selection in
     let few : has_too_many asked selection ≡ false = sym c.has_too_many.ensures.value ∙ c.if-has_too_many.false in
-    let plan = c.in_ok-plan_of.ensures in
-    (record { asked = asked; found = selects.0 },
+    let plan = c.in_ok-plan_of.ensures in (
+      record { asked = asked; found = selects.0 },
       refused_tries answer inputs asked c.as_slice-binaries.result.now selects.0 selection false c.as_slice-binaries.ensures c.in_ok-asked.ensures selects.1 selects.2 few,
       record {
         selection = selection;
@@ -39,4 +39,5 @@ returns-clause-builds g c =
         listed = plan.listed ∙ ap (λ (binaries : List Binary). map (λ (b : Binary). b.id) (listed_of asked.filter binaries)) c.as_slice-binaries.ensures;
         limit = plan.limit;
         scripts = plan.scripts;
-      })
+      },
+    )

@@ -1,0 +1,9 @@
+//! A run of a plan, by the names of its tests and scripts.
+#![tactic(auto)]
+
+mod places;
+mod session;
+#[cfg(test)]
+mod tests;
+
+pub use session::{Fate, Session};

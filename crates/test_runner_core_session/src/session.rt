@@ -1,0 +1,167 @@
+// A run of a plan.
+ghost use Rattle.std.specs.Prelude.{◌≡◌, ℕ, List, IfOk, map, slice_get};
+ghost use Rattle.std.specs.Option.{option_map};
+ghost use Rattle.test_runner_core_progress.specs.Plans.{test_plan};
+ghost use Rattle.test_runner_core_progress.specs.Progress.{Takes, Starts};
+ghost use Rattle.test_runner_core_runs.specs.Counters as counters;
+ghost use Rattle.test_runner_core_runs.specs.Runs as runs;
+ghost use Rattle.test_runner_core_runs.specs.declared.event.Event.TheVariants as events;
+ghost use Rattle.test_runner_core_session.specs.Names.{place_of, script_place};
+ghost use Rattle.test_runner_core_session.specs.Session.{session_of, run_test, seen, fate_of};
+
+use crate::places::Places;
+use nextest_run_events_instances::TestInstanceId;
+use nextest_run_events_results::CancelReason;
+use nextest_text::Text;
+use std::alloc::{AllocError, Global};
+use std::marker::Model;
+use test_runner_core_plan::{Plan, PlanTest};
+use test_runner_core_progress::{PlannedTest, Progress, StartFault};
+use test_runner_core_records::Record;
+use test_runner_core_runs::{Mark, StepRefusal};
+
+/// How far a test is.
+#[derive(Clone, Copy)]
+pub struct Fate<'s> {
+    /// Whether it waits, runs, is between two attempts or is finished.
+    pub mark: Mark,
+    /// The records of its ended attempts, in their order.
+    pub attempts: &'s [Record],
+}
+
+/// A run of a plan, which is lent. In a clause it is the names of the plan's scripts and tests by their places, and the
+/// state of the run.
+#[derive(Drop)]
+pub struct Session<'a> {
+    scripts: &'a [Text],
+    places: Places<'a>,
+    progress: Progress,
+}
+
+impl<'a> Model for Session<'a> {
+    ghost use Rattle.test_runner_core_session.specs.Session.{SessionState};
+
+    ghost Value = { SessionState };
+
+    ghost view = { λ s. record { scripts = s.scripts.now; tests = s.places; run = s.progress } };
+}
+
+impl<'a> Session<'a> {
+    /// The run in which nothing ended. Makes the room for each script's record and each test's state, and only want of
+    /// memory refuses it.
+    pub fn new(alloc: Global, plan: &'a Plan) -> Result<Session<'a>, AllocError>
+        ensures { IfOk result (λ session. session ≡ session_of plan.now) }
+    {
+        let tests = plan.tests.as_slice();
+        let planned = planned_tests(alloc, tests)?;
+        let scripts = plan.scripts.as_slice();
+        Ok(Session {
+            scripts,
+            places: Places::new(alloc, tests)?,
+            progress: Progress::new(
+                alloc,
+                scripts.len(),
+                planned.as_slice(),
+                plan.limit,
+                plan.skipped,
+            )?,
+        })
+    }
+
+    /// An attempt of a test starts: reserves the room of its record. An `Err` says why it can't start now, or that there
+    /// was no memory, and leaves everything as it was.
+    pub fn start(&mut self, test: TestInstanceId<'_>) -> Result<(), StartFault>
+        ensures scripts { self.new.scripts ≡ self.old.scripts }
+        ensures tests { self.new.tests ≡ self.old.tests }
+        ensures step { Starts self.old.run (place_of self.old.tests test.entry.binary_id.now test.entry.test_name.now) result self.new.run }
+    {
+        let place = self.places.place(test);
+        self.progress.start(place)
+    }
+
+    /// The attempt of a test that runs ended. Takes no memory. An `Err` says why that can't be, and leaves everything as
+    /// it was.
+    pub fn attempt_finished(
+        &mut self,
+        test: TestInstanceId<'_>,
+        record: Record,
+    ) -> Result<(), StepRefusal>
+        ensures scripts { self.new.scripts ≡ self.old.scripts }
+        ensures tests { self.new.tests ≡ self.old.tests }
+        ensures step { Takes self.old.run (events.Ended (place_of self.old.tests test.entry.binary_id.now test.entry.test_name.now) «record») result self.new.run }
+    {
+        let place = self.places.place(test);
+        self.progress.attempt_finished(place, record)
+    }
+
+    /// A script ended. Takes no memory. An `Err` says why that can't be, and leaves everything as it was.
+    pub fn script_finished(&mut self, id: &str, record: Record) -> Result<(), StepRefusal>
+        ensures scripts { self.new.scripts ≡ self.old.scripts }
+        ensures tests { self.new.tests ≡ self.old.tests }
+        ensures step { Takes self.old.run (events.ScriptEnded (script_place self.old.scripts id.now) «record») result self.new.run }
+    {
+        let place = place_of_script(self.scripts, id);
+        self.progress.script_finished(place, record)
+    }
+
+    /// The run was told to stop. Takes no memory. An `Err` says why that can't be, and leaves everything as it was.
+    pub fn stop(&mut self, reason: CancelReason) -> Result<(), StepRefusal>
+        ensures scripts { self.new.scripts ≡ self.old.scripts }
+        ensures tests { self.new.tests ≡ self.old.tests }
+        ensures step { Takes self.old.run (events.Stopped reason) result self.new.run }
+    {
+        self.progress.stop(reason)
+    }
+
+    /// Whether the run is complete: all scripts and tests finished, or it is stopped and nothing runs.
+    pub fn is_complete(&self) -> bool
+        ensures { result ≡ runs.is_complete self.now.run }
+    {
+        self.progress.is_complete()
+    }
+
+    /// The exit status so far.
+    pub fn status(&self) -> u8
+        ensures { result ≡ counters.status self.now.run }
+    {
+        self.progress.status()
+    }
+
+    /// How far a test is; `None` where the plan doesn't have it.
+    pub fn fate(&self, test: TestInstanceId<'_>) -> Option<Fate<'_>>
+        ensures { option_map seen result ≡ fate_of self.now test.entry.binary_id.now test.entry.test_name.now }
+    {
+        let place = self.places.place(test);
+        let mark = self.progress.mark(place)?;
+        Some(Fate {
+            mark,
+            attempts: self.progress.records(place),
+        })
+    }
+}
+
+// The tests as a run sees them.
+fn planned_tests(alloc: Global, tests: &[PlanTest]) -> Result<Vec<PlannedTest>, AllocError>
+    ensures { IfOk result (λ planned. map test_plan planned.items ≡ map run_test tests.now) }
+{
+    let mut planned = Vec::with_capacity(alloc, tests.len())?;
+    for test in tests {
+        planned.push(PlannedTest {
+            tries: test.tries,
+            flaky: test.settings.flaky_result,
+        })?;
+    }
+    Ok(planned)
+}
+
+// The place of the first script of an id, or one past the end.
+fn place_of_script(scripts: &[Text], id: &str) -> usize
+    ensures { result ≡ script_place scripts.now id.now }
+{
+    for (place, script) in scripts.iter().enumerate() {
+        if script.as_str() == id {
+            return place;
+        }
+    }
+    scripts.len()
+}
