@@ -13,6 +13,7 @@ is_same =
     (eq_of_both (on (λ it. it.2) nat_eq)
     (eq_of_both (on (λ it. it.3) (pointwise nat_eq)) (on (λ it. it.4) (pointwise nat_eq)))))
 
+-- sameness is an equivalence
 pub is_same_equiv : IsEquivalence is_same
 is_same_equiv =
     and_equiv (on_equiv (λ it. it.0) nat_eq_equiv)

@@ -15,7 +15,7 @@ use std::fmt;
 use std::marker::Model;
 
 /// The version that a configuration's demands are judged by. In a clause it is its parts: three numbers, the text of
-/// the pre-release and that of the build.
+/// the pre-release and that of the build. Two are equal where all parts are, that of the build too.
 #[derive(Drop)]
 pub struct CurrentVersion {
     version: Version,

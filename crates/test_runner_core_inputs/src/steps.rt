@@ -85,7 +85,8 @@ fn dotted(alloc: Global, steps: &[Step]) -> Result<Text, AllocError>
 
 // A step in front of a path, of which it may be the last.
 fn in_front(alloc: Global, step: Step, is_last: bool, rest: &str) -> Result<String, AllocError>
-    ensures { IfOk result (λ text. string_bytes text ≡ (if is_last then step_text step else step_text step ++ 46 ∷ rest.now)) }
+    ensures { IfOk result (λ text. string_bytes text
+        ≡ (if is_last then step_text step else step_text step ++ 46 ∷ rest.now)) }
 {
     if is_last {
         format!(in alloc; "{step}")

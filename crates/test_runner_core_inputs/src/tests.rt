@@ -170,31 +170,49 @@ fn facts(alloc: Global) -> Result<Listing<FactRecord>, Fail> {
     Ok(facts)
 }
 
+fn workspace(alloc: Global) -> Result<WorkspaceRecord, Fail> {
+    Ok(WorkspaceRecord {
+        packages: packages(alloc)?,
+        links: links(alloc)?,
+        binaries: binaries(alloc)?,
+    })
+}
+
+fn platform(
+    alloc: Global,
+    triple: &str,
+    facts: Listing<FactRecord>,
+) -> Result<PlatformRecord, AllocError> {
+    Ok(PlatformRecord {
+        triple: text(alloc, triple)?,
+        facts,
+    })
+}
+
+// What the full text is.
+fn full(alloc: Global) -> Result<Inputs, Fail> {
+    Ok(Inputs {
+        workspace: workspace(alloc)?,
+        sources: sources(alloc)?,
+        current_version: CurrentVersion::from(Version::parse(alloc, "0.9.100-rc.1+b.7")?),
+        profile: text(alloc, "ci")?,
+        mode: NextestRunMode::Benchmark,
+        host: platform(alloc, "x86", facts(alloc)?)?,
+        target: Some(platform(alloc, "arm", Listing::new(alloc))?),
+        filterset: Some(text(alloc, "all()")?),
+        ignore_default_filter: true,
+        override_version_check: true,
+        processors: u64::MAX,
+        root: text(alloc, "/work")?,
+    })
+}
+
 #[test]
 fn every_field_is_read(rt: HostRuntime) -> Result<(), Fail> {
     let alloc = rt.alloc();
     let inputs = Inputs::from_json(alloc, FULL.as_bytes())?;
-    assert!(rt; inputs.workspace.packages == packages(alloc)?);
-    assert!(rt; inputs.workspace.links == links(alloc)?);
-    assert!(rt; inputs.workspace.binaries == binaries(alloc)?);
-    assert!(rt; inputs.sources == sources(alloc)?);
-    let version = CurrentVersion::from(Version::parse(alloc, "0.9.100-rc.1+b.7")?);
-    assert!(rt; inputs.current_version == version);
-    assert_eq!(rt; inputs.profile.as_str(), "ci");
-    assert!(rt; inputs.mode == NextestRunMode::Benchmark);
-    assert_eq!(rt; inputs.host.triple.as_str(), "x86");
-    assert!(rt; inputs.host.facts == facts(alloc)?);
-    let target = PlatformRecord {
-        triple: text(alloc, "arm")?,
-        facts: Listing::new(alloc),
-    };
-    assert!(rt; inputs.target == Some(target));
-    assert!(rt; inputs.filterset == Some(text(alloc, "all()")?));
-    assert!(rt; inputs.ignore_default_filter);
-    assert!(rt; inputs.override_version_check);
-    assert_eq!(rt; inputs.processors, u64::MAX);
-    assert_eq!(rt; inputs.root.as_str(), "/work");
-    assert!(rt; inputs.clone()? == inputs);
+    assert!(rt; inputs == full(alloc)?);
+    assert!(rt; copy_of(&inputs)? == inputs);
     Ok(())
 }
 

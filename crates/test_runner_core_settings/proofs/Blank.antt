@@ -1,5 +1,5 @@
 -- What a text of white space and comments sets.
-use Rattle.std.proofs.Common.{◌≡◌, ℕ, List, Some, None, Result, Ok, String, BTreeMap, Global, sym, ap, ◌∙◌}
+use Rattle.std.proofs.Common.{◌≡◌, ℕ, List, Some, None, Ok, String, BTreeMap, Global, sym, ap, ◌∙◌}
 use Rattle.std.proofs.lemmas.Option.{same_Some}
 use Rattle.toml.specs.Data.{table, no_members}
 use Rattle.toml.specs.Errors.{IsBlank}
@@ -8,8 +8,6 @@ use Rattle.toml.specs.View.{view, table_view}
 use Rattle.toml.specs.declared.value.Value.{Value, Table}
 use Rattle.toml.proofs.Views.{view-Table}
 use Rattle.test_runner_core_settings.specs.Settings.{set_in, default_settings}
-use Rattle.test_runner_core_settings.specs.declared.settings.Settings.{Settings}
-use Rattle.test_runner_core_settings.specs.declared.settings_fault.SettingsFault.{SettingsFault}
 
 -- it is the empty table
 blank_document : (text : List ℕ) → IsBlank text → parse_document text ≡ Some no_members
@@ -21,8 +19,8 @@ pub blank_is_read : (text : List ℕ) → IsBlank text → parse_document text �
 blank_is_read text blank refused = let e = sym refused ∙ blank_document text blank in cc
 
 -- it sets the defaults
-pub blank_sets : (text : List ℕ) (m : BTreeMap (String Global) Value) (r : Result Settings SettingsFault) → IsBlank text
-    → parse_document text ≡ Some (table_view m) → r ≡ set_in (view (Table m)) → r ≡ Ok default_settings
-blank_sets text m r blank parsed e =
+pub blank_sets : (text : List ℕ) (m : BTreeMap (String Global) Value) → IsBlank text
+    → parse_document text ≡ Some (table_view m) → set_in (view (Table m)) ≡ Ok default_settings
+blank_sets text m blank parsed =
     let empty : table_view m ≡ no_members = same_Some _ _ (sym parsed ∙ blank_document text blank) in
-    e ∙ ap set_in (view-Table m ∙ ap table empty)
+    ap set_in (view-Table m ∙ ap table empty)

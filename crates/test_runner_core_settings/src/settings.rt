@@ -1,5 +1,6 @@
 // What a configuration's text sets.
-ghost use Rattle.std.specs.Prelude.{◌≡◌};
+ghost use Rattle.std.specs.Prelude.{◌≡◌, IfOk, IfErr, IsOkAnd};
+ghost use Rattle.toml.specs.Errors.{IsBlank};
 ghost use Rattle.toml.specs.View.{view};
 ghost use Rattle.test_runner_core_settings.specs.Settings as setting;
 
@@ -38,22 +39,31 @@ impl Default for Settings {
 }
 
 impl Settings {
-    ghost use Rattle.toml.specs.Errors.{IsBlank};
     ghost use Rattle.test_runner_core_settings.specs.Settings.{ReadsSettings, default_settings};
 
     /// What `text`, a configuration, sets. An `Err` says why it isn't read, each reason being looked for in the whole
     /// text before the next, or that there was no memory, which says nothing of the text. A text of white space and
     /// comments is always read.
-    #[tactic(auto, using(crate::proofs::Blank::blank_sets, crate::proofs::Blank::blank_is_read))]
     pub fn from_toml(alloc: Global, text: &str) -> Result<Settings, SettingsFault>
         ensures exact { ReadsSettings text.now result }
         ensures blank { IsBlank text.now → result ≡ Ok default_settings }
     {
-        match toml::table_from_str(alloc, text) {
-            Ok(top) => set_in(&Value::Table(top)),
-            Err(error) if error.is_memory() => Err(SettingsFault::OutOfMemory),
-            Err(_) => Err(SettingsFault::Syntax),
-        }
+        set_in(&top_of(alloc, text)?)
+    }
+}
+
+// The top table of a text, which sets what the text does.
+#[tactic(auto, using(crate::proofs::Blank::blank_sets, crate::proofs::Blank::blank_is_read))]
+fn top_of(alloc: Global, text: &str) -> Result<Value, SettingsFault>
+    ensures exact { IfOk result (λ top. setting.settings_of text.now ≡ setting.set_in (view top)) }
+    ensures refused { IfErr result (λ fault. setting.ReadsSettings text.now (Err fault)) }
+    ensures blank { IsBlank text.now
+        → IsOkAnd result (λ top. setting.set_in (view top) ≡ Ok setting.default_settings) }
+{
+    match toml::table_from_str(alloc, text) {
+        Ok(top) => Ok(Value::Table(top)),
+        Err(error) if error.is_memory() => Err(SettingsFault::OutOfMemory),
+        Err(_) => Err(SettingsFault::Syntax),
     }
 }
 
