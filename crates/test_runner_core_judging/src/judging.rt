@@ -1,0 +1,112 @@
+// How a run goes by the lines of a log.
+ghost use Rattle.std.specs.Prelude.{◌≡◌, ◌+◌, ◌^◌, ◌<◌, ◌≤◌, IfOk, IfSome};
+ghost use Rattle.test_runner_core_lines.specs.Calls.{TellsFailure};
+ghost use Rattle.test_runner_core_lines.specs.Items.{items};
+ghost use Rattle.test_runner_core_judging.specs.Judging as judging;
+
+use crate::refused_line::{LineRefusal, RefusedLine};
+use nextest_run_events_instances::TestInstanceId;
+use std::alloc::{AllocError, Global};
+use test_runner_core_lines::{LineFault, LogFault, LogLines, Next};
+use test_runner_core_log::{LogLine, ParseLineError};
+use test_runner_core_progress::StartFault;
+use test_runner_core_session::Session;
+use test_runner_core_streams::LogReader;
+
+/// Judges the lines of a log one after another: each is read and its event's step taken, up to the first that is
+/// refused, which changes nothing and is answered; `None` where all are accepted. Fails where the reader fails or
+/// there is no memory; the run has then taken the steps of the lines before.
+pub fn judge_lines<R: LogReader>(
+    alloc: Global,
+    session: &mut Session<'_>,
+    reader: &mut R,
+) -> Result<Option<RefusedLine>, LogFault>
+    requires calls_fit { R.calls reader.old < 2 ^ 62 }
+    requires failures_fit { R.failures reader.old < 2 ^ 62 }
+    ensures judged { IfOk result (λ found. IfSome (R.left reader.old) (λ log. judging.Judges 1 session.old (items 0 log) found session.new)) }
+    ensures reads { R.calls reader.new ≤ R.calls reader.old + 1073741825 }
+    ensures failures { TellsFailure result (R.failures reader.old) (R.failures reader.new) (R.last_failed reader.new) }
+{
+    let mut lines = LogLines::new(alloc);
+    let mut number = 1;
+    loop {
+        match lines.next(reader)? {
+            Next::Line => {}
+            Next::Refused(fault) => return Ok(Some(refused_at(number, refusal_for(fault)))),
+            Next::End => return Ok(None),
+        }
+        if let Some(refusal) = judge_line(alloc, session, lines.line())? {
+            return Ok(Some(refused_at(number, refusal)));
+        }
+        number += 1;
+    }
+}
+
+fn refused_at(line: u64, refusal: LineRefusal) -> RefusedLine
+    ensures { result ≡ record { line = line; refusal = refusal } }
+{
+    RefusedLine { line, refusal }
+}
+
+fn refusal_for(fault: LineFault) -> LineRefusal
+    ensures { result ≡ judging.refusal_of fault }
+{
+    match fault {
+        LineFault::LineTooLong => LineRefusal::LineTooLong,
+        LineFault::LogTooLong => LineRefusal::LogTooLong,
+        LineFault::NoLineEnd => LineRefusal::NoLineEnd,
+    }
+}
+
+// Judges the bytes of one line: why they are refused, if they are.
+fn judge_line(
+    alloc: Global,
+    session: &mut Session<'_>,
+    bytes: &[u8],
+) -> Result<Option<LineRefusal>, AllocError>
+    ensures { IfOk result (λ refused. judging.JudgesLine session.old bytes.now refused session.new) }
+{
+    match LogLine::parse(alloc, bytes) {
+        Ok(None) => Ok(None),
+        Ok(Some(line)) => take_step(session, line),
+        Err(ParseLineError::NotUtf8) => Ok(Some(LineRefusal::NotUtf8)),
+        Err(ParseLineError::BadLine) => Ok(Some(LineRefusal::BadLine)),
+        Err(ParseLineError::OutOfMemory) => Err(AllocError),
+    }
+}
+
+// Takes the step of a line's event: why it is refused, if it is.
+fn take_step(session: &mut Session<'_>, line: LogLine) -> Result<Option<LineRefusal>, AllocError>
+    ensures { IfOk result (λ refused. judging.Steps session.old line refused session.new) }
+{
+    let taken = match line {
+        LogLine::Script { id, record } => session.script_finished(id.as_str(), record),
+        LogLine::Start { binary, name } => {
+            let test = TestInstanceId {
+                binary_id: binary.as_str(),
+                test_name: name.as_str(),
+            };
+            match session.start(test) {
+                Ok(()) => Ok(()),
+                Err(StartFault::Refused(refusal)) => Err(refusal),
+                Err(StartFault::OutOfMemory) => return Err(AllocError),
+            }
+        }
+        LogLine::End {
+            binary,
+            name,
+            record,
+        } => {
+            let test = TestInstanceId {
+                binary_id: binary.as_str(),
+                test_name: name.as_str(),
+            };
+            session.attempt_finished(test, record)
+        }
+        LogLine::Stop { reason } => session.stop(reason),
+    };
+    match taken {
+        Ok(()) => Ok(None),
+        Err(refusal) => Ok(Some(LineRefusal::Step(refusal))),
+    }
+}

@@ -1,0 +1,10 @@
+//! How a run goes by the lines of a log: each line is read and its event's step taken, up to the first that is refused.
+#![tactic(auto)]
+
+mod judging;
+mod refused_line;
+#[cfg(test)]
+mod tests;
+
+pub use judging::judge_lines;
+pub use refused_line::{LineRefusal, RefusedLine};

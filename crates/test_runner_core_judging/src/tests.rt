@@ -1,0 +1,98 @@
+// A log is judged line by line, and each refusal has its name.
+use super::{LineRefusal, judge_lines};
+use nextest_config_elements_plain::{FlakyResult, MaxFail, TerminateMode};
+use nextest_run_events_instances::TestInstanceId;
+use nextest_text::Listing;
+use std::alloc::Global;
+use std::test::Fail;
+use test_runner_core_plan::{Plan, PlanSettings, PlanTest};
+use test_runner_core_runs::StepRefusal;
+use test_runner_core_session::Session;
+use test_runner_core_streams::MemoryReader;
+
+// What the log of two tests, p a and p b, comes to: the refused line and its name, and the status.
+fn judged(alloc: Global, log: &str, piece: usize) -> Result<(u64, Option<LineRefusal>, u8), Fail> {
+    let mut tests = Listing::new(alloc);
+    for test_name in ["a", "b"] {
+        let instance = TestInstanceId {
+            binary_id: "p",
+            test_name,
+        };
+        tests.push(PlanTest {
+            instance: instance.to_owned(alloc)?,
+            settings: PlanSettings {
+                flaky_result: FlakyResult::Pass,
+            },
+            tries: 1,
+        })?;
+    }
+    let plan = Plan {
+        scripts: Listing::new(alloc),
+        tests,
+        listed: Listing::new(alloc),
+        skipped: 0,
+        limit: MaxFail::Count {
+            max_fail: 1,
+            terminate: TerminateMode::Wait,
+        },
+    };
+    let mut session = Session::new(alloc, &plan)?;
+    let mut reader = MemoryReader::new(log.as_bytes(), piece);
+    let found = judge_lines(alloc, &mut session, &mut reader)?;
+    let status = session.status();
+    Ok(match found {
+        Some(line) => (line.line, Some(line.refusal), status),
+        None => (0, None, status),
+    })
+}
+
+#[test]
+fn each_row_whatever_the_pieces(rt: HostRuntime) -> Result<(), Fail> {
+    let step = LineRefusal::Step;
+    let rows: [(&str, (u64, Option<LineRefusal>, u8)); 8] = [
+        (
+            "start\tp\ta\nend\tp\ta\tfail:1\t-\t1\t-\t-\n",
+            (0, None, 100),
+        ),
+        (
+            "start\tp\tb\nend\tp\tb\tfail:1\t-\t1\t-\t-\n",
+            (0, None, 100),
+        ),
+        ("start\tp\ta\nend\tp\ta\tpass\t-\t1\t-\t-\n", (0, None, 100)),
+        (
+            "start\tp\ta\nend\tp\ta\tfail:1\t-\t1\t-\t-\nstart\tp\tb\n",
+            (3, Some(step(StepRefusal::Stopped)), 100),
+        ),
+        ("start\tp\ta", (1, Some(LineRefusal::NoLineEnd), 100)),
+        (
+            "\nend\tp\ta\tpass\t-\t01\t-\t-\n",
+            (2, Some(LineRefusal::BadLine), 100),
+        ),
+        (
+            "script\ts\tpass\t-\t1\t-\t-\n",
+            (1, Some(step(StepRefusal::UnknownScript)), 100),
+        ),
+        (
+            "start\tp\ta\nend\tp\ta\tpass\t-\t1\t-\t-\nstart\tp\tb\nend\tp\tb\tpass\t-\t1\t-\t-\n",
+            (0, None, 0),
+        ),
+    ];
+    for (log, want) in rows {
+        for piece in [1, 4096] {
+            assert!(rt; judged(rt.alloc(), log, piece)? == want, "{log}");
+        }
+    }
+    Ok(())
+}
+
+#[test]
+fn refusals_print_their_names(rt: HostRuntime) -> Result<(), Fail> {
+    for (refusal, name) in [
+        (LineRefusal::LineTooLong, "LineTooLong"),
+        (LineRefusal::NotUtf8, "NotUtf8"),
+        (LineRefusal::Step(StepRefusal::NotRunning), "NotRunning"),
+    ] {
+        assert_eq!(rt; format!(in rt.alloc(); "{refusal}")?.as_str(), name);
+    }
+    Ok(())
+}
