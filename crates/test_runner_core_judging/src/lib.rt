@@ -2,6 +2,7 @@
 #![tactic(auto)]
 
 mod judging;
+pub mod laws;
 mod refused_line;
 #[cfg(test)]
 mod tests;
