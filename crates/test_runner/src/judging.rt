@@ -1,15 +1,11 @@
 // How a run is judged: its inputs are the first line, its log is the rest.
-ghost use Rattle.std.specs.Prelude.{◌<◌, ◌^◌};
-
 use crate::report::Verdict;
 use std::alloc::Global;
 use std::io;
 use std::io::{BufRead, BufReader, Read};
-use test_runner_core::{LogFault, LogReader, StdReader};
+use test_runner_core::{LogFault, StdReader};
 use test_runner_core_inputs::{Inputs, InputsError};
-use test_runner_core_judging::judge_lines;
-use test_runner_core_plan::{Plan, PlanFault};
-use test_runner_core_session::Session;
+use test_runner_core_judging::judge;
 use test_runner_core_workspace::TableLister;
 
 // What the run that standard input tells came to.
@@ -20,9 +16,11 @@ pub(crate) fn judged(rt: &(impl Input + AllocGlobal)) -> Result<Verdict, LogFaul
     let inputs = match Inputs::from_json(alloc, bytes.as_slice()) {
         Ok(inputs) => inputs,
         Err(InputsError::OutOfMemory) => return Err(LogFault::Memory),
-        Err(refused) => return Ok(Verdict::Inputs(refused)),
+        Err(refused) => return Ok(Verdict::NoInputs(refused)),
     };
-    judge_inputs(alloc, &inputs, &mut StdReader::new(input))
+    let mut lister = TableLister::new(alloc, &inputs.workspace)?;
+    let judgement = judge(alloc, &inputs, &mut lister, &mut StdReader::new(input))?;
+    Ok(Verdict::Judged(judgement))
 }
 
 // The first line, without its line feed.
@@ -33,26 +31,4 @@ fn first_line<R: Read>(alloc: Global, input: &mut BufReader<R>) -> io::Result<Ve
         line.pop();
     }
     Ok(line)
-}
-
-// What the run of inputs and a log came to.
-fn judge_inputs<R: LogReader>(
-    alloc: Global,
-    inputs: &Inputs,
-    log: &mut R,
-) -> Result<Verdict, LogFault>
-    requires calls_fit { R.calls log.old < 2 ^ 62 }
-    requires failures_fit { R.failures log.old < 2 ^ 62 }
-{
-    let mut lister = TableLister::new(alloc, &inputs.workspace)?;
-    let plan = match Plan::build(alloc, inputs, &mut lister) {
-        Ok(plan) => plan,
-        Err(PlanFault::OutOfMemory) => return Err(LogFault::Memory),
-        Err(refused) => return Ok(Verdict::Plan(refused)),
-    };
-    let mut session = Session::new(alloc, &plan)?;
-    match judge_lines(alloc, &mut session, log)? {
-        Some(refused) => Ok(Verdict::Line(refused)),
-        None => Ok(Verdict::Ended(session.status())),
-    }
 }

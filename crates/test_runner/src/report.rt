@@ -1,31 +1,26 @@
-// What a run came to, and its report.
+// What standard input came to, and its report.
 use std::io;
 use test_runner_core_inputs::InputsError;
-use test_runner_core_judging::RefusedLine;
-use test_runner_core_plan::PlanFault;
+use test_runner_core_judging::Judgement;
 
-// The exit status of a refused run.
+// The exit status where the first line is no inputs.
 const REFUSED: u8 = 96;
 
-// What a run came to.
+// What standard input came to.
 #[derive(Drop)]
 pub(crate) enum Verdict {
-    // The inputs are refused, as no JSON or where a field stands.
-    Inputs(InputsError),
-    // The inputs have no plan.
-    Plan(PlanFault),
-    // A line of the log is refused.
-    Line(RefusedLine),
-    // The run ended with this status.
-    Ended(u8),
+    // The first line is no inputs.
+    NoInputs(InputsError),
+    // What the inputs and the log came to.
+    Judged(Judgement),
 }
 
 impl Verdict {
     // The exit status.
     pub(crate) fn status(&self) -> u8 {
         match self {
-            Verdict::Ended(status) => *status,
-            _ => REFUSED,
+            Verdict::NoInputs(_) => REFUSED,
+            Verdict::Judged(judgement) => judgement.status(),
         }
     }
 }
@@ -33,12 +28,8 @@ impl Verdict {
 // Writes the report.
 pub(crate) fn print(rt: &impl Print, verdict: &Verdict) -> io::Result<()> {
     match verdict {
-        Verdict::Inputs(InputsError::Field(path)) => println!(rt; "refused\tField\t{path}"),
-        Verdict::Inputs(_) => println!(rt; "refused\tSyntax"),
-        Verdict::Plan(fault) => println!(rt; "refused\t{}", fault.name()),
-        Verdict::Line(RefusedLine { line, refusal }) => {
-            println!(rt; "refused\tline\t{line}\t{refusal}")
-        }
-        Verdict::Ended(status) => println!(rt; "== final ==\nstatus\t{status}"),
+        Verdict::NoInputs(InputsError::Field(path)) => println!(rt; "refused\tField\t{path}"),
+        Verdict::NoInputs(_) => println!(rt; "refused\tSyntax"),
+        Verdict::Judged(judgement) => print!(rt; "{judgement}"),
     }
 }

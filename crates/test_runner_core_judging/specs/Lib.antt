@@ -1,3 +1,5 @@
 pub mod Judging
 pub mod Texts
 pub mod Laws
+pub mod Outcome
+pub mod Report

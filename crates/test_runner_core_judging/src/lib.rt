@@ -1,11 +1,13 @@
 //! How a run goes by the lines of a log: each line is read and its event's step taken, up to the first that is refused.
 #![tactic(auto)]
 
+mod judgement;
 mod judging;
 pub mod laws;
 mod refused_line;
 #[cfg(test)]
 mod tests;
 
+pub use judgement::{Judgement, judge};
 pub use judging::judge_lines;
 pub use refused_line::{LineRefusal, RefusedLine};

@@ -1,14 +1,16 @@
 // A log is judged line by line, and each refusal has its name.
-use super::{LineRefusal, judge_lines};
+use super::{Judgement, LineRefusal, judge, judge_lines};
 use nextest_config_elements_plain::{FlakyResult, MaxFail, TerminateMode};
 use nextest_run_events_instances::TestInstanceId;
 use nextest_text::Listing;
 use std::alloc::Global;
 use std::test::Fail;
+use test_runner_core_inputs::Inputs;
 use test_runner_core_plan::{Plan, PlanSettings, PlanTest};
 use test_runner_core_runs::StepRefusal;
 use test_runner_core_session::Session;
 use test_runner_core_streams::MemoryReader;
+use test_runner_core_workspace::TableLister;
 
 // What the log of two tests, p a and p b, comes to: the refused line and its name, and the status.
 fn judged(alloc: Global, log: &str, piece: usize) -> Result<(u64, Option<LineRefusal>, u8), Fail> {
@@ -93,6 +95,37 @@ fn refusals_print_their_names(rt: HostRuntime) -> Result<(), Fail> {
         (LineRefusal::Step(StepRefusal::NotRunning), "NotRunning"),
     ] {
         assert_eq!(rt; format!(in rt.alloc(); "{refusal}")?.as_str(), name);
+    }
+    Ok(())
+}
+
+const INPUTS: &str = "{\"workspace\":{\"packages\":[{\"id\":\"p\",\"name\":\"p\"}],\"links\":[],\"binaries\":[{\"id\":\"p\",\"name\":\"p\",\"package\":\"p\",\"kind\":\"lib\",\"platform\":\"target\",\"tests\":[\"a\"]}]},\"sources\":[],\"current_version\":\"0.9.100\"";
+
+// What inputs with these further fields and a log come to.
+fn came_to(alloc: Global, more: &str, log: &str, piece: usize) -> Result<Judgement, Fail> {
+    let text = format!(in alloc; "{INPUTS}{more}}}")?;
+    let inputs = Inputs::from_json(alloc, text.as_bytes())?;
+    let mut lister = TableLister::new(alloc, &inputs.workspace)?;
+    let mut reader = MemoryReader::new(log.as_bytes(), piece);
+    Ok(judge(alloc, &inputs, &mut lister, &mut reader)?)
+}
+
+#[test]
+fn each_report_whatever_the_pieces(rt: HostRuntime) -> Result<(), Fail> {
+    let alloc = rt.alloc();
+    let whole = "start\tp\ta\nend\tp\ta\tpass\t-\t1\t-\t-\n";
+    let rows: [(&str, &str, &str, u8); 4] = [
+        ("", whole, "== final ==\nstatus\t0\n", 0),
+        (",\"filterset\":\"none()\"", "", "== final ==\nstatus\t4\n", 4),
+        (",\"profile\":\"ci\"", whole, "refused\tNotYet\n", 96),
+        ("", "\nx\n", "refused\tline\t2\tBadLine\n", 96),
+    ];
+    for (more, log, report, status) in rows {
+        for piece in [1, 4096] {
+            let judgement = came_to(alloc, more, log, piece)?;
+            assert_eq!(rt; judgement.status(), status);
+            assert!(rt; format!(in alloc; "{judgement}")?.as_str() == report, "{report}");
+        }
     }
     Ok(())
 }

@@ -1,0 +1,91 @@
+// What a run of inputs and a log comes to.
+ghost use Rattle.std.specs.Prelude.{◌≡◌, ◌^◌, ◌<◌, IfOk, IfSome};
+ghost use Rattle.test_runner_core_lines.specs.Calls.{TellsFailure};
+ghost use Rattle.test_runner_core_lines.specs.Items.{items};
+ghost use Rattle.test_runner_core_judging.specs.Outcome.{AsksFor, Outcome, Reads};
+ghost use Rattle.test_runner_core_judging.specs.Report.{exit_status};
+ghost use Rattle.test_runner_core_plan.specs.Plan.{asked_for, asked_in};
+ghost use Rattle.test_runner_core_workspace.specs.declared.record.Binary.{Binary};
+
+use crate::judging::judge_lines;
+use crate::refused_line::RefusedLine;
+use std::alloc::Global;
+use std::fmt;
+use test_runner_core_inputs::Inputs;
+use test_runner_core_lines::LogFault;
+use test_runner_core_plan::{Plan, PlanFault};
+use test_runner_core_session::Session;
+use test_runner_core_streams::LogReader;
+use test_runner_core_workspace::Lister;
+
+// The exit status of a refused run.
+const REFUSED: u8 = 96;
+
+/// What a run of inputs and a log comes to. It prints as its report.
+#[derive(Debug, PartialEq, Eq, Drop)]
+pub enum Judgement {
+    /// The inputs have no plan, for this reason, which is never want of memory; nothing of the log is read.
+    NoPlan(PlanFault),
+    /// This line of the log is refused; those before it are accepted.
+    RefusedLine(RefusedLine),
+    /// Each line is accepted, and this is the exit status.
+    Ended(u8),
+}
+
+impl Judgement {
+    /// The exit status: 96 where something is refused.
+    pub fn status(&self) -> u8
+        ensures { result ≡ exit_status self.now }
+    {
+        match self {
+            Judgement::NoPlan(_) | Judgement::RefusedLine(_) => REFUSED,
+            Judgement::Ended(status) => *status,
+        }
+    }
+}
+
+// The report: one line where something is refused, else the final text, each with its line feed.
+impl fmt::Display for Judgement {
+    ghost use Rattle.std.specs.Prelude.{Some};
+    ghost use Rattle.test_runner_core_judging.specs.Report.{report_of};
+
+    ghost output = { λ it. Some (report_of it) };
+
+    fn fmt<W: fmt::Write>(&self, f: &mut fmt::Formatter<W>) -> fmt::Result {
+        match self {
+            Judgement::NoPlan(refusal) => write!(f, "refused\t{}\n", refusal.name()),
+            Judgement::RefusedLine(found) => {
+                write!(f, "refused\tline\t{}\t{}\n", found.line, found.refusal)
+            }
+            Judgement::Ended(status) => write!(f, "== final ==\nstatus\t{status}\n"),
+        }
+    }
+}
+
+/// Judges a run: builds the plan of the inputs, and takes its run by the lines of the log up to the first that is
+/// refused. Fails where the reader fails or there is no memory.
+pub fn judge<L: Lister, R: LogReader>(
+    alloc: Global,
+    inputs: &Inputs,
+    lister: &mut L,
+    log: &mut R,
+) -> Result<Judgement, LogFault>
+    requires calls_fit { R.calls log.old < 2 ^ 62 }
+    requires failures_fit { R.failures log.old < 2 ^ 62 }
+    ensures outcome { IfOk result (λ it. IfSome (R.left log.old) (λ bytes. Outcome (L.answer lister.old) inputs.now (items 0 bytes) it)) }
+    ensures stays { (other : Binary) → L.answer lister.new other ≡ L.answer lister.old other }
+    ensures asks { AsksFor result (L.asked lister.old) (asked_for (L.answer lister.old) inputs.now (asked_in inputs.now)) (L.asked lister.new) }
+    ensures reads { Reads result (R.calls log.old) (R.calls log.new) }
+    ensures failures { TellsFailure result (R.failures log.old) (R.failures log.new) (R.last_failed log.new) }
+{
+    let plan = match Plan::build(alloc, inputs, lister) {
+        Ok(plan) => plan,
+        Err(PlanFault::OutOfMemory) => return Err(LogFault::Memory),
+        Err(refusal) => return Ok(Judgement::NoPlan(refusal)),
+    };
+    let mut session = Session::new(alloc, &plan)?;
+    match judge_lines(alloc, &mut session, log)? {
+        Some(refused) => Ok(Judgement::RefusedLine(refused)),
+        None => Ok(Judgement::Ended(session.status())),
+    }
+}
