@@ -50,16 +50,19 @@ events_told assigned number old new [] judged agrees =
     record { events = []; run = ap (λ (s : SessionState). s.run) judged; agrees = tt; unstopped = tt }
 events_told assigned number old new (Line bytes ∷ more) (inl (mid, inl (empty, same), judged)) agrees =
     events_told assigned (number + 1) old new more
-        (subst (λ (s : SessionState). Judges (number + 1) s more None new) same judged) (agrees.0 empty)
+    (subst (λ (s : SessionState). Judges (number + 1) s more None new) same judged) (agrees.0 empty)
 events_told assigned number old new (Line bytes ∷ more) (inl (mid, inr (line, spells, follows), judged)) agrees =
     let here = agrees.1 line spells in
     let rest = events_told assigned (number + 1) mid new more judged (here.2 mid follows) in
     record {
       events = event_of old line ∷ rest.events;
       run = (mid.run, follows.taken, rest.run);
-      agrees = (here.0, λ (s : State) (e : step old.run (event_of old line) ≡ Ok s).
-          subst (λ (t : State). Agrees assigned t rest.events) (let taken = follows.taken in cc) rest.agrees);
-      unstopped = (here.1, rest.unstopped)
+      agrees = (
+        here.0,
+        λ (s : State) (e : step old.run (event_of old line) ≡ Ok s).
+            subst (λ (t : State). Agrees assigned t rest.events) (let taken = follows.taken in cc) rest.agrees,
+      );
+      unstopped = (here.1, rest.unstopped);
     }
 events_told assigned number old new (Line bytes ∷ more) (inr (refusal, refuses, found, same)) agrees = absurd (cc)
 events_told assigned number old new (Refused fault ∷ more) judged agrees = absurd (let e = judged.0 in cc)
@@ -142,17 +145,17 @@ planned_is_sound : (answer : Binary → Answer) (inputs : Inputs)
     → Holds (planned answer inputs) (λ it. IsSound it.asked.settings)
 planned_is_sound answer inputs =
     next_holds (asked_in inputs) _ (λ asked. IsSound asked.settings) _ asked_is_sound
-        (λ asked sound. next_holds (found_by (listing answer asked.filter (listed_in inputs asked)))
-        _ (λ found. ⊤) _ (anything _)
-        (λ found _. unless_refused _ (has_too_many asked found) _ _ sound))
+    (λ asked sound. next_holds (found_by (listing answer asked.filter (listed_in inputs asked)))
+    _ (λ found. ⊤) _ (anything _)
+    (λ found _. unless_refused _ (has_too_many asked found) _ _ sound))
   where
     asked_is_sound : Holds (asked_in inputs) (λ asked. IsSound asked.settings)
     asked_is_sound =
         next_holds (workspace_of inputs.workspace (refusal_of inputs.workspace)) _ (λ workspace. ⊤) _ (anything _)
-            (λ workspace _. next_holds (settings_in inputs.sources) _ IsSound _ (sources_set_one inputs.sources)
-            (λ settings sound. next_holds (if asks_for_more inputs then Err refused.NotYet else Ok settings)
-            _ (λ whole. ⊤) _ (anything _)
-            (λ whole _. next_holds (filter_in inputs.filterset) _ (λ chosen. ⊤) _ (anything _) (λ chosen _. sound))))
+        (λ workspace _. next_holds (settings_in inputs.sources) _ IsSound _ (sources_set_one inputs.sources)
+        (λ settings sound. next_holds (if asks_for_more inputs then Err refused.NotYet else Ok settings)
+        _ (λ whole. ⊤) _ (anything _)
+        (λ whole _. next_holds (filter_in inputs.filterset) _ (λ chosen. ⊤) _ (anything _) (λ chosen _. sound))))
 
 each_has_a_try : (settings : Settings) (tests : List OwnedTestInstanceId)
     → AllByRecursion (λ (test : TestPlan). 0 < test.tries) (map run_test (map (plan_test settings) tests))
@@ -170,5 +173,5 @@ built_is_plan answer inputs it plan found built = record {
   limit =
       subst (λ (limit : MaxFail). IsLimit limit) (sym built.limit)
       (subst (λ (result : Result Planned PlanFault). Holds result (λ it. IsSound it.asked.settings)) found
-      (planned_is_sound answer inputs))
+      (planned_is_sound answer inputs));
 }

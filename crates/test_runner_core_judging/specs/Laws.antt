@@ -19,8 +19,8 @@ LogAgrees assigned state [] = ⊤
 LogAgrees assigned state (Line bytes ∷ more) =
     (bytes ≡ [] → LogAgrees assigned state more)
     × ((line : LogLine) → Spells line bytes
-        → EventAgrees assigned state.run (event_of state line) × IsNoStop (event_of state line)
-        × ((mid : SessionState) → Follows state mid line → LogAgrees assigned mid more))
+    → EventAgrees assigned state.run (event_of state line) × IsNoStop (event_of state line)
+    × ((mid : SessionState) → Follows state mid line → LogAgrees assigned mid more))
 LogAgrees assigned state (Refused fault ∷ more) = ⊤
 
 -- whatever inputs a plan is built of: a log of which no line is refused, that agrees with an assignment and leaves

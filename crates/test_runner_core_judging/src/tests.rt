@@ -99,7 +99,8 @@ fn refusals_print_their_names(rt: HostRuntime) -> Result<(), Fail> {
     Ok(())
 }
 
-const INPUTS: &str = "{\"workspace\":{\"packages\":[{\"id\":\"p\",\"name\":\"p\"}],\"links\":[],\"binaries\":[{\"id\":\"p\",\"name\":\"p\",\"package\":\"p\",\"kind\":\"lib\",\"platform\":\"target\",\"tests\":[\"a\"]}]},\"sources\":[],\"current_version\":\"0.9.100\"";
+const INPUTS: &str =
+    "{\"workspace\":{\"packages\":[{\"id\":\"p\",\"name\":\"p\"}],\"links\":[],\"binaries\":[{\"id\":\"p\",\"name\":\"p\",\"package\":\"p\",\"kind\":\"lib\",\"platform\":\"target\",\"tests\":[\"a\"]}]},\"sources\":[],\"current_version\":\"0.9.100\"";
 
 // What inputs with these further fields and a log come to.
 fn came_to(alloc: Global, more: &str, log: &str, piece: usize) -> Result<Judgement, Fail> {
@@ -116,7 +117,12 @@ fn each_report_whatever_the_pieces(rt: HostRuntime) -> Result<(), Fail> {
     let whole = "start\tp\ta\nend\tp\ta\tpass\t-\t1\t-\t-\n";
     let rows: [(&str, &str, &str, u8); 4] = [
         ("", whole, "== final ==\nstatus\t0\n", 0),
-        (",\"filterset\":\"none()\"", "", "== final ==\nstatus\t4\n", 4),
+        (
+            ",\"filterset\":\"none()\"",
+            "",
+            "== final ==\nstatus\t4\n",
+            4,
+        ),
         (",\"profile\":\"ci\"", whole, "refused\tNotYet\n", 96),
         ("", "\nx\n", "refused\tline\t2\tBadLine\n", 96),
     ];
@@ -124,7 +130,10 @@ fn each_report_whatever_the_pieces(rt: HostRuntime) -> Result<(), Fail> {
         for piece in [1, 4096] {
             let judgement = came_to(alloc, more, log, piece)?;
             assert_eq!(rt; judgement.status(), status);
-            assert!(rt; format!(in alloc; "{judgement}")?.as_str() == report, "{report}");
+            assert!(rt;
+                format!(in alloc; "{judgement}")?.as_str() == report,
+                "{report}"
+            );
         }
     }
     Ok(())
