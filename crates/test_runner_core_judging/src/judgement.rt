@@ -63,9 +63,9 @@ impl fmt::Display for Judgement {
 }
 
 /// Judges a run: builds the plan of the inputs, and takes its run by the lines of the log up to the first that is
-/// refused; the lister is asked for each listed binary once, and for no other. Fails where the reader fails, or where
-/// there is no memory, which says nothing of inputs and log: the lister was then asked for a front of these binaries,
-/// and the log read so far.
+/// refused. The lister is asked as by `Plan::build`: once for each listed binary up to the first whose answer is refused,
+/// and for none where the inputs are refused before. Fails where the reader fails, or where there is no memory, which
+/// says nothing of inputs and log: the lister was then asked for a front of these binaries, and the log read so far.
 pub fn judge<L: Lister, R: LogReader>(
     alloc: Global,
     inputs: &Inputs,
