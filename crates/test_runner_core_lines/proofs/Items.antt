@@ -9,7 +9,7 @@ use Rattle.test_runner_core_lines.specs.declared.fault.LineFault.TheVariants as 
 use Rattle.test_runner_core_lines.specs.Feeds.{IsPlain}
 use Rattle.test_runner_core_lines.specs.Items.{Item, Line, Refused, line_fault, items_of, parts, items}
 
-is_no_feed : (byte : ℕ) → byte ≢ 10 → eqb byte 10 ≡ false
+pub is_no_feed : (byte : ℕ) → byte ≢ 10 → eqb byte 10 ≡ false
 is_no_feed byte other = grind (arith, nat_tests)
 
 -- a text has a first part

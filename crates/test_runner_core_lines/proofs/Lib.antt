@@ -3,3 +3,4 @@ pub mod Ranges
 pub mod Scanning
 pub mod Filling
 pub mod Reading
+pub mod FirstLine

@@ -1,8 +1,9 @@
 -- What a look at the bytes that wait tells.
-use Rattle.std.proofs.Common.{◌≡◌, ℕ, ◌+◌, ◌-◌, ◌<◌, ◌≤◌, Bool, true, false, cond, ltb, leb, eqb, ◌&&◌, ◌||◌, List, [], ◌∷◌, ◌++◌, length, take, drop, Option, Some, None, Ok, refl, sym, ap, ◌∙◌, subst, arith, append_assoc}
+use Rattle.std.proofs.Common.{◌≡◌, ℕ, ◌+◌, ◌-◌, ◌<◌, ◌≤◌, Bool, true, false, cond, ltb, leb, eqb, ◌&&◌, ◌||◌, List, [], ◌∷◌, ◌++◌, length, take, drop, Option, Some, None, Ok, refl, sym, ap, ◌∙◌, subst, arith, append_assoc, length-append}
 use Rattle.std.specs.List.{slice_range}
 use Rattle.std.specs.Option.{option_map_or}
-use Rattle.std.proofs.lemmas.List.{take-append-drop}
+use Rattle.std.proofs.lemmas.List.{take-append-drop, length-take}
+use Rattle.std.proofs.Math.Seq.{take-append-add, drop-append-add}
 use Rattle.std.proofs.lemmas.Bool.Decides.{nat_tests}
 use Rattle.test_runner_core_lines.specs.declared.limits.TheConstants.{LINE_LIMIT, LOG_LIMIT}
 use Rattle.test_runner_core_lines.specs.declared.fault.LineFault.{LineFault}
@@ -22,30 +23,38 @@ all_plain xs start scanned end a b before after =
     subst IsPlain (sym (range_join xs start scanned end a b)) (plain-append (slice_range xs start scanned) (slice_range xs scanned end) before after)
 
 -- a line feed found in the rest
-pub record FoundLine (xs : List ℕ) (start line_end end : ℕ) : Type 0 where
-  pub within : line_end < end
-  pub whole : slice_range xs start end ≡ slice_range xs start line_end ++ 10 ∷ slice_range xs (line_end + 1) end
-  pub plain : IsPlain (slice_range xs start line_end)
+pub feed_behind : (xs : List ℕ) (start scanned end at : ℕ) → start ≤ scanned → scanned ≤ end → end ≤ length xs
+    → IsPlain (slice_range xs start scanned) → IsFirstFeed (slice_range xs scanned end) (Some at)
+    → IsFirstFeed (slice_range xs start end) (Some (scanned - start + at))
+feed_behind xs start scanned end at a b filled before feed =
+    subst (λ (ys : List ℕ). IsFirstFeed ys (Some (scanned - start + at))) (sym (range_join xs start scanned end a b))
+    (subst (λ (n : ℕ). IsFirstFeed (slice_range xs start scanned ++ slice_range xs scanned end) (Some (n + at)))
+    (length-range xs start scanned (omega arith)) (feed_after (slice_range xs start scanned) (slice_range xs scanned end) at before feed))
+  where
+    feed_after : (ys zs : List ℕ) (n : ℕ) → IsPlain ys → IsFirstFeed zs (Some n) → IsFirstFeed (ys ++ zs) (Some (length ys + n))
+    feed_after ys zs n plain here = (
+      let within = here.0 in omega (arith, length-append ys zs),
+      subst IsPlain (sym (take-append-add ys zs n)) (plain-append ys (take n zs) plain here.1),
+      drop-append-add ys zs n ∙ here.2
+          ∙ ap (λ (ws : List ℕ). 10 ∷ ws) (sym (drop-append-add ys zs (n + 1)) ∙ ap (λ (m : ℕ). drop m (ys ++ zs)) (let e : length ys + (n + 1) ≡ length ys + n + 1 = omega arith in e)),
+    )
 
-pub line_found : (xs : List ℕ) (start scanned end at : ℕ) → start ≤ scanned → scanned ≤ end → end ≤ length xs
-    → IsPlain (slice_range xs start scanned) → IsFirstFeed (slice_range xs scanned end) (Some at) → FoundLine xs start (scanned + at) end
-line_found xs start scanned end at a b filled before feed =
-    let size = length-range xs scanned end filled in
-    let inside : at < end - scanned = let h = feed.0 in omega arith in
-    let front : take at (slice_range xs scanned end) ≡ slice_range xs scanned (scanned + at) = take-range xs scanned end at (omega arith) in
-    let back : drop (at + 1) (slice_range xs scanned end) ≡ slice_range xs (scanned + at + 1) end =
-    drop-range xs scanned end (at + 1) (omega arith) ∙ ap (λ (n : ℕ). slice_range xs n end) (let e : scanned + (at + 1) ≡ scanned + at + 1 = omega arith in e) in
-    let line : slice_range xs start (scanned + at) ≡ slice_range xs start scanned ++ slice_range xs scanned (scanned + at) = range_join xs start scanned (scanned + at) a (omega arith) in
-    record {
-      within = omega arith;
-      whole =
-          range_join xs start scanned end a b
-          ∙ ap (λ (ys : List ℕ). slice_range xs start scanned ++ ys) (sym (take-append-drop at (slice_range xs scanned end)) ∙ ap (λ (ys : List ℕ). ys ++ drop at (slice_range xs scanned end)) front
-          ∙ ap (λ (ys : List ℕ). slice_range xs scanned (scanned + at) ++ ys) (feed.2 ∙ ap (λ (ys : List ℕ). 10 ∷ ys) back))
-          ∙ sym (append_assoc (slice_range xs start scanned) (slice_range xs scanned (scanned + at)) (10 ∷ slice_range xs (scanned + at + 1) end))
-          ∙ ap (λ (ys : List ℕ). ys ++ 10 ∷ slice_range xs (scanned + at + 1) end) (sym line);
-      plain = subst IsPlain (sym line) (plain-append (slice_range xs start scanned) (slice_range xs scanned (scanned + at)) before (subst IsPlain front feed.1));
-    }
+-- the bytes up to the first line feed are the line, those behind it wait
+pub cut_at : (xs : List ℕ) (start end at : ℕ) → start ≤ end → end ≤ length xs → IsFirstFeed (slice_range xs start end) (Some at)
+    → (at < end - start) × (slice_range xs start end ≡ slice_range xs start (start + at) ++ 10 ∷ slice_range xs (start + at + 1) end)
+    × IsPlain (slice_range xs start (start + at)) × (length (slice_range xs start (start + at)) ≡ at)
+cut_at xs start end at order filled feed =
+    let size = length-range xs start end filled in
+    let within : at < end - start = let h = feed.0 in omega arith in
+    let front : take at (slice_range xs start end) ≡ slice_range xs start (start + at) = take-range xs start end at (omega arith) in
+    let back : drop (at + 1) (slice_range xs start end) ≡ slice_range xs (start + at + 1) end =
+    drop-range xs start end (at + 1) (omega arith) ∙ ap (λ (n : ℕ). slice_range xs n end) (let e : start + (at + 1) ≡ start + at + 1 = omega arith in e) in (
+      within,
+      sym (take-append-drop at (slice_range xs start end)) ∙ ap (λ (ys : List ℕ). ys ++ drop at (slice_range xs start end)) front
+          ∙ ap (λ (ys : List ℕ). slice_range xs start (start + at) ++ ys) (feed.2 ∙ ap (λ (ys : List ℕ). 10 ∷ ys) back),
+      subst IsPlain front feed.1,
+      length-range xs start (start + at) (omega arith) ∙ omega arith,
+    )
 
 -- a line that a line feed ends has no fault, or one at a limit
 ended_is_idle : (before size : ℕ) (fault : LineFault) → line_fault before size true ≡ Some fault → idle_reads (Ok (found.Refused fault)) ≡ 0
@@ -69,6 +78,15 @@ refused_line before waiting line more fault whole plain h = (
       ∙ ap (λ (o : Option LineFault). option_map_or (λ f. Refused f ∷ []) o (Line line ∷ items (before + length line + 1) (more ++ rest))) h,
   ended_is_idle before (length line) fault h,
 )
+
+-- the same of the place of the line feed
+pub refused_at : (before : ℕ) (waiting : List ℕ) (at : ℕ) (fault : LineFault) → IsFirstFeed waiting (Some at) → line_fault before at true ≡ Some fault
+    → ((rest : List ℕ) → items before (waiting ++ rest) ≡ Refused fault ∷ []) × (idle_reads (Ok (found.Refused fault)) ≡ 0)
+refused_at before waiting at fault feed h =
+    let size : at ≡ length (take at waiting) = let within = feed.0 in omega (arith, length-take at waiting) in
+    refused_line before waiting (take at waiting) (drop (at + 1) waiting) fault
+    (sym (take-append-drop at waiting) ∙ ap (λ (ys : List ℕ). take at waiting ++ ys) feed.2) feed.1
+    (ap (λ (n : ℕ). line_fault before n true) (sym size) ∙ h)
 
 -- nothing is wrong yet, or only that no line feed came
 abbrev pub NotLimit : Option LineFault → Type 0

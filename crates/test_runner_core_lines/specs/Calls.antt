@@ -1,9 +1,9 @@
 -- What a call of a reader of lines did.
-use Rattle.std.specs.Prelude.{◌≡◌, ℕ, ◌+◌, ◌≤◌, Bool, true, length, List, [], ◌∷◌, ◌++◌, Option, None, Some, Result, Ok, Err, ⊤, take}
+use Rattle.std.specs.Prelude.{◌≡◌, ℕ, ◌+◌, ◌<◌, ◌≤◌, Bool, true, length, List, [], ◌∷◌, ◌++◌, Option, None, Some, Result, Ok, Err, ⊤, take}
 use Rattle.test_runner_core_lines.specs.Items.{Item, Line, Refused, line_fault}
 use Rattle.test_runner_core_lines.specs.Cursor.{Cursor, received, items_ahead, Unmoved}
-use Rattle.test_runner_core_lines.specs.Feeds.{IsPlain}
-use Rattle.test_runner_core_lines.specs.declared.limits.TheConstants.{LINE_LIMIT, LOG_LIMIT}
+use Rattle.test_runner_core_lines.specs.Feeds.{IsPlain, before_feed, behind_feed}
+use Rattle.test_runner_core_lines.specs.declared.limits.TheConstants.{FIRST_LINE_LIMIT, LINE_LIMIT, LOG_LIMIT}
 use Rattle.test_runner_core_lines.specs.declared.fault.LineFault.{LineFault}
 use Rattle.test_runner_core_lines.specs.declared.fault.LineFault.TheVariants as faults
 use Rattle.test_runner_core_lines.specs.declared.fault.LogFault.{LogFault}
@@ -56,6 +56,27 @@ Scanned scanned.Line old new =
     × (new.handed ≡ old.handed + length new.line + 1)
 Scanned (scanned.Refused fault) old new = Unmoved old new × ((rest : List ℕ) → items_ahead old rest ≡ Refused fault ∷ []) × (idle_reads (Ok (found.Refused fault)) ≡ 0)
 Scanned scanned.Waits old new = Unmoved old new × IsPlain old.waiting × (received old ≤ LOG_LIMIT) × (length old.waiting ≤ LINE_LIMIT)
+
+-- the first bytes that wait are the line, of this length, which a line feed ends
+pub record Cut (count : ℕ) (old new : Cursor) : Type 0 where
+  pub whole : old.waiting ≡ new.line ++ 10 ∷ new.waiting
+  pub plain : IsPlain new.line
+  pub size : length new.line ≡ count
+  pub handed : new.handed ≡ old.handed
+
+-- what the bytes that wait tell of a stream's first line: it, or that it is too long whatever follows, or nothing yet
+abbrev pub ScannedFirst : Scan → Cursor → Cursor → Type 0
+ScannedFirst scanned.Line old new = Cut (length new.line) old new × (length new.line ≤ FIRST_LINE_LIMIT)
+ScannedFirst (scanned.Refused fault) old new = (rest : List ℕ) → FIRST_LINE_LIMIT < length (before_feed (old.waiting ++ rest))
+ScannedFirst scanned.Waits old new = Unmoved old new × IsPlain old.waiting × (length old.waiting ≤ FIRST_LINE_LIMIT)
+
+-- a stream is parted at its first line, which isn't too long: it is the line, and what is behind it is ahead. Nothing is
+-- said of the parts where it is too long
+abbrev pub PartsAtFirst : List ℕ → Option Cursor → Option (List ℕ) → Type 0
+PartsAtFirst bytes None rest = FIRST_LINE_LIMIT < length (before_feed bytes)
+PartsAtFirst bytes (Some lines) None = ⊥
+PartsAtFirst bytes (Some lines) (Some rest) =
+    (lines.line ≡ before_feed bytes) × (length (before_feed bytes) ≤ FIRST_LINE_LIMIT) × (lines.waiting ++ rest ≡ behind_feed bytes)
 
 -- bytes without a line feed wait, where they aren't past a limit
 abbrev pub scan_of : Option LineFault → Scan

@@ -14,6 +14,6 @@ mod next;
 mod tests;
 
 pub use fault::{LineFault, LogFault};
-pub use limits::{LINE_LIMIT, LOG_LIMIT};
+pub use limits::{FIRST_LINE_LIMIT, LINE_LIMIT, LOG_LIMIT};
 pub use log_lines::LogLines;
 pub use next::Next;

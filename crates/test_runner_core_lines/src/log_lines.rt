@@ -1,14 +1,14 @@
 // The lines of a log, one at a time.
-ghost use Rattle.std.specs.Prelude.{◌≡◌, ◌+◌, ◌-◌, ◌^◌, ◌<◌, ◌≤◌, [], false, IfOk, OnErr, length};
+ghost use Rattle.std.specs.Prelude.{◌≡◌, ◌+◌, ◌-◌, ◌^◌, ◌<◌, ◌≤◌, [], false, Some, IfOk, IfSome, OnErr, length};
 ghost use Rattle.std.specs.Io.KnownBytes.{IsAtEnd};
 ghost use Rattle.test_runner_core_lines.specs.Items.{line_fault};
-ghost use Rattle.test_runner_core_lines.specs.Cursor.{received};
+ghost use Rattle.test_runner_core_lines.specs.Cursor.{Unmoved, received};
 ghost use Rattle.test_runner_core_lines.specs.Feeds.{IsFirstFeed};
-ghost use Rattle.test_runner_core_lines.specs.Calls.{Hands, HandsBytes, Scanned, TellsFailure, idle_reads, KeepsAhead, WaitsMore, end_of, scan_of as scan_told};
+ghost use Rattle.test_runner_core_lines.specs.Calls.{Cut, Hands, HandsBytes, KeepsAhead, PartsAtFirst, Scanned, ScannedFirst, TellsFailure, WaitsMore, end_of, idle_reads, scan_of as scan_told};
 
 use super::buffer::{read_behind, with_room};
 use super::fault::{LineFault, LogFault, fault_of};
-use super::limits::LOG_LIMIT;
+use super::limits::{FIRST_LINE_LIMIT, LOG_LIMIT};
 use super::next::{Next, Scan};
 use memchr::memchr;
 use std::alloc::Global;
@@ -56,6 +56,36 @@ impl LogLines {
         }
     }
 
+    /// At the beginning of a log that stands behind a first line in a stream. It takes that line, up to the first line
+    /// feed or the stream's end, off the front, and `line` lends it until the first call of `next`; `None` where it has
+    /// more than `FIRST_LINE_LIMIT` bytes. Where the reader fails or there is no memory for the line, what was read is
+    /// lost.
+    pub fn behind_first_line<R: LogReader>(
+        alloc: Global,
+        reader: &mut R,
+    ) -> Result<Option<Self>, LogFault>
+        requires calls_fit { R.calls reader.old + 2 ^ 31 ≤ 2 ^ 63 }
+        requires failures_fit { R.failures reader.old < 2 ^ 63 }
+        ensures lines { IfOk result (λ lines. IfSome (R.left reader.old) (λ bytes. PartsAtFirst bytes lines (R.left reader.new))) }
+        ensures fresh { IfOk result (λ lines. IfSome lines (λ it. it.handed ≡ 0)) }
+        ensures reads { R.calls reader.new ≤ R.calls reader.old + FIRST_LINE_LIMIT + 1 }
+        ensures failures { TellsFailure result (R.failures reader.old) (R.failures reader.new) (R.last_failed reader.new) }
+    {
+        let mut lines = LogLines::new(alloc);
+        loop {
+            match lines.scan_first() {
+                Scan::Line => return Ok(Some(lines)),
+                Scan::Refused(_) => return Ok(None),
+                Scan::Waits => {}
+            }
+            let moved = lines.fill(reader)?;
+            if moved == 0 {
+                lines.cut_all();
+                return Ok(Some(lines));
+            }
+        }
+    }
+
     /// The line that the last call of `next` found, without its line feed; no bytes where it found none.
     pub fn line(&self) -> &[u8]
         ensures { result.now ≡ self.now.line }
@@ -89,27 +119,72 @@ impl LogLines {
         }
     }
 
-    // Looks for a line in the bytes that wait, from where the last look ended. It forgets the line before.
+    // Looks for a line in the bytes that wait. It forgets the line before.
     fn scan(&mut self) -> Scan
         ensures { Scanned result self.old self.new }
+    {
+        let Some(length) = self.find_feed() else {
+            return scan_of(fault_of(self.handed, self.end - self.start, false));
+        };
+        if let Some(fault) = fault_of(self.handed, length, true) {
+            return Scan::Refused(fault);
+        }
+        self.cut(length);
+        self.handed += length + 1;
+        Scan::Line
+    }
+
+    // Takes the first line of a stream off the bytes that wait, where they tell it.
+    fn scan_first(&mut self) -> Scan
+        ensures { ScannedFirst result self.old self.new }
+    {
+        let found = self.find_feed();
+        if found.unwrap_or(self.end - self.start) > FIRST_LINE_LIMIT {
+            return Scan::Refused(LineFault::LineTooLong);
+        }
+        let Some(length) = found else {
+            return Scan::Waits;
+        };
+        self.cut(length);
+        Scan::Line
+    }
+
+    // Where the first line feed stands in the bytes that wait. It is looked for from where the last look ended; the
+    // line before is forgotten.
+    fn find_feed(&mut self) -> Option<usize>
+        ensures feed { IsFirstFeed self.old.waiting result }
+        ensures unmoved { Unmoved self.old self.new }
     {
         self.line_start = 0;
         self.line_end = 0;
         let Some(at) = first_feed(&self.buffer[self.scanned..self.end]) else {
             self.scanned = self.end;
-            return scan_of(fault_of(self.handed, self.end - self.start, false));
+            return None;
         };
-        let line_end = self.scanned + at;
-        let length = line_end - self.start;
-        if let Some(fault) = fault_of(self.handed, length, true) {
-            return Scan::Refused(fault);
-        }
+        Some(self.scanned - self.start + at)
+    }
+
+    // Cuts the line of this length and its line feed off the bytes that wait.
+    fn cut(&mut self, length: usize)
+        requires { IsFirstFeed self.old.waiting (Some length) }
+        ensures { Cut length self.old self.new }
+    {
         self.line_start = self.start;
-        self.line_end = line_end;
-        self.start = line_end + 1;
-        self.scanned = line_end + 1;
-        self.handed += length + 1;
-        Scan::Line
+        self.line_end = self.start + length;
+        self.start = self.line_end + 1;
+        self.scanned = self.start;
+    }
+
+    // All that waits is the line.
+    fn cut_all(&mut self)
+        ensures line { self.new.line ≡ self.old.waiting }
+        ensures waiting { self.new.waiting ≡ [] }
+        ensures handed { self.new.handed ≡ self.old.handed }
+    {
+        self.line_start = self.start;
+        self.line_end = self.end;
+        self.start = self.end;
+        self.scanned = self.end;
     }
 
     // One read behind the bytes that wait. Takes memory where the buffer is full.

@@ -1,5 +1,6 @@
 -- What a call of a reader or a writer did: whether it failed, and what it moved.
-use Rattle.std.specs.Prelude.{◌≡◌, ℕ, zero, suc, ◌+◌, ◌-◌, ◌<◌, ◌≤◌, ◌==◌, ◌&&◌, Bool, true, List, length, Option, None, Some, Result, Ok, Err, is_err, nat_lt, nat_le, min, MatchResult, if◌then◌else◌}
+use Rattle.std.specs.Prelude.{◌≡◌, ℕ, zero, suc, ◌+◌, ◌-◌, ◌<◌, ◌≤◌, ◌==◌, ◌&&◌, Bool, true, List, length, Option, None, Some, Result, Ok, Err, is_err, nat_lt, nat_le, min, take, MatchResult, if◌then◌else◌}
+use Rattle.std.specs.Io.KnownBytes.{Appends}
 use Rattle.std.specs.IoError.{error_kind}
 use Rattle.std.specs.declared.io.Error.{Error as IoError}
 use Rattle.std.specs.declared.io.ErrorKind.{ErrorKind}
@@ -15,6 +16,11 @@ read_fails result = is_err result
 abbrev pub write_fails : {E : Type 0} → Result ℕ E → List ℕ → Bool
 write_fails (Ok taken) bytes = taken == 0 && nat_lt 0 (length bytes)
 write_fails (Err e) bytes = true
+
+-- all of the bytes are taken; where that fails, a front of them is
+abbrev pub TakesAll : {T E : Type 0} → Result T E → Option (List ℕ) → Option (List ℕ) → List ℕ → Type 0
+TakesAll (Ok value) before after bytes = Appends before after bytes
+TakesAll (Err fault) before after bytes = (count : ℕ) × Appends before after (take count bytes)
 
 -- a number of failed calls, after a call that failed or did not
 abbrev pub counted : ℕ → Bool → ℕ

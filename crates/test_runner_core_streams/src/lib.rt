@@ -12,8 +12,10 @@ mod std_streams;
 #[cfg(test)]
 mod tests;
 mod traits;
+mod whole_write;
 
 pub use memory_reader::MemoryReader;
 pub use memory_writer::{MemoryWriter, WriteFailure};
 pub use std_streams::{StdReader, StdWriter};
 pub use traits::{LogReader, ReportWriter};
+pub use whole_write::write_all;
