@@ -2,13 +2,10 @@
 //! goes to standard output and the status is the exit status.
 #![tactic(auto)]
 
-mod judging;
-mod report;
-
-use crate::judging::judged;
-use crate::report::{Verdict, print};
 use std::env;
+use std::io;
 use std::process::ExitCode;
+use test_runner_core::{StdReader, StdWriter, judge_stream};
 
 // The exit statuses: of wrong use, and where standard input or output or memory fails.
 const USAGE: u8 = 2;
@@ -24,11 +21,10 @@ fn main(rt: HostRuntime) -> ExitCode {
         let _ = eprintln!(rt; "usage: test-runner");
         return ExitCode::from(USAGE);
     }
-    let Ok(verdict) = judged(&rt) else {
-        return ExitCode::from(FAULT);
-    };
-    match print(&rt, &verdict) {
-        Ok(()) => ExitCode::from(verdict.status()),
+    let mut input = StdReader::new(rt.reader());
+    let mut report = StdWriter::new(io::writer(&rt));
+    match judge_stream(rt.alloc(), &mut input, &mut report) {
+        Ok(status) => ExitCode::from(status),
         Err(_) => ExitCode::from(FAULT),
     }
 }

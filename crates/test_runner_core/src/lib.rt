@@ -1,17 +1,35 @@
 //! The deciding core of a test runner.
 //!
-//! What stands so far reads a log: `first_refused` tells the first line that no judge accepts, whatever the plan.
-//! The streams, lines and events that it is made of are handed on.
+//! `judge` takes inputs, a lister of each binary's tests, a log and a writer of the report, and answers the exit status
+//! of the run that the log tells; `judge_stream` takes inputs and log from one stream. A runner that goes along with its
+//! tests builds a `Plan` and keeps a `Session`; what reads logs takes a `LogLine` from each line, and `first_refused`
+//! checks a log without a plan.
 #![tactic(auto)]
 
-mod check;
-mod refused_line;
+pub mod laws;
 
-pub use check::first_refused;
-pub use refused_line::{LineRefusal, RefusedLine};
-pub use test_runner_core_lines::{LINE_LIMIT, LOG_LIMIT, LogFault};
+pub use nextest_run_events_instances::{OwnedTestInstanceId, TestInstanceId};
+pub use test_runner_core_inputs::{
+    ConfigSource, ConfigSourceKind, ConfigSourceOutcome, CurrentVersion, FactRecord, Inputs,
+    InputsError, PlatformRecord,
+};
+pub use test_runner_core_judging::{
+    JudgeFault, Judgement, LineRefusal, RefusedLine, first_refused, judge, judge_lines,
+    judge_stream,
+};
+pub use test_runner_core_lines::{
+    FIRST_LINE_LIMIT, LINE_LIMIT, LOG_LIMIT, LineFault, LogFault, LogLines, Next,
+};
 pub use test_runner_core_log::{LogLine, ParseLineError};
+pub use test_runner_core_plan::{LoadFault, Plan, PlanFault, PlanSettings, PlanTest};
+pub use test_runner_core_progress::StartFault;
 pub use test_runner_core_records::{Record, RecordOutput};
+pub use test_runner_core_runs::{Mark, StepRefusal};
+pub use test_runner_core_session::{Fate, Session};
 pub use test_runner_core_streams::{
     LogReader, MemoryReader, MemoryWriter, ReportWriter, StdReader, StdWriter, WriteFailure,
+};
+pub use test_runner_core_workspace::{
+    Binary, BinaryKind, BinaryTests, BuildPlatform, Link, ListFault, Lister, Package, TableLister,
+    Workspace, WorkspaceError, WorkspaceRecord,
 };

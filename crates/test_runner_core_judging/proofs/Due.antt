@@ -35,7 +35,7 @@ use Rattle.test_runner_core_workspace.specs.Lister.{Answer}
 use Rattle.test_runner_core_workspace.specs.Workspace.{refusal_of}
 use Rattle.test_runner_core_workspace.specs.declared.record.Binary.{Binary}
 use Rattle.test_runner_core_judging.specs.Judging.{event_of, Judges}
-use Rattle.test_runner_core_judging.specs.Laws.{LogAgrees}
+use Rattle.test_runner_core_judging.specs.Outcome.{LogAgrees}
 
 -- events that lead from one state to another, agree with an assignment and are no stops
 pub record Told (assigned : Assignment) (old new : State) : Type 0 where

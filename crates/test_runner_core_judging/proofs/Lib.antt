@@ -1,2 +1,7 @@
 pub mod Walk
 pub mod Due
+pub mod Checking
+mod OneOrder
+mod OneRun
+pub mod OneOutcome
+pub mod Telling

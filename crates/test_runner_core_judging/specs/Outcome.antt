@@ -1,14 +1,23 @@
 -- What a run of inputs and a log comes to.
-use Rattle.std.specs.Prelude.{◌≡◌, ℕ, ◌+◌, ◌≤◌, List, ◌++◌, Option, None, Some, Result, Ok, Err}
+use Rattle.std.specs.Prelude.{◌≡◌, ℕ, Bool, true, false, List, [], ◌∷◌, Option, None, Some, Result, Ok, Err, ⊤}
 use Rattle.test_runner_core_inputs.specs.declared.inputs.Inputs.{Inputs}
-use Rattle.test_runner_core_lines.specs.Items.{Item}
+use Rattle.test_runner_core_inputs.specs.Reading.{read_inputs}
+use Rattle.test_runner_core_inputs.specs.declared.inputs_error.InputsError.{InputsError}
+use Rattle.test_runner_core_lines.specs.Feeds.{before_feed, behind_feed}
+use Rattle.test_runner_core_lines.specs.Items.{Item, Line, Refused, items}
+use Rattle.test_runner_core_lines.specs.declared.fault.LogFault.{LogFault}
+use Rattle.test_runner_core_lines.specs.declared.fault.LogFault.TheVariants as unread
+use Rattle.test_runner_core_log.specs.Spelling.{Spells}
+use Rattle.test_runner_core_log.specs.declared.log_line.LogLine.{LogLine}
 use Rattle.test_runner_core_plan.specs.Plan.{Builds, planned}
 use Rattle.test_runner_core_plan.specs.declared.plan.Plan.{Plan}
+use Rattle.test_runner_core_runs.specs.Assignment.{Assignment, due_status}
 use Rattle.test_runner_core_runs.specs.Counters.{status}
-use Rattle.test_runner_core_session.specs.Session.{SessionState, session_of}
-use Rattle.test_runner_core_workspace.specs.Lister.{Answer}
+use Rattle.test_runner_core_runs.specs.Runs.{EventAgrees, IsNoStop, is_complete}
+use Rattle.test_runner_core_session.specs.Session.{SessionState, run_plan, session_of}
+use Rattle.test_runner_core_workspace.specs.Lister.{Answer, table_answer}
 use Rattle.test_runner_core_workspace.specs.declared.record.Binary.{Binary}
-use Rattle.test_runner_core_judging.specs.Judging.{Judges}
+use Rattle.test_runner_core_judging.specs.Judging.{Follows, Judges, event_of}
 use Rattle.test_runner_core_judging.specs.declared.judgement.Judgement.{Judgement}
 use Rattle.test_runner_core_judging.specs.declared.judgement.Judgement.TheVariants as it
 use Rattle.test_runner_core_judging.specs.declared.refused_line.RefusedLine.{RefusedLine}
@@ -22,17 +31,48 @@ pub record Ran (answer : Binary → Answer) (inputs : Inputs) (log : List Item) 
 
 -- what inputs and a log come to: the inputs have no plan, or the first refused line, or the status after the last one
 abbrev pub Outcome : (Binary → Answer) → Inputs → List Item → Judgement → Type 0
+Outcome answer inputs log (it.NoInputs refusal) = ⊥
 Outcome answer inputs log (it.NoPlan refusal) = planned answer inputs ≡ Err refusal
 Outcome answer inputs log (it.RefusedLine found) = (last : SessionState) × Ran answer inputs log (Some found) last
 Outcome answer inputs log (it.Ended code) = (last : SessionState) × Ran answer inputs log None last × (code ≡ status last.run)
 
--- the list of ids asked for grows by these; on a fault by a front of them
-abbrev pub AsksFor : {A E : Type 0} → Result A E → List (List ℕ) → List (List ℕ) → List (List ℕ) → Type 0
-AsksFor (Ok value) old ids new = new ≡ old ++ ids
-AsksFor (Err fault) old ids new =
-    (front : List (List ℕ)) × ((rest : List (List ℕ)) × ((new ≡ old ++ front) × (ids ≡ front ++ rest)))
+-- a log agrees with an assignment, and nobody tells the run to stop: so does the event of each line, where it comes
+abbrev pub LogAgrees : Assignment → SessionState → List Item → Type 0
+LogAgrees assigned state [] = ⊤
+LogAgrees assigned state (Line bytes ∷ more) =
+    (bytes ≡ [] → LogAgrees assigned state more)
+    × ((line : LogLine) → Spells line bytes
+    → EventAgrees assigned state.run (event_of state line) × IsNoStop (event_of state line)
+    × ((mid : SessionState) → Follows state mid line → LogAgrees assigned mid more))
+LogAgrees assigned state (Refused fault ∷ more) = ⊤
 
--- nothing of the log is read where there is no plan; else it is asked so often at most
-abbrev pub Reads : {E : Type 0} → Result Judgement E → ℕ → ℕ → Type 0
-Reads (Ok (it.NoPlan refusal)) before after = after ≡ before
-Reads result before after = after ≤ before + 1073741825
+-- an exit status is that of each assignment with which a log agrees that no line of is refused and that leaves the run
+-- complete
+abbrev pub IsDue : (Binary → Answer) → Inputs → List Item → ℕ → Type 0
+IsDue answer inputs log code =
+    (assigned : Assignment) (last : SessionState) (ran : Ran answer inputs log None last) → LogAgrees assigned (session_of ran.plan) log
+    → is_complete last.run ≡ true → code ≡ due_status (run_plan ran.plan) assigned
+
+-- what a binary answers by the inputs' own table
+abbrev pub table_of : Inputs → Binary → Answer
+table_of inputs binary = table_answer inputs.workspace binary.id
+
+-- what a first line, as inputs, and a log come to
+abbrev pub LineOutcome : Result Inputs InputsError → List Item → Judgement → Type 0
+LineOutcome (Ok inputs) log came = Outcome (table_of inputs) inputs log came
+LineOutcome (Err refusal) log came = came ≡ it.NoInputs refusal
+
+-- what a stream comes to: the bytes before its first line feed are the inputs, those behind it the log
+abbrev pub StreamOutcome : List ℕ → Judgement → Type 0
+StreamOutcome bytes = LineOutcome (read_inputs (before_feed bytes)) (items 0 (behind_feed bytes))
+
+-- the exit status of a stream is due, where its first line is inputs
+abbrev pub IsStreamDue : List ℕ → ℕ → Type 0
+IsStreamDue bytes code =
+    (inputs : Inputs) → read_inputs (before_feed bytes) ≡ Ok inputs → IsDue (table_of inputs) inputs (items 0 (behind_feed bytes)) code
+
+-- whether memory was wanting
+abbrev pub wants_memory : {A : Type 0} → Result A LogFault → Bool
+wants_memory (Ok value) = false
+wants_memory (Err (unread.Read cause)) = false
+wants_memory (Err unread.Memory) = true

@@ -1,33 +1,34 @@
 // How a run goes by the lines of a log.
 ghost use Rattle.std.specs.Prelude.{◌≡◌, ◌+◌, ◌^◌, ◌<◌, ◌≤◌, IfOk, IfSome};
 ghost use Rattle.test_runner_core_lines.specs.Calls.{TellsFailure};
-ghost use Rattle.test_runner_core_lines.specs.Items.{items};
+ghost use Rattle.test_runner_core_lines.specs.Cursor.{items_ahead};
 ghost use Rattle.test_runner_core_judging.specs.Judging as judging;
 
-use crate::refused_line::{LineRefusal, RefusedLine};
+use crate::refused_line::{LineRefusal, RefusedLine, refusal_for, refused_at};
 use nextest_run_events_instances::TestInstanceId;
 use std::alloc::{AllocError, Global};
-use test_runner_core_lines::{LineFault, LogFault, LogLines, Next};
+use test_runner_core_lines::{LogFault, LogLines, Next};
 use test_runner_core_log::{LogLine, ParseLineError};
 use test_runner_core_progress::StartFault;
 use test_runner_core_session::Session;
 use test_runner_core_streams::LogReader;
 
-/// Judges the lines of a log one after another: each is read and its event's step taken, up to the first that is
-/// refused, which changes nothing and is answered; `None` where all are accepted. Fails where the reader fails or
-/// there is no memory; the run has then taken the steps of the lines before.
+/// Judges the lines of a log one after another, as `lines` cuts them from the reader: each is read and its event's step
+/// taken, up to the first that is refused, which changes nothing and is answered; `None` where all are accepted. The
+/// first of them has the number 1. Fails where the reader fails or there is no memory; the run has then taken the steps
+/// of the lines before.
 pub fn judge_lines<R: LogReader>(
     alloc: Global,
     session: &mut Session<'_>,
+    lines: &mut LogLines,
     reader: &mut R,
 ) -> Result<Option<RefusedLine>, LogFault>
-    requires calls_fit { R.calls reader.old < 2 ^ 62 }
+    requires calls_fit { R.calls reader.old + 2 ^ 32 ≤ 2 ^ 63 }
     requires failures_fit { R.failures reader.old < 2 ^ 62 }
-    ensures judged { IfOk result (λ found. IfSome (R.left reader.old) (λ log. judging.Judges 1 session.old (items 0 log) found session.new)) }
+    ensures judged { IfOk result (λ found. IfSome (R.left reader.old) (λ left. judging.Judges 1 session.old (items_ahead lines.old left) found session.new)) }
     ensures reads { R.calls reader.new ≤ R.calls reader.old + 1073741825 }
     ensures failures { TellsFailure result (R.failures reader.old) (R.failures reader.new) (R.last_failed reader.new) }
 {
-    let mut lines = LogLines::new(alloc);
     let mut number = 1;
     loop {
         match lines.next(reader)? {
@@ -39,22 +40,6 @@ pub fn judge_lines<R: LogReader>(
             return Ok(Some(refused_at(number, refusal)));
         }
         number += 1;
-    }
-}
-
-fn refused_at(line: u64, refusal: LineRefusal) -> RefusedLine
-    ensures { result ≡ record { line = line; refusal = refusal } }
-{
-    RefusedLine { line, refusal }
-}
-
-fn refusal_for(fault: LineFault) -> LineRefusal
-    ensures { result ≡ judging.refusal_of fault }
-{
-    match fault {
-        LineFault::LineTooLong => LineRefusal::LineTooLong,
-        LineFault::LogTooLong => LineRefusal::LogTooLong,
-        LineFault::NoLineEnd => LineRefusal::NoLineEnd,
     }
 }
 

@@ -1,8 +1,13 @@
 //! What holds of every run that a log tells. Each function does nothing, and its contract is the law.
-ghost use Rattle.test_runner_core_judging.specs.Laws.{EndsWithDueStatus};
+ghost use Rattle.test_runner_core_judging.specs.Laws.{EndsWithDueStatus, OneOutcome};
 
-/// Whatever inputs a plan is built of: a log of which no line is refused, that agrees with an assignment, tells no stop
-/// and leaves the run complete, ends with that assignment's due status.
+/// Whatever the lister answers, inputs and a log come to one judgement.
+pub fn one_outcome()
+    ensures { OneOutcome }
+{}
+
+/// Whatever the inputs: where no line of a log is refused, the log agrees with an assignment and tells no stop, and the
+/// run is complete, the exit status of what they come to is that assignment's due status.
 pub fn due_status()
     ensures { EndsWithDueStatus }
 {}

@@ -1,8 +1,10 @@
 // Why a line is refused.
 ghost use Rattle.std.specs.Prelude.{◌≡◌};
+ghost use Rattle.test_runner_core_judging.specs.Judging.{refusal_of};
 ghost use Rattle.test_runner_core_judging.specs.Texts.{text_of};
 
 use std::fmt;
+use test_runner_core_lines::LineFault;
 use test_runner_core_runs::StepRefusal;
 
 /// Why a line of a log is refused, in the order in which the reasons are looked for.
@@ -64,4 +66,21 @@ pub struct RefusedLine {
     pub line: u64,
     /// Why it is refused.
     pub refusal: LineRefusal,
+}
+
+pub(crate) fn refused_at(line: u64, refusal: LineRefusal) -> RefusedLine
+    ensures { result ≡ record { line = line; refusal = refusal } }
+{
+    RefusedLine { line, refusal }
+}
+
+// The refusal of a line that has no end, or where a limit is passed.
+pub(crate) fn refusal_for(fault: LineFault) -> LineRefusal
+    ensures { result ≡ refusal_of fault }
+{
+    match fault {
+        LineFault::LineTooLong => LineRefusal::LineTooLong,
+        LineFault::LogTooLong => LineRefusal::LogTooLong,
+        LineFault::NoLineEnd => LineRefusal::NoLineEnd,
+    }
 }

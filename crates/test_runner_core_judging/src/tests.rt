@@ -1,15 +1,16 @@
 // A log is judged line by line, and each refusal has its name.
-use super::{Judgement, LineRefusal, judge, judge_lines};
+use super::{JudgeFault, LineRefusal, judge, judge_lines, judge_stream};
 use nextest_config_elements_plain::{FlakyResult, MaxFail, TerminateMode};
 use nextest_run_events_instances::TestInstanceId;
 use nextest_text::Listing;
 use std::alloc::Global;
 use std::test::Fail;
 use test_runner_core_inputs::Inputs;
+use test_runner_core_lines::LogLines;
 use test_runner_core_plan::{Plan, PlanSettings, PlanTest};
 use test_runner_core_runs::StepRefusal;
 use test_runner_core_session::Session;
-use test_runner_core_streams::MemoryReader;
+use test_runner_core_streams::{MemoryReader, MemoryWriter, WriteFailure};
 use test_runner_core_workspace::TableLister;
 
 // What the log of two tests, p a and p b, comes to: the refused line and its name, and the status.
@@ -40,7 +41,8 @@ fn judged(alloc: Global, log: &str, piece: usize) -> Result<(u64, Option<LineRef
     };
     let mut session = Session::new(alloc, &plan)?;
     let mut reader = MemoryReader::new(log.as_bytes(), piece);
-    let found = judge_lines(alloc, &mut session, &mut reader)?;
+    let mut lines = LogLines::new(alloc);
+    let found = judge_lines(alloc, &mut session, &mut lines, &mut reader)?;
     let status = session.status();
     Ok(match found {
         Some(line) => (line.line, Some(line.refusal), status),
@@ -102,13 +104,16 @@ fn refusals_print_their_names(rt: HostRuntime) -> Result<(), Fail> {
 const INPUTS: &str =
     "{\"workspace\":{\"packages\":[{\"id\":\"p\",\"name\":\"p\"}],\"links\":[],\"binaries\":[{\"id\":\"p\",\"name\":\"p\",\"package\":\"p\",\"kind\":\"lib\",\"platform\":\"target\",\"tests\":[\"a\"]}]},\"sources\":[],\"current_version\":\"0.9.100\"";
 
-// What inputs with these further fields and a log come to.
-fn came_to(alloc: Global, more: &str, log: &str, piece: usize) -> Result<Judgement, Fail> {
+// The report and the exit status of inputs with these further fields and a log.
+fn came_to(alloc: Global, more: &str, log: &str, piece: usize) -> Result<(String, u8), Fail> {
     let text = format!(in alloc; "{INPUTS}{more}}}")?;
     let inputs = Inputs::from_json(alloc, text.as_bytes())?;
     let mut lister = TableLister::new(alloc, &inputs.workspace)?;
     let mut reader = MemoryReader::new(log.as_bytes(), piece);
-    Ok(judge(alloc, &inputs, &mut lister, &mut reader)?)
+    let mut report = MemoryWriter::new(alloc, 100, piece)?;
+    let status = judge(alloc, &inputs, &mut lister, &mut reader, &mut report)?;
+    let text = str::from_utf8(report.written())?;
+    Ok((text.to_string(alloc)?, status))
 }
 
 #[test]
@@ -126,15 +131,24 @@ fn each_report_whatever_the_pieces(rt: HostRuntime) -> Result<(), Fail> {
         (",\"profile\":\"ci\"", whole, "refused\tNotYet\n", 96),
         ("", "\nx\n", "refused\tline\t2\tBadLine\n", 96),
     ];
-    for (more, log, report, status) in rows {
+    for (more, log, want, status) in rows {
         for piece in [1, 4096] {
-            let judgement = came_to(alloc, more, log, piece)?;
-            assert_eq!(rt; judgement.status(), status);
-            assert!(rt;
-                format!(in alloc; "{judgement}")?.as_str() == report,
-                "{report}"
-            );
+            let (report, code) = came_to(alloc, more, log, piece)?;
+            assert_eq!(rt; code, status);
+            assert!(rt; report.as_str() == want, "{want}");
         }
     }
+    Ok(())
+}
+
+#[test]
+fn a_report_without_room_is_cut(rt: HostRuntime) -> Result<(), Fail> {
+    let alloc = rt.alloc();
+    let input = format!(in alloc; "{INPUTS}}}")?;
+    let mut reader = MemoryReader::new(input.as_bytes(), 4096);
+    let mut report = MemoryWriter::new(alloc, 8, 4)?.failing_after(5, WriteFailure::TakesNone);
+    let fault = judge_stream(alloc, &mut reader, &mut report);
+    assert!(rt; matches!(fault, Err(JudgeFault::Write(_))));
+    assert!(rt; report.written() == b"== final".as_slice());
     Ok(())
 }

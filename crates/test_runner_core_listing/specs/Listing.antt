@@ -1,5 +1,5 @@
 -- What the listed binaries answer, and which of their tests are selected.
-use Rattle.std.specs.Prelude.{◌≡◌, ℕ, ◌+◌, ◌-◌, ◌==◌, length, List, [], ◌∷◌, ◌++◌, Option, None, Some, Result, Ok, Err, map, filter, if◌then◌else◌}
+use Rattle.std.specs.Prelude.{◌≡◌, ℕ, ◌+◌, ◌-◌, ◌==◌, Bool, true, false, length, List, [], ◌∷◌, ◌++◌, Option, None, Some, Result, Ok, Err, map, filter, if◌then◌else◌}
 use Rattle.std.specs.Ordering.{nat_cmp, ordering_then}
 use Rattle.std.specs.declared.cmp.Ordering.{Ordering}
 use Rattle.std.specs.Cmp.Lexicographic.{slice_cmp}
@@ -101,7 +101,12 @@ Gives (Ok selection) found = (listed : Selection) × (found ≡ Ok listed) × Se
 Gives (Err refused.OutOfMemory) found = Unit {0}
 Gives (Err refusal) found = found ≡ Err refusal
 
--- the list of ids asked for grows by those that are asked; where there was no memory by a front of them
+-- the list of ids asked for grows by these; where memory was wanting by a front of them
+abbrev pub AsksFor : Bool → List (List ℕ) → List (List ℕ) → List (List ℕ) → Type 0
+AsksFor false old ids new = new ≡ old ++ ids
+AsksFor true old ids new =
+    (front : List (List ℕ)) × ((rest : List (List ℕ)) × ((new ≡ old ++ front) × (ids ≡ front ++ rest)))
+
 abbrev pub Asks : {T : Type 0} → Result T ListingFault → List (List ℕ) → List (List ℕ) → List (List ℕ) → Type 0
-Asks (Err refused.OutOfMemory) old ids new = (front : List (List ℕ)) × ((rest : List (List ℕ)) × ((new ≡ old ++ front) × (ids ≡ front ++ rest)))
-Asks result old ids new = new ≡ old ++ ids
+Asks (Err refused.OutOfMemory) old ids new = AsksFor true old ids new
+Asks result old ids new = AsksFor false old ids new

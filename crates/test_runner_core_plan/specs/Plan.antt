@@ -1,5 +1,5 @@
 -- Which inputs have a plan, and which: what is refused is looked for in this order.
-use Rattle.std.specs.Prelude.{◌≡◌, ℕ, ◌+◌, ◌==◌, Bool, ◌&&◌, ◌||◌, not, length, List, [], ◌∷◌, ◌++◌, min, codes, Option, None, Some, Result, Ok, Err, map, is_some, nat_lt, if◌then◌else◌}
+use Rattle.std.specs.Prelude.{◌≡◌, ℕ, ◌+◌, ◌==◌, Bool, true, false, ◌&&◌, ◌||◌, not, length, List, [], ◌∷◌, ◌++◌, min, codes, Option, None, Some, Result, Ok, Err, map, is_some, nat_lt, if◌then◌else◌}
 use Rattle.std.specs.Option.{option_map_or}
 use Rattle.std.specs.Str.{bytes_eq}
 use Rattle.nextest_config_elements_plain.specs.declared.timeouts.FlakyResult.TheVariants as flaky
@@ -11,7 +11,7 @@ use Rattle.test_runner_core_inputs.specs.declared.source.ConfigSourceKind.TheVar
 use Rattle.test_runner_core_inputs.specs.declared.source.ConfigSourceOutcome.{ConfigSourceOutcome}
 use Rattle.test_runner_core_inputs.specs.declared.source.ConfigSourceOutcome.TheVariants as outcomes
 use Rattle.test_runner_core_listing.specs.Filter.{filter_of}
-use Rattle.test_runner_core_listing.specs.Listing.{Selects, listing, listed_of, asked_of}
+use Rattle.test_runner_core_listing.specs.Listing.{AsksFor, Selects, listing, listed_of, asked_of}
 use Rattle.test_runner_core_listing.specs.declared.filter.Filter.{Filter}
 use Rattle.test_runner_core_listing.specs.declared.filter.Filter.TheVariants as filters
 use Rattle.test_runner_core_listing.specs.declared.listing_fault.ListingFault.{ListingFault}
@@ -138,8 +138,8 @@ Gives (Err refusal) given = given ≡ Err refusal
 
 -- the list of ids asked for grows by those that the lister is asked for; where there was no memory by a front of them
 abbrev pub Asks : {A : Type 0} → Result A PlanFault → List (List ℕ) → List (List ℕ) → List (List ℕ) → Type 0
-Asks (Err refused.OutOfMemory) old ids new = (front : List (List ℕ)) × ((rest : List (List ℕ)) × ((new ≡ old ++ front) × (ids ≡ front ++ rest)))
-Asks result old ids new = new ≡ old ++ ids
+Asks (Err refused.OutOfMemory) old ids new = AsksFor true old ids new
+Asks result old ids new = AsksFor false old ids new
 
 -- how many attempts a test has: what can't be counted is refused before
 abbrev pub tries_of : Settings → ℕ

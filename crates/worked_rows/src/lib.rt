@@ -4,3 +4,5 @@
 
 #[cfg(test)]
 mod logs;
+#[cfg(test)]
+mod runs;

@@ -3,10 +3,10 @@ use Rattle.test_runner_core_lines.specs.declared.limits.TheConstants.{LOG_LIMIT}
 use Rattle.test_runner_core_judging.proofs.Walk.{Judging}
 use Rattle.test_runner_core_judging.proofs.judging.judge_lines.Given as goal
 
-abbrev pub invariant-loop-lines : goal.invariant-loop-lines
-invariant-loop-lines g l =
-    Judging l.fn.session (g.R.LogReader.left l.fn.reader) (g.R.LogReader.calls l.fn.reader) (g.R.LogReader.failures l.fn.reader)
+abbrev pub invariant-loop-fault : goal.invariant-loop-fault
+invariant-loop-fault g l =
+    Judging l.fn.session l.fn.lines (g.R.LogReader.left l.fn.reader) (g.R.LogReader.calls l.fn.reader) (g.R.LogReader.failures l.fn.reader)
     l.number l.session l.lines (g.R.LogReader.left l.reader) (g.R.LogReader.calls l.reader) (g.R.LogReader.failures l.reader)
 
-abbrev pub decreases-loop-lines : goal.decreases-loop-lines
-decreases-loop-lines g l = LOG_LIMIT + 2 - l.lines.handed
+abbrev pub decreases-loop-fault : goal.decreases-loop-fault
+decreases-loop-fault g l = LOG_LIMIT + 2 - l.lines.handed

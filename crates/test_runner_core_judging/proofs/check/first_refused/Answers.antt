@@ -1,10 +1,10 @@
 use Rattle.std.proofs.Common.{List, ℕ, Some, Ok, sym, subst}
 use Rattle.test_runner_core_lines.specs.Calls.{Hands}
 use Rattle.test_runner_core_lines.specs.declared.next.Next.{Next}
-use Rattle.test_runner_core.specs.Check.{IsReading}
-use Rattle.test_runner_core.specs.declared.refused_line.RefusedLine.{RefusedLine}
-use Rattle.test_runner_core.proofs.Checking.{finds_line, finds_if, Finds}
-use Rattle.test_runner_core.proofs.check.first_refused.Goals as goal
+use Rattle.test_runner_core_judging.specs.Check.{IsReading}
+use Rattle.test_runner_core_judging.specs.declared.refused_line.RefusedLine.{RefusedLine}
+use Rattle.test_runner_core_judging.proofs.Checking.{finds_line, finds_if, Finds}
+use Rattle.test_runner_core_judging.proofs.check.first_refused.Goals as goal
 
 pub returns-in-Some-clause-found : goal.returns-in-Some-clause-found
 returns-in-Some-clause-found g c =

@@ -6,9 +6,10 @@ use Rattle.test_runner_core_lines.specs.declared.next.Next.TheVariants as found_
 use Rattle.test_runner_core_lines.specs.Items.{Item, items}
 use Rattle.test_runner_core_lines.specs.Cursor.{Cursor, received, items_ahead}
 use Rattle.test_runner_core_lines.specs.Calls.{Hands}
-use Rattle.test_runner_core.specs.Check.{FirstRefused, refusal_of, IsReading}
-use Rattle.test_runner_core.specs.declared.refused_line.LineRefusal.{LineRefusal}
-use Rattle.test_runner_core.specs.declared.refused_line.RefusedLine.{RefusedLine}
+use Rattle.test_runner_core_judging.specs.Check.{FirstRefused, IsReading}
+use Rattle.test_runner_core_judging.specs.Judging.{refusal_of}
+use Rattle.test_runner_core_judging.specs.declared.refused_line.LineRefusal.{LineRefusal}
+use Rattle.test_runner_core_judging.specs.declared.refused_line.RefusedLine.{RefusedLine}
 
 -- what is found ahead is what there is to find in the whole log, where its bytes are known
 abbrev pub FindsAll : Option (List ℕ) → ℕ → Cursor → Option (List ℕ) → Type 0

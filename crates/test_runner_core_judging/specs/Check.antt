@@ -1,20 +1,13 @@
 -- The first line of a log that is refused whatever the plan.
 use Rattle.std.specs.Prelude.{◌≡◌, ℕ, ◌+◌, List, [], ◌∷◌, Option, None, Some, Ok, Err, ⊤, ◌⊎◌}
 use Rattle.test_runner_core_lines.specs.Items.{Item, Line, Refused}
-use Rattle.test_runner_core_lines.specs.declared.fault.LineFault.{LineFault}
-use Rattle.test_runner_core_lines.specs.declared.fault.LineFault.TheVariants as faults
 use Rattle.test_runner_core_log.specs.Reading.{ReadsLine}
 use Rattle.test_runner_core_log.specs.declared.log_line.LogLine.{LogLine}
 use Rattle.test_runner_core_log.specs.declared.parse_line_error.ParseLineError.TheVariants as unread
-use Rattle.test_runner_core.specs.declared.refused_line.LineRefusal.{LineRefusal}
-use Rattle.test_runner_core.specs.declared.refused_line.LineRefusal.TheVariants as refused
-use Rattle.test_runner_core.specs.declared.refused_line.RefusedLine.{RefusedLine}
-
--- the refusal of a line or a log that is too long, or that is cut
-abbrev pub refusal_of : LineFault → LineRefusal
-refusal_of faults.LineTooLong = refused.LineTooLong
-refusal_of faults.LogTooLong = refused.LogTooLong
-refusal_of faults.NoLineEnd = refused.NoLineEnd
+use Rattle.test_runner_core_judging.specs.Judging.{refusal_of}
+use Rattle.test_runner_core_judging.specs.declared.refused_line.LineRefusal.{LineRefusal}
+use Rattle.test_runner_core_judging.specs.declared.refused_line.LineRefusal.TheVariants as refused
+use Rattle.test_runner_core_judging.specs.declared.refused_line.RefusedLine.{RefusedLine}
 
 -- why the bytes of a whole line are refused; they aren't where they are no bytes or spell an event
 abbrev pub IsReading : List ℕ → Option LineRefusal → Type 0
@@ -22,6 +15,7 @@ IsReading bytes None = (found : Option LogLine) × ReadsLine bytes (Ok found)
 IsReading bytes (Some refused.LineTooLong) = ⊥
 IsReading bytes (Some refused.LogTooLong) = ⊥
 IsReading bytes (Some refused.NoLineEnd) = ⊥
+IsReading bytes (Some (refused.Step refusal)) = ⊥
 IsReading bytes (Some refused.NotUtf8) = ReadsLine bytes (Err unread.NotUtf8)
 IsReading bytes (Some refused.BadLine) = ReadsLine bytes (Err unread.BadLine)
 

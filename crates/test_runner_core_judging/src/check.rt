@@ -2,11 +2,11 @@
 ghost use Rattle.std.specs.Prelude.{◌≡◌, ◌+◌, ◌^◌, ◌<◌, ◌≤◌, IfOk, IfSome};
 ghost use Rattle.test_runner_core_lines.specs.Items.{items};
 ghost use Rattle.test_runner_core_lines.specs.Calls.{TellsFailure};
-ghost use Rattle.test_runner_core.specs.Check.{FirstRefused, refusal_of, IsReading};
+ghost use Rattle.test_runner_core_judging.specs.Check.{FirstRefused, IsReading};
 
-use super::refused_line::{LineRefusal, RefusedLine};
+use crate::refused_line::{LineRefusal, RefusedLine, refusal_for, refused_at};
 use std::alloc::{AllocError, Global};
-use test_runner_core_lines::{LOG_LIMIT, LineFault, LogFault, LogLines, Next};
+use test_runner_core_lines::{LogFault, LogLines, Next};
 use test_runner_core_log::{LogLine, ParseLineError};
 use test_runner_core_streams::LogReader;
 
@@ -34,22 +34,6 @@ pub fn first_refused<R: LogReader>(
             return Ok(Some(refused_at(number, refusal)));
         }
         number += 1;
-    }
-}
-
-fn refused_at(line: u64, refusal: LineRefusal) -> RefusedLine
-    ensures { result ≡ record { line = line; refusal = refusal } }
-{
-    RefusedLine { line, refusal }
-}
-
-fn refusal_for(fault: LineFault) -> LineRefusal
-    ensures { result ≡ refusal_of fault }
-{
-    match fault {
-        LineFault::LineTooLong => LineRefusal::LineTooLong,
-        LineFault::LogTooLong => LineRefusal::LogTooLong,
-        LineFault::NoLineEnd => LineRefusal::NoLineEnd,
     }
 }
 

@@ -1,7 +1,7 @@
 use Rattle.std.proofs.Common.{◌+◌, ◌-◌}
 use Rattle.test_runner_core_lines.specs.declared.limits.TheConstants.{LOG_LIMIT}
-use Rattle.test_runner_core.proofs.Checking.{Checking}
-use Rattle.test_runner_core.proofs.check.first_refused.Given as goal
+use Rattle.test_runner_core_judging.proofs.Checking.{Checking}
+use Rattle.test_runner_core_judging.proofs.check.first_refused.Given as goal
 
 abbrev pub invariant-loop-lines : goal.invariant-loop-lines
 invariant-loop-lines g l =

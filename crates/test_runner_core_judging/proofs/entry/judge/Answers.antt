@@ -1,0 +1,13 @@
+use Rattle.test_runner_core_judging.proofs.Telling.{asks_all, from_beginning, status_is_due}
+use Rattle.test_runner_core_judging.proofs.entry.judge.Goals as goal
+
+pub returns-clause-due : goal.returns-clause-due
+returns-clause-due g c =
+    let answer = g.L.Lister.answer c.args.lister.now in
+    let left = g.R.LogReader.left c.args.log.now in
+    status_is_due answer c.args.inputs.now c.in_ok-judgement.judgement left c.write_report.result _ _
+    (from_beginning answer c.args.inputs.now c.in_ok-judgement.judgement left c.new.result c.new.ensures c.in_ok-judgement.ensures.outcome)
+    c.write_report.ensures.writes
+
+pub returns-clause-asks : goal.returns-clause-asks
+returns-clause-asks g c = asks_all c.write_report.result _ _ _ c.in_ok-judgement.ensures.asks

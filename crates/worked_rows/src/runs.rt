@@ -1,0 +1,223 @@
+// Whole runs: the inputs' line and the log as one stream, and the report and the exit status that they come to.
+use std::alloc::Global;
+use std::test::Fail;
+use test_runner_core::{JudgeFault, MemoryReader, MemoryWriter, WriteFailure, judge_stream};
+
+const WORKSPACE: &str = r#"{"workspace":{"packages":[{"id":"p","name":"p"}],"links":[],"binaries":["#;
+
+const PASSES: &str = "start\tp\ta\nend\tp\ta\tpass\t-\t1\t-\t-\n";
+
+const FAILS: &str = "start\tp\ta\nend\tp\ta\tfail:1\t-\t1\t-\t-\n";
+
+// A test that fails, passes, and another that passes, where each may be tried twice.
+const RETRIED: &str = "start\tp\ta\nend\tp\ta\tfail:1\t-\t5\t-\t-\nstart\tp\ta\nend\tp\ta\tpass\t-\t7\t-\t-\nstart\tp\tb\nend\tp\tb\tpass\t-\t9\t-\t-\n";
+
+const TRIED_TWICE: &str = r"[profile.default]\nretries = 1\nfail-fast = false\n";
+
+// A stream of inputs with one binary p, which lists these tests and stands there so often, one source with this text,
+// and a log.
+fn stream(
+    alloc: Global,
+    tests: &str,
+    times: usize,
+    source: &str,
+    log: &str,
+) -> Result<String, Fail> {
+    let mut text = String::new(alloc);
+    text.push_str(WORKSPACE)?;
+    for at in 0..times {
+        let comma = if at == 0 { "" } else { "," };
+        let binary = format!(in alloc;
+            "{comma}{{\"id\":\"p\",\"name\":\"p\",\"package\":\"p\",\"kind\":\"lib\",\"platform\":\"target\",\"tests\":[{tests}]}}"
+        )?;
+        text.push_str(binary.as_str())?;
+    }
+    let rest = format!(in alloc;
+        "]}},\"sources\":[{{\"kind\":\"explicit\",\"path\":\"nextest.toml\",\"text\":\"{source}\"}}],\"current_version\":\"0.9.100\"}}\n{log}"
+    )?;
+    text.push_str(rest.as_str())?;
+    Ok(text)
+}
+
+// The report and the exit status of a stream, read and written in pieces of this size.
+fn came_to(alloc: Global, input: &[u8], piece: usize) -> Result<(String, u8), Fail> {
+    let mut reader = MemoryReader::new(input, piece);
+    let mut report = MemoryWriter::new(alloc, 1000, piece)?;
+    let status = judge_stream(alloc, &mut reader, &mut report)?;
+    let text = str::from_utf8(report.written())?;
+    Ok((text.to_string(alloc)?, status))
+}
+
+#[test]
+fn each_log_whatever_the_pieces(rt: HostRuntime) -> Result<(), Fail> {
+    let alloc = rt.alloc();
+    let rows: [(&str, &str, &str, u8); 10] = [
+        (TRIED_TWICE, RETRIED, "== final ==\nstatus\t0\n", 0),
+        ("", FAILS, "== final ==\nstatus\t100\n", 100),
+        (
+            "",
+            "start\tp\tb\nend\tp\tb\tfail:1\t-\t1\t-\t-\n",
+            "== final ==\nstatus\t100\n",
+            100,
+        ),
+        ("", PASSES, "== final ==\nstatus\t100\n", 100),
+        ("", "", "== final ==\nstatus\t100\n", 100),
+        (
+            "",
+            "start\tp\ta\nend\tp\ta\tfail:1\t-\t1\t-\t-\nstart\tp\tb\n",
+            "refused\tline\t3\tStopped\n",
+            96,
+        ),
+        ("", "start\tp\ta", "refused\tline\t1\tNoLineEnd\n", 96),
+        (
+            "",
+            "end\tp\ta\tpass\t-\t01\t-\t-\n",
+            "refused\tline\t1\tBadLine\n",
+            96,
+        ),
+        (
+            "",
+            "script\ts\tpass\t-\t1\t-\t-\n",
+            "refused\tline\t1\tUnknownScript\n",
+            96,
+        ),
+        (
+            "",
+            "\n\nstart\tp\tc\n",
+            "refused\tline\t3\tUnknownTest\n",
+            96,
+        ),
+    ];
+    for (source, log, want, status) in rows {
+        let input = stream(alloc, "\"a\",\"b\"", 1, source, log)?;
+        for piece in [1, 7, 4096] {
+            let (report, code) = came_to(alloc, input.as_bytes(), piece)?;
+            assert!(rt; code == status && report.as_str() == want, "{want}");
+        }
+    }
+    Ok(())
+}
+
+#[test]
+fn each_refused_plan_whatever_the_pieces(rt: HostRuntime) -> Result<(), Fail> {
+    let alloc = rt.alloc();
+    let rows: [(&str, usize, &str, &str); 6] = [
+        (
+            "\"a\"",
+            1,
+            r"[profile.default]\nretries = 4294967295\n",
+            "refused\tRetriesTooMany\n",
+        ),
+        ("\"a\"", 2, "", "refused\tRepeatedBinary\n"),
+        ("\"a\"", 1, "x", "refused\tVersionSource\n"),
+        ("\"a\",\"a\"", 1, "", "refused\tRepeatedTest\n"),
+        (
+            "\"a\"",
+            1,
+            r"[[profile.default.overrides]]\nfilter = 'all()'\npriority = 1\n",
+            "refused\tNotYet\n",
+        ),
+        (
+            "\"a\"",
+            1,
+            r"[profile.default]\nretries = true\n",
+            "refused\tLoad.BadValue\n",
+        ),
+    ];
+    for (tests, times, source, want) in rows {
+        let input = stream(alloc, tests, times, source, PASSES)?;
+        for piece in [1, 4096] {
+            let (report, code) = came_to(alloc, input.as_bytes(), piece)?;
+            assert!(rt; code == 96 && report.as_str() == want, "{want}");
+        }
+    }
+    Ok(())
+}
+
+#[test]
+fn what_is_no_inputs_is_refused(rt: HostRuntime) -> Result<(), Fail> {
+    let alloc = rt.alloc();
+    let rows: [(&str, &str); 5] = [
+        ("", "refused\tSyntax\n"),
+        ("{", "refused\tSyntax\n"),
+        ("{\n}\n", "refused\tSyntax\n"),
+        ("{}", "refused\tField\tworkspace\n"),
+        ("{}\nstart\tp\ta\n", "refused\tField\tworkspace\n"),
+    ];
+    for (input, want) in rows {
+        for piece in [1, 4096] {
+            let (report, code) = came_to(alloc, input.as_bytes(), piece)?;
+            assert!(rt; code == 96 && report.as_str() == want, "{want}");
+        }
+    }
+    Ok(())
+}
+
+// Inputs with blanks in front, so many bytes in all, and a log that one test passes.
+fn padded(alloc: Global, len: usize) -> Result<Vec<u8>, Fail> {
+    let text = stream(alloc, "\"a\"", 1, "", "")?;
+    let mut bytes = Vec::new(alloc);
+    bytes.resize(len.saturating_sub(text.len() - 1), b' ')?;
+    bytes.extend_from_slice(text.as_bytes())?;
+    bytes.extend_from_slice(PASSES.as_bytes())?;
+    Ok(bytes)
+}
+
+#[test]
+fn a_first_line_has_at_most_its_limit(rt: HostRuntime) -> Result<(), Fail> {
+    let alloc = rt.alloc();
+    let (report, _) = came_to(alloc, padded(alloc, 16_777_216)?.as_slice(), 1_000_000)?;
+    assert_eq!(rt; report.as_str(), "== final ==\nstatus\t0\n");
+    let (report, _) = came_to(alloc, padded(alloc, 16_777_217)?.as_slice(), 1_000_000)?;
+    assert_eq!(rt; report.as_str(), "refused\tSyntax\n");
+    Ok(())
+}
+
+#[test]
+fn a_line_of_a_log_has_at_most_its_limit(rt: HostRuntime) -> Result<(), Fail> {
+    let alloc = rt.alloc();
+    for (length, want) in [
+        (1_048_576_usize, "refused\tline\t1\tBadLine\n"),
+        (1_048_577, "refused\tline\t1\tLineTooLong\n"),
+    ] {
+        let mut input = stream(alloc, "\"a\"", 1, "", "")?.into_bytes();
+        let all = input.len().saturating_add(length);
+        input.resize(all, b'x')?;
+        input.push(b'\n')?;
+        let (report, _) = came_to(alloc, input.as_slice(), 4096)?;
+        assert_eq!(rt; report.as_str(), want);
+    }
+    Ok(())
+}
+
+#[test]
+fn each_read_that_fails_is_told(rt: HostRuntime) -> Result<(), Fail> {
+    let alloc = rt.alloc();
+    let input = stream(alloc, "\"a\",\"b\"", 1, TRIED_TWICE, RETRIED)?;
+    let calls = input.len() as u64;
+    for failing in 0..=calls {
+        let mut reader = MemoryReader::new(input.as_bytes(), 1).failing_after(failing);
+        let mut report = MemoryWriter::new(alloc, 100, 1)?;
+        let told = judge_stream(alloc, &mut reader, &mut report);
+        assert!(rt; matches!(told, Err(JudgeFault::Read(_))), "{failing}");
+        assert!(rt; report.written().is_empty() && reader.calls() == failing + 1);
+    }
+    Ok(())
+}
+
+#[test]
+fn each_write_that_fails_is_told(rt: HostRuntime) -> Result<(), Fail> {
+    let alloc = rt.alloc();
+    let input = stream(alloc, "\"a\",\"b\"", 1, TRIED_TWICE, RETRIED)?;
+    let whole = b"== final ==\nstatus\t0\n".as_slice();
+    for failing in 0..whole.len() {
+        for how in [WriteFailure::Error, WriteFailure::TakesNone] {
+            let mut reader = MemoryReader::new(input.as_bytes(), 4096);
+            let mut report = MemoryWriter::new(alloc, 100, 1)?.failing_after(failing as u64, how);
+            let told = judge_stream(alloc, &mut reader, &mut report);
+            assert!(rt; matches!(told, Err(JudgeFault::Write(_))), "{failing}");
+            assert!(rt; report.written() == &whole[..failing]);
+        }
+    }
+    Ok(())
+}
