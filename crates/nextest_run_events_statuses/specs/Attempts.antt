@@ -1,5 +1,5 @@
 -- The attempts of a test.
-use Rattle.std.specs.Prelude.{◌≡◌, ℕ, ◌-◌, ◌<◌, List, length, Option, slice_get}
+use Rattle.std.specs.Prelude.{ℕ, ◌-◌, List, length, Option, slice_get}
 use Rattle.nextest_config_elements_plain.specs.declared.timeouts.FlakyResult.{FlakyResult}
 
 -- the attempts in their order, what becomes of a test that passes late, and for how many more attempts there is room

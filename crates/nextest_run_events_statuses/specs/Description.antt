@@ -1,5 +1,5 @@
 -- What the attempts of a test come to.
-use Rattle.std.specs.Prelude.{ℕ, ◌-◌, List, [], ◌∷◌, length, take, Bool, true, false, IsTrue, Option, None, if◌then◌else◌}
+use Rattle.std.specs.Prelude.{List, [], ◌∷◌, length, take, Bool, true, false, IsTrue, Option, None, if◌then◌else◌}
 use Rattle.std.specs.Option.{option_map}
 use Rattle.nextest_config_elements_levels.specs.declared.status_level.StatusLevel.{StatusLevel}
 use Rattle.nextest_config_elements_levels.specs.declared.status_level.StatusLevel.TheVariants as level

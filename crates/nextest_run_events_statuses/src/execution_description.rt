@@ -68,18 +68,21 @@ impl<'a, S: OutputSpec> ExecutionDescription<'a, S> {
         ensures { result ≡ final_level_of (told_by self.now) }
     {
         match self {
-            ExecutionDescription::Success { single_status } if single_status.is_slow =>
-                FinalStatusLevel::Slow,
-            ExecutionDescription::Success { single_status } => match &single_status.result {
-                ExecutionResultDescription::Pass => FinalStatusLevel::Pass,
-                ExecutionResultDescription::Leak {
-                    result: LeakTimeoutResult::Pass,
-                } => FinalStatusLevel::Leak,
-                ExecutionResultDescription::Timeout {
-                    result: SlowTimeoutResult::Pass,
-                } => FinalStatusLevel::Slow,
-                _ => unreachable!(),
-            },
+            ExecutionDescription::Success { single_status } => {
+                if single_status.is_slow {
+                    return FinalStatusLevel::Slow;
+                }
+                match &single_status.result {
+                    ExecutionResultDescription::Pass => FinalStatusLevel::Pass,
+                    ExecutionResultDescription::Leak {
+                        result: LeakTimeoutResult::Pass,
+                    } => FinalStatusLevel::Leak,
+                    ExecutionResultDescription::Timeout {
+                        result: SlowTimeoutResult::Pass,
+                    } => FinalStatusLevel::Slow,
+                    _ => unreachable!(),
+                }
+            }
             ExecutionDescription::Flaky { result, .. } => match result {
                 FlakyResult::Pass => FinalStatusLevel::Flaky,
                 FlakyResult::Fail => FinalStatusLevel::Fail,

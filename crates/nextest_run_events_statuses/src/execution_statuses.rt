@@ -1,5 +1,5 @@
 // The attempts of a test.
-ghost use Rattle.std.specs.Prelude.{◌≡◌, ◌≢◌, ℕ, ◌+◌, ◌<◌, ◌≤◌, ◌↔◌, [], ◌∷◌, ◌++◌, Some, length, IfOk, IsErr, OnOk, OnErr};
+ghost use Rattle.std.specs.Prelude.{◌≡◌, ◌≢◌, ℕ, ◌+◌, ◌<◌, ◌≤◌, ◌↔◌, [], ◌∷◌, ◌++◌, Some, length, IfOk, IsOk, IsErr, OnOk, OnErr};
 ghost use Rattle.std.specs.Slice.Iter.{iter_rest};
 ghost use Rattle.nextest_run_events_statuses.specs.Attempts.{last};
 ghost use Rattle.nextest_run_events_statuses.specs.Description.{description_of, told_by, HoldsSuccess};
@@ -85,6 +85,7 @@ impl<S: OutputSpec> ExecutionStatuses<S> {
         ensures statuses { self.new.statuses ≡ self.old.statuses }
         ensures flaky_result { self.new.flaky_result ≡ self.old.flaky_result }
         ensures room { self.old.room ≤ self.new.room }
+        ensures enough { 0 < self.old.room → IsOk result }
         ensures err { OnErr result (self.new ≡ self.old) }
     {
         self.statuses.reserve(1)
@@ -143,21 +144,21 @@ impl<S: OutputSpec> ExecutionStatuses<S> {
         ensures success { HoldsSuccess (told_by result) }
     {
         let last_status = self.last_status();
-        let retries = self.statuses.len() - 1;
+        let retry_count = self.statuses.len() - 1;
         if !last_status.result.is_success() {
             ExecutionDescription::Failure {
                 first_status: &self.statuses[0],
                 last_status,
                 retries: &self.statuses[1..],
             }
-        } else if retries == 0 {
+        } else if retry_count == 0 {
             ExecutionDescription::Success {
                 single_status: last_status,
             }
         } else {
             ExecutionDescription::Flaky {
                 last_status,
-                prior_statuses: &self.statuses[..retries],
+                prior_statuses: &self.statuses[..retry_count],
                 result: self.flaky_result,
             }
         }

@@ -48,14 +48,15 @@ fn attempt(ended: ExecutionResultDescription, is_slow: bool) -> ExecuteStatus<Li
     }
 }
 
-fn lone(
+// The levels of a lone attempt, and whether its output is that of a success.
+fn lone_levels(
     alloc: Global,
     ended: ExecutionResultDescription,
     is_slow: bool,
-) -> Result<ExecutionStatuses<LiveSpec>, Fail> {
+) -> Result<(StatusLevel, FinalStatusLevel, bool), Fail> {
     let mut statuses = Listing::new(alloc);
     statuses.push(attempt(ended, is_slow))?;
-    Ok(ExecutionStatuses::from_parts(statuses, FlakyResult::Pass)?)
+    Ok(levels(&ExecutionStatuses::from_parts(statuses, FlakyResult::Pass)?))
 }
 
 // A failed attempt, and then a passed one.
@@ -111,99 +112,106 @@ fn an_error_keeps_its_causes_in_order(rt: HostRuntime) -> Result<(), Fail> {
 
 #[test]
 fn errors_of_a_start_print(rt: HostRuntime) -> Result<(), Fail> {
-    let alloc = rt.alloc();
-    let temp_path = ChildStartErrorDescription::TempPath {
-        source: error(alloc, "full", &[])?,
-    };
-    let spawn = ChildStartErrorDescription::Spawn {
-        source: error(alloc, "not found", &[])?,
-    };
+    let source = error(rt.alloc(), "full", &[])?;
+    let temp_path = ChildStartErrorDescription::TempPath { source };
+    assert_eq!(rt; temp_path.source().message(), "full");
+    let text = format!(in rt.alloc(); "{temp_path}")?;
     assert_eq!(rt;
-        format!(in alloc; "{temp_path}")?.as_str(),
+        text.as_str(),
         "error creating temporary path for setup script"
     );
-    assert_eq!(rt;
-        format!(in alloc; "{spawn}")?.as_str(),
-        "error spawning child process"
-    );
-    assert_eq!(rt; temp_path.source().message(), "full");
-    assert_eq!(rt; spawn.source().message(), "not found");
     Ok(())
 }
 
 #[test]
+fn a_spawn_error_prints(rt: HostRuntime) -> Result<(), Fail> {
+    let source = error(rt.alloc(), "not found", &[])?;
+    let spawn = ChildStartErrorDescription::Spawn { source };
+    assert_eq!(rt; spawn.source().message(), "not found");
+    let text = format!(in rt.alloc(); "{spawn}")?;
+    assert_eq!(rt; text.as_str(), "error spawning child process");
+    Ok(())
+}
+
+// What the error of this number says, behind what it came from.
+fn child_error_text(alloc: Global, number: u8) -> Result<String, Fail> {
+    let source = error(alloc, "closed", &[])?;
+    let told = match number {
+        0 => ChildErrorDescription::ReadStdout { source },
+        1 => ChildErrorDescription::ReadStderr { source },
+        2 => ChildErrorDescription::ReadCombined { source },
+        3 => ChildErrorDescription::Wait { source },
+        _ => ChildErrorDescription::SetupScriptOutput { source },
+    };
+    let from = told.source();
+    Ok(format!(in alloc; "{told}: {from}")?)
+}
+
+#[test]
 fn errors_of_a_child_print(rt: HostRuntime) -> Result<(), Fail> {
-    let alloc = rt.alloc();
-    for (kind, text) in [
-        (0, "error reading standard output"),
-        (1, "error reading standard error"),
-        (2, "error reading combined stream"),
-        (3, "error waiting for child process to exit"),
-        (4, "error reading setup script output"),
+    for (number, want) in [
+        (0, "error reading standard output: closed"),
+        (1, "error reading standard error: closed"),
+        (2, "error reading combined stream: closed"),
+        (3, "error waiting for child process to exit: closed"),
+        (4, "error reading setup script output: closed"),
     ] {
-        let source = error(alloc, "closed", &[])?;
-        let told = match kind {
-            0 => ChildErrorDescription::ReadStdout { source },
-            1 => ChildErrorDescription::ReadStderr { source },
-            2 => ChildErrorDescription::ReadCombined { source },
-            3 => ChildErrorDescription::Wait { source },
-            _ => ChildErrorDescription::SetupScriptOutput { source },
-        };
-        assert_eq!(rt; format!(in alloc; "{told}")?.as_str(), text);
-        assert_eq!(rt; told.source().message(), "closed");
+        let text = child_error_text(rt.alloc(), number)?;
+        assert_eq!(rt; text.as_str(), want);
     }
     Ok(())
 }
 
 #[test]
 fn streams_have_lengths_where_they_were_captured(rt: HostRuntime) -> Result<(), Fail> {
-    let alloc = rt.alloc();
     let split = ChildOutputDescription::Split {
-        stdout: Some(stream(alloc, b"")?),
+        stdout: Some(stream(rt.alloc(), b"")?),
         stderr: None,
     };
-    assert_eq!(rt; split.stdout_stderr_len(), (Some(0), None));
-    let both = ChildOutputDescription::Split {
-        stdout: Some(stream(alloc, b"ab")?),
-        stderr: Some(stream(alloc, b"c")?),
+    assert!(rt; split.stdout_stderr_len() == (Some(0), None));
+    let other = ChildOutputDescription::Split {
+        stdout: None,
+        stderr: Some(stream(rt.alloc(), b"c")?),
     };
-    assert_eq!(rt; both.stdout_stderr_len(), (Some(2), Some(1)));
-    let combined = ChildOutputDescription::Combined {
-        output: stream(alloc, b"abc")?,
-    };
-    assert_eq!(rt; combined.stdout_stderr_len(), (Some(3), None));
+    assert!(rt; other.stdout_stderr_len() == (None, Some(1)));
     Ok(())
 }
 
-fn output(
+#[test]
+fn streams_in_one_count_as_standard_output(rt: HostRuntime) -> Result<(), Fail> {
+    let combined = ChildOutputDescription::Combined {
+        output: stream(rt.alloc(), b"abc")?,
+    };
+    assert!(rt; combined.stdout_stderr_len() == (Some(3), None));
+    Ok(())
+}
+
+fn ended_has_errors(
     ended: Option<ExecutionResultDescription>,
     errors: Option<Listing<ChildErrorDescription>>,
-) -> ChildExecutionOutputDescription<LiveSpec> {
-    ChildExecutionOutputDescription::Output {
-        result: ended,
-        output: ChildOutputDescription::NotLoaded,
-        errors,
-    }
+) -> bool {
+    let output: ChildExecutionOutputDescription<LiveSpec> =
+        ChildExecutionOutputDescription::Output {
+            result: ended,
+            output: ChildOutputDescription::NotLoaded,
+            errors,
+        };
+    output.has_errors()
 }
 
 #[test]
-fn errors_are_seen_in_each_place(rt: HostRuntime) -> Result<(), Fail> {
-    let alloc = rt.alloc();
-    assert!(rt; !output(None, None).has_errors());
-    assert!(rt; !output(Some(ExecutionResultDescription::Pass), None).has_errors());
-    assert!(rt; output(Some(ExecutionResultDescription::ExecFail), None).has_errors());
-    assert!(rt;
-        output(
-            Some(ExecutionResultDescription::Pass),
-            Some(Listing::new(alloc))
-        )
-        .has_errors()
-    );
-    let unstarted = ChildExecutionOutputDescription::<LiveSpec>::StartError(
-        ChildStartErrorDescription::Spawn {
-            source: error(alloc, "not found", &[])?,
-        },
-    );
+fn errors_of_a_started_process_are_seen(rt: HostRuntime) {
+    assert!(rt; !ended_has_errors(None, None));
+    assert!(rt; !ended_has_errors(Some(ExecutionResultDescription::Pass), None));
+    assert!(rt; ended_has_errors(Some(ExecutionResultDescription::ExecFail), None));
+    assert!(rt; ended_has_errors(None, Some(Listing::new(rt.alloc()))));
+}
+
+#[test]
+fn a_process_that_did_not_start_has_errors(rt: HostRuntime) -> Result<(), Fail> {
+    let source = error(rt.alloc(), "not found", &[])?;
+    let unstarted: ChildExecutionOutputDescription<LiveSpec> =
+        ChildExecutionOutputDescription::StartError(ChildStartErrorDescription::Spawn { source });
     assert!(rt; unstarted.has_errors());
     Ok(())
 }
@@ -221,86 +229,88 @@ fn no_attempts_are_refused(rt: HostRuntime) -> Result<(), Fail> {
 }
 
 #[test]
-fn a_lone_success_has_the_level_of_its_result(rt: HostRuntime) -> Result<(), Fail> {
-    let alloc = rt.alloc();
-    let passed = lone(alloc, ExecutionResultDescription::Pass, false)?;
-    assert_eq!(rt;
-        levels(&passed),
-        (StatusLevel::Pass, FinalStatusLevel::Pass, true)
-    );
-    let slow = lone(alloc, ExecutionResultDescription::Pass, true)?;
-    assert_eq!(rt;
-        levels(&slow),
-        (StatusLevel::Pass, FinalStatusLevel::Slow, true)
-    );
-    let leaked = lone(
-        alloc,
-        ExecutionResultDescription::Leak {
-            result: LeakTimeoutResult::Pass,
-        },
+fn a_lone_pass_has_its_level(rt: HostRuntime) -> Result<(), Fail> {
+    let passed = lone_levels(rt.alloc(), ExecutionResultDescription::Pass, false)?;
+    assert!(rt; passed == (StatusLevel::Pass, FinalStatusLevel::Pass, true));
+    let slow = lone_levels(rt.alloc(), ExecutionResultDescription::Pass, true)?;
+    assert!(rt; slow == (StatusLevel::Pass, FinalStatusLevel::Slow, true));
+    let failed = lone_levels(rt.alloc(), ExecutionResultDescription::ExecFail, true)?;
+    assert!(rt; failed == (StatusLevel::Fail, FinalStatusLevel::Fail, false));
+    Ok(())
+}
+
+#[test]
+fn a_lone_leak_has_the_level_of_its_rule(rt: HostRuntime) -> Result<(), Fail> {
+    let result = LeakTimeoutResult::Pass;
+    let passed = lone_levels(
+        rt.alloc(),
+        ExecutionResultDescription::Leak { result },
         false,
     )?;
-    assert_eq!(rt;
-        levels(&leaked),
-        (StatusLevel::Leak, FinalStatusLevel::Leak, true)
-    );
-    let timed_out = lone(
-        alloc,
-        ExecutionResultDescription::Timeout {
-            result: SlowTimeoutResult::Pass,
-        },
+    assert!(rt; passed == (StatusLevel::Leak, FinalStatusLevel::Leak, true));
+    let result = LeakTimeoutResult::Fail;
+    let failed = lone_levels(
+        rt.alloc(),
+        ExecutionResultDescription::Leak { result },
         false,
     )?;
-    assert_eq!(rt;
-        levels(&timed_out),
-        (StatusLevel::Slow, FinalStatusLevel::Slow, true)
-    );
-    let failed = lone(
-        alloc,
-        ExecutionResultDescription::Leak {
-            result: LeakTimeoutResult::Fail,
-        },
-        true,
+    assert!(rt; failed == (StatusLevel::Fail, FinalStatusLevel::Fail, false));
+    Ok(())
+}
+
+#[test]
+fn a_lone_timeout_has_the_level_of_its_rule(rt: HostRuntime) -> Result<(), Fail> {
+    let result = SlowTimeoutResult::Pass;
+    let passed = lone_levels(
+        rt.alloc(),
+        ExecutionResultDescription::Timeout { result },
+        false,
     )?;
-    assert_eq!(rt;
-        levels(&failed),
-        (StatusLevel::Fail, FinalStatusLevel::Fail, false)
-    );
+    assert!(rt; passed == (StatusLevel::Slow, FinalStatusLevel::Slow, true));
+    let result = SlowTimeoutResult::Fail;
+    let failed = lone_levels(
+        rt.alloc(),
+        ExecutionResultDescription::Timeout { result },
+        false,
+    )?;
+    assert!(rt; failed == (StatusLevel::Fail, FinalStatusLevel::Fail, false));
     Ok(())
 }
 
 #[test]
 fn a_late_success_goes_by_its_rule(rt: HostRuntime) -> Result<(), Fail> {
-    let alloc = rt.alloc();
-    let flaky = late(alloc, FlakyResult::Pass)?;
-    assert_eq!(rt;
-        levels(&flaky),
-        (StatusLevel::Retry, FinalStatusLevel::Flaky, true)
-    );
-    let forbidden = late(alloc, FlakyResult::Fail)?;
-    assert_eq!(rt;
-        levels(&forbidden),
-        (StatusLevel::Fail, FinalStatusLevel::Fail, true)
-    );
-    assert_eq!(rt; forbidden.flaky_result(), FlakyResult::Fail);
+    let flaky = levels(&late(rt.alloc(), FlakyResult::Pass)?);
+    assert!(rt; flaky == (StatusLevel::Retry, FinalStatusLevel::Flaky, true));
+    let forbidden = levels(&late(rt.alloc(), FlakyResult::Fail)?);
+    assert!(rt; forbidden == (StatusLevel::Fail, FinalStatusLevel::Fail, true));
     Ok(())
 }
 
 #[test]
 fn attempts_come_back_in_their_order(rt: HostRuntime) -> Result<(), Fail> {
-    let made = late(rt.alloc(), FlakyResult::Pass)?;
+    let made = late(rt.alloc(), FlakyResult::Fail)?;
     assert_eq!(rt; made.len(), 2);
     assert_eq!(rt; made.as_slice().len(), 2);
     assert_eq!(rt; made.iter().filter(|status| status.is_slow).count(), 1);
-    assert!(rt; made.last_status().result == ExecutionResultDescription::Pass);
-    assert!(rt; made.describe().last_status().result == ExecutionResultDescription::Pass);
+    assert_eq!(rt; made.flaky_result(), FlakyResult::Fail);
+    assert!(rt; !made.last_status().is_slow);
+    assert!(rt; !made.describe().last_status().is_slow);
+    Ok(())
+}
+
+// Whether the attempts are slow, in their order.
+fn slowness(statuses: ExecutionStatuses<LiveSpec>) -> (bool, bool, bool) {
+    let mut items = statuses.into_iter();
+    let first = items.next().is_some_and(|status| status.is_slow);
+    let second = items.next().is_some_and(|status| status.is_slow);
+    (first, second, items.next().is_none())
+}
+
+#[test]
+fn attempts_are_copied_and_given_away(rt: HostRuntime) -> Result<(), Fail> {
+    let made = late(rt.alloc(), FlakyResult::Pass)?;
     let copy = made.clone()?;
-    let mut slow = 0u32;
-    for status in copy {
-        slow = slow
-            .saturating_mul(2)
-            .saturating_add(u32::from(status.is_slow));
-    }
-    assert_eq!(rt; slow, 2);
+    assert!(rt; slowness(copy) == (true, false, true));
+    assert!(rt; slowness(made) == (true, false, true));
     Ok(())
 }
