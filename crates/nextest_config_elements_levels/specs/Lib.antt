@@ -1,0 +1,3 @@
+pub mod Display
+pub mod Laws
+pub mod Levels

@@ -1,0 +1,13 @@
+-- The attempts of a test.
+use Rattle.std.specs.Prelude.{ℕ, ◌-◌, List, length, Option, slice_get}
+use Rattle.nextest_config_elements_plain.specs.declared.timeouts.FlakyResult.{FlakyResult}
+
+-- the attempts in their order, what becomes of a test that passes late, and for how many more attempts there is room
+pub record Attempts (Status : Type 0) : Type 0 where
+  pub statuses : List Status
+  pub flaky_result : FlakyResult
+  pub room : ℕ
+
+-- the last of a list, if it has one
+abbrev pub last : {Item : Type 0} → List Item → Option Item
+last items = slice_get items (length items - 1)

@@ -1,0 +1,4 @@
+pub mod Attempts
+pub mod ChildError
+pub mod Description
+pub mod Output
