@@ -5,6 +5,8 @@ use Rattle.nextest_run_events_results.specs.declared.cancel_reason.CancelReason.
 use Rattle.nextest_run_events_counters.specs.declared.run_stats.RunStats.{RunStats}
 use Rattle.nextest_run_events_counters.specs.declared.summary.FinalRunStats.{FinalRunStats}
 use Rattle.nextest_run_events_counters.specs.declared.summary.FinalRunStats.TheVariants as summed
+use Rattle.nextest_run_events_counters.specs.declared.summary.RunFailureStep.{RunFailureStep}
+use Rattle.nextest_run_events_counters.specs.declared.summary.RunFailureStep.TheVariants as step
 use Rattle.nextest_run_events_counters.specs.declared.summary.RunStatsFailureKind.{RunStatsFailureKind}
 use Rattle.nextest_run_events_counters.specs.declared.summary.RunStatsFailureKind.TheVariants as at
 
@@ -46,3 +48,8 @@ summary_of stats =
     else if nat_lt stats.finished_count stats.initial_run_count then summed.Cancelled stats.cancel_reason (at_tests stats)
     else if stats.finished_count == 0 then summed.NoTestsRun
     else summed.Success
+
+-- a place without its numbers
+abbrev pub step_of : RunStatsFailureKind → RunFailureStep
+step_of at.SetupScript = step.SetupScript
+step_of (at.Test initial_run_count not_run) = step.Test

@@ -1,7 +1,7 @@
 //! The counters of a run and their summary.
 //!
 //! The types stand here with the rows that say what each finished script and test counts as, and with the summary
-//! of a record of counters. What adds to the counters as a run goes on is built on these.
+//! of a record of counters and the calls that take it. What adds to the counters as a run goes on is built on these.
 #![tactic(auto)]
 
 mod run_stats;
@@ -10,4 +10,4 @@ mod summary;
 mod tests;
 
 pub use run_stats::RunStats;
-pub use summary::{FinalRunStats, RunStatsFailureKind};
+pub use summary::{FinalRunStats, RunFailureStep, RunStatsFailureKind};

@@ -1,4 +1,7 @@
 // The counters of a run.
+ghost use Rattle.std.specs.Prelude.{◌≡◌, ◌^◌, ◌<◌, ◌⊎◌, ◌↔◌, IsTrue};
+
+use super::summary::{FinalRunStats, RunStatsFailureKind};
 use nextest_run_events_results::CancelReason;
 
 /// The counters of a run. Each counts finished scripts or tests; a test counts by its last attempt.
@@ -44,4 +47,89 @@ pub struct RunStats {
     pub skipped: usize,
     /// Why the run was cancelled, if it was.
     pub cancel_reason: Option<CancelReason>,
+}
+
+impl RunStats {
+    ghost use Rattle.nextest_run_events_counters.specs.Summary.{failed_setup_script_count, failed_count, failure_at, summary_of};
+
+    /// Whether a setup script or a test failed.
+    pub fn has_failures(&self) -> bool
+        requires scripts_fit { failed_setup_script_count self.now < 2 ^ 64 }
+        requires tests_fit { failed_count self.now < 2 ^ 64 }
+        ensures { IsTrue result ↔ ((0 < failed_setup_script_count self.now) ⊎ (0 < failed_count self.now)) }
+    {
+        self.failed_setup_script_count() > 0 || self.failed_count() > 0
+    }
+
+    /// How many setup scripts failed, could not be started, or took too long.
+    pub fn failed_setup_script_count(&self) -> usize
+        requires scripts_fit { failed_setup_script_count self.now < 2 ^ 64 }
+        ensures { result ≡ failed_setup_script_count self.now }
+    {
+        self.setup_scripts_failed + self.setup_scripts_exec_failed + self.setup_scripts_timed_out
+    }
+
+    /// How many tests failed, could not be started, or took too long and failed.
+    pub fn failed_count(&self) -> usize
+        requires tests_fit { failed_count self.now < 2 ^ 64 }
+        ensures { result ≡ failed_count self.now }
+    {
+        self.failed + self.exec_failed + self.failed_timed_out
+    }
+
+    /// What the counters come to at the end of a run: scripts are looked at before tests, failures before what did
+    /// not finish.
+    pub fn summarize_final(&self) -> FinalRunStats
+        requires scripts_fit { failed_setup_script_count self.now < 2 ^ 64 }
+        requires tests_fit { failed_count self.now < 2 ^ 64 }
+        ensures { result ≡ summary_of self.now }
+    {
+        let at_tests = RunStatsFailureKind::Test {
+            initial_run_count: self.initial_run_count,
+            not_run: self.initial_run_count.saturating_sub(self.finished_count),
+        };
+        if self.failed_setup_script_count() > 0 {
+            self.summarize_failure(RunStatsFailureKind::SetupScript)
+        } else if self.setup_scripts_finished_count < self.setup_scripts_initial_count {
+            FinalRunStats::Cancelled {
+                reason: self.cancel_reason,
+                kind: RunStatsFailureKind::SetupScript,
+            }
+        } else if self.failed_count() > 0 {
+            self.summarize_failure(at_tests)
+        } else if self.finished_count < self.initial_run_count {
+            FinalRunStats::Cancelled {
+                reason: self.cancel_reason,
+                kind: at_tests,
+            }
+        } else if self.finished_count == 0 {
+            FinalRunStats::NoTestsRun
+        } else {
+            FinalRunStats::Success
+        }
+    }
+
+    // A failure is one of the run's own, or one that a reason from outside stands over.
+    fn summarize_failure(&self, kind: RunStatsFailureKind) -> FinalRunStats
+        ensures { result ≡ failure_at self.now kind }
+    {
+        match self.cancel_reason {
+            None
+            | Some(
+                CancelReason::SetupScriptFailure
+                | CancelReason::TestFailure
+                | CancelReason::TestFailureImmediate,
+            ) => FinalRunStats::Failed { kind },
+            Some(
+                CancelReason::ReportError
+                | CancelReason::GlobalTimeout
+                | CancelReason::Signal
+                | CancelReason::Interrupt
+                | CancelReason::SecondSignal,
+            ) => FinalRunStats::Cancelled {
+                reason: self.cancel_reason,
+                kind,
+            },
+        }
+    }
 }

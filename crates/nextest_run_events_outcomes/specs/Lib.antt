@@ -1,0 +1,4 @@
+pub mod Finished
+pub mod Laws
+pub mod Outcome
+pub mod Progress
