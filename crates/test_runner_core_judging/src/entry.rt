@@ -64,8 +64,8 @@ pub fn judge_stream<R: LogReader, W: ReportWriter>(
     ensures read_failures { TellsRead result (R.failures input.old) (R.failures input.new) (R.last_failed input.new) }
     ensures write_failures { TellsWrite result (W.failures report.old) (W.failures report.new) (W.last_failed report.new) }
 {
-    let judgement = judgement_of(alloc, input)?;
-    write_report(alloc, &judgement, report)
+    let told = judgement_of(alloc, input)?;
+    write_report(alloc, &told, report)
 }
 
 // What the run that a stream tells comes to.
