@@ -1,2 +1,4 @@
 pub mod Cancel
 pub mod Result
+pub mod Signals
+pub mod Texts

@@ -1,4 +1,6 @@
 // Why a run was cancelled.
+ghost use Rattle.std.specs.Prelude.{◌≡◌};
+ghost use Rattle.nextest_run_events_results.specs.Texts.{reason_name};
 
 /// Why a run was cancelled. The order of the variants is that of their gravity: a graver reason takes the place
 /// of a lesser one.
@@ -20,4 +22,22 @@ pub enum CancelReason {
     Interrupt,
     /// A second signal was received, and the run is killed.
     SecondSignal,
+}
+
+impl CancelReason {
+    /// The reason in words. Both reasons of failed tests have the same.
+    pub fn to_static_str(self) -> &'static str
+        ensures { result.now ≡ reason_name self }
+    {
+        match self {
+            CancelReason::SetupScriptFailure => "setup script failure",
+            CancelReason::TestFailure => "test failure",
+            CancelReason::ReportError => "reporting error",
+            CancelReason::TestFailureImmediate => "test failure",
+            CancelReason::GlobalTimeout => "global timeout",
+            CancelReason::Signal => "signal",
+            CancelReason::Interrupt => "interrupt",
+            CancelReason::SecondSignal => "second signal",
+        }
+    }
 }

@@ -4,8 +4,10 @@
 mod cancel_reason;
 pub mod laws;
 mod result;
+mod signals;
 #[cfg(test)]
 mod tests;
 
 pub use cancel_reason::CancelReason;
 pub use result::{AbortDescription, ExecutionResultDescription, FailureDescription};
+pub use signals::{SIGTERM, signal_name};

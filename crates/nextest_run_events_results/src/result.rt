@@ -1,9 +1,13 @@
 // How an attempt of a test, or a setup script, ended.
 ghost use Rattle.std.specs.Prelude.{◌≡◌};
 ghost use Rattle.nextest_run_events_results.specs.Result.{is_success};
+ghost use Rattle.nextest_run_events_results.specs.Signals.{is_termination_failure};
+ghost use Rattle.nextest_run_events_results.specs.Texts.{kind_name};
 
+use crate::signals::SIGTERM;
 use nextest_config_elements_plain::{LeakTimeoutResult, SlowTimeoutResult};
 use nextest_text::Text;
+use std::fmt;
 
 /// How a process was ended that did not end by itself, whatever the platform.
 #[derive(Clone, Debug, PartialEq, Eq, Drop)]
@@ -78,6 +82,93 @@ impl ExecutionResultDescription {
             ExecutionResultDescription::Timeout { result } => *result == SlowTimeoutResult::Pass,
             ExecutionResultDescription::Fail { .. } => false,
             ExecutionResultDescription::ExecFail => false,
+        }
+    }
+
+    /// The name of its kind.
+    pub fn as_static_str(&self) -> &'static str
+        ensures { result.now ≡ kind_name self.now }
+    {
+        match self {
+            ExecutionResultDescription::Pass => "pass",
+            ExecutionResultDescription::Leak { .. } => "leak",
+            ExecutionResultDescription::Fail { .. } => "fail",
+            ExecutionResultDescription::ExecFail => "exec-fail",
+            ExecutionResultDescription::Timeout { .. } => "timeout",
+        }
+    }
+
+    /// Whether it is a failure by an end from outside: by the signal `SIGTERM`, or by a job object.
+    pub fn is_termination_failure(&self) -> bool
+        ensures { result ≡ is_termination_failure self.now }
+    {
+        let ExecutionResultDescription::Fail { failure, .. } = self else {
+            return false;
+        };
+        let FailureDescription::Abort { abort } = failure else {
+            return false;
+        };
+        match abort {
+            AbortDescription::UnixSignal { signal, .. } => *signal == SIGTERM,
+            AbortDescription::WindowsNtStatus { .. } => false,
+            AbortDescription::WindowsJobObject => true,
+        }
+    }
+}
+
+// The digits of a status, as it is printed.
+#[derive(Clone, Copy)]
+struct StatusDigits(i32);
+
+impl fmt::Display for StatusDigits {
+    ghost use Rattle.std.specs.Prelude.{Some};
+    ghost use Rattle.nextest_run_events_results.specs.Texts.{status_digits};
+
+    ghost output = { λ it. Some (status_digits it.0) };
+
+    fn fmt<W: fmt::Write>(&self, f: &mut fmt::Formatter<W>) -> fmt::Result {
+        let code = self.0;
+        write!(f, "{code:08x}")
+    }
+}
+
+impl fmt::Display for AbortDescription {
+    ghost use Rattle.std.specs.Prelude.{Some};
+    ghost use Rattle.nextest_run_events_results.specs.Texts.{text_of_abort};
+
+    ghost output = { λ it. Some (text_of_abort it) };
+
+    fn fmt<W: fmt::Write>(&self, f: &mut fmt::Formatter<W>) -> fmt::Result {
+        match self {
+            AbortDescription::UnixSignal { signal, name } => {
+                write!(f, "aborted with signal {signal}")?;
+                match name {
+                    Some(name) => write!(f, " (SIG{name})"),
+                    None => Ok(()),
+                }
+            }
+            AbortDescription::WindowsNtStatus { code, message } => {
+                write!(f, "aborted with code 0x{}", StatusDigits(*code))?;
+                match message {
+                    Some(message) => write!(f, ": {message}"),
+                    None => Ok(()),
+                }
+            }
+            AbortDescription::WindowsJobObject => write!(f, "terminated via job object"),
+        }
+    }
+}
+
+impl fmt::Display for FailureDescription {
+    ghost use Rattle.std.specs.Prelude.{Some};
+    ghost use Rattle.nextest_run_events_results.specs.Texts.{text_of_failure};
+
+    ghost output = { λ it. Some (text_of_failure it) };
+
+    fn fmt<W: fmt::Write>(&self, f: &mut fmt::Formatter<W>) -> fmt::Result {
+        match self {
+            FailureDescription::ExitCode { code } => write!(f, "exited with code {code}"),
+            FailureDescription::Abort { abort } => write!(f, "{abort}"),
         }
     }
 }

@@ -1,0 +1,5 @@
+pub mod Calls
+pub mod Forms
+pub mod Laws
+pub mod Reading
+pub mod Texts
