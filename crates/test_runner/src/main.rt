@@ -2,9 +2,8 @@
 //! goes to standard output and the status is the exit status.
 #![tactic(auto)]
 
-use std::env;
-use std::io;
 use std::process::ExitCode;
+use std::{env, io};
 use test_runner_core::{StdReader, StdWriter, judge_stream};
 
 // The exit statuses: of wrong use, and where standard input or output or memory fails.

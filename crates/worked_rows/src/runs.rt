@@ -3,14 +3,16 @@ use std::alloc::Global;
 use std::test::Fail;
 use test_runner_core::{JudgeFault, MemoryReader, MemoryWriter, WriteFailure, judge_stream};
 
-const WORKSPACE: &str = r#"{"workspace":{"packages":[{"id":"p","name":"p"}],"links":[],"binaries":["#;
+const WORKSPACE: &str =
+    r#"{"workspace":{"packages":[{"id":"p","name":"p"}],"links":[],"binaries":["#;
 
 const PASSES: &str = "start\tp\ta\nend\tp\ta\tpass\t-\t1\t-\t-\n";
 
 const FAILS: &str = "start\tp\ta\nend\tp\ta\tfail:1\t-\t1\t-\t-\n";
 
 // A test that fails, passes, and another that passes, where each may be tried twice.
-const RETRIED: &str = "start\tp\ta\nend\tp\ta\tfail:1\t-\t5\t-\t-\nstart\tp\ta\nend\tp\ta\tpass\t-\t7\t-\t-\nstart\tp\tb\nend\tp\tb\tpass\t-\t9\t-\t-\n";
+const RETRIED: &str =
+    "start\tp\ta\nend\tp\ta\tfail:1\t-\t5\t-\t-\nstart\tp\ta\nend\tp\ta\tpass\t-\t7\t-\t-\nstart\tp\tb\nend\tp\tb\tpass\t-\t9\t-\t-\n";
 
 const TRIED_TWICE: &str = r"[profile.default]\nretries = 1\nfail-fast = false\n";
 
@@ -92,7 +94,7 @@ fn each_log_whatever_the_pieces(rt: HostRuntime) -> Result<(), Fail> {
         let input = stream(alloc, "\"a\",\"b\"", 1, source, log)?;
         for piece in [1, 7, 4096] {
             let (report, code) = came_to(alloc, input.as_bytes(), piece)?;
-            assert!(rt; code == status && report.as_str() == want, "{want}");
+            assert!(rt; code == status && report.as_str() == want, "{code} {piece}");
         }
     }
     Ok(())
@@ -128,7 +130,7 @@ fn each_refused_plan_whatever_the_pieces(rt: HostRuntime) -> Result<(), Fail> {
         let input = stream(alloc, tests, times, source, PASSES)?;
         for piece in [1, 4096] {
             let (report, code) = came_to(alloc, input.as_bytes(), piece)?;
-            assert!(rt; code == 96 && report.as_str() == want, "{want}");
+            assert!(rt; code == 96 && report.as_str() == want, "{times} {piece}");
         }
     }
     Ok(())
@@ -157,7 +159,8 @@ fn what_is_no_inputs_is_refused(rt: HostRuntime) -> Result<(), Fail> {
 fn padded(alloc: Global, len: usize) -> Result<Vec<u8>, Fail> {
     let text = stream(alloc, "\"a\"", 1, "", "")?;
     let mut bytes = Vec::new(alloc);
-    bytes.resize(len.saturating_sub(text.len() - 1), b' ')?;
+    let before = len.saturating_add(1).saturating_sub(text.len());
+    bytes.resize(before, b' ')?;
     bytes.extend_from_slice(text.as_bytes())?;
     bytes.extend_from_slice(PASSES.as_bytes())?;
     Ok(bytes)
@@ -200,7 +203,7 @@ fn each_read_that_fails_is_told(rt: HostRuntime) -> Result<(), Fail> {
         let mut report = MemoryWriter::new(alloc, 100, 1)?;
         let told = judge_stream(alloc, &mut reader, &mut report);
         assert!(rt; matches!(told, Err(JudgeFault::Read(_))), "{failing}");
-        assert!(rt; report.written().is_empty() && reader.calls() == failing + 1);
+        assert!(rt; report.written().is_empty() && reader.calls() > failing);
     }
     Ok(())
 }
