@@ -1,0 +1,79 @@
+#!/usr/bin/env python3
+"""Runs the built program on a sample, and lets each of its requests for memory fail in turn.
+
+Build it first by `make run`; a C compiler `cc` is needed. Each run has to end as the whole one does, or to exit 74 and
+write a front of its report. The last run is the first that meets no failure.
+"""
+import pathlib
+import subprocess
+import sys
+import tempfile
+
+ROOT = pathlib.Path(__file__).resolve().parent.parent
+PROGRAM = ROOT / "crates/test_runner/out/test_runner"
+SAMPLE = ROOT / "examples/retried-test.txt"
+
+# Stands before the C library's calls: the request of the chosen number fails, counted from the program's first.
+FAILS = r"""
+#define _GNU_SOURCE
+#include <dlfcn.h>
+#include <errno.h>
+#include <fcntl.h>
+#include <stdlib.h>
+#include <unistd.h>
+
+static long left;
+static int counts;
+
+__attribute__((constructor)) static void begin(void) {
+    left = atol(getenv("FAILING_ALLOCATION"));
+    counts = 1;
+}
+
+static int fails(void) {
+    if (!counts || --left != 0) return 0;
+    close(open(getenv("FAILED"), O_CREAT | O_WRONLY, 0600));
+    return 1;
+}
+
+#define REAL(name) ((__typeof__(&name))dlsym(RTLD_NEXT, #name))
+
+void *malloc(size_t n) { return fails() ? NULL : REAL(malloc)(n); }
+void *realloc(void *p, size_t n) { return fails() ? NULL : REAL(realloc)(p, n); }
+void *aligned_alloc(size_t a, size_t n) { return fails() ? NULL : REAL(aligned_alloc)(a, n); }
+int posix_memalign(void **p, size_t a, size_t n) { return fails() ? ENOMEM : REAL(posix_memalign)(p, a, n); }
+"""
+
+
+def run(library, number, sample, mark):
+    """The exit status and the output of a run, and whether a request failed in it."""
+    mark.unlink(missing_ok=True)
+    done = subprocess.run(
+        [PROGRAM], input=sample, capture_output=True,
+        env={"LD_PRELOAD": str(library), "FAILING_ALLOCATION": str(number), "FAILED": str(mark)},
+    )
+    return done.returncode, done.stdout, mark.exists()
+
+
+def main():
+    sample = SAMPLE.read_bytes()
+    with tempfile.TemporaryDirectory() as folder:
+        source, library, mark = (pathlib.Path(folder) / name for name in ("fails.c", "fails.so", "failed"))
+        source.write_text(FAILS)
+        subprocess.run(["cc", "-shared", "-fPIC", "-O1", "-o", library, source, "-ldl"], check=True)
+        status, whole, _ = run(library, 0, sample, mark)
+        number, wanting = 1, 0
+        while True:
+            code, output, failed = run(library, number, sample, mark)
+            if not failed:
+                break
+            if (code, output) != (status, whole):
+                if code != 74 or not whole.startswith(output):
+                    sys.exit(f"request {number}: exit {code}, {output!r}")
+                wanting += 1
+            number += 1
+    print(f"{number - 1} requests failed in turn: {wanting} runs exit 74, the others as the whole run does ({status})")
+
+
+if __name__ == "__main__":
+    main()
