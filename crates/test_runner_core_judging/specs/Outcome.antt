@@ -46,8 +46,8 @@ LogAgrees assigned state (Line bytes ∷ more) =
     × ((mid : SessionState) → Follows state mid line → LogAgrees assigned mid more))
 LogAgrees assigned state (Refused fault ∷ more) = ⊤
 
--- an exit status is that of each assignment with which a log agrees that no line of is refused and that leaves the run
--- complete
+-- an exit status is due: wherever no line of the log is refused, the log agrees with an assignment and the run is
+-- complete, it is the status that is due to that assignment
 abbrev pub IsDue : (Binary → Answer) → Inputs → List Item → ℕ → Type 0
 IsDue answer inputs log code =
     (assigned : Assignment) (last : SessionState) (ran : Ran answer inputs log None last) → LogAgrees assigned (session_of ran.plan) log

@@ -23,8 +23,8 @@ use test_runner_core_workspace::{Lister, TableLister};
 /// listed binary, in the workspace's order, up to the first whose answer is refused, and for none where the inputs are
 /// refused before; nothing of the log is read where the inputs have no plan. A failed read or write is never tried
 /// again. Where no line is refused, the log agrees with an assignment and tells no stop, and the run is complete, the
-/// status is that assignment's due status. Where there is no memory the lister was asked for a front of these binaries. After any fault the report is
-/// cut: nothing of it is written where the reader or memory failed, else a front.
+/// status is that assignment's due status. Where there is no memory the lister was asked for a front of these binaries.
+/// After any fault the report is cut: nothing of it is written where the reader or memory failed, else a front.
 pub fn judge<L: Lister, R: LogReader, W: ReportWriter>(
     alloc: Global,
     inputs: &Inputs,
