@@ -1,7 +1,8 @@
 -- What a record of counters comes to.
-use Rattle.std.specs.Prelude.{ℕ, ◌+◌, ◌-◌, ◌==◌, Bool, true, false, nat_lt, Option, None, Some, if◌then◌else◌}
+use Rattle.std.specs.Prelude.{ℕ, ◌+◌, ◌-◌, ◌==◌, Bool, true, nat_lt, Option, if◌then◌else◌}
+use Rattle.std.specs.Option.{option_map_or}
+use Rattle.nextest_run_events_results.specs.Cancel.{is_inner}
 use Rattle.nextest_run_events_results.specs.declared.cancel_reason.CancelReason.{CancelReason}
-use Rattle.nextest_run_events_results.specs.declared.cancel_reason.CancelReason.TheVariants as why
 use Rattle.nextest_run_events_counters.specs.declared.run_stats.RunStats.{RunStats}
 use Rattle.nextest_run_events_counters.specs.declared.summary.FinalRunStats.{FinalRunStats}
 use Rattle.nextest_run_events_counters.specs.declared.summary.FinalRunStats.TheVariants as summed
@@ -22,17 +23,9 @@ failed_count stats = stats.failed + stats.exec_failed + stats.failed_timed_out
 abbrev pub at_tests : RunStats → RunStatsFailureKind
 at_tests stats = at.Test stats.initial_run_count (stats.initial_run_count - stats.finished_count)
 
--- a failure is one of the run's own where no reason stands, or one that the run's own failures give
+-- a failure is the run's own where no reason stands, or one that only the run itself gives
 abbrev pub is_own : Option CancelReason → Bool
-is_own None = true
-is_own (Some why.SetupScriptFailure) = true
-is_own (Some why.TestFailure) = true
-is_own (Some why.TestFailureImmediate) = true
-is_own (Some why.ReportError) = false
-is_own (Some why.GlobalTimeout) = false
-is_own (Some why.Signal) = false
-is_own (Some why.Interrupt) = false
-is_own (Some why.SecondSignal) = false
+is_own reason = option_map_or is_inner reason true
 
 -- a failure at a place, under the reason that stands
 abbrev pub failure_at : RunStats → RunStatsFailureKind → FinalRunStats

@@ -1,9 +1,10 @@
 //! The counters of a run and their summary.
 //!
 //! The types stand here with the rows that say what each finished script and test counts as, and with the summary
-//! of a record of counters and the calls that take it. What adds to the counters as a run goes on is built on these.
+//! of a record of counters and the calls that take it. Scripts and tests are counted as they finish.
 #![tactic(auto)]
 
+mod counting;
 mod run_stats;
 mod summary;
 #[cfg(test)]

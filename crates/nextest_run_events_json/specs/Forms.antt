@@ -1,7 +1,8 @@
 -- How values are written as JSON. The members of an object stand in the order of their names.
-use Rattle.std.specs.Prelude.{ℤ, Option, None, Some, codes}
-use Rattle.serde_json.specs.Data.{Data, null, boolean, number, string, object, no_members, member}
+use Rattle.std.specs.Prelude.{ℤ, List, map, Option, None, Some, codes}
+use Rattle.serde_json.specs.Data.{Data, null, boolean, number, string, array, object, no_members, member}
 use Rattle.serde_json.specs.Find.{of_integer}
+use Rattle.serde_json.specs.View.{items_of}
 use Rattle.nextest_config_elements_plain.specs.declared.timeouts.LeakTimeoutResult as leak_judged
 use Rattle.nextest_config_elements_plain.specs.declared.timeouts.SlowTimeoutResult as timeout_judged
 use Rattle.nextest_run_events_results.specs.declared.result.AbortDescription.{AbortDescription}
@@ -10,6 +11,7 @@ use Rattle.nextest_run_events_results.specs.declared.result.FailureDescription.{
 use Rattle.nextest_run_events_results.specs.declared.result.FailureDescription.TheVariants as failed
 use Rattle.nextest_run_events_results.specs.declared.result.ExecutionResultDescription.{ExecutionResultDescription}
 use Rattle.nextest_run_events_results.specs.declared.result.ExecutionResultDescription.TheVariants as ended
+use Rattle.nextest_run_events_statuses.specs.declared.serializable_error.ErrorChain.{ErrorChain}
 
 abbrev pub whole : ℤ → Data
 whole z = number (of_integer z)
@@ -18,6 +20,10 @@ whole z = number (of_integer z)
 abbrev pub unless_absent : {A : Type 0} → (A → Data) → Option A → Data
 unless_absent form None = null
 unless_absent form (Some value) = form value
+
+-- values in their order
+abbrev pub list : {A : Type 0} → (A → Data) → List A → Data
+list form values = array (items_of (map form values))
 
 -- how a leak and a timeout are judged
 abbrev pub leak : leak_judged.LeakTimeoutResult → Data
@@ -60,3 +66,9 @@ result ended.ExecFail = object (member (codes "status") (string (codes "exec-fai
 result (ended.Timeout judged) =
     object (member (codes "result") (timeout judged)
     (member (codes "status") (string (codes "timeout")) no_members))
+
+-- the causes stand nearest first
+abbrev pub error : ErrorChain → Data
+error chain =
+    object (member (codes "causes") (list string chain.causes)
+    (member (codes "message") (string chain.message) no_members))

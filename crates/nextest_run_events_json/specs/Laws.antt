@@ -7,6 +7,7 @@ use Rattle.nextest_run_events_results.specs.declared.result.FailureDescription.{
 use Rattle.nextest_run_events_results.specs.declared.result.FailureDescription.TheVariants as failed
 use Rattle.nextest_run_events_results.specs.declared.result.ExecutionResultDescription.{ExecutionResultDescription}
 use Rattle.nextest_run_events_results.specs.declared.result.ExecutionResultDescription.TheVariants as ended
+use Rattle.nextest_run_events_statuses.specs.declared.serializable_error.ErrorChain.{ErrorChain}
 use Rattle.nextest_run_events_json.specs.Forms as form
 use Rattle.nextest_run_events_json.specs.Reading as read
 
@@ -36,3 +37,6 @@ FailureReadBack = (failure : FailureDescription) → FitsFailure failure → rea
 
 abbrev pub ResultReadBack : Type 0
 ResultReadBack = (result : ExecutionResultDescription) → FitsResult result → read.result (form.result result) ≡ Some result
+
+abbrev pub ErrorReadBack : Type 0
+ErrorReadBack = (error : ErrorChain) → read.error (form.error error) ≡ Some error

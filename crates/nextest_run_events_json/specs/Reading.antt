@@ -1,8 +1,9 @@
 -- How values are read from JSON. Members of other names are read past.
-use Rattle.std.specs.Prelude.{ℕ, negsuc, ℤ, pos, ◌&&◌, int_le, List, Option, None, Some, codes, if◌then◌else◌}
+use Rattle.std.specs.Prelude.{ℕ, negsuc, ℤ, pos, ◌&&◌, int_le, List, [], ◌∷◌, Option, None, Some, codes, if◌then◌else◌}
+use Rattle.std.specs.Option.{option_map}
 use Rattle.std.specs.Str.{bytes_eq}
-use Rattle.serde_json.specs.Data.{Data, null, boolean, number, string, array, object}
-use Rattle.serde_json.specs.Find.{get, as_number, as_i64, as_str, as_bool}
+use Rattle.serde_json.specs.Data.{Data, null, boolean, number, string, array, object, Items, no_items, item}
+use Rattle.serde_json.specs.Find.{get, as_number, as_i64, as_str, as_bool, as_array}
 use Rattle.nextest_config_elements_plain.specs.declared.timeouts.LeakTimeoutResult as leak_judged
 use Rattle.nextest_config_elements_plain.specs.declared.timeouts.SlowTimeoutResult as timeout_judged
 use Rattle.nextest_run_events_results.specs.declared.result.AbortDescription.{AbortDescription}
@@ -11,6 +12,7 @@ use Rattle.nextest_run_events_results.specs.declared.result.FailureDescription.{
 use Rattle.nextest_run_events_results.specs.declared.result.FailureDescription.TheVariants as failed
 use Rattle.nextest_run_events_results.specs.declared.result.ExecutionResultDescription.{ExecutionResultDescription}
 use Rattle.nextest_run_events_results.specs.declared.result.ExecutionResultDescription.TheVariants as ended
+use Rattle.nextest_run_events_statuses.specs.declared.serializable_error.ErrorChain.{ErrorChain}
 
 infixl 10 ◌>>=◌
 abbrev pub ◌>>=◌ : {A B : Type 0} → Option A → (A → Option B) → Option B
@@ -48,6 +50,31 @@ if_there reads (Some given) = unless_null reads given
 -- a member that may be absent or null
 abbrev pub optional : {A : Type 0} → List ℕ → (Data → Option A) → Data → Option (Option A)
 optional name reads given = if_there reads (get name given)
+
+abbrev pub listed : Items → List Data
+listed no_items = []
+listed (item first rest) = first ∷ listed rest
+
+-- the items of an array
+abbrev pub items : Data → Option (List Data)
+items given = option_map listed (as_array given)
+
+-- each of some items, in their order
+abbrev pub each : {A : Type 0} → (Data → Option A) → List Data → Option (List A)
+each reads [] = Some []
+each reads (first ∷ rest) = reads first >>= λ value. each reads rest >>= λ more. Some (value ∷ more)
+
+-- a list
+abbrev pub list : {A : Type 0} → (Data → Option A) → Data → Option (List A)
+list reads given = items given >>= each reads
+
+abbrev pub list_if_there : {A : Type 0} → (Data → Option A) → Option Data → Option (List A)
+list_if_there reads None = Some []
+list_if_there reads (Some given) = list reads given
+
+-- a member that is a list, or absent, which is an empty list; null is no list
+abbrev pub listed_member : {A : Type 0} → List ℕ → (Data → Option A) → Data → Option (List A)
+listed_member name reads given = list_if_there reads (get name given)
 
 -- how a leak and a timeout are judged
 abbrev pub leak_of : List ℕ → Option leak_judged.LeakTimeoutResult
@@ -139,3 +166,9 @@ result_of given status =
 
 abbrev pub result : Data → Option ExecutionResultDescription
 result given = required (codes "status") as_str given >>= result_of given
+
+abbrev pub error : Data → Option ErrorChain
+error given = do
+  causes ← listed_member (codes "causes") as_str given
+  message ← required (codes "message") as_str given
+  Some (record { message = message; causes = causes })

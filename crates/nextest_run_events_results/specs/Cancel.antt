@@ -1,5 +1,5 @@
--- How grave the reasons of a cancelled run are.
-use Rattle.std.specs.Prelude.{ℕ, nat_lt, if◌then◌else◌}
+-- How grave the reasons of a cancelled run are, and which of them come from outside.
+use Rattle.std.specs.Prelude.{ℕ, Bool, true, false, nat_lt, if◌then◌else◌}
 use Rattle.nextest_run_events_results.specs.declared.cancel_reason.CancelReason.{CancelReason}
 use Rattle.nextest_run_events_results.specs.declared.cancel_reason.CancelReason.TheVariants as why
 
@@ -17,3 +17,14 @@ gravity why.SecondSignal = 7
 -- the graver of two reasons
 abbrev pub graver_reason : CancelReason → CancelReason → CancelReason
 graver_reason old new = if nat_lt (gravity old) (gravity new) then new else old
+
+-- the reasons that only the run itself gives
+abbrev pub is_inner : CancelReason → Bool
+is_inner why.SetupScriptFailure = true
+is_inner why.TestFailure = true
+is_inner why.ReportError = false
+is_inner why.TestFailureImmediate = true
+is_inner why.GlobalTimeout = false
+is_inner why.Signal = false
+is_inner why.Interrupt = false
+is_inner why.SecondSignal = false

@@ -1,4 +1,5 @@
 pub mod Cancel
+pub mod Described
 pub mod Result
 pub mod Signals
 pub mod Texts

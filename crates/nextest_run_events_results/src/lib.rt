@@ -2,6 +2,7 @@
 #![tactic(auto)]
 
 mod cancel_reason;
+mod execution_result;
 pub mod laws;
 mod result;
 mod signals;
@@ -9,5 +10,6 @@ mod signals;
 mod tests;
 
 pub use cancel_reason::CancelReason;
+pub use execution_result::{AbortStatus, ExecutionResult, ExitStatus, FailureStatus};
 pub use result::{AbortDescription, ExecutionResultDescription, FailureDescription};
 pub use signals::{SIGTERM, signal_name};

@@ -1,8 +1,10 @@
-// Reasons rise as they are listed, a clone with memory is the same value, and rows of what is printed.
+// Reasons rise as they are listed, a clone with memory is the same value, rows of what is printed, and what a process
+// comes to and is described as.
 use super::{
-    AbortDescription, CancelReason, ExecutionResultDescription, FailureDescription, SIGTERM,
-    signal_name,
+    AbortDescription, AbortStatus, CancelReason, ExecutionResult, ExecutionResultDescription,
+    ExitStatus, FailureDescription, FailureStatus, SIGTERM, signal_name,
 };
+use nextest_config_elements_plain::{LeakTimeoutResult, SlowTimeoutResult};
 use nextest_text::Text;
 use std::alloc::Global;
 use std::test::Fail;
@@ -88,4 +90,84 @@ fn signals_have_names(rt: HostRuntime) {
     for unnamed in [i32::MIN, -15, 0, 7, 10, 12, 16, i32::MAX] {
         assert_eq!(rt; signal_name(unnamed), None);
     }
+}
+
+#[test]
+fn a_signal_is_an_abort_and_a_code_is_none(rt: HostRuntime) {
+    let term = AbortStatus::UnixSignal(15);
+    let signal = ExitStatus::Signal(15);
+    assert_eq!(rt; AbortStatus::extract(signal), Some(term));
+    assert_eq!(rt; FailureStatus::extract(signal), FailureStatus::Abort(term));
+    let code = ExitStatus::Code(3);
+    assert_eq!(rt; AbortStatus::extract(code), None);
+    assert_eq!(rt; FailureStatus::extract(code), FailureStatus::ExitCode(3));
+}
+
+#[test]
+fn a_signal_is_described_with_its_name(rt: HostRuntime) -> Result<(), Fail> {
+    let alloc = rt.alloc();
+    let term = AbortDescription::from_status(alloc, AbortStatus::UnixSignal(15))?;
+    let named = AbortDescription::UnixSignal {
+        signal: 15,
+        name: Some(Text::from_str(alloc, "TERM")?),
+    };
+    assert!(rt; term == named);
+    let nameless = AbortDescription::from_status(alloc, AbortStatus::UnixSignal(42))?;
+    let unnamed = AbortDescription::UnixSignal {
+        signal: 42,
+        name: None,
+    };
+    assert!(rt; nameless == unnamed);
+    Ok(())
+}
+
+#[test]
+fn a_failure_is_described(rt: HostRuntime) -> Result<(), Fail> {
+    let alloc = rt.alloc();
+    let exit = FailureDescription::from_status(alloc, FailureStatus::ExitCode(3))?;
+    assert!(rt; exit == FailureDescription::ExitCode { code: 3 });
+    let status = FailureStatus::Abort(AbortStatus::UnixSignal(42));
+    let ended = FailureDescription::from_status(alloc, status)?;
+    let abort = AbortDescription::UnixSignal {
+        signal: 42,
+        name: None,
+    };
+    assert!(rt; ended == FailureDescription::Abort { abort });
+    Ok(())
+}
+
+#[test]
+fn a_failed_result_is_described(rt: HostRuntime) -> Result<(), Fail> {
+    let failed = ExecutionResult::Fail {
+        failure_status: FailureStatus::ExitCode(3),
+        leaked: true,
+    };
+    let described = ExecutionResultDescription::from_result(rt.alloc(), failed)?;
+    let failure = FailureDescription::ExitCode { code: 3 };
+    assert!(rt;
+        described
+            == ExecutionResultDescription::Fail {
+                failure,
+                leaked: true,
+            }
+    );
+    assert!(rt; !failed.is_success());
+    assert_eq!(rt; failed.as_static_str(), "fail");
+    Ok(())
+}
+
+#[test]
+fn other_results_are_described(rt: HostRuntime) -> Result<(), Fail> {
+    let alloc = rt.alloc();
+    let result = LeakTimeoutResult::Pass;
+    let leak = ExecutionResult::Leak { result };
+    let described = ExecutionResultDescription::from_result(alloc, leak)?;
+    assert!(rt; described == ExecutionResultDescription::Leak { result });
+    assert!(rt; leak.is_success());
+    let result = SlowTimeoutResult::Fail;
+    let timeout = ExecutionResult::Timeout { result };
+    let described = ExecutionResultDescription::from_result(alloc, timeout)?;
+    assert!(rt; described == ExecutionResultDescription::Timeout { result });
+    assert!(rt; !timeout.is_success());
+    Ok(())
 }

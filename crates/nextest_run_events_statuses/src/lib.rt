@@ -2,9 +2,12 @@
 #![tactic(auto)]
 
 mod child_error;
+mod error_list;
 mod execute_status;
 mod execution_description;
 mod execution_statuses;
+mod live_error;
+mod live_output;
 mod output;
 mod retry_data;
 mod serializable_error;
@@ -12,12 +15,15 @@ mod serializable_error;
 mod tests;
 
 pub use child_error::{ChildErrorDescription, ChildStartErrorDescription};
+pub use error_list::ErrorList;
 pub use execute_status::{
     ErrorSummary, EventTime, ExecuteStatus, OutputErrorSlice, SetupScriptEnvMap,
     SetupScriptExecuteStatus,
 };
 pub use execution_description::ExecutionDescription;
 pub use execution_statuses::{EmptyStatuses, ExecutionStatuses};
+pub use live_error::{ChildError, ChildFdError, ChildStartError};
+pub use live_output::{ChildExecutionOutput, ChildOutput, ChildSplitOutput};
 pub use output::{
     ChildExecutionOutputDescription, ChildOutputDescription, ChildSingleOutput, LiveSpec,
     OutputSpec,

@@ -3,6 +3,7 @@ ghost use Rattle.std.specs.Prelude.{◌≡◌, ◌≢◌};
 ghost use Rattle.nextest_run_events_statuses.specs.Output.{stream_length, stream_lengths, has_errors};
 
 use super::child_error::{ChildErrorDescription, ChildStartErrorDescription};
+use super::error_list::ErrorList;
 use nextest_run_events_results::ExecutionResultDescription;
 use nextest_text::Listing;
 use std::marker::Model;
@@ -107,7 +108,7 @@ pub enum ChildExecutionOutputDescription<S: OutputSpec> {
         /// What it wrote.
         output: S::ChildOutputDesc,
         /// What went wrong while it ran or was read, if anything did.
-        errors: Option<Listing<ChildErrorDescription>>,
+        errors: Option<ErrorList<ChildErrorDescription>>,
     },
     /// It could not be started.
     StartError(ChildStartErrorDescription),

@@ -1,8 +1,11 @@
 // An error and its causes, as texts.
-ghost use Rattle.std.specs.Prelude.{◌≡◌, Some};
+ghost use Rattle.std.specs.Prelude.{◌≡◌, Some, IfOk};
 ghost use Rattle.std.specs.Iterator.{YieldsFirstRef, item_count};
+ghost use Rattle.std.specs.Option.{option_copied};
+ghost use Rattle.nextest_run_events_statuses.specs.Chain.{causes_of, nearest_cause};
 
 use nextest_text::{Listing, Text};
+use std::alloc::{AllocError, Global};
 use std::error::Error;
 use std::fmt;
 use std::marker::Model;
@@ -34,11 +37,14 @@ impl Model for SerializableError {
 }
 
 impl SerializableError {
-    /// The error of a chain.
-    pub fn new(chain: ErrorChain) -> Self
-        ensures { result ≡ chain }
+    /// The error of a chain, whose texts are copied. Only want of memory refuses it.
+    pub fn new(alloc: Global, chain: &ErrorChain) -> Result<Self, AllocError>
+        ensures { IfOk result (λ error. error ≡ chain.now) }
     {
-        SerializableError::from_message_and_causes(chain.message, chain.causes)
+        Ok(SerializableError::from_message_and_causes(
+            Text::from_str(alloc, chain.message.as_str())?,
+            chain.causes.clone()?,
+        ))
     }
 
     /// The error that says `message` and has these causes, the nearest first.
@@ -57,11 +63,18 @@ impl SerializableError {
 
     /// What its causes say, the nearest first.
     pub fn sources(&self) -> SerializableErrorSources<'_>
-        ensures { result ≡ self.now.causes }
+        ensures { result ≡ causes_of self.now }
     {
         SerializableErrorSources {
             left: self.causes.as_slice(),
         }
+    }
+
+    /// What its nearest cause says; `None` where it has no cause.
+    pub fn source(&self) -> Option<&Text>
+        ensures { option_copied result ≡ nearest_cause self.now }
+    {
+        self.causes.as_slice().first()
     }
 }
 

@@ -1,26 +1,31 @@
 // What errors say, how long outputs are, and what attempts come to.
 use super::{
-    ChildErrorDescription, ChildExecutionOutputDescription, ChildOutputDescription,
-    ChildSingleOutput, ChildStartErrorDescription, EmptyStatuses, ErrorChain, ExecuteStatus,
-    ExecutionStatuses, LiveSpec, OutputSpec, RetryData, SerializableError,
+    ChildError, ChildErrorDescription, ChildExecutionOutput, ChildExecutionOutputDescription,
+    ChildFdError, ChildOutput, ChildOutputDescription, ChildSingleOutput, ChildSplitOutput,
+    ChildStartError, ChildStartErrorDescription, EmptyStatuses, ErrorChain, ErrorList,
+    ExecuteStatus, ExecutionStatuses, LiveSpec, OutputSpec, RetryData, SerializableError,
 };
 use nextest_config_elements_levels::{FinalStatusLevel, StatusLevel};
 use nextest_config_elements_plain::{FlakyResult, LeakTimeoutResult, SlowTimeoutResult};
-use nextest_run_events_results::ExecutionResultDescription;
+use nextest_run_events_results::{ExecutionResult, ExecutionResultDescription};
 use nextest_text::{Listing, Text};
 use std::alloc::{AllocError, Global};
 use std::test::Fail;
 use std::time::Duration;
 
-fn error(alloc: Global, message: &str, causes: &[&str]) -> Result<SerializableError, AllocError> {
+fn chain(alloc: Global, message: &str, causes: &[&str]) -> Result<ErrorChain, AllocError> {
     let mut texts = Listing::new(alloc);
     for cause in causes {
         texts.push(Text::from_str(alloc, cause)?)?;
     }
-    Ok(SerializableError::new(ErrorChain {
+    Ok(ErrorChain {
         message: Text::from_str(alloc, message)?,
         causes: texts,
-    }))
+    })
+}
+
+fn error(alloc: Global, message: &str, causes: &[&str]) -> Result<SerializableError, AllocError> {
+    SerializableError::new(alloc, &chain(alloc, message, causes)?)
 }
 
 fn stream(alloc: Global, bytes: &[u8]) -> Result<ChildSingleOutput, AllocError> {
@@ -107,6 +112,9 @@ fn an_error_keeps_its_causes_in_order(rt: HostRuntime) -> Result<(), Fail> {
     assert_eq!(rt; sources.next().map_or("", |text| text.as_str()), "no disk");
     assert!(rt; sources.next().is_none());
     assert!(rt; kept.clone()? == kept);
+    assert_eq!(rt; kept.source().map_or("", |text| text.as_str()), "no folder");
+    let bare = error(rt.alloc(), "no file", &[])?;
+    assert!(rt; bare.source().is_none());
     Ok(())
 }
 
@@ -188,7 +196,7 @@ fn streams_in_one_count_as_standard_output(rt: HostRuntime) -> Result<(), Fail> 
 
 fn ended_has_errors(
     ended: Option<ExecutionResultDescription>,
-    errors: Option<Listing<ChildErrorDescription>>,
+    errors: Option<ErrorList<ChildErrorDescription>>,
 ) -> bool {
     let output: ChildExecutionOutputDescription<LiveSpec> =
         ChildExecutionOutputDescription::Output {
@@ -201,10 +209,14 @@ fn ended_has_errors(
 
 #[test]
 fn errors_of_a_started_process_are_seen(rt: HostRuntime) {
+    let none_listed = ErrorList {
+        description: Text::new(rt.alloc()),
+        items: Listing::new(rt.alloc()),
+    };
     assert!(rt; !ended_has_errors(None, None));
     assert!(rt; !ended_has_errors(Some(ExecutionResultDescription::Pass), None));
     assert!(rt; ended_has_errors(Some(ExecutionResultDescription::ExecFail), None));
-    assert!(rt; ended_has_errors(None, Some(Listing::new(rt.alloc()))));
+    assert!(rt; ended_has_errors(None, Some(none_listed)));
 }
 
 #[test]
@@ -312,5 +324,72 @@ fn attempts_are_copied_and_given_away(rt: HostRuntime) -> Result<(), Fail> {
     let copy = made.clone()?;
     assert!(rt; slowness(copy) == (true, false, true));
     assert!(rt; slowness(made) == (true, false, true));
+    Ok(())
+}
+
+#[test]
+fn an_error_of_a_start_is_described(rt: HostRuntime) -> Result<(), Fail> {
+    let alloc = rt.alloc();
+    let temp_path = ChildStartError::TempPath(chain(alloc, "full", &["no disk"])?);
+    let told = ChildStartErrorDescription::from_error(alloc, &temp_path)?;
+    let source = error(alloc, "full", &["no disk"])?;
+    assert!(rt; told == ChildStartErrorDescription::TempPath { source });
+    Ok(())
+}
+
+#[test]
+fn an_error_of_a_stream_is_described(rt: HostRuntime) -> Result<(), Fail> {
+    let alloc = rt.alloc();
+    let stderr = ChildError::Fd(ChildFdError::ReadStderr(chain(alloc, "closed", &[])?));
+    let told = ChildErrorDescription::from_error(alloc, &stderr)?;
+    let source = error(alloc, "closed", &[])?;
+    assert!(rt; told == ChildErrorDescription::ReadStderr { source });
+    Ok(())
+}
+
+#[test]
+fn streams_keep_their_places(rt: HostRuntime) -> Result<(), Fail> {
+    let output = ChildOutput::Split(ChildSplitOutput {
+        stdout: Some(stream(rt.alloc(), b"ab")?),
+        stderr: None,
+    });
+    let told = ChildOutputDescription::from(output);
+    let ChildOutputDescription::Split { stdout, stderr } = told else {
+        return Err(Fail::from("not split"));
+    };
+    assert!(rt; stdout.is_some_and(|stream| stream.buf() == b"ab".as_slice()));
+    assert!(rt; stderr.is_none());
+    Ok(())
+}
+
+// A process that failed to be waited for, with one error of this text.
+fn unwaited(alloc: Global, text: &str) -> Result<ChildExecutionOutput, AllocError> {
+    let mut items = Listing::new(alloc);
+    items.push(ChildError::Fd(ChildFdError::Wait(chain(alloc, text, &[])?)))?;
+    Ok(ChildExecutionOutput::Output {
+        result: Some(ExecutionResult::ExecFail),
+        output: ChildOutput::Combined {
+            output: stream(alloc, b"ab")?,
+        },
+        errors: Some(ErrorList {
+            description: Text::from_str(alloc, "errors of the process")?,
+            items,
+        }),
+    })
+}
+
+#[test]
+fn an_output_is_described(rt: HostRuntime) -> Result<(), Fail> {
+    let alloc = rt.alloc();
+    let told = ChildExecutionOutputDescription::from_output(alloc, unwaited(alloc, "closed")?)?;
+    let ChildExecutionOutputDescription::Output { result, errors, .. } = told else {
+        return Err(Fail::from("not started"));
+    };
+    assert!(rt; result == Some(ExecutionResultDescription::ExecFail));
+    let errors = errors.ok_or("no errors")?;
+    assert_eq!(rt; errors.len(), 1);
+    assert_eq!(rt; errors.description.as_str(), "errors of the process");
+    let source = error(alloc, "closed", &[])?;
+    assert!(rt; errors.items.as_slice().first() == Some(&ChildErrorDescription::Wait { source }));
     Ok(())
 }

@@ -14,17 +14,17 @@ pub use test_runner_core_inputs::{
     InputsError, PlatformRecord,
 };
 pub use test_runner_core_judging::{
-    JudgeFault, Judgement, LineRefusal, RefusedLine, first_refused, judge, judge_lines,
+    JudgeFault, Judgement, LineRefusal, RefusedLine, RunEnd, first_refused, judge, judge_lines,
     judge_stream,
 };
 pub use test_runner_core_lines::{
     FIRST_LINE_LIMIT, LINE_LIMIT, LOG_LIMIT, LineFault, LogFault, LogLines, Next,
 };
-pub use test_runner_core_log::{LogLine, ParseLineError};
+pub use test_runner_core_log::{LogLine, ParseLineError, reason_word};
 pub use test_runner_core_plan::{LoadFault, Plan, PlanFault, PlanSettings, PlanTest};
 pub use test_runner_core_progress::StartFault;
 pub use test_runner_core_records::{Record, RecordOutput};
-pub use test_runner_core_runs::{Mark, StepRefusal};
+pub use test_runner_core_runs::{Mark, StepRefusal, exit_status};
 pub use test_runner_core_session::{Fate, Session};
 pub use test_runner_core_streams::{
     LogReader, MemoryReader, MemoryWriter, ReportWriter, StdReader, StdWriter, WriteFailure,

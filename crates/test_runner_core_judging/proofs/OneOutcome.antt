@@ -14,7 +14,7 @@ use Rattle.test_runner_core_workspace.specs.Lister.{Answer}
 use Rattle.test_runner_core_workspace.specs.declared.record.Binary.{Binary}
 use Rattle.test_runner_core_judging.specs.Judging.{Judges}
 use Rattle.test_runner_core_judging.specs.Laws.{EndsWithDueStatus, OneOutcome}
-use Rattle.test_runner_core_judging.specs.Outcome.{LogAgrees, Ran}
+use Rattle.test_runner_core_judging.specs.Outcome.{LogAgrees, Ran, end_of}
 use Rattle.test_runner_core_judging.specs.Report.{exit_status}
 use Rattle.test_runner_core_judging.specs.declared.judgement.Judgement.TheVariants as it
 use Rattle.test_runner_core_judging.specs.declared.refused_line.RefusedLine.{RefusedLine}
@@ -61,9 +61,9 @@ one_outcome answer inputs log (it.Ended code) (it.RefusedLine found) of_one of_o
     absurd (let e = (ran_once answer inputs log None (Some found) of_one.0 of_other.0 of_one.1 of_other.1).0 in cc)
 one_outcome answer inputs log (it.Ended code) (it.Ended other) of_one of_other =
     let same = (ran_once answer inputs log None None of_one.0 of_other.0 of_one.1 of_other.1).1 in
-    ap it.Ended (of_one.2 ∙ ap (λ (s : SessionState). status s.run) same ∙ sym of_other.2)
+    ap it.Ended (of_one.2 ∙ ap (λ (s : SessionState). end_of s.run) same ∙ sym of_other.2)
 
 pub outcome_is_due : EndsWithDueStatus
 outcome_is_due answer inputs log judgement comes assigned last ran agrees complete =
-    ap exit_status (one_outcome answer inputs log judgement (it.Ended (status last.run)) comes (last, ran, refl))
+    ap exit_status (one_outcome answer inputs log judgement (it.Ended (end_of last.run)) comes (last, ran, refl))
     ∙ run_is_due answer inputs assigned log last ran agrees complete

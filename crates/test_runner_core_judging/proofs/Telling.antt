@@ -13,7 +13,7 @@ use Rattle.test_runner_core_workspace.specs.Lister.{Answer}
 use Rattle.test_runner_core_workspace.specs.declared.record.Binary.{Binary}
 use Rattle.test_runner_core_judging.specs.Faults.{lacks_memory}
 use Rattle.test_runner_core_judging.specs.Outcome.{IsDue, IsStreamDue, LineOutcome, Outcome, StreamOutcome, table_of}
-use Rattle.test_runner_core_judging.specs.Report.{Writes}
+use Rattle.test_runner_core_judging.specs.Report.{Reports, Writes}
 use Rattle.test_runner_core_judging.specs.declared.judge_fault.JudgeFault.{JudgeFault}
 use Rattle.test_runner_core_judging.specs.declared.judge_fault.JudgeFault.TheVariants as fault
 use Rattle.test_runner_core_judging.specs.declared.judgement.Judgement.{Judgement}
@@ -33,6 +33,14 @@ pub from_beginning : (answer : Binary → Answer) (inputs : Inputs) (judgement :
     → IfSome left (λ bytes. Outcome answer inputs (items 0 bytes) judgement)
 from_beginning answer inputs judgement left lines fresh comes =
     subst (λ (v : Cursor). IfSome left (λ bytes. Outcome answer inputs (items_ahead v bytes) judgement)) fresh comes
+
+-- what is written of what a run comes to is reported
+pub reported : (ComesTo : Judgement → Type 0) (judgement : Judgement) (result : Result ℕ JudgeFault) (before after : Option (List ℕ))
+    → ComesTo judgement → Writes result judgement before after → Reports result ComesTo before after
+reported ComesTo judgement (Ok code) before after comes writes = (judgement, comes, writes)
+reported ComesTo judgement (Err (fault.Write cause)) before after comes writes = (judgement, comes, writes)
+reported ComesTo judgement (Err fault.Memory) before after comes writes = writes
+reported ComesTo judgement (Err (fault.Read cause)) before after comes writes = absurd writes
 
 -- a status that is answered is due
 pub status_is_due : (answer : Binary → Answer) (inputs : Inputs) (judgement : Judgement) (left : Option (List ℕ)) (result : Result ℕ JudgeFault)

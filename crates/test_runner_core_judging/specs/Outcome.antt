@@ -12,8 +12,9 @@ use Rattle.test_runner_core_log.specs.declared.log_line.LogLine.{LogLine}
 use Rattle.test_runner_core_plan.specs.Plan.{Builds, planned}
 use Rattle.test_runner_core_plan.specs.declared.plan.Plan.{Plan}
 use Rattle.test_runner_core_runs.specs.Assignment.{Assignment, due_status}
-use Rattle.test_runner_core_runs.specs.Counters.{status}
+use Rattle.test_runner_core_runs.specs.Counters.{counters, summary}
 use Rattle.test_runner_core_runs.specs.Runs.{EventAgrees, IsNoStop, is_complete}
+use Rattle.test_runner_core_runs.specs.State.{State}
 use Rattle.test_runner_core_session.specs.Session.{SessionState, run_plan, session_of}
 use Rattle.test_runner_core_workspace.specs.Lister.{Answer, table_answer}
 use Rattle.test_runner_core_workspace.specs.declared.record.Binary.{Binary}
@@ -21,6 +22,7 @@ use Rattle.test_runner_core_judging.specs.Judging.{Follows, Judges, event_of}
 use Rattle.test_runner_core_judging.specs.declared.judgement.Judgement.{Judgement}
 use Rattle.test_runner_core_judging.specs.declared.judgement.Judgement.TheVariants as it
 use Rattle.test_runner_core_judging.specs.declared.refused_line.RefusedLine.{RefusedLine}
+use Rattle.test_runner_core_judging.specs.declared.run_end.RunEnd.{RunEnd}
 
 -- the lines of a log lead the run of a plan of these inputs to a state, up to the first that is refused
 pub record Ran (answer : Binary → Answer) (inputs : Inputs) (log : List Item) (found : Option RefusedLine)
@@ -29,12 +31,16 @@ pub record Ran (answer : Binary → Answer) (inputs : Inputs) (log : List Item) 
   pub built : Builds answer inputs (Ok plan)
   pub judged : Judges 1 (session_of plan) log found last
 
--- what inputs and a log come to: the inputs have no plan, or the first refused line, or the status after the last one
+-- where a run ended: its counters, and what they come to
+abbrev pub end_of : State → RunEnd
+end_of state = record { outcome = summary state; stats = counters state }
+
+-- what inputs and a log come to: the inputs have no plan, or the first refused line, or where the run ended after the last
 abbrev pub Outcome : (Binary → Answer) → Inputs → List Item → Judgement → Type 0
 Outcome answer inputs log (it.NoInputs refusal) = ⊥
 Outcome answer inputs log (it.NoPlan refusal) = planned answer inputs ≡ Err refusal
 Outcome answer inputs log (it.RefusedLine found) = (last : SessionState) × Ran answer inputs log (Some found) last
-Outcome answer inputs log (it.Ended code) = (last : SessionState) × Ran answer inputs log None last × (code ≡ status last.run)
+Outcome answer inputs log (it.Ended end) = (last : SessionState) × Ran answer inputs log None last × (end ≡ end_of last.run)
 
 -- a log agrees with an assignment, and nobody tells the run to stop: so does the event of each line, where it comes
 abbrev pub LogAgrees : Assignment → SessionState → List Item → Type 0

@@ -3,18 +3,20 @@ ghost use Rattle.std.specs.Prelude.{◌≡◌, ◌+◌, ◌^◌, ◌<◌, ◌≤
 ghost use Rattle.test_runner_core_lines.specs.Calls.{TellsFailure};
 ghost use Rattle.test_runner_core_lines.specs.Cursor.{items_ahead};
 ghost use Rattle.test_runner_core_judging.specs.Outcome.{Outcome, wants_memory};
-ghost use Rattle.test_runner_core_judging.specs.Report.{exit_status};
+ghost use Rattle.test_runner_core_judging.specs.Report as report;
 ghost use Rattle.test_runner_core_listing.specs.Listing.{AsksFor};
 ghost use Rattle.test_runner_core_plan.specs.Plan.{asked_for, asked_in, planned};
 ghost use Rattle.test_runner_core_workspace.specs.declared.record.Binary.{Binary};
 
 use crate::judging::judge_lines;
 use crate::refused_line::RefusedLine;
+use crate::run_end::RunEnd;
 use std::alloc::Global;
 use std::fmt;
 use test_runner_core_inputs::{Inputs, InputsError};
 use test_runner_core_lines::{LogFault, LogLines};
 use test_runner_core_plan::{Plan, PlanFault};
+use test_runner_core_runs::exit_status;
 use test_runner_core_session::Session;
 use test_runner_core_streams::LogReader;
 use test_runner_core_workspace::Lister;
@@ -32,8 +34,8 @@ pub enum Judgement {
     NoPlan(PlanFault),
     /// This line of the log is refused; those before it are accepted.
     RefusedLine(RefusedLine),
-    /// Each line is accepted, and this is the exit status.
-    Ended(u8),
+    /// Each line is accepted, and the run ended so.
+    Ended(RunEnd),
 }
 
 impl Judgement {
@@ -66,17 +68,20 @@ impl Judgement {
         let mut session = Session::new(alloc, &plan)?;
         match judge_lines(alloc, &mut session, lines, log)? {
             Some(refused) => Ok(Judgement::RefusedLine(refused)),
-            None => Ok(Judgement::Ended(session.status())),
+            None => Ok(Judgement::Ended(RunEnd {
+                outcome: session.summary(),
+                stats: session.stats(),
+            })),
         }
     }
 
     /// The exit status: 96 where something is refused.
     pub fn status(&self) -> u8
-        ensures { result ≡ exit_status self.now }
+        ensures { result ≡ report.exit_status self.now }
     {
         match self {
             Judgement::NoInputs(_) | Judgement::NoPlan(_) | Judgement::RefusedLine(_) => REFUSED,
-            Judgement::Ended(status) => *status,
+            Judgement::Ended(end) => exit_status(end.outcome),
         }
     }
 }
@@ -96,7 +101,7 @@ impl fmt::Display for Judgement {
             Judgement::RefusedLine(found) => {
                 write!(f, "refused\tline\t{}\t{}\n", found.line, found.refusal)
             }
-            Judgement::Ended(status) => write!(f, "== final ==\nstatus\t{status}\n"),
+            Judgement::Ended(end) => write!(f, "{end}"),
         }
     }
 }

@@ -8,6 +8,7 @@ mod judgement;
 mod judging;
 pub mod laws;
 mod refused_line;
+mod run_end;
 #[cfg(test)]
 mod tests;
 
@@ -17,3 +18,4 @@ pub use judge_fault::JudgeFault;
 pub use judgement::Judgement;
 pub use judging::judge_lines;
 pub use refused_line::{LineRefusal, RefusedLine};
+pub use run_end::RunEnd;

@@ -1,4 +1,5 @@
 pub mod Fields
+pub mod Apart
 pub mod Spellings
 pub mod Lines
 pub mod Refusals

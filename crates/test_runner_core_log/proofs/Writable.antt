@@ -1,17 +1,26 @@
 -- Which events have a line: those whose texts can be fields, and whose record has a spelling.
-use Rattle.std.proofs.Common.{◌≡◌, ◌≢◌, ℕ, suc, ◌^◌, ◌<◌, Bool, true, false, List, [], ◌∷◌, ◌++◌, length, get_or, Option, Some, None, refl, sym, ap, subst, ◌∙◌, append_assoc, arith, nat_lt, lit<}
+use Rattle.std.proofs.Common.{◌≡◌, ◌≢◌, ℕ, suc, ◌^◌, ◌<◌, Bool, true, false, nat_eq, List, [], ◌∷◌, ◌++◌, length, get_or, Option, Some, None, refl, sym, ap, subst, ◌∙◌, append_assoc, arith, nat_lt, lit<}
 use Rattle.std.specs.Prelude.{ℤ, pos, negsuc, FitsSigned, codes, decimal, ◌&&◌, not, is_some, IsTrue, ◌↔◌}
 use Rattle.std.specs.Fmt.{signed_decimal}
 use Rattle.std.specs.Int.{w32, IsInRange}
 use Rattle.std.specs.Int.Signed.{mag}
+use mir.Val.{of_z}
 use Rattle.std.specs.List.{AllByRecursion}
 use Rattle.std.specs.Str.{IsUtf8, IsAscii}
-use Rattle.std.proofs.lemmas.Bool.{and_parts, ltb-true}
+use Rattle.std.proofs.lemmas.Bool.{and_parts, ltb-true, eqb-true, eqb-false, not-true, not_from_false, false_from_ne_true}
 use Rattle.std.proofs.lemmas.Fmt.{digits_decimal, IsAscii-signed, IsAscii-decimal}
 use Rattle.std.proofs.lemmas.List.Elements.{recursion_from_All, All-from_get_or}
 use Rattle.std.proofs.lemmas.Str.{IsUtf8-append, IsUtf8-from_ascii}
 use Rattle.std.proofs.lemmas.Str.Ascii.{IsAscii-nil, IsAscii-cons}
 use Rattle.std.proofs.lemmas.Str.Parse.{numerals_by_value, tells_by_index}
+use Rattle.nextest_config_elements_plain.specs.declared.timeouts.LeakTimeoutResult as leak_judged
+use Rattle.nextest_config_elements_plain.specs.declared.timeouts.SlowTimeoutResult as timeout_judged
+use Rattle.nextest_run_events_results.specs.Cancel.{is_inner}
+use Rattle.nextest_run_events_results.specs.Signals.{signal_name}
+use Rattle.nextest_run_events_results.specs.declared.cancel_reason.CancelReason.{CancelReason}
+use Rattle.nextest_run_events_results.specs.declared.cancel_reason.CancelReason.TheVariants as why
+use Rattle.nextest_run_events_results.specs.declared.result.AbortDescription.TheVariants as aborted_by
+use Rattle.nextest_run_events_results.specs.declared.result.FailureDescription.{FailureDescription}
 use Rattle.nextest_run_events_results.specs.declared.result.ExecutionResultDescription.{ExecutionResultDescription}
 use Rattle.nextest_run_events_results.specs.declared.result.ExecutionResultDescription.TheVariants as ended
 use Rattle.nextest_run_events_results.specs.declared.result.FailureDescription.TheVariants as failed_by
@@ -20,10 +29,11 @@ use Rattle.test_runner_core_records.specs.declared.record.RecordOutput.{RecordOu
 use Rattle.test_runner_core_records.specs.declared.record.RecordOutput.TheVariants as wrote
 use Rattle.test_runner_core_log.specs.declared.log_line.LogLine.{LogLine}
 use Rattle.test_runner_core_log.specs.declared.log_line.LogLine.TheVariants as line
-use Rattle.test_runner_core_log.specs.Spelling.{SpellsResult, SpellsSlow, SpellsStream, SpellsOutput, SpellsRecord, SpellsFields, Spells, IsField, joined, HasSpelling}
-use Rattle.test_runner_core_log.specs.Writing.{IsSpellable, SpellsBothStreams, SpellsRecordText}
+use Rattle.test_runner_core_log.specs.Spelling.{leak_word, timeout_word, leaked_suffix, IsSignal, SpellsFailure, SpellsResult, reason_word, SpellsSlow, SpellsStream, SpellsOutput, SpellsRecord, SpellsFields, Spells, IsField, joined, HasSpelling}
+use Rattle.test_runner_core_log.specs.Writing.{Appends, IsSpellable, SpellsBothStreams, SpellsRecordText}
 use Rattle.test_runner_core_log.proofs.Lines.{spells_joined}
-use Rattle.test_runner_core_log.proofs.Spellings.{mag_fits, five_fields, script_fields, start_fields, end_fields}
+use Rattle.test_runner_core_log.proofs.Refusals.{zero_is, other_code}
+use Rattle.test_runner_core_log.proofs.Spellings.{mag_fits, mag_signal, five_fields, script_fields, start_fields, end_fields, stop_fields}
 
 -- ---- a field
 
@@ -101,15 +111,27 @@ writable event fields spelled each =
 
 -- ---- a record
 
+failure_writable : (told : FailureDescription) (text : List ℕ) → SpellsFailure told text → IsWritable text
+failure_writable (failed_by.ExitCode code) text spelled =
+    subst IsWritable (sym spelled.2) (IsWritable-append (codes "fail:") (signed_decimal code) (IsWritable-word (codes "fail:") refl) (IsWritable-signed code (mag_fits code spelled.0)))
+failure_writable (failed_by.Abort (aborted_by.UnixSignal signal name)) text spelled =
+    subst IsWritable (sym spelled.2) (IsWritable-append (codes "abort:") (signed_decimal signal) (IsWritable-word (codes "abort:") refl) (IsWritable-signed signal (mag_signal signal spelled.0)))
+failure_writable (failed_by.Abort (aborted_by.WindowsNtStatus code message)) text spelled = absurd spelled
+failure_writable (failed_by.Abort aborted_by.WindowsJobObject) text spelled = absurd spelled
+
+suffix_writable : (leaked : Bool) → IsWritable (leaked_suffix leaked)
+suffix_writable true = IsWritable-word (codes ":leaked") refl
+suffix_writable false = IsWritable-word [] refl
+
 result_writable : (told : ExecutionResultDescription) (field : List ℕ) → SpellsResult told field → IsWritable field
 result_writable ended.Pass field spelled = subst IsWritable (sym spelled) (IsWritable-word (codes "pass") refl)
-result_writable (ended.Fail (failed_by.ExitCode code) false) field spelled =
-    subst IsWritable (sym spelled.2) (IsWritable-append (codes "fail:") (signed_decimal code) (IsWritable-word (codes "fail:") refl) (IsWritable-signed code (mag_fits code spelled.0)))
-result_writable (ended.Fail (failed_by.ExitCode code) true) field spelled = absurd spelled
-result_writable (ended.Fail (failed_by.Abort abort) leaked) field spelled = absurd spelled
-result_writable (ended.Leak judged) field spelled = absurd spelled
+result_writable (ended.Leak leak_judged.TheVariants.Pass) field spelled = subst IsWritable (sym spelled) (IsWritable-word (codes "leak:pass") refl)
+result_writable (ended.Leak leak_judged.TheVariants.Fail) field spelled = subst IsWritable (sym spelled) (IsWritable-word (codes "leak:fail") refl)
+result_writable (ended.Fail failure leaked) field spelled =
+    subst IsWritable (sym spelled.2) (IsWritable-append spelled.0 (leaked_suffix leaked) (failure_writable failure spelled.0 spelled.1) (suffix_writable leaked))
 result_writable ended.ExecFail field spelled = absurd spelled
-result_writable (ended.Timeout judged) field spelled = absurd spelled
+result_writable (ended.Timeout timeout_judged.TheVariants.Pass) field spelled = subst IsWritable (sym spelled) (IsWritable-word (codes "timeout:pass") refl)
+result_writable (ended.Timeout timeout_judged.TheVariants.Fail) field spelled = subst IsWritable (sym spelled) (IsWritable-word (codes "timeout:fail") refl)
 
 slow_writable : (told : Bool) (field : List ℕ) → SpellsSlow told field → IsWritable field
 slow_writable true field spelled = subst IsWritable (sym spelled) (IsWritable-word (codes "slow") refl)
@@ -138,10 +160,34 @@ record_writable told fields spelled =
       ),
     )
 
--- a failure has a spelling just where its code isn't 0 and nothing leaked
-pub code_spellable : (code : ℤ) (leaked : Bool) → FitsSigned w32 code → code ≢ pos 0 → IsTrue (not leaked) ↔ IsSpellable (SpellsResult (ended.Fail (failed_by.ExitCode code) leaked))
-code_spellable code false fits other = ((λ _. (codes "fail:" ++ signed_decimal code, (fits, other, refl))), (λ _. refl))
-code_spellable code true fits other = ((λ yes. absurd cc), (λ spellable. absurd spellable.1))
+-- a code has a spelling just where it isn't 0
+pub code_spellable : (code : ℤ) → FitsSigned w32 code → IsTrue (not (nat_eq (of_z w32 code) 0)) ↔ IsSpellable (SpellsFailure (failed_by.ExitCode code))
+code_spellable code fits = (
+  (λ other. (codes "fail:" ++ signed_decimal code, (fits, other_code code (eqb-false (of_z w32 code) 0 (not-true (nat_eq (of_z w32 code) 0) other)), refl))),
+  (λ spellable. not_from_false (nat_eq (of_z w32 code) 0) (false_from_ne_true (nat_eq (of_z w32 code) 0) (λ zero.
+      spellable.1.1 (zero_is code fits (eqb-true (of_z w32 code) 0 zero))))),
+)
+
+-- a leak or a timeout has a spelling, however it is judged
+pub leak_spellable : (judged : leak_judged.LeakTimeoutResult) → IsTrue true ↔ IsSpellable (SpellsResult (ended.Leak judged))
+leak_spellable judged = ((λ _. (codes "leak:" ++ leak_word judged, refl)), (λ _. refl))
+
+pub timeout_spellable : (judged : timeout_judged.SlowTimeoutResult) → IsTrue true ↔ IsSpellable (SpellsResult (ended.Timeout judged))
+timeout_spellable judged = ((λ _. (codes "timeout:" ++ timeout_word judged, refl)), (λ _. refl))
+
+-- a failure has a spelling, whatever was left open, just where its text has one
+pub fail_spellable : (failure : FailureDescription) (leaked : Bool) → IsSpellable (SpellsFailure failure) ↔ IsSpellable (SpellsResult (ended.Fail failure leaked))
+fail_spellable failure leaked = (
+  (λ spellable. (spellable.0 ++ leaked_suffix leaked, (spellable.0, spellable.1, refl))),
+  (λ spellable. (spellable.1.0, spellable.1.1)),
+)
+
+-- an abort by a signal has a spelling just where the name is the signal's
+pub signal_spellable : (signal : ℤ) (name : Option (List ℕ)) → IsSignal signal → (name ≡ signal_name signal) ↔ IsSpellable (SpellsFailure (failed_by.Abort (aborted_by.UnixSignal signal name)))
+signal_spellable signal name is = (
+  (λ named. (codes "abort:" ++ signed_decimal signal, (is, named, refl))),
+  (λ spellable. spellable.1.1),
+)
 
 -- two streams have a spelling just where none was captured
 pub streams_spellable : (out err : Option (List ℕ)) → is_some out ≡ false → (none : Bool) → is_some err ≡ not none → IsTrue none ↔ IsSpellable (SpellsBothStreams (wrote.Streams out err))
@@ -195,6 +241,22 @@ end_spellable binary name told binary_plain binary_utf8 name_plain name_utf8 spe
     writable (line.End binary name told) (codes "end" ∷ binary ∷ name ∷ rest) (refl, refl, refl, spellable.1.1)
     (IsWritable-word (codes "end") refl, (record { plain = binary_plain; utf8 = binary_utf8 }, (record { plain = name_plain; utf8 = name_utf8 }, record_writable told rest spellable.1.1)))
 
+pub stop_spellable : (reason : CancelReason) → (is_inner reason ≡ false) ↔ HasSpelling (line.Stop reason)
+stop_spellable reason = (
+  (λ outer. writable (line.Stop reason) (codes "stop" ∷ reason_word reason ∷ []) (refl, (outer, refl)) (IsWritable-word (codes "stop") refl, (word_writable reason, tt))),
+  (λ has. (stop_fields reason has.1.fields has.1.spelled).spells.0),
+)
+  where
+    word_writable : (reason : CancelReason) → IsWritable (reason_word reason)
+    word_writable why.SetupScriptFailure = IsWritable-word (codes "setup-script-failure") refl
+    word_writable why.TestFailure = IsWritable-word (codes "test-failure") refl
+    word_writable why.ReportError = IsWritable-word (codes "report-error") refl
+    word_writable why.TestFailureImmediate = IsWritable-word (codes "test-failure-immediate") refl
+    word_writable why.GlobalTimeout = IsWritable-word (codes "global-timeout") refl
+    word_writable why.Signal = IsWritable-word (codes "signal") refl
+    word_writable why.Interrupt = IsWritable-word (codes "interrupt") refl
+    word_writable why.SecondSignal = IsWritable-word (codes "second-signal") refl
+
 pub end_record : (binary name : List ℕ) (told : Record) → HasSpelling (line.End binary name told) → IsSpellable (SpellsRecordText told)
 end_record binary name told has = let ends = end_fields binary name told has.1.fields has.1.spelled in (joined ends.rest, (ends.rest, ends.spells, refl))
 
@@ -207,6 +269,19 @@ joined_behind before told (field ∷ fields) spelled = refl
 
 three_parts : (a b c : List ℕ) → (a ++ 9 ∷ b) ++ 9 ∷ c ≡ a ++ 9 ∷ (b ++ 9 ∷ c)
 three_parts a b c = append_assoc a (9 ∷ b) (9 ∷ c)
+
+-- the fields of a record, written one after another
+pub record_printed : (told : Record) (old a b c new : List ℕ) → told.nanos < 2 ^ 64 → Appends (SpellsResult told.result) old a → Appends (SpellsSlow told.slow) a b
+    → c ≡ b ++ 9 ∷ decimal told.nanos → Appends (SpellsBothStreams told.output) c new → Appends (SpellsRecordText told) old new
+record_printed told old a b c new small result slow nanos output =
+    let fields : List (List ℕ) = result.0 ∷ slow.0 ∷ decimal told.nanos ∷ output.1.0 ∷ output.1.1 ∷ [] in (
+      joined fields,
+      (fields, (result.1, slow.1, (small, refl), output.1.2), refl),
+      rw (output.2, output.1.3, nanos, slow.2, result.2) (
+          three_parts ((old ++ 9 ∷ result.0) ++ 9 ∷ slow.0) (decimal told.nanos) (output.1.0 ++ 9 ∷ output.1.1)
+          ∙ three_parts (old ++ 9 ∷ result.0) slow.0 (decimal told.nanos ++ 9 ∷ (output.1.0 ++ 9 ∷ output.1.1))
+          ∙ three_parts old result.0 (slow.0 ++ 9 ∷ (decimal told.nanos ++ 9 ∷ (output.1.0 ++ 9 ∷ output.1.1)))),
+    )
 
 pub end_printed : (binary name : List ℕ) (told : Record) (fields : List (List ℕ)) (bytes : List ℕ) → HasSpelling (line.End binary name told) → SpellsRecord told fields
     → bytes ≡ ((codes "end" ++ 9 ∷ binary) ++ 9 ∷ name) ++ 9 ∷ joined fields → Spells (line.End binary name told) bytes

@@ -1,20 +1,37 @@
 // An event whose texts still stand in their line, so that it takes no memory.
 ghost use Rattle.std.specs.Prelude.{◌≡◌, IfOk};
-ghost use Rattle.test_runner_core_log.specs.Lent.{result_meant, stream_meant, record_meant, line_meant};
+ghost use Rattle.test_runner_core_log.specs.Lent.{failure_meant, result_meant, stream_meant, record_meant, line_meant};
 
 use super::log_line::LogLine;
-use nextest_run_events_results::{ExecutionResultDescription, FailureDescription};
+use super::signals::own_name;
+use nextest_config_elements_plain::{LeakTimeoutResult, SlowTimeoutResult};
+use nextest_run_events_results::{
+    AbortDescription, CancelReason, ExecutionResultDescription, FailureDescription,
+};
 use nextest_text::{Listing, Text};
 use std::alloc::{AllocError, Global};
 use test_runner_core_records::{Record, RecordOutput};
+
+/// Why an attempt failed.
+#[derive(Clone, Copy)]
+pub enum LentFailure {
+    /// It ended with this code.
+    ExitCode(i32),
+    /// It was ended by the signal of this number.
+    Signal(i32),
+}
 
 /// What a RESULT field says.
 #[derive(Clone, Copy)]
 pub enum LentResult {
     /// A pass.
     Pass,
-    /// A failure by an exit code.
-    ExitCode(i32),
+    /// A pass that left handles open, and how that is judged.
+    Leak { judged: LeakTimeoutResult },
+    /// A failure, and whether it left handles open too.
+    Fail { failure: LentFailure, leaked: bool },
+    /// An end for taking too long, and how that is judged.
+    Timeout { judged: SlowTimeoutResult },
 }
 
 /// What an OUT or an ERR field says.
@@ -50,20 +67,44 @@ pub enum LentLine<'a> {
         name: &'a str,
         record: LentRecord,
     },
+    Stop {
+        reason: CancelReason,
+    },
+}
+
+impl LentFailure {
+    /// The failure that is meant, with its signal's name. Only want of memory refuses it.
+    pub fn own(self, alloc: Global) -> Result<FailureDescription, AllocError>
+        ensures { IfOk result (λ failure. failure ≡ failure_meant self) }
+    {
+        Ok(match self {
+            LentFailure::ExitCode(code) => FailureDescription::ExitCode { code },
+            LentFailure::Signal(signal) => FailureDescription::Abort {
+                abort: AbortDescription::UnixSignal {
+                    signal,
+                    name: own_name(alloc, signal)?,
+                },
+            },
+        })
+    }
 }
 
 impl LentResult {
-    /// The result that is meant.
-    pub fn own(self) -> ExecutionResultDescription
-        ensures { result ≡ result_meant self }
+    /// The result that is meant. Only want of memory for a signal's name refuses it.
+    pub fn own(self, alloc: Global) -> Result<ExecutionResultDescription, AllocError>
+        ensures { IfOk result (λ outcome. outcome ≡ result_meant self) }
     {
-        match self {
+        Ok(match self {
             LentResult::Pass => ExecutionResultDescription::Pass,
-            LentResult::ExitCode(code) => ExecutionResultDescription::Fail {
-                failure: FailureDescription::ExitCode { code },
-                leaked: false,
+            LentResult::Leak { judged } => ExecutionResultDescription::Leak { result: judged },
+            LentResult::Fail { failure, leaked } => ExecutionResultDescription::Fail {
+                failure: failure.own(alloc)?,
+                leaked,
             },
-        }
+            LentResult::Timeout { judged } => {
+                ExecutionResultDescription::Timeout { result: judged }
+            }
+        })
     }
 }
 
@@ -79,19 +120,19 @@ impl LentStream {
 }
 
 impl LentRecord {
-    /// The record that is meant.
-    pub fn own(self) -> Record
-        ensures { result ≡ record_meant self }
+    /// The record that is meant. Only want of memory refuses it.
+    pub fn own(self, alloc: Global) -> Result<Record, AllocError>
+        ensures { IfOk result (λ told. told ≡ record_meant self) }
     {
-        Record {
-            result: self.result.own(),
+        Ok(Record {
+            result: self.result.own(alloc)?,
             slow: self.slow,
             nanos: self.nanos,
             output: RecordOutput::Streams {
                 out: self.out.own(),
                 err: self.err.own(),
             },
-        }
+        })
     }
 }
 
@@ -103,7 +144,7 @@ impl LentLine<'_> {
         Ok(match self {
             LentLine::Script { id, record } => LogLine::Script {
                 id: Text::from_str(alloc, id)?,
-                record: record.own(),
+                record: record.own(alloc)?,
             },
             LentLine::Start { binary, name } => LogLine::Start {
                 binary: Text::from_str(alloc, binary)?,
@@ -116,8 +157,9 @@ impl LentLine<'_> {
             } => LogLine::End {
                 binary: Text::from_str(alloc, binary)?,
                 name: Text::from_str(alloc, name)?,
-                record: record.own(),
+                record: record.own(alloc)?,
             },
+            LentLine::Stop { reason } => LogLine::Stop { reason },
         })
     }
 }

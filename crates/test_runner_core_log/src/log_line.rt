@@ -5,7 +5,10 @@ ghost use Rattle.test_runner_core_log.specs.Reading.{ReadsLine, SpellsEvent};
 
 use super::parse_line_error::ParseLineError;
 use super::reading::line_of;
-use super::writing::{are_fields, is_field, push_field, push_record, record_is_spellable};
+use super::reasons::reason_word;
+use super::writing::{
+    are_fields, is_field, is_outer, push_field, push_record, record_is_spellable,
+};
 use nextest_run_events_results::CancelReason;
 use nextest_text::Text;
 use std::alloc::{AllocError, Global};
@@ -71,7 +74,7 @@ impl LogLine {
                 name,
                 record,
             } => are_fields(binary.as_str(), name.as_str()) && record_is_spellable(record),
-            LogLine::Stop { .. } => false,
+            LogLine::Stop { reason } => is_outer(*reason),
         }
     }
 
@@ -104,7 +107,11 @@ impl LogLine {
                 push_record(&mut line, record)?;
                 Ok(line)
             }
-            LogLine::Stop { .. } => unreachable!(),
+            LogLine::Stop { reason } => {
+                let mut line = String::from_str(alloc, "stop")?;
+                push_field(&mut line, reason_word(*reason))?;
+                Ok(line)
+            }
         }
     }
 }

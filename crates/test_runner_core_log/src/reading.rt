@@ -1,13 +1,17 @@
 // Reading an event from its line, field by field, with no memory.
 ghost use Rattle.std.specs.Prelude.{◌≡◌, [], ◌∷◌, List, ℕ, codes, MatchOption, IsErrOf};
-ghost use Rattle.test_runner_core_log.specs.Spelling.{SpellsResult, SpellsSlow, SpellsNanos, SpellsStream, SpellsRecord, SpellsFields, Spells};
+ghost use Rattle.nextest_run_events_results.specs.declared.result.ExecutionResultDescription.TheVariants as ended;
+ghost use Rattle.test_runner_core_log.specs.Spelling.{SpellsFailure, SpellsResult, SpellsSlow, SpellsNanos, SpellsStream, SpellsRecord, SpellsReason, SpellsFields, Spells};
 ghost use Rattle.test_runner_core_log.specs.Fields.{fields_of, Reads};
 ghost use Rattle.test_runner_core_log.specs.Reading.{ReadsLine, SpellsEvent};
-ghost use Rattle.test_runner_core_log.specs.Lent.{result_meant, stream_meant, record_meant, line_meant};
+ghost use Rattle.test_runner_core_log.specs.Lent.{failure_meant, failed_meant, result_meant, stream_meant, record_meant, line_meant};
 
-use super::lent::{LentLine, LentRecord, LentResult, LentStream};
+use super::lent::{LentFailure, LentLine, LentRecord, LentResult, LentStream};
 use super::log_line::LogLine;
 use super::parse_line_error::ParseLineError;
+use super::signals::is_signal;
+use nextest_config_elements_plain::{LeakTimeoutResult, SlowTimeoutResult};
+use nextest_run_events_results::CancelReason;
 use nextest_text::{i32_of_decimal, u64_of_decimal};
 use std::alloc::Global;
 
@@ -32,17 +36,58 @@ fn last_field(rest: &str) -> Option<&str>
     }
 }
 
+// A failure, and nothing behind it.
+fn failure_of(text: &str) -> Option<LentFailure>
+    ensures { Reads failure_meant (λ told. SpellsFailure told text.now) result }
+{
+    if let Some(digits) = text.strip_prefix("fail:") {
+        let code = i32_of_decimal(digits)?;
+        return if code == 0 {
+            None
+        } else {
+            Some(LentFailure::ExitCode(code))
+        };
+    }
+    let signal = i32_of_decimal(text.strip_prefix("abort:")?)?;
+    if is_signal(signal) {
+        Some(LentFailure::Signal(signal))
+    } else {
+        None
+    }
+}
+
+// A failure, and whether it left handles open too.
+fn failed_of(field: &str) -> Option<(LentFailure, bool)>
+    ensures { Reads failed_meant (λ told. SpellsResult (ended.Fail told.0 told.1) field.now) result }
+{
+    match field.strip_suffix(":leaked") {
+        Some(text) => Some((failure_of(text)?, true)),
+        None => Some((failure_of(field)?, false)),
+    }
+}
+
 fn result_of(field: &str) -> Option<LentResult>
     ensures { Reads result_meant (λ told. SpellsResult told field.now) result }
 {
-    if field == "pass" {
-        return Some(LentResult::Pass);
+    match field {
+        "pass" => Some(LentResult::Pass),
+        "leak:pass" => Some(LentResult::Leak {
+            judged: LeakTimeoutResult::Pass,
+        }),
+        "leak:fail" => Some(LentResult::Leak {
+            judged: LeakTimeoutResult::Fail,
+        }),
+        "timeout:pass" => Some(LentResult::Timeout {
+            judged: SlowTimeoutResult::Pass,
+        }),
+        "timeout:fail" => Some(LentResult::Timeout {
+            judged: SlowTimeoutResult::Fail,
+        }),
+        _ => {
+            let (failure, leaked) = failed_of(field)?;
+            Some(LentResult::Fail { failure, leaked })
+        }
     }
-    let code = i32_of_decimal(field.strip_prefix("fail:")?)?;
-    if code == 0 {
-        return None;
-    }
-    Some(LentResult::ExitCode(code))
 }
 
 fn slow_of(field: &str) -> Option<bool>
@@ -117,6 +162,27 @@ fn end_of(rest: &str) -> Option<LentLine<'_>>
     })
 }
 
+fn reason_of(word: &str) -> Option<CancelReason>
+    ensures { Reads (λ reason. reason) (λ told. SpellsReason told word.now) result }
+{
+    match word {
+        "report-error" => Some(CancelReason::ReportError),
+        "global-timeout" => Some(CancelReason::GlobalTimeout),
+        "signal" => Some(CancelReason::Signal),
+        "interrupt" => Some(CancelReason::Interrupt),
+        "second-signal" => Some(CancelReason::SecondSignal),
+        _ => None,
+    }
+}
+
+fn stop_of(rest: &str) -> Option<LentLine<'_>>
+    ensures { Reads line_meant (λ told. SpellsFields told (codes "stop" ∷ fields_of rest.now)) result }
+{
+    let word = last_field(rest)?;
+    let reason = reason_of(word)?;
+    Some(LentLine::Stop { reason })
+}
+
 // What the fields of a line say.
 fn fields_say(line: &str) -> Option<LentLine<'_>>
     ensures { Reads line_meant (λ told. SpellsFields told (fields_of line.now)) result }
@@ -126,6 +192,7 @@ fn fields_say(line: &str) -> Option<LentLine<'_>>
         "script" => script_of(rest),
         "start" => start_of(rest),
         "end" => end_of(rest),
+        "stop" => stop_of(rest),
         _ => None,
     }
 }

@@ -1,11 +1,16 @@
 // Which parts of a line have a spelling, and writing them.
-ghost use Rattle.std.specs.Prelude.{◌≡◌, ◌↔◌, ◌∷◌, ◌++◌, IsTrue, OnOk, string_bytes};
+ghost use Rattle.std.specs.Prelude.{◌≡◌, ◌↔◌, false, ◌∷◌, ◌++◌, IsTrue, OnOk, string_bytes};
 ghost use Rattle.std.specs.Str.{IsUtf8};
-ghost use Rattle.test_runner_core_log.specs.Spelling.{IsField, SpellsResult, SpellsStream};
+ghost use Rattle.nextest_run_events_results.specs.Cancel.{is_inner};
+ghost use Rattle.test_runner_core_log.specs.Spelling.{IsField, SpellsFailure, SpellsResult, SpellsSlow, SpellsStream};
 ghost use Rattle.test_runner_core_log.specs.Writing.{Appends, IsSpellable, SpellsBothStreams, SpellsRecordText};
 
+use super::signals::{is_name_of, is_signal};
 use itoa::Buffer;
-use nextest_run_events_results::{ExecutionResultDescription, FailureDescription};
+use nextest_config_elements_plain::{LeakTimeoutResult, SlowTimeoutResult};
+use nextest_run_events_results::{
+    AbortDescription, CancelReason, ExecutionResultDescription, FailureDescription,
+};
 use nextest_text::Listing;
 use std::alloc::AllocError;
 use test_runner_core_records::{Record, RecordOutput};
@@ -27,18 +32,46 @@ pub fn are_fields(first: &str, second: &str) -> bool
     is_field(first) && is_field(second)
 }
 
+/// Whether the reason comes from outside of the run.
+pub fn is_outer(reason: CancelReason) -> bool
+    ensures { IsTrue result ↔ (is_inner reason ≡ false) }
+{
+    match reason {
+        CancelReason::SetupScriptFailure => false,
+        CancelReason::TestFailure => false,
+        CancelReason::ReportError => true,
+        CancelReason::TestFailureImmediate => false,
+        CancelReason::GlobalTimeout => true,
+        CancelReason::Signal => true,
+        CancelReason::Interrupt => true,
+        CancelReason::SecondSignal => true,
+    }
+}
+
+fn failure_is_spellable(told: &FailureDescription) -> bool
+    ensures { IsTrue result ↔ IsSpellable (SpellsFailure told.now) }
+{
+    match told {
+        FailureDescription::ExitCode { code } => *code != 0,
+        FailureDescription::Abort { abort } => match abort {
+            AbortDescription::UnixSignal { signal, name } => {
+                is_signal(*signal) && is_name_of(name, *signal)
+            }
+            AbortDescription::WindowsNtStatus { .. } => false,
+            AbortDescription::WindowsJobObject => false,
+        },
+    }
+}
+
 fn result_is_spellable(told: &ExecutionResultDescription) -> bool
     ensures { IsTrue result ↔ IsSpellable (SpellsResult told.now) }
 {
     match told {
         ExecutionResultDescription::Pass => true,
-        ExecutionResultDescription::Fail { failure, leaked } => match failure {
-            FailureDescription::ExitCode { code } => *code != 0 && !*leaked,
-            FailureDescription::Abort { .. } => false,
-        },
-        ExecutionResultDescription::Leak { .. } => false,
+        ExecutionResultDescription::Leak { .. } => true,
+        ExecutionResultDescription::Fail { failure, .. } => failure_is_spellable(failure),
         ExecutionResultDescription::ExecFail => false,
-        ExecutionResultDescription::Timeout { .. } => false,
+        ExecutionResultDescription::Timeout { .. } => true,
     }
 }
 
@@ -68,23 +101,52 @@ pub fn push_field(line: &mut String, field: &str) -> Result<(), AllocError>
     line.push_str(field)
 }
 
+fn push_failure(line: &mut String, told: &FailureDescription) -> Result<(), AllocError>
+    requires { IsSpellable (SpellsFailure told.now) }
+    ensures { OnOk result (Appends (SpellsFailure told.now) (string_bytes line.old) (string_bytes line.new)) }
+{
+    match told {
+        FailureDescription::ExitCode { code } => {
+            push_field(line, "fail:")?;
+            line.push_str(Buffer::new().format(*code))
+        }
+        FailureDescription::Abort { abort } => match abort {
+            AbortDescription::UnixSignal { signal, .. } => {
+                push_field(line, "abort:")?;
+                line.push_str(Buffer::new().format(*signal))
+            }
+            AbortDescription::WindowsNtStatus { .. } => unreachable!(),
+            AbortDescription::WindowsJobObject => unreachable!(),
+        },
+    }
+}
+
 fn push_result(line: &mut String, told: &ExecutionResultDescription) -> Result<(), AllocError>
     requires { IsSpellable (SpellsResult told.now) }
     ensures { OnOk result (Appends (SpellsResult told.now) (string_bytes line.old) (string_bytes line.new)) }
 {
     match told {
         ExecutionResultDescription::Pass => push_field(line, "pass"),
-        ExecutionResultDescription::Fail { failure, .. } => match failure {
-            FailureDescription::ExitCode { code } => {
-                push_field(line, "fail:")?;
-                line.push_str(Buffer::new().format(*code))
-            }
-            FailureDescription::Abort { .. } => unreachable!(),
+        ExecutionResultDescription::Leak { result } => match result {
+            LeakTimeoutResult::Pass => push_field(line, "leak:pass"),
+            LeakTimeoutResult::Fail => push_field(line, "leak:fail"),
         },
-        ExecutionResultDescription::Leak { .. } => unreachable!(),
+        ExecutionResultDescription::Fail { failure, leaked } => {
+            push_failure(line, failure)?;
+            line.push_str(if *leaked { ":leaked" } else { "" })
+        }
         ExecutionResultDescription::ExecFail => unreachable!(),
-        ExecutionResultDescription::Timeout { .. } => unreachable!(),
+        ExecutionResultDescription::Timeout { result } => match result {
+            SlowTimeoutResult::Pass => push_field(line, "timeout:pass"),
+            SlowTimeoutResult::Fail => push_field(line, "timeout:fail"),
+        },
     }
+}
+
+fn push_slow(line: &mut String, slow: bool) -> Result<(), AllocError>
+    ensures { OnOk result (Appends (SpellsSlow slow) (string_bytes line.old) (string_bytes line.new)) }
+{
+    push_field(line, if slow { "slow" } else { "-" })
 }
 
 fn push_stream(line: &mut String, told: &Option<Listing<u8>>) -> Result<(), AllocError>
@@ -116,7 +178,7 @@ pub fn push_record(line: &mut String, told: &Record) -> Result<(), AllocError>
     ensures { OnOk result (Appends (SpellsRecordText told.now) (string_bytes line.old) (string_bytes line.new)) }
 {
     push_result(line, &told.result)?;
-    push_field(line, if told.slow { "slow" } else { "-" })?;
+    push_slow(line, told.slow)?;
     push_field(line, Buffer::new().format(told.nanos))?;
     push_output(line, &told.output)
 }

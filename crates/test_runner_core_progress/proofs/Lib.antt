@@ -1,4 +1,5 @@
 pub mod Counts
 pub mod Tallies
-pub mod Status
+pub mod Kept
+pub mod Totals
 pub mod Taken

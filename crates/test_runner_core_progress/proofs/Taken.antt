@@ -3,13 +3,16 @@ use Rattle.std.proofs.Common.{◌≡◌, ℕ, Bool, true, false, cond, ltb, leb,
 use Rattle.std.specs.Prelude.{slice_get, is_some}
 use Rattle.std.specs.Option.{option_map_or}
 use Rattle.std.proofs.lemmas.Bool.Decides.{nat_tests}
+use Rattle.nextest_config_elements_plain.specs.MaxFail.{mode_at}
+use Rattle.nextest_config_elements_plain.specs.declared.max_fail.TerminateMode.{TerminateMode}
 use Rattle.nextest_run_events_results.specs.Cancel.{graver_reason}
 use Rattle.nextest_run_events_results.specs.Result.{is_success}
 use Rattle.nextest_run_events_results.specs.declared.cancel_reason.CancelReason.{CancelReason}
 use Rattle.nextest_run_events_results.specs.declared.cancel_reason.CancelReason.TheVariants as why
 use Rattle.test_runner_core_records.specs.declared.record.Record.{Record}
-use Rattle.test_runner_core_runs.specs.State.{TestState, State, is_finished, is_running, is_finished_mark, is_running_mark}
-use Rattle.test_runner_core_runs.specs.Step.{start_of, start_from, started, end_from, attempt_ended, after_attempt, finishes, limited, with_test, script_ended, after_script, stopped, stopped_by, is_inner}
+use Rattle.test_runner_core_runs.specs.State.{TestState, State, failed_weight, is_finished, is_running, is_finished_mark, is_running_mark}
+use Rattle.test_runner_core_runs.specs.Step.{start_of, start_from, started, end_from, attempt_ended, after_attempt, finishes, limit_reason, limited, with_test, script_ended, after_script, stopped, stopped_by}
+use Rattle.nextest_run_events_results.specs.Cancel.{is_inner}
 use Rattle.test_runner_core_runs.specs.Decisions.{Decides, ShowsTest}
 use Rattle.test_runner_core_runs.specs.declared.mark.Mark.{Mark}
 use Rattle.test_runner_core_runs.specs.declared.mark.Mark.TheVariants as marks
@@ -117,3 +120,11 @@ script_leads state told failed e = by_test (is_success told.result) ∙ ap (λ (
 pub stop_leads : (state : State) (reason : CancelReason) → Decides state (events.Stopped reason) None
     → stopped state reason ≡ Ok (option_map_or (λ old. record state { reason = Some (graver_reason old reason) }) state.reason (stopped_by reason state))
 stop_leads state reason taken = let may = guard_ok (is_inner reason) refused.InnerReason _ taken.0 taken.1 in taken.1 ∙ sym may.1
+
+-- a run that isn't stopped goes by what its limit says once a test finished
+pub limited_when : (state : State) (finished : Bool) (mode : Option TerminateMode) → finished ≡ true → is_some state.reason ≡ false
+    → mode_at state.limit (failed_weight state.tests) ≡ mode → limited finished state ≡ option_map_or (λ m. stopped_by (limit_reason m) state) mode state
+limited_when state finished mode over free reached =
+    ap (λ (b : Bool). limited b state) over
+    ∙ ap (λ (b : Bool). cond (not b) (option_map_or (λ m. stopped_by (limit_reason m) state) (mode_at state.limit (failed_weight state.tests)) state) state) free
+    ∙ ap (λ (o : Option TerminateMode). option_map_or (λ m. stopped_by (limit_reason m) state) o state) reached

@@ -1,36 +1,47 @@
 -- The parts of a run's progress, and what each keeps.
-use Rattle.std.specs.Prelude.{◌≡◌, ℕ, ◌≤◌, ◌<◌, true, false, List, Some, length}
-use Rattle.std.specs.Prelude.{slice_get, slice_set, count_by}
-use Rattle.nextest_run_events_counters.specs.Rows.{fails_script}
+use Rattle.std.specs.Prelude.{◌≡◌, ℕ, ◌-◌, ◌≤◌, ◌<◌, Bool, true, false, List, Some, is_some, length, map}
+use Rattle.std.specs.Prelude.{slice_get, slice_set}
+use Rattle.nextest_config_elements_plain.specs.declared.max_fail.MaxFail.{MaxFail}
+use Rattle.nextest_run_events_counters.specs.declared.run_stats.RunStats.{RunStats}
 use Rattle.test_runner_core_records.specs.declared.record.Record.{Record}
-use Rattle.test_runner_core_runs.specs.State.{TestState, is_finished, is_running, is_running_mark, failed_weight}
+use Rattle.test_runner_core_runs.specs.State.{TestState, State, is_finished, is_running, is_running_mark, is_finished_mark}
 use Rattle.test_runner_core_runs.specs.declared.mark.Mark.{Mark}
 use Rattle.test_runner_core_runs.specs.declared.mark.Mark.TheVariants as marks
+use Rattle.test_runner_core_progress.specs.Statuses.{ScriptStatus, AreStatusesFrom, AreScriptStatuses, record_of}
+use Rattle.test_runner_core_progress.specs.Slots.{SlotState, KeepsRule}
+use Rattle.test_runner_core_progress.specs.declared.planned_test.PlannedTest.{PlannedTest}
 
 -- how many scripts are to run, and the records of those that ended
 pub record ScriptState : Type 0 where
   pub planned : ℕ
   pub ended : List Record
 
--- the number of ended scripts that count as failing
-abbrev pub failed_scripts : List Record → ℕ
-failed_scripts = count_by (λ told. fails_script told.result)
+-- scripts that ended have the statuses of their records; they are no more than are to run, which have room
+pub record KeepsScripts (records : List Record) (statuses : List ScriptStatus) (planned room : ℕ) : Type 0 where
+  pub made : AreScriptStatuses records statuses
+  pub within : length statuses ≤ planned
+  pub room_left : planned ≤ room
 
--- the records are no more than the scripts that are to run, which have room, and a number is that of the failing ones
-pub record IsScriptTally (records : List Record) (scripts room failures : ℕ) : Type 0 where
-  pub within : length records ≤ scripts
-  pub room_left : scripts ≤ room
-  pub failing : failures ≡ failed_scripts records
+-- an attempt ended and none runs
+abbrev pub is_over_once : Mark → Bool
+is_over_once marks.Waiting = false
+is_over_once marks.Running = false
+is_over_once marks.Between = true
+is_over_once (marks.Finished reason) = true
 
--- where an attempt runs there is room for its record
-abbrev pub HasRoom : Mark → ℕ → ℕ → Type 0
-HasRoom mark records room = is_running_mark mark ≡ true → records < room
+-- a test keeps the statuses of its records, at most as many as it has tries; where an attempt runs there is room for its
+-- end, and where one ended and none runs there is one
+pub record KeepsTest (plan : PlannedTest) (slot : SlotState) (mark : Mark) : Type 0 where
+  pub made : AreStatusesFrom 1 plan.tries (map record_of slot.statuses) slot.statuses
+  pub rule : KeepsRule plan.flaky slot.rule
+  pub room : is_running_mark mark ≡ true → 0 < slot.room
+  pub ended : is_over_once mark ≡ true → is_some slot.rule ≡ true
+  pub tries_left : is_finished_mark mark ≡ false → length slot.statuses ≤ plan.tries - 1
 
--- numbers are those of the running, the finished and the failing tests
-pub record IsTally (tests : List TestState) (in_progress over failures : ℕ) : Type 0 where
-  pub running : in_progress ≡ count_by is_running tests
-  pub finished : over ≡ count_by is_finished tests
-  pub failing : failures ≡ failed_weight tests
+-- the state of a run that is kept in these parts; why it is stopped and how many tests were skipped is kept with the counters
+abbrev pub state_of : ScriptState → List TestState → RunStats → MaxFail → State
+state_of scripts tests stats limit =
+    record { planned_scripts = scripts.planned; scripts = scripts.ended; tests = tests; limit = limit; skipped = stats.skipped; reason = stats.cancel_reason }
 
 -- the test at a place may start: there is one, it doesn't run and isn't over
 pub record IsStartable (tests : List TestState) (place : ℕ) : Type 0 where

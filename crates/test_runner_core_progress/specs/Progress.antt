@@ -1,7 +1,9 @@
 -- What an event's call answers, and what it leaves.
-use Rattle.std.specs.Prelude.{◌≡◌, ℕ, Result, Ok, Err}
-use Rattle.test_runner_core_runs.specs.State.{State}
-use Rattle.test_runner_core_runs.specs.Step.{step}
+use Rattle.std.specs.Prelude.{◌≡◌, ℕ, Bool, Some, Result, Ok, Err, slice_get}
+use Rattle.test_runner_core_records.specs.declared.record.Record.{Record}
+use Rattle.test_runner_core_runs.specs.State.{TestState, State}
+use Rattle.test_runner_core_runs.specs.Step.{after_attempt, finishes, step}
+use Rattle.test_runner_core_progress.specs.Parts.{ChangesAt}
 use Rattle.test_runner_core_runs.specs.declared.event.Event.{Event}
 use Rattle.test_runner_core_runs.specs.declared.event.Event.TheVariants as events
 use Rattle.test_runner_core_runs.specs.declared.step_refusal.StepRefusal.{StepRefusal}
@@ -18,3 +20,9 @@ abbrev pub Starts : {T : Type 0} → State → ℕ → Result T StartFault → S
 Starts old test (Ok done) new = step old (events.Started test) ≡ Ok new
 Starts old test (Err (fault.Refused refusal)) new = (step old (events.Started test) ≡ Err refusal) × (new ≡ old)
 Starts old test (Err fault.OutOfMemory) new = new ≡ old
+
+-- the attempt of the test at a place ended, which finishes the test or not; the limit isn't looked at yet
+pub record EndsAttempt (old : State) (place : ℕ) (told : Record) (finished : Bool) (new : State) : Type 0 where
+  pub rest : new ≡ record old { tests = new.tests }
+  pub test : ChangesAt place (λ test. after_attempt old test told) old.tests new.tests
+  pub is_finished : (test : TestState) → slice_get old.tests place ≡ Some test → finished ≡ finishes old test told

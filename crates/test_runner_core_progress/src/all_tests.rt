@@ -1,43 +1,43 @@
 // How far the tests of a run are.
-ghost use Rattle.std.specs.Prelude.{◌≡◌, ◌<◌, not, [], map, length, slice_get, count_by};
-ghost use Rattle.std.specs.Prelude.{Some, IfOk, OnOk, OnErr};
+ghost use Rattle.std.specs.Prelude.{◌≡◌, ◌^◌, ◌<◌, not, [], map, length, slice_get};
+ghost use Rattle.std.specs.Prelude.{Some, MatchOption, IfOk, OnOk, OnErr};
 ghost use Rattle.std.specs.List.{list_all};
 ghost use Rattle.std.specs.Option.{option_map, option_map_or};
-ghost use Rattle.test_runner_core_runs.specs.State.{TestState, State, waiting, counts, failed_weight};
-ghost use Rattle.test_runner_core_runs.specs.State.{is_finished, is_running};
-ghost use Rattle.nextest_run_events_counters.specs.Rows.{fails_test};
+ghost use Rattle.nextest_run_events_counters.specs.Counting.{CanCountTest};
+ghost use Rattle.test_runner_core_runs.specs.State.{TestState, State, waiting, is_running};
 ghost use Rattle.test_runner_core_runs.specs.Step.{after_attempt, finished_by, finishes};
 ghost use Rattle.test_runner_core_runs.specs.declared.mark.Mark.TheVariants as marks;
+ghost use Rattle.test_runner_core_progress.specs.Counted.{with_finished, with_tests, CountsNoTest};
 ghost use Rattle.test_runner_core_progress.specs.Plans.{test_plan};
 ghost use Rattle.test_runner_core_progress.specs.Parts.{IsStartable, IsRunningAt, ChangesAt};
+ghost use Rattle.test_runner_core_progress.specs.Statuses.{IsAttempts};
 
 use crate::planned_test::PlannedTest;
 use crate::test_progress::TestProgress;
+use nextest_run_events_counters::RunStats;
 use nextest_run_events_results::CancelReason;
+use nextest_run_events_statuses::{ExecutionStatuses, LiveSpec};
 use std::alloc::{AllocError, Global};
 use std::marker::Model;
 use test_runner_core_records::Record;
 use test_runner_core_runs::Mark;
 
-// How far the tests of a run are, counted. In a clause they are the states of the tests, by their places.
+// How far the tests of a run are, and how many run. In a clause they are the states of the tests, by their places.
 #[derive(Drop)]
 pub(crate) struct AllTests {
     tests: Vec<TestProgress>,
     running: usize,
-    finished: usize,
-    failing: usize,
 }
 
 impl Model for AllTests {
-    ghost use Rattle.std.specs.Prelude.{List};
-    ghost use Rattle.test_runner_core_runs.specs.State.{TestState};
-    ghost use Rattle.test_runner_core_progress.specs.Parts.{IsTally};
+    ghost use Rattle.std.specs.Prelude.{◌≡◌, List, count_by};
+    ghost use Rattle.test_runner_core_runs.specs.State.{TestState, is_running};
 
     ghost Value = { List TestState };
 
     ghost view = { λ a. a.tests.items };
 
-    ghost invariant = { λ a. IsTally a.tests.items a.running a.finished a.failing };
+    ghost invariant = { λ a. a.running ≡ count_by is_running a.tests.items };
 }
 
 impl AllTests {
@@ -48,14 +48,13 @@ impl AllTests {
         Ok(AllTests {
             tests: waiting_tests(alloc, planned)?,
             running: 0,
-            finished: 0,
-            failing: 0,
         })
     }
 
     // How many they are.
     pub(crate) fn len(&self) -> usize
-        ensures { result ≡ length self.now }
+        ensures count { result ≡ length self.now }
+        ensures bound { result < 2 ^ 63 }
     {
         self.tests.len()
     }
@@ -67,27 +66,6 @@ impl AllTests {
         self.running == 0
     }
 
-    // Whether all are finished.
-    pub(crate) fn all_finished(&self) -> bool
-        ensures { result ≡ list_all is_finished self.now }
-    {
-        self.finished == self.tests.len()
-    }
-
-    // How many are finished.
-    pub(crate) fn finished(&self) -> usize
-        ensures { result ≡ count_by is_finished self.now }
-    {
-        self.finished
-    }
-
-    // How many are finished and count as failing.
-    pub(crate) fn failing(&self) -> usize
-        ensures { result ≡ failed_weight self.now }
-    {
-        self.failing
-    }
-
     // How far the test at a place is.
     pub(crate) fn mark(&self, place: usize) -> Option<Mark>
         ensures { result ≡ option_map (λ test. test.mark) (slice_get self.now place) }
@@ -96,41 +74,60 @@ impl AllTests {
         Some(test.mark())
     }
 
-    // The records of the test at a place, none where there is no test.
-    pub(crate) fn records(&self, place: usize) -> &[Record]
-        ensures { result.now ≡ option_map_or (λ test. test.records) (slice_get self.now place) [] }
+    // The ended attempts of the test at a place; `None` where there is no test, or none ended.
+    pub(crate) fn attempts(&self, place: usize) -> Option<&ExecutionStatuses<LiveSpec>>
+        ensures { IsAttempts (slice_get self.now place) result }
     {
-        match self.tests.as_slice().get(place) {
-            Some(test) => test.records(),
-            None => &[],
-        }
+        let test = self.tests.as_slice().get(place)?;
+        test.attempts()
     }
 
     // An attempt of the test at a place starts. An `Err` changes nothing.
-    pub(crate) fn start(&mut self, place: usize) -> Result<(), AllocError>
+    pub(crate) fn start(&mut self, alloc: Global, place: usize) -> Result<(), AllocError>
         requires { IsStartable self.old place }
         ensures ok { OnOk result (ChangesAt place (λ test. record test { mark = marks.Running }) self.old self.new) }
         ensures err { OnErr result (self.new ≡ self.old) }
     {
-        start_at(&mut self.tests, place)?;
+        start_at(&mut self.tests, alloc, place)?;
         self.running += 1;
         Ok(())
     }
 
     // The attempt of the test at a place that runs ends in a run with this reason: whether that finishes the test.
-    pub(crate) fn end(&mut self, place: usize, record: Record, reason: Option<CancelReason>) -> bool
+    pub(crate) fn end(
+        &mut self,
+        alloc: Global,
+        place: usize,
+        record: Record,
+        reason: Option<CancelReason>,
+    ) -> bool
         requires { IsRunningAt self.old place }
         ensures after { (state : State) → state.reason ≡ reason
             → ChangesAt place (λ test. after_attempt state test «record») self.old self.new }
         ensures finished { (state : State) (test : TestState) → state.reason ≡ reason
             → slice_get self.old place ≡ Some test → result ≡ finishes state test «record» }
+        ensures bound { length self.old < 2 ^ 63 }
     {
-        let finished = end_at(&mut self.tests, place, record, reason);
-        let failing = is_failing_at(&self.tests, place);
+        let finished = end_at(&mut self.tests, alloc, place, record, reason);
         self.running -= 1;
-        self.finished += usize::from(finished);
-        self.failing += usize::from(failing);
         finished
+    }
+
+    // Counts the test at a place, where it is finished.
+    pub(crate) fn count_at(&self, place: usize, stats: &mut RunStats)
+        requires place { place < length self.now }
+        requires below_maximum { CanCountTest stats.old }
+        ensures { (test : TestState) → slice_get self.now place ≡ Some test → stats.new ≡ with_finished test stats.old }
+    {
+        self.tests[place].count_in(stats);
+    }
+
+    // Counts all tests that are finished.
+    pub(crate) fn count_all(&self, stats: &mut RunStats)
+        requires uncounted { CountsNoTest stats.old }
+        ensures { stats.new ≡ with_tests self.now stats.old }
+    {
+        count_each(self.tests.as_slice(), stats);
     }
 
     // The run is stopped: the tests between two attempts are finished.
@@ -138,8 +135,6 @@ impl AllTests {
         ensures { self.new ≡ map (finished_by reason) self.old }
     {
         finish_between(&mut self.tests, reason);
-        self.finished = count_finished(self.tests.as_slice());
-        self.failing = count_failing(self.tests.as_slice());
     }
 }
 
@@ -149,25 +144,26 @@ fn waiting_tests(alloc: Global, planned: &[PlannedTest]) -> Result<Vec<TestProgr
 {
     let mut tests = Vec::with_capacity(alloc, planned.len())?;
     for plan in planned {
-        tests.push(TestProgress::new(alloc, *plan))?;
+        tests.push(TestProgress::new(*plan))?;
     }
     Ok(tests)
 }
 
 // An attempt of the test at a place starts. An `Err` changes nothing.
-fn start_at(tests: &mut Vec<TestProgress>, place: usize) -> Result<(), AllocError>
-    requires { place < length tests.old.items }
+fn start_at(tests: &mut Vec<TestProgress>, alloc: Global, place: usize) -> Result<(), AllocError>
+    requires { IsStartable tests.old.items place }
     ensures ok { OnOk result
         (ChangesAt place (λ test. record test { mark = marks.Running }) tests.old.items tests.new.items) }
     ensures err { OnErr result (tests.new.items ≡ tests.old.items) }
 {
     let test = &mut tests[place];
-    test.start()
+    test.start(alloc)
 }
 
 // The attempt of the test at a place that runs ends: whether that finishes the test.
 fn end_at(
     tests: &mut Vec<TestProgress>,
+    alloc: Global,
     place: usize,
     record: Record,
     reason: Option<CancelReason>,
@@ -179,15 +175,7 @@ fn end_at(
         → slice_get tests.old.items place ≡ Some test → result ≡ finishes state test «record» }
 {
     let test = &mut tests[place];
-    test.end(record, reason)
-}
-
-// Whether the test at a place is finished and counts as failing.
-fn is_failing_at(tests: &[TestProgress], place: usize) -> bool
-    requires { place < length tests.now }
-    ensures { (test : TestState) → slice_get tests.now place ≡ Some test → result ≡ counts fails_test test }
-{
-    tests[place].is_failing()
+    test.end(alloc, record, reason)
 }
 
 // The tests between two attempts are finished.
@@ -206,16 +194,13 @@ fn finish_each(tests: &mut [TestProgress], reason: CancelReason)
     }
 }
 
-// How many tests are finished.
-fn count_finished(tests: &[TestProgress]) -> usize
-    ensures { result ≡ count_by is_finished tests.now }
+// Counts each of the tests that is finished.
+fn count_each(tests: &[TestProgress], stats: &mut RunStats)
+    requires uncounted { CountsNoTest stats.old }
+    requires bound { length tests.now < 2 ^ 63 }
+    ensures { stats.new ≡ with_tests tests.now stats.old }
 {
-    tests.iter().filter(|test| test.is_finished()).count()
-}
-
-// How many tests are finished and count as failing.
-fn count_failing(tests: &[TestProgress]) -> usize
-    ensures { result ≡ failed_weight tests.now }
-{
-    tests.iter().filter(|test| test.is_failing()).count()
+    for test in tests {
+        test.count_in(stats);
+    }
 }

@@ -5,7 +5,9 @@
 mod all_tests;
 mod planned_test;
 mod progress;
+mod recorded;
 mod scripts;
+mod slot;
 mod start_fault;
 mod test_progress;
 #[cfg(test)]

@@ -1,60 +1,66 @@
 // How far a run is.
-ghost use Rattle.std.specs.Prelude.{◌≡◌, [], None, Some, IfOk, slice_get, if◌then◌else◌};
+ghost use Rattle.std.specs.Prelude.{◌≡◌, ◌<◌, ◌==◌, ◌&&◌, not, [], ◌∷◌, ◌++◌, List, None, Some, IfOk, is_some, length, slice_get, if◌then◌else◌};
+ghost use Rattle.std.specs.List.{list_all};
 ghost use Rattle.std.specs.Option.{option_map, option_map_or};
 ghost use Rattle.nextest_run_events_results.specs.Cancel.{graver_reason};
 ghost use Rattle.nextest_run_events_results.specs.Result.{is_success};
 ghost use Rattle.nextest_run_events_results.specs.declared.cancel_reason.CancelReason.TheVariants as why;
-ghost use Rattle.test_runner_core_runs.specs.Counters.{status};
+ghost use Rattle.test_runner_core_runs.specs.Counters.{counters, status, summary};
 ghost use Rattle.test_runner_core_runs.specs.Runs.{is_complete};
-ghost use Rattle.test_runner_core_runs.specs.State.{State, initial, failed_weight};
+ghost use Rattle.test_runner_core_runs.specs.State.{TestState, initial, is_finished, is_running};
 ghost use Rattle.test_runner_core_runs.specs.Step.{limited, stopped_by};
 ghost use Rattle.test_runner_core_runs.specs.declared.event.Event.TheVariants as events;
+ghost use Rattle.test_runner_core_progress.specs.Counted.{CountsNoTest, recounted, with_tests};
+ghost use Rattle.test_runner_core_progress.specs.Parts.{IsRunningAt};
 ghost use Rattle.test_runner_core_progress.specs.Plans.{plan_of};
-ghost use Rattle.test_runner_core_progress.specs.Progress.{Takes, Starts};
+ghost use Rattle.test_runner_core_progress.specs.Progress.{Takes, Starts, EndsAttempt};
+ghost use Rattle.test_runner_core_progress.specs.Statuses.{IsAttempts};
 
 use crate::all_tests::AllTests;
 use crate::planned_test::PlannedTest;
+use crate::recorded::script_status;
 use crate::scripts::Scripts;
 use crate::start_fault::StartFault;
 use nextest_config_elements_plain::{MaxFail, TerminateMode};
+use nextest_run_events_counters::{FinalRunStats, RunStats};
 use nextest_run_events_results::CancelReason;
+use nextest_run_events_statuses::{ExecutionStatuses, LiveSpec};
 use std::alloc::{AllocError, Global};
 use std::marker::Model;
 use test_runner_core_records::Record;
 use test_runner_core_runs::{
-    Mark, StepRefusal, end_refusal, script_refusal, start_refusal, stop_refusal,
+    Mark, StepRefusal, end_refusal, exit_status, script_refusal, start_refusal, stop_refusal,
 };
 
 /// How far a run is. In a clause it is the state of the run.
 ///
-/// Each event takes constant time, but the one that stops the run goes over all tests once.
+/// Each event takes constant time, but the one that stops the run goes over all tests.
 #[derive(Drop)]
 pub struct Progress {
+    alloc: Global,
     scripts: Scripts,
     tests: AllTests,
+    // The counters, with the reason why the run is stopped.
+    stats: RunStats,
     limit: MaxFail,
-    skipped: usize,
-    reason: Option<CancelReason>,
 }
 
 impl Model for Progress {
+    ghost use Rattle.std.specs.Prelude.{◌≡◌};
+    ghost use Rattle.test_runner_core_runs.specs.Counters.{counters};
     ghost use Rattle.test_runner_core_runs.specs.State.{State};
+    ghost use Rattle.test_runner_core_progress.specs.Parts.{state_of};
 
     ghost Value = { State };
 
-    ghost view = { λ p. record {
-      planned_scripts = p.scripts.planned;
-      scripts = p.scripts.ended;
-      tests = p.tests;
-      limit = p.limit;
-      skipped = p.skipped;
-      reason = p.reason;
-    } };
+    ghost view = { λ p. state_of p.scripts p.tests p.stats p.limit };
+
+    ghost invariant = { λ p. p.stats ≡ counters (state_of p.scripts p.tests p.stats p.limit) };
 }
 
 impl Progress {
     /// The run in which nothing ended, of so many scripts and of these tests, where `skipped` others were skipped.
-    /// Makes the room for each script's record and each test's state, and only want of memory refuses it.
+    /// Makes the room for each script's status and each test's state, and only want of memory refuses it.
     pub fn new(
         alloc: Global,
         scripts: usize,
@@ -65,15 +71,20 @@ impl Progress {
         ensures { IfOk result (λ progress. progress ≡ initial (plan_of scripts tests.now limit skipped)) }
     {
         Ok(Progress {
+            alloc,
             scripts: Scripts::new(alloc, scripts)?,
             tests: AllTests::new(alloc, tests)?,
+            stats: RunStats {
+                initial_run_count: tests.len(),
+                setup_scripts_initial_count: scripts,
+                skipped,
+                ..RunStats::default()
+            },
             limit,
-            skipped,
-            reason: None,
         })
     }
 
-    /// An attempt of the test at a place starts: reserves the room of its record. An `Err` says why it can't start
+    /// An attempt of the test at a place starts: reserves the room of its status. An `Err` says why it can't start
     /// now, or that there was no memory, and leaves everything as it was.
     pub fn start(&mut self, test: usize) -> Result<(), StartFault>
         ensures { Starts self.old test result self.new }
@@ -82,10 +93,11 @@ impl Progress {
             return Err(StartFault::Refused(StepRefusal::UnknownTest));
         };
         let (planned, ended) = (self.scripts.planned(), self.scripts.ended());
-        if let Some(refusal) = start_refusal(mark, planned, ended, self.reason.is_some()) {
+        let is_stopped = self.stats.cancel_reason.is_some();
+        if let Some(refusal) = start_refusal(mark, planned, ended, is_stopped) {
             return Err(StartFault::Refused(refusal));
         }
-        self.tests.start(test)?;
+        self.tests.start(self.alloc, test)?;
         Ok(())
     }
 
@@ -100,10 +112,21 @@ impl Progress {
         if let Some(refusal) = end_refusal(mark) {
             return Err(refusal);
         }
-        let finished = self.tests.end(test, record, self.reason);
-        let exceeded = limit_stop(finished, self.reason, self.limit, self.tests.failing());
+        let finished = self.end(test, record);
+        let exceeded = self.limit_stop(finished);
         self.stop_for(exceeded);
         Ok(())
+    }
+
+    // The attempt of the test at a place that runs ended: whether that finishes the test.
+    fn end(&mut self, test: usize, record: Record) -> bool
+        requires { IsRunningAt self.old.tests test }
+        ensures { EndsAttempt self.old test «record» result self.new }
+    {
+        let reason = self.stats.cancel_reason;
+        let finished = self.tests.end(self.alloc, test, record, reason);
+        self.tests.count_at(test, &mut self.stats);
+        finished
     }
 
     /// The script at a place ended. Takes no memory. An `Err` says why that can't be, and leaves everything as it
@@ -112,13 +135,24 @@ impl Progress {
         ensures { Takes self.old (events.ScriptEnded script «record») result self.new }
     {
         let (planned, ended) = (self.scripts.planned(), self.scripts.ended());
-        if let Some(refusal) = script_refusal(script, planned, ended, self.reason.is_some()) {
+        let is_stopped = self.stats.cancel_reason.is_some();
+        if let Some(refusal) = script_refusal(script, planned, ended, is_stopped) {
             return Err(refusal);
         }
         let failed = script_stop(&record);
-        self.scripts.end(record);
+        self.end_script(record);
         self.stop_for(failed);
         Ok(())
+    }
+
+    // The next script ended.
+    fn end_script(&mut self, record: Record)
+        requires { length self.old.scripts < self.old.planned_scripts }
+        ensures { self.new ≡ record self.old { scripts = self.old.scripts ++ «record» ∷ [] } }
+    {
+        let status = script_status(self.alloc, record);
+        self.stats.on_setup_script_finished(&status);
+        self.scripts.end(status);
     }
 
     /// The run was told to stop. Takes no memory. An `Err` says why that can't be, and leaves everything as it was.
@@ -128,8 +162,8 @@ impl Progress {
         if let Some(refusal) = stop_refusal(reason) {
             return Err(refusal);
         }
-        match self.reason {
-            Some(old) => self.reason = Some(graver(old, reason)),
+        match self.stats.cancel_reason {
+            Some(old) => self.stats.cancel_reason = Some(graver(old, reason)),
             None => self.stop_for(Some(reason)),
         }
         Ok(())
@@ -141,7 +175,26 @@ impl Progress {
     {
         if let Some(new) = reason {
             self.tests.stop(new);
-            self.reason = reason;
+            let mut stats = without_tests(&self.stats);
+            self.tests.count_all(&mut stats);
+            stats.cancel_reason = reason;
+            self.stats = stats;
+        }
+    }
+
+    // Why a run that isn't stopped is stopped now that a test finished, if it is: what failed reaches the limit.
+    fn limit_stop(&self, finished: bool) -> Option<CancelReason>
+        ensures { limited finished self.now ≡ option_map_or (λ new. stopped_by new self.now) result self.now }
+    {
+        if !finished || self.stats.cancel_reason.is_some() {
+            return None;
+        }
+        // No more fail than there are: so their number fits its type.
+        let _count = self.tests.len();
+        match self.limit.is_exceeded(self.stats.failed_count()) {
+            Some(TerminateMode::Wait) => Some(CancelReason::TestFailure),
+            Some(TerminateMode::Immediate) => Some(CancelReason::TestFailureImmediate),
+            None => None,
         }
     }
 
@@ -149,28 +202,45 @@ impl Progress {
     pub fn is_complete(&self) -> bool
         ensures { result ≡ is_complete self.now }
     {
-        let all_over = self.scripts.all_ended() && self.tests.all_finished();
-        let is_still = self.reason.is_some() && self.tests.none_runs();
-        all_over || is_still
+        self.is_over() || self.is_still()
+    }
+
+    // Whether all scripts and tests finished.
+    fn is_over(&self) -> bool
+        ensures { result ≡ (length self.now.scripts == self.now.planned_scripts && list_all is_finished self.now.tests) }
+    {
+        let all_scripts = self.scripts.ended() == self.scripts.planned();
+        all_scripts && self.stats.finished_count == self.stats.initial_run_count
+    }
+
+    // Whether the run is stopped and nothing runs.
+    fn is_still(&self) -> bool
+        ensures { result ≡ (is_some self.now.reason && list_all (λ test. not (is_running test)) self.now.tests) }
+    {
+        self.stats.cancel_reason.is_some() && self.tests.none_runs()
+    }
+
+    /// The counters so far.
+    pub fn stats(&self) -> RunStats
+        ensures { result ≡ counters self.now }
+    {
+        self.stats
+    }
+
+    /// What the counters come to so far.
+    pub fn summary(&self) -> FinalRunStats
+        ensures { result ≡ summary self.now }
+    {
+        // No more fail than there are: so the numbers of failures fit their type.
+        let _counts = (self.scripts.ended(), self.tests.len());
+        self.stats.summarize_final()
     }
 
     /// The exit status so far.
     pub fn status(&self) -> u8
         ensures { result ≡ status self.now }
     {
-        if self.scripts.failing() > 0 {
-            return 105;
-        }
-        if self.scripts.ended() < self.scripts.planned() {
-            return 105;
-        }
-        if self.tests.failing() > 0 {
-            return 100;
-        }
-        if self.tests.finished() < self.tests.len() {
-            return 100;
-        }
-        if self.tests.finished() == 0 { 4 } else { 0 }
+        exit_status(self.summary())
     }
 
     /// How far the test at a place is; `None` where the plan has no such place.
@@ -180,33 +250,30 @@ impl Progress {
         self.tests.mark(test)
     }
 
-    /// The records of the ended attempts of the test at a place, in their order; none where the plan has no such
-    /// place.
-    pub fn records(&self, test: usize) -> &[Record]
-        ensures { result.now ≡ option_map_or (λ t. t.records) (slice_get self.now.tests test) [] }
+    /// The ended attempts of the test at a place; `None` where the plan has no such place, or none ended.
+    pub fn attempts(&self, test: usize) -> Option<&ExecutionStatuses<LiveSpec>>
+        ensures { IsAttempts (slice_get self.now.tests test) result }
     {
-        self.tests.records(test)
+        self.tests.attempts(test)
     }
 }
 
-// Why a run that isn't stopped is stopped now that a test finished, if it is: what failed reaches the limit.
-fn limit_stop(
-    finished: bool,
-    reason: Option<CancelReason>,
-    limit: MaxFail,
-    failing: usize,
-) -> Option<CancelReason>
-    ensures { (state : State) → state.reason ≡ reason → state.limit ≡ limit
-        → failed_weight state.tests ≡ failing
-        → limited finished state ≡ option_map_or (λ new. stopped_by new state) result state }
+// The counters with no test counted.
+fn without_tests(stats: &RunStats) -> RunStats
+    ensures none { CountsNoTest result }
+    ensures rest { (tests : List TestState) → with_tests tests result ≡ recounted tests stats.now }
 {
-    if !finished || reason.is_some() {
-        return None;
-    }
-    match limit.is_exceeded(failing) {
-        Some(TerminateMode::Wait) => Some(CancelReason::TestFailure),
-        Some(TerminateMode::Immediate) => Some(CancelReason::TestFailureImmediate),
-        None => None,
+    RunStats {
+        initial_run_count: stats.initial_run_count,
+        setup_scripts_initial_count: stats.setup_scripts_initial_count,
+        setup_scripts_finished_count: stats.setup_scripts_finished_count,
+        setup_scripts_passed: stats.setup_scripts_passed,
+        setup_scripts_failed: stats.setup_scripts_failed,
+        setup_scripts_exec_failed: stats.setup_scripts_exec_failed,
+        setup_scripts_timed_out: stats.setup_scripts_timed_out,
+        skipped: stats.skipped,
+        cancel_reason: stats.cancel_reason,
+        ..RunStats::default()
     }
 }
 

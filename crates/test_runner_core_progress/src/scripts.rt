@@ -1,41 +1,38 @@
 // The setup scripts of a run.
-ghost use Rattle.std.specs.Prelude.{◌≡◌, ◌==◌, ◌<◌, [], ◌∷◌, ◌++◌, IfOk, length};
-ghost use Rattle.nextest_run_events_counters.specs.Rows.{fails_script};
-ghost use Rattle.test_runner_core_progress.specs.Parts.{failed_scripts};
+ghost use Rattle.std.specs.Prelude.{◌≡◌, ◌^◌, ◌<◌, [], ◌∷◌, ◌++◌, IfOk, length};
+ghost use Rattle.test_runner_core_progress.specs.Statuses.{IsScriptStatusOf, script_record_of};
 
-use nextest_run_events_results::ExecutionResultDescription;
+use nextest_run_events_statuses::{LiveSpec, SetupScriptExecuteStatus};
 use std::alloc::{AllocError, Global};
 use std::marker::Model;
-use test_runner_core_records::Record;
 
 // The setup scripts of a run. In a clause it is how many are to run, and the records of those that ended.
 #[derive(Drop)]
 pub(crate) struct Scripts {
     planned: usize,
-    records: Vec<Record>,
-    failing: usize,
+    statuses: Vec<SetupScriptExecuteStatus<LiveSpec>>,
 }
 
 impl Model for Scripts {
-    ghost use Rattle.std.specs.Prelude.{◌≡◌, ◌≤◌, vec_capacity};
-    ghost use Rattle.test_runner_core_progress.specs.Parts.{ScriptState, IsScriptTally};
+    ghost use Rattle.std.specs.Prelude.{map, vec_capacity};
+    ghost use Rattle.test_runner_core_progress.specs.Parts.{ScriptState, KeepsScripts};
+    ghost use Rattle.test_runner_core_progress.specs.Statuses.{script_record_of};
 
     ghost Value = { ScriptState };
 
-    ghost view = { λ s. record { planned = s.planned; ended = s.records.items } };
+    ghost view = { λ s. record { planned = s.planned; ended = map script_record_of s.statuses.items } };
 
-    ghost invariant = { λ s. IsScriptTally s.records.items s.planned (vec_capacity s.records) s.failing };
+    ghost invariant = { λ s. KeepsScripts (map script_record_of s.statuses.items) s.statuses.items s.planned (vec_capacity s.statuses) };
 }
 
 impl Scripts {
-    // So many scripts, of which none ended. Makes the room of their records.
+    // So many scripts, of which none ended. Makes the room of their statuses.
     pub(crate) fn new(alloc: Global, planned: usize) -> Result<Scripts, AllocError>
         ensures { IfOk result (λ scripts. scripts ≡ record { planned = planned; ended = [] }) }
     {
         Ok(Scripts {
             planned,
-            records: Vec::with_capacity(alloc, planned)?,
-            failing: 0,
+            statuses: Vec::with_capacity(alloc, planned)?,
         })
     }
 
@@ -48,42 +45,18 @@ impl Scripts {
 
     // How many ended.
     pub(crate) fn ended(&self) -> usize
-        ensures { result ≡ length self.now.ended }
+        ensures count { result ≡ length self.now.ended }
+        ensures bound { result < 2 ^ 63 }
     {
-        self.records.len()
-    }
-
-    // Whether all ended.
-    pub(crate) fn all_ended(&self) -> bool
-        ensures { result ≡ (length self.now.ended == self.now.planned) }
-    {
-        self.records.len() == self.planned
-    }
-
-    // How many ended ones count as failing.
-    pub(crate) fn failing(&self) -> usize
-        ensures { result ≡ failed_scripts self.now.ended }
-    {
-        self.failing
+        self.statuses.len()
     }
 
     // The next script ended. Takes no memory.
-    pub(crate) fn end(&mut self, record: Record)
-        requires { length self.old.ended < self.old.planned }
-        ensures { self.new ≡ record self.old { ended = self.old.ended ++ «record» ∷ [] } }
+    pub(crate) fn end(&mut self, status: SetupScriptExecuteStatus<LiveSpec>)
+        requires planned { length self.old.ended < self.old.planned }
+        requires made { IsScriptStatusOf (script_record_of status) status }
+        ensures { self.new ≡ record self.old { ended = self.old.ended ++ script_record_of status ∷ [] } }
     {
-        let fails = is_failure(&record.result);
-        self.records.push_reserved(record);
-        self.failing += usize::from(fails);
-    }
-}
-
-// Whether a script that ended so counts as failing.
-fn is_failure(ended: &ExecutionResultDescription) -> bool
-    ensures { result ≡ fails_script ended.now }
-{
-    match ended {
-        ExecutionResultDescription::Timeout { .. } => true,
-        _ => !ended.is_success(),
+        self.statuses.push_reserved(status);
     }
 }

@@ -1,15 +1,20 @@
 // How far one test is.
-ghost use Rattle.std.specs.Prelude.{◌≡◌, ◌||◌, ◌&&◌, not, OnOk, OnErr};
-ghost use Rattle.nextest_run_events_counters.specs.Rows.{fails_test, forbids_late};
+ghost use Rattle.std.specs.Prelude.{◌≡◌, ◌||◌, false, nat_le, is_some, [], MatchOption, OnOk, OnErr, if◌then◌else◌};
 ghost use Rattle.nextest_run_events_results.specs.Result as results;
-ghost use Rattle.test_runner_core_runs.specs.State.{State, counts, waiting, is_finished};
+ghost use Rattle.nextest_run_events_counters.specs.Counting.{CanCountTest};
+ghost use Rattle.test_runner_core_runs.specs.State.{State, waiting, is_finished};
 ghost use Rattle.test_runner_core_runs.specs.Step.{after_attempt, finished_by, finishes};
 ghost use Rattle.test_runner_core_runs.specs.declared.mark.Mark.TheVariants as marks;
+ghost use Rattle.test_runner_core_progress.specs.Counted.{with_finished};
 ghost use Rattle.test_runner_core_progress.specs.Plans.{test_plan};
+ghost use Rattle.test_runner_core_progress.specs.Statuses.{AreAttempts};
 
 use crate::planned_test::PlannedTest;
-use nextest_config_elements_plain::FlakyResult;
+use crate::recorded::execute_status;
+use crate::slot::Slot;
+use nextest_run_events_counters::RunStats;
 use nextest_run_events_results::CancelReason;
+use nextest_run_events_statuses::{ExecutionStatuses, LiveSpec, RetryData};
 use std::alloc::{AllocError, Global};
 use std::marker::Model;
 use test_runner_core_records::Record;
@@ -19,31 +24,32 @@ use test_runner_core_runs::Mark;
 #[derive(Drop)]
 pub(crate) struct TestProgress {
     plan: PlannedTest,
-    records: Vec<Record>,
+    slot: Slot,
     mark: Mark,
 }
 
 impl Model for TestProgress {
-    ghost use Rattle.std.specs.Prelude.{vec_len, vec_capacity};
+    ghost use Rattle.std.specs.Prelude.{map};
     ghost use Rattle.test_runner_core_runs.specs.State.{TestState};
     ghost use Rattle.test_runner_core_progress.specs.Plans.{test_plan};
-    ghost use Rattle.test_runner_core_progress.specs.Parts.{HasRoom};
+    ghost use Rattle.test_runner_core_progress.specs.Parts.{KeepsTest};
+    ghost use Rattle.test_runner_core_progress.specs.Statuses.{record_of};
 
     ghost Value = { TestState };
 
-    ghost view = { λ t. record { plan = test_plan t.plan; records = t.records.items; mark = t.mark } };
+    ghost view = { λ t. record { plan = test_plan t.plan; records = map record_of t.slot.statuses; mark = t.mark } };
 
-    ghost invariant = { λ t. HasRoom t.mark (vec_len t.records) (vec_capacity t.records) };
+    ghost invariant = { λ t. KeepsTest t.plan t.slot t.mark };
 }
 
 impl TestProgress {
     // A test of which no attempt started. Takes no memory.
-    pub(crate) fn new(alloc: Global, plan: PlannedTest) -> TestProgress
+    pub(crate) fn new(plan: PlannedTest) -> TestProgress
         ensures { result ≡ waiting (test_plan plan) }
     {
         TestProgress {
             plan,
-            records: Vec::new(alloc),
+            slot: Slot::new(),
             mark: Mark::Waiting,
         }
     }
@@ -55,60 +61,48 @@ impl TestProgress {
         self.mark
     }
 
-    // The records of its ended attempts.
-    pub(crate) fn records(&self) -> &[Record]
-        ensures { result.now ≡ self.now.records }
+    // Its ended attempts; `None` where none ended.
+    pub(crate) fn attempts(&self) -> Option<&ExecutionStatuses<LiveSpec>>
+        ensures { MatchOption result
+            (self.now.records ≡ [])
+            (λ found. AreAttempts self.now.plan.tries self.now.plan.flaky self.now.records found.now) }
     {
-        self.records.as_slice()
+        self.slot.attempts()
     }
 
-    // Whether it is finished.
-    pub(crate) fn is_finished(&self) -> bool
-        ensures { result ≡ is_finished self.now }
-    {
-        matches!(self.mark, Mark::Finished(_))
-    }
-
-    // Whether it is finished and counts as failing.
-    pub(crate) fn is_failing(&self) -> bool
-        ensures { result ≡ counts fails_test self.now }
-    {
-        let Mark::Finished(_) = self.mark else {
-            return false;
-        };
-        match self.records.as_slice().last() {
-            Some(last) => is_failure(last, self.records.len() > 1, self.plan.flaky),
-            None => false,
-        }
-    }
-
-    // An attempt starts: makes the room of its record. An `Err` changes nothing.
-    pub(crate) fn start(&mut self) -> Result<(), AllocError>
+    // An attempt starts: makes the room of its status. An `Err` changes nothing.
+    pub(crate) fn start(&mut self, alloc: Global) -> Result<(), AllocError>
+        requires { is_finished self.old ≡ false }
         ensures ok { OnOk result (self.new ≡ record self.old { mark = marks.Running }) }
         ensures err { OnErr result (self.new ≡ self.old) }
     {
-        self.records.reserve(1)?;
+        self.slot.reserve(alloc)?;
         self.mark = Mark::Running;
         Ok(())
     }
 
     // The attempt that runs ends in a run with this reason: whether that finishes the test.
-    pub(crate) fn end(&mut self, record: Record, reason: Option<CancelReason>) -> bool
+    pub(crate) fn end(
+        &mut self,
+        alloc: Global,
+        record: Record,
+        reason: Option<CancelReason>,
+    ) -> bool
         requires { self.old.mark ≡ marks.Running }
         ensures after { (state : State) → state.reason ≡ reason
             → self.new ≡ after_attempt state self.old «record» }
         ensures finished { (state : State) → state.reason ≡ reason
             → result ≡ finishes state self.old «record» }
     {
-        let succeeded = record.result.is_success();
-        self.records.push_reserved(record);
-        let is_last = self.plan.tries as usize <= self.records.len();
-        let finished = succeeded || is_last || reason.is_some();
-        self.mark = if finished {
-            Mark::Finished(reason)
-        } else {
-            Mark::Between
+        let attempt = self.slot.len() as u32 + 1;
+        let finished = is_finishing(&record, self.plan.tries, attempt, reason);
+        let retry_data = RetryData {
+            attempt,
+            total_attempts: self.plan.tries,
         };
+        let status = execute_status(alloc, record, retry_data);
+        self.slot.push(status, self.plan.flaky);
+        self.mark = mark_after(finished, reason);
         finished
     }
 
@@ -120,11 +114,36 @@ impl TestProgress {
             self.mark = Mark::Finished(Some(reason));
         }
     }
+
+    // Counts the test, where it is finished.
+    pub(crate) fn count_in(&self, stats: &mut RunStats)
+        requires below_maximum { CanCountTest stats.old }
+        ensures { stats.new ≡ with_finished self.now stats.old }
+    {
+        let Mark::Finished(_) = self.mark else {
+            return;
+        };
+        if let Some(attempts) = self.slot.attempts() {
+            stats.on_test_finished(attempts);
+        }
+    }
 }
 
-// Whether a test with this last record counts as failing.
-fn is_failure(last: &Record, is_late: bool, flaky: FlakyResult) -> bool
-    ensures { result ≡ (not (results.is_success last.now.result) || (is_late && forbids_late flaky)) }
+// Whether an attempt of this number, of so many, finishes its test: it is a success or the last one, or the run is
+// stopped.
+fn is_finishing(record: &Record, tries: u32, attempt: u32, reason: Option<CancelReason>) -> bool
+    ensures { result ≡ (results.is_success «record».now.result || nat_le tries attempt || is_some reason) }
 {
-    !last.result.is_success() || (is_late && flaky == FlakyResult::Fail)
+    record.result.is_success() || tries <= attempt || reason.is_some()
+}
+
+// How far a test is after an attempt.
+fn mark_after(finished: bool, reason: Option<CancelReason>) -> Mark
+    ensures { result ≡ (if finished then marks.Finished reason else marks.Between) }
+{
+    if finished {
+        Mark::Finished(reason)
+    } else {
+        Mark::Between
+    }
 }

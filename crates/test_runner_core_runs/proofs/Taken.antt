@@ -6,7 +6,8 @@ use Rattle.std.proofs.lemmas.Bool.Decides.{nat_tests}
 use Rattle.nextest_run_events_results.specs.declared.cancel_reason.CancelReason.{CancelReason}
 use Rattle.test_runner_core_records.specs.declared.record.Record.{Record}
 use Rattle.test_runner_core_runs.specs.State.{TestState, State}
-use Rattle.test_runner_core_runs.specs.Step.{is_inner, start_of, start_from, end_from, after_script}
+use Rattle.test_runner_core_runs.specs.Step.{start_of, start_from, end_from, after_script}
+use Rattle.nextest_run_events_results.specs.Cancel.{is_inner}
 use Rattle.test_runner_core_runs.specs.Decisions.{Decides, ShowsScripts, ShowsTest}
 use Rattle.test_runner_core_runs.specs.declared.mark.Mark.{Mark}
 use Rattle.test_runner_core_runs.specs.declared.mark.Mark.TheVariants as marks

@@ -4,7 +4,7 @@ use Rattle.std.specs.Option.{option_map_or}
 use Rattle.nextest_config_elements_plain.specs.MaxFail.{mode_at}
 use Rattle.nextest_config_elements_plain.specs.declared.max_fail.TerminateMode.{TerminateMode}
 use Rattle.nextest_config_elements_plain.specs.declared.max_fail.TerminateMode.TheVariants as modes
-use Rattle.nextest_run_events_results.specs.Cancel.{graver_reason}
+use Rattle.nextest_run_events_results.specs.Cancel.{graver_reason, is_inner}
 use Rattle.nextest_run_events_results.specs.Result.{is_success}
 use Rattle.nextest_run_events_results.specs.declared.cancel_reason.CancelReason.{CancelReason}
 use Rattle.nextest_run_events_results.specs.declared.cancel_reason.CancelReason.TheVariants as why
@@ -94,17 +94,6 @@ end_from state place told test (marks.Finished kept) = Err refused.NotRunning
 
 abbrev pub attempt_ended : State → ℕ → Record → Result State StepRefusal
 attempt_ended state place told = option_map_or (λ test. end_from state place told test test.mark) (slice_get state.tests place) (Err refused.UnknownTest)
-
--- the reasons that only the run itself gives
-abbrev pub is_inner : CancelReason → Bool
-is_inner why.SetupScriptFailure = true
-is_inner why.TestFailure = true
-is_inner why.ReportError = false
-is_inner why.TestFailureImmediate = true
-is_inner why.GlobalTimeout = false
-is_inner why.Signal = false
-is_inner why.Interrupt = false
-is_inner why.SecondSignal = false
 
 -- the run was told to stop: that stops it, and of two reasons the graver stands
 abbrev pub stopped : State → CancelReason → Result State StepRefusal

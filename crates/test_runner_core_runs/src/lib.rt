@@ -10,6 +10,7 @@ mod event;
 pub mod laws;
 mod mark;
 mod script_order;
+mod status;
 mod step_refusal;
 #[cfg(test)]
 mod tests;
@@ -18,4 +19,5 @@ pub use decisions::{end_refusal, start_refusal, stop_refusal};
 pub use event::Event;
 pub use mark::Mark;
 pub use script_order::script_refusal;
+pub use status::exit_status;
 pub use step_refusal::StepRefusal;

@@ -1,17 +1,18 @@
 // A run of a plan.
-ghost use Rattle.std.specs.Prelude.{◌≡◌, ℕ, List, IfOk, map, slice_get};
-ghost use Rattle.std.specs.Option.{option_map};
+ghost use Rattle.std.specs.Prelude.{◌≡◌, IfOk, map};
 ghost use Rattle.test_runner_core_progress.specs.Plans.{test_plan};
 ghost use Rattle.test_runner_core_progress.specs.Progress.{Takes, Starts};
 ghost use Rattle.test_runner_core_runs.specs.Counters as counters;
 ghost use Rattle.test_runner_core_runs.specs.Runs as runs;
 ghost use Rattle.test_runner_core_runs.specs.declared.event.Event.TheVariants as events;
 ghost use Rattle.test_runner_core_session.specs.Names.{place_of, script_place};
-ghost use Rattle.test_runner_core_session.specs.Session.{session_of, run_test, seen, fate_of};
+ghost use Rattle.test_runner_core_session.specs.Session.{session_of, run_test, test_of, IsFate};
 
 use crate::places::Places;
+use nextest_run_events_counters::{FinalRunStats, RunStats};
 use nextest_run_events_instances::TestInstanceId;
 use nextest_run_events_results::CancelReason;
+use nextest_run_events_statuses::{ExecutionStatuses, LiveSpec};
 use nextest_text::Text;
 use std::alloc::{AllocError, Global};
 use std::marker::Model;
@@ -25,8 +26,8 @@ use test_runner_core_runs::{Mark, StepRefusal};
 pub struct Fate<'s> {
     /// Whether it waits, runs, is between two attempts or is finished.
     pub mark: Mark,
-    /// The records of its ended attempts, in their order.
-    pub attempts: &'s [Record],
+    /// Its ended attempts; `None` where none ended.
+    pub attempts: Option<&'s ExecutionStatuses<LiveSpec>>,
 }
 
 /// A run of a plan, which is lent. In a clause it is the names of the plan's scripts and tests by their places, and the
@@ -120,6 +121,20 @@ impl<'a> Session<'a> {
         self.progress.is_complete()
     }
 
+    /// The counters so far.
+    pub fn stats(&self) -> RunStats
+        ensures { result ≡ counters.counters self.now.run }
+    {
+        self.progress.stats()
+    }
+
+    /// What the counters come to so far.
+    pub fn summary(&self) -> FinalRunStats
+        ensures { result ≡ counters.summary self.now.run }
+    {
+        self.progress.summary()
+    }
+
     /// The exit status so far.
     pub fn status(&self) -> u8
         ensures { result ≡ counters.status self.now.run }
@@ -129,13 +144,13 @@ impl<'a> Session<'a> {
 
     /// How far a test is; `None` where the plan doesn't have it.
     pub fn fate(&self, test: TestInstanceId<'_>) -> Option<Fate<'_>>
-        ensures { option_map seen result ≡ fate_of self.now test.entry.binary_id.now test.entry.test_name.now }
+        ensures { IsFate (test_of self.now test.entry.binary_id.now test.entry.test_name.now) result }
     {
         let place = self.places.place(test);
         let mark = self.progress.mark(place)?;
         Some(Fate {
             mark,
-            attempts: self.progress.records(place),
+            attempts: self.progress.attempts(place),
         })
     }
 }

@@ -85,9 +85,9 @@ fn a_failing_test_stops_the_run(rt: HostRuntime) -> Result<(), Fail> {
     assert!(rt; session.is_complete());
     assert_eq!(rt; session.status(), 100);
     assert!(rt;
-        session
-            .fate(first)
-            .is_some_and(|fate| fate.attempts.len() == 1)
+        session.fate(first).is_some_and(|fate| fate
+            .attempts
+            .is_some_and(|attempts| attempts.len() == 1))
     );
     let Err(StartFault::Refused(refusal)) = session.start(test_of("p", "b")) else {
         return Err(Fail::new("started"));

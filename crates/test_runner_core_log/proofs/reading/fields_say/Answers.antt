@@ -6,5 +6,5 @@ use Rattle.test_runner_core_log.proofs.reading.fields_say.Goals as goal
 
 pub returns-in_default : goal.returns-in_default
 returns-in_default c = λ told spelled.
-    unknown_word c.in_ok-word.word.now (fields_of c.in_ok-word.rest.now) c.in_default.not-script c.in_default.not-start c.in_default.not-end told
+    unknown_word c.in_ok-word.word.now (fields_of c.in_ok-word.rest.now) c.in_default.not-script c.in_default.not-start c.in_default.not-end c.in_default.not-stop told
     (subst (λ (fields : List (List ℕ)). SpellsFields told fields) c.in_ok-word.ensures spelled)

@@ -1,12 +1,9 @@
-use Rattle.std.proofs.Common.{rules, sym, ap, ◌∙◌, ℕ, List, ◌++◌}
-use Rattle.std.specs.Prelude.{FitsSigned, codes}
-use Rattle.std.specs.Int.{w32}
-use Rattle.test_runner_core_log.proofs.Refusals.{zero_code}
+use Rattle.test_runner_core_log.proofs.Refusals.{no_result}
 use Rattle.test_runner_core_log.proofs.reading.result_of.Goals as goal
 
-pub returns-then-code-eq0 : goal.returns-then-code-eq0
-returns-then-code-eq0 c =
-    let stripped = c.in_ok-strip_prefix.ensures.cases in
-    let fits : FitsSigned w32 c.in_ok-code.code = search rules in
-    zero_code c.args.field.now c.in_ok-strip_prefix.field-0.now c.in_ok-code.code
-    (stripped.1.1 ∙ ap (λ (rest : List ℕ). codes "fail:" ++ rest) (sym stripped.2)) c.in_ok-code.ensures.found fits c.if-code-eq0.true
+pub returns-in_err-failure-in_default : goal.returns-in_err-failure-in_default
+returns-in_err-failure-in_default c =
+    let not = c.in_default in
+    rw c.from_residual.ensures (
+    no_result c.args.field.now not.not-pass not.not-text not.not-text-2 not.not-text-3 not.not-text-4
+    (λ failure leaked spelled. c.in_err-failure-in_default.ensures (failure, leaked) spelled))

@@ -1,5 +1,5 @@
 use Rattle.std.proofs.Common.{ap}
-use Rattle.test_runner_core_runs.specs.Step.{is_inner}
+use Rattle.nextest_run_events_results.specs.Cancel.{is_inner}
 use Rattle.test_runner_core_runs.proofs.Taken.{stop_taken}
 use Rattle.test_runner_core_runs.proofs.decisions.stop_refusal.Goals as goal
 

@@ -1,4 +1,4 @@
-use Rattle.test_runner_core_log.proofs.Writable.{script_spellable, script_record, start_spellable, start_texts, end_spellable, end_record}
+use Rattle.test_runner_core_log.proofs.Writable.{script_spellable, script_record, start_spellable, start_texts, end_spellable, end_record, stop_spellable}
 use Rattle.test_runner_core_log.proofs.log_line.LogLine.has_spelling.Goals as goal
 
 pub returns-then-is_field : goal.returns-then-is_field
@@ -37,3 +37,8 @@ returns-then-are_fields c =
       (λ yes. end_spellable binary name told texts.0 binary_utf8 texts.1 name_utf8 (spellable.0 yes)),
       (λ has. spellable.1 (end_record binary name told has)),
     )
+
+pub returns-in-Stop : goal.returns-in-Stop
+returns-in-Stop c =
+    let stop = stop_spellable c.in-Stop.reason in
+    rw c.in-Stop.is ((λ yes. stop.0 (c.is_outer.ensures.0 yes)), (λ has. c.is_outer.ensures.1 (stop.1 has)))

@@ -1,7 +1,8 @@
-use Rattle.std.proofs.Common.{◌≡◌, Ok, refl, ap, sym, subst, ◌∙◌}
+use Rattle.std.proofs.Common.{◌≡◌, Ok, ap, sym, subst, ◌∙◌}
 use Rattle.test_runner_core_runs.specs.State.{State}
-use Rattle.test_runner_core_runs.specs.Step.{attempt_ended}
+use Rattle.test_runner_core_runs.specs.Step.{attempt_ended, limited}
 use Rattle.test_runner_core_progress.specs.Parts.{IsRunningAt}
+use Rattle.test_runner_core_progress.specs.Progress.{EndsAttempt}
 use Rattle.test_runner_core_progress.specs.contracts.progress.Progress.{the_view}
 use Rattle.test_runner_core_progress.proofs.Taken.{running_at, end_leads, shown_test}
 use Rattle.test_runner_core_progress.proofs.progress.Progress.attempt_finished.Goals as goal
@@ -9,8 +10,9 @@ use Rattle.test_runner_core_progress.proofs.progress.Progress.attempt_finished.G
 pub end-finished-requires : goal.end-finished-requires
 end-finished-requires c =
     let state = the_view c.self.inside in
-    running_at state c.args.test c.args.record
-    (c.in_default-end_refusal.ensures state c.args.test c.args.record (shown_test state c.args.test c.in-Some.mark c.in-Some.ensures))
+    subst (λ (s : State). IsRunningAt s.tests c.args.test) c.self.view_is
+    (running_at state c.args.test c.args.record
+    (c.in_default-end_refusal.ensures state c.args.test c.args.record (shown_test state c.args.test c.in-Some.mark c.in-Some.ensures)))
 
 pub returns : goal.returns
 returns c =
@@ -18,7 +20,8 @@ returns c =
     let it : IsRunningAt state.tests c.args.test =
     running_at state c.args.test c.args.record
     (c.in_default-end_refusal.ensures state c.args.test c.args.record (shown_test state c.args.test c.in-Some.mark c.in-Some.ensures)) in
+    let ends = subst (λ (s : State). EndsAttempt s c.args.test c.args.record c.end-finished.result c.end-finished.new.self) (sym c.self.view_is) c.end-finished.ensures in
     subst (λ (s : State). attempt_ended s c.args.test c.args.record ≡ Ok c.stop_for.new.self) c.self.view_is
-    (end_leads state c.args.test c.args.record c.end-finished.new.self c.end-finished.result it
-    (c.end-finished.ensures.after state refl) (λ test found. c.end-finished.ensures.finished state test refl found)
-    ∙ ap (λ (s : State). Ok s) (c.limit_stop-exceeded.ensures (record state { tests = c.end-finished.new.self }) refl refl (sym c.failing.ensures) ∙ sym c.stop_for.ensures))
+    (end_leads state c.args.test c.args.record c.end-finished.new.self.tests c.end-finished.result it ends.test ends.is_finished
+    ∙ ap (λ (s : State). Ok (limited c.end-finished.result s)) (sym ends.rest)
+    ∙ ap (λ (s : State). Ok s) (c.limit_stop-exceeded.ensures ∙ sym c.stop_for.ensures))

@@ -8,12 +8,12 @@ use Rattle.test_runner_core_progress.specs.contracts.progress.Progress.{the_view
 use Rattle.test_runner_core_progress.proofs.Taken.{stop_leads}
 use Rattle.test_runner_core_progress.proofs.progress.Progress.stop.Goals as goal
 
-pub returns-in-Some-reason : goal.returns-in-Some-reason
-returns-in-Some-reason c =
+pub returns-in-Some-cancel_reason : goal.returns-in-Some-cancel_reason
+returns-in-Some-cancel_reason c =
     let state = the_view c.self.inside in
     subst (λ (s : State). stopped s c.args.reason ≡ Ok (record state { reason = Some c.graver.result })) c.self.view_is
     (stop_leads state c.args.reason (c.in_default.ensures state)
-    ∙ ap (λ (o : Option CancelReason). Ok (option_map_or (λ old. record state { reason = Some (graver_reason old c.args.reason) }) o (stopped_by c.args.reason state))) c.in-Some-reason.is
+    ∙ ap (λ (o : Option CancelReason). Ok (option_map_or (λ old. record state { reason = Some (graver_reason old c.args.reason) }) o (stopped_by c.args.reason state))) c.in-Some-cancel_reason.is
     ∙ ap (λ (r : CancelReason). Ok (record state { reason = Some r })) (sym c.graver.ensures))
 
 pub returns-in-None : goal.returns-in-None

@@ -1,0 +1,10 @@
+//! The values of the configuration: what its keys are set to, and the names in it.
+#![tactic(auto)]
+
+pub mod laws;
+
+pub use nextest_config_elements_identifiers::{InvalidIdentifier, ToolName};
+pub use nextest_config_elements_levels::{FinalStatusLevel, StatusLevel, TestOutputDisplay};
+pub use nextest_config_elements_plain::{
+    FlakyResult, LeakTimeoutResult, MaxFail, NextestRunMode, SlowTimeoutResult, TerminateMode,
+};

@@ -1,0 +1,39 @@
+//! What happens in a run of tests: how attempts end, what a test's attempts come to, what is counted, and what a run comes
+//! to.
+//!
+//! A runner describes how a process ended by `ExecutionResultDescription`, keeps a test's attempts as `ExecutionStatuses`,
+//! and counts each test and setup script that finishes in `RunStats`. A reporter asks attempts for their
+//! `ExecutionDescription`, and counters for their `FinalRunStats`.
+#![tactic(auto)]
+
+pub mod laws;
+
+pub use nextest_config_elements_levels::{FinalStatusLevel, StatusLevel, TestOutputDisplay};
+pub use nextest_config_elements_plain::{
+    FlakyResult, LeakTimeoutResult, NextestRunMode, SlowTimeoutResult,
+};
+pub use nextest_run_events_counters::{
+    FinalRunStats, RunFailureStep, RunStats, RunStatsFailureKind,
+};
+pub use nextest_run_events_instances::{OwnedTestInstanceId, TestInstanceId};
+pub use nextest_run_events_json::{JsonError, JsonForm};
+pub use nextest_run_events_outcomes::{
+    NonZeroDuration, RunFinishedStats, RunOutcome, StressCondition, StressCount,
+    StressFinalRunStats, StressIndex, StressProgress, StressRemaining, StressRunStats,
+};
+pub use nextest_run_events_results::{
+    AbortDescription, AbortStatus, CancelReason, ExecutionResult, ExecutionResultDescription,
+    ExitStatus, FailureDescription, FailureStatus, SIGTERM, signal_name,
+};
+pub use nextest_run_events_statuses::{
+    ChildError, ChildErrorDescription, ChildExecutionOutput, ChildExecutionOutputDescription,
+    ChildFdError, ChildOutput, ChildOutputDescription, ChildSingleOutput, ChildSplitOutput,
+    ChildStartError, ChildStartErrorDescription, EmptyStatuses, ErrorChain, ErrorList,
+    ErrorSummary, EventTime, ExecuteStatus, ExecutionDescription, ExecutionStatuses, LiveSpec,
+    OutputErrorSlice, OutputSpec, RetryData, SerializableError, SerializableErrorSources,
+    SetupScriptEnvMap, SetupScriptExecuteStatus,
+};
+pub use nextest_run_events_units::{
+    TestInfoResponse, TestList, TestsNotSeen, UnitKind, UnitState, UnitTerminateMethod,
+    UnitTerminateReason, UnitTerminateSignal, UnitTerminatingState,
+};

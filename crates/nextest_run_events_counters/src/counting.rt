@@ -1,0 +1,113 @@
+// Counting scripts and tests as they finish.
+ghost use Rattle.std.specs.Prelude.{◌≡◌, ◌+◌, ◌^◌, ◌<◌};
+ghost use Rattle.nextest_run_events_counters.specs.Counting.{CanCountScript, CanCountTest, with_script, with_attempts, with_success, with_passing_timeout, with_failure};
+
+use super::run_stats::RunStats;
+use nextest_config_elements_plain::{FlakyResult, LeakTimeoutResult, SlowTimeoutResult};
+use nextest_run_events_results::ExecutionResultDescription;
+use nextest_run_events_statuses::{ExecutionStatuses, OutputSpec, SetupScriptExecuteStatus};
+
+impl RunStats {
+    /// Counts a setup script that finished. One that took too long counts as that, however it is judged.
+    pub fn on_setup_script_finished<S: OutputSpec>(&mut self, status: &SetupScriptExecuteStatus<S>)
+        requires below_maximum { CanCountScript self.old }
+        ensures { self.new ≡ with_script status.now.result self.old }
+    {
+        self.setup_scripts_finished_count += 1;
+        match &status.result {
+            ExecutionResultDescription::Pass
+            | ExecutionResultDescription::Leak {
+                result: LeakTimeoutResult::Pass,
+            } => self.setup_scripts_passed += 1,
+            ExecutionResultDescription::Leak {
+                result: LeakTimeoutResult::Fail,
+            }
+            | ExecutionResultDescription::Fail { .. } => self.setup_scripts_failed += 1,
+            ExecutionResultDescription::ExecFail => self.setup_scripts_exec_failed += 1,
+            ExecutionResultDescription::Timeout { .. } => self.setup_scripts_timed_out += 1,
+        }
+    }
+
+    /// Counts a test that finished with these attempts: by the last one, and by whether there were others before it.
+    pub fn on_test_finished<S: OutputSpec>(&mut self, run_statuses: &ExecutionStatuses<S>)
+        requires below_maximum { CanCountTest self.old }
+        ensures { self.new ≡ with_attempts run_statuses.now self.old }
+    {
+        let last = run_statuses.last_status();
+        let slow = last.is_slow;
+        let late = run_statuses.len() > 1;
+        let late_fails = late && run_statuses.flaky_result() == FlakyResult::Fail;
+        self.finished_count += 1;
+        match &last.result {
+            ExecutionResultDescription::Pass => {
+                self.count_success(slow, late, late_fails);
+            }
+            ExecutionResultDescription::Leak {
+                result: LeakTimeoutResult::Pass,
+            } => {
+                self.leaky += 1;
+                self.count_success(slow, late, late_fails);
+            }
+            ExecutionResultDescription::Timeout {
+                result: SlowTimeoutResult::Pass,
+            } => self.count_passing_timeout(slow, late, late_fails),
+            ExecutionResultDescription::Leak {
+                result: LeakTimeoutResult::Fail,
+            } => {
+                self.leaky_failed += 1;
+                self.count_failure(slow);
+            }
+            ExecutionResultDescription::Fail { .. } => self.count_failure(slow),
+            ExecutionResultDescription::Timeout {
+                result: SlowTimeoutResult::Fail,
+            } => self.failed_timed_out += 1,
+            ExecutionResultDescription::ExecFail => self.exec_failed += 1,
+        }
+    }
+
+    // An attempt that didn't take too long was a success: a pass, but where it came late against the flaky rule.
+    fn count_success(&mut self, slow: bool, late: bool, late_fails: bool)
+        requires passed { self.old.passed + 1 < 2 ^ 64 }
+        requires passed_slow { self.old.passed_slow + 1 < 2 ^ 64 }
+        requires flaky { self.old.flaky + 1 < 2 ^ 64 }
+        requires failed { self.old.failed + 1 < 2 ^ 64 }
+        requires failed_slow { self.old.failed_slow + 1 < 2 ^ 64 }
+        ensures { self.new ≡ with_success slow late late_fails self.old }
+    {
+        if late_fails {
+            self.count_failure(slow);
+        } else {
+            self.passed += 1;
+            self.passed_slow += usize::from(slow);
+            self.flaky += usize::from(late);
+        }
+    }
+
+    // An attempt that took too long was a success.
+    fn count_passing_timeout(&mut self, slow: bool, late: bool, late_fails: bool)
+        requires passed { self.old.passed + 1 < 2 ^ 64 }
+        requires passed_timed_out { self.old.passed_timed_out + 1 < 2 ^ 64 }
+        requires flaky { self.old.flaky + 1 < 2 ^ 64 }
+        requires failed { self.old.failed + 1 < 2 ^ 64 }
+        requires failed_slow { self.old.failed_slow + 1 < 2 ^ 64 }
+        ensures { self.new ≡ with_passing_timeout slow late late_fails self.old }
+    {
+        if late_fails {
+            self.count_failure(slow);
+        } else {
+            self.passed += 1;
+            self.passed_timed_out += 1;
+            self.flaky += usize::from(late);
+        }
+    }
+
+    // A test failed, however its last attempt ended.
+    fn count_failure(&mut self, slow: bool)
+        requires failed { self.old.failed + 1 < 2 ^ 64 }
+        requires failed_slow { self.old.failed_slow + 1 < 2 ^ 64 }
+        ensures { self.new ≡ with_failure slow self.old }
+    {
+        self.failed += 1;
+        self.failed_slow += usize::from(slow);
+    }
+}

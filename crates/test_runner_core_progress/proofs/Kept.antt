@@ -1,0 +1,143 @@
+-- Statuses keep the records that they were made of.
+use Rattle.std.proofs.Common.{◌≡◌, ℕ, ◌+◌, ◌≤◌, suc, Bool, true, false, List, [], ◌∷◌, ◌++◌, Option, Some, length, map, refl, sym, ap, subst, ◌∙◌, arith}
+use Rattle.std.specs.Prelude.{◌<◌, ◌-◌, zero, slice_get, is_some, nat_lt}
+use Rattle.std.specs.Option.{option_map, option_map_or}
+use Rattle.std.specs.Duration.{as_nanos}
+use Rattle.nextest_config_elements_plain.specs.declared.timeouts.FlakyResult.{FlakyResult}
+use Rattle.nextest_run_events_statuses.specs.Attempts.{Attempts, last}
+use Rattle.nextest_run_events_counters.specs.Counting.{with_test, with_attempts, finished_as}
+use Rattle.nextest_run_events_counters.specs.declared.run_stats.RunStats.{RunStats}
+use Rattle.test_runner_core_runs.specs.Plan.{TestPlan}
+use Rattle.test_runner_core_runs.specs.State.{is_finished, last_record}
+use Rattle.test_runner_core_runs.specs.declared.mark.Mark.{Mark}
+use Rattle.std.specs.Prelude.{cond, ◌||◌, nat_le}
+use Rattle.std.proofs.lemmas.List.{length-append}
+use Rattle.std.proofs.lemmas.Bool.Decides.{nat_tests}
+use Rattle.nextest_run_events_results.specs.Result.{is_success}
+use Rattle.nextest_run_events_results.specs.declared.cancel_reason.CancelReason.{CancelReason}
+use Rattle.test_runner_core_runs.specs.State.{is_finished_mark, is_running_mark}
+use Rattle.test_runner_core_runs.specs.declared.mark.Mark.TheVariants as marks
+use Rattle.test_runner_core_progress.specs.Parts.{KeepsTest}
+use Rattle.test_runner_core_progress.specs.Slots.{SlotState, KeepsRule}
+use Rattle.test_runner_core_progress.specs.declared.planned_test.PlannedTest.{PlannedTest}
+use Rattle.test_runner_core_progress.specs.Counted.{with_finished}
+use Rattle.test_runner_core_progress.proofs.Tallies.{finished_adds}
+use Rattle.nextest_run_events_results.specs.declared.result.ExecutionResultDescription.{ExecutionResultDescription}
+use Rattle.test_runner_core_records.specs.declared.record.Record.{Record}
+use Rattle.test_runner_core_records.specs.declared.record.RecordOutput.{RecordOutput}
+use Rattle.test_runner_core_records.specs.declared.record.RecordOutput.TheVariants as wrote
+use Rattle.test_runner_core_progress.specs.Statuses.{Status, ScriptStatus, IsStatusOf, IsScriptStatusOf, AreStatusesFrom, AreScriptStatuses, output_of, told_of, record_of, script_record_of}
+
+told_back : (told : RecordOutput) → told_of (output_of told) ≡ told
+told_back (wrote.Streams out err) = refl
+told_back (wrote.Message message) = refl
+
+abbrev made_of : ExecutionResultDescription → Bool → ℕ → RecordOutput → Record
+made_of result slow nanos output = record { result = result; slow = slow; nanos = nanos; output = output }
+
+-- a status tells the record that it was made of
+pub record_back : (attempt total : ℕ) (told : Record) (status : Status) → IsStatusOf attempt total told status → record_of status ≡ told
+record_back attempt total told status made =
+    ap (λ (r : ExecutionResultDescription). made_of r status.is_slow (as_nanos status.time_taken) (told_of status.output)) made.result
+    ∙ ap (λ (s : Bool). made_of told.result s (as_nanos status.time_taken) (told_of status.output)) made.is_slow
+    ∙ ap (λ (n : ℕ). made_of told.result told.slow n (told_of status.output)) made.time_taken
+    ∙ ap (λ (o : RecordOutput). made_of told.result told.slow told.nanos o) (ap told_of made.output ∙ told_back told.output)
+
+pub script_record_back : (told : Record) (status : ScriptStatus) → IsScriptStatusOf told status → script_record_of status ≡ told
+script_record_back told status made =
+    ap (λ (r : ExecutionResultDescription). made_of r status.is_slow (as_nanos status.time_taken) (told_of status.output)) made.result
+    ∙ ap (λ (s : Bool). made_of told.result s (as_nanos status.time_taken) (told_of status.output)) made.is_slow
+    ∙ ap (λ (n : ℕ). made_of told.result told.slow n (told_of status.output)) made.time_taken
+    ∙ ap (λ (o : RecordOutput). made_of told.result told.slow told.nanos o) (ap told_of made.output ∙ told_back told.output)
+
+pub map_more : {X Y : Type 0} (f : X → Y) (xs : List X) (x : X) → map f (xs ++ x ∷ []) ≡ map f xs ++ f x ∷ []
+map_more f [] x = refl
+map_more {Y = Y} f (first ∷ xs) x = ap (λ (ys : List Y). f first ∷ ys) (map_more f xs x)
+
+pub length_map : {X Y : Type 0} (f : X → Y) (xs : List X) → length (map f xs) ≡ length xs
+length_map f [] = refl
+length_map f (x ∷ xs) = ap suc (length_map f xs)
+
+-- one more attempt
+pub status_more : (attempt total : ℕ) (statuses : List Status) (told : Record) (status : Status)
+    → AreStatusesFrom attempt total (map record_of statuses) statuses → IsStatusOf (attempt + length statuses) total told status
+    → AreStatusesFrom attempt total (map record_of (statuses ++ status ∷ [])) (statuses ++ status ∷ [])
+status_more attempt total [] told status made now =
+    let number : attempt + 0 ≡ attempt = omega arith in (
+      subst (λ (n : ℕ). IsStatusOf n total (record_of status) status) number
+          (subst (λ (t : Record). IsStatusOf (attempt + 0) total t status) (sym (record_back (attempt + 0) total told status now)) now),
+      tt,
+    )
+status_more attempt total (first ∷ statuses) told status made now =
+    let number : attempt + suc (length statuses) ≡ attempt + 1 + length statuses = omega arith in
+    (made.0, status_more (attempt + 1) total statuses told status made.1 (subst (λ (n : ℕ). IsStatusOf n total told status) number now))
+
+pub script_status_more : (statuses : List ScriptStatus) (status : ScriptStatus)
+    → AreScriptStatuses (map script_record_of statuses) statuses → IsScriptStatusOf (script_record_of status) status
+    → AreScriptStatuses (map script_record_of (statuses ++ status ∷ [])) (statuses ++ status ∷ [])
+script_status_more [] status made now = (now, tt)
+script_status_more (first ∷ statuses) status made now = (made.0, script_status_more statuses status made.1 now)
+
+get_within : {X : Type 0} (xs : List X) (i : ℕ) → i < length xs → (x : X) × (slice_get xs i ≡ Some x)
+get_within [] i within = absurd (omega (arith, within))
+get_within (x ∷ xs) zero within = (x, refl)
+get_within (x ∷ xs) (suc i) within = get_within xs i (omega (arith, within))
+
+get_map : {X Y : Type 0} (f : X → Y) (xs : List X) (i : ℕ) → slice_get (map f xs) i ≡ option_map f (slice_get xs i)
+get_map f [] i = refl
+get_map f (x ∷ xs) zero = refl
+get_map f (x ∷ xs) (suc i) = get_map f xs i
+
+-- the last record is that of the last status
+last_told : (statuses : List Status) (final : Status) → last statuses ≡ Some final → last_record (map record_of statuses) ≡ Some (record_of final)
+last_told statuses final found =
+    ap (λ (n : ℕ). slice_get (map record_of statuses) (n - 1)) (length_map record_of statuses)
+    ∙ get_map record_of statuses (length statuses - 1) ∙ ap (option_map record_of) found
+
+-- a finished test counts by its attempts
+pub counted_once : (plan : TestPlan) (mark : Mark) (attempts : Attempts Status) (stats : RunStats)
+    → attempts.flaky_result ≡ plan.flaky → 0 < length attempts.statuses → is_finished (record { plan = plan; records = map record_of attempts.statuses; mark = mark }) ≡ true
+    → with_attempts attempts stats ≡ with_finished (record { plan = plan; records = map record_of attempts.statuses; mark = mark }) stats
+counted_once plan mark attempts stats rule some over =
+    let final = get_within attempts.statuses (length attempts.statuses - 1) (omega (arith, some)) in
+    ap (λ (o : Option Status). option_map_or (λ f. with_test (finished_as attempts f) stats) o stats) final.1
+    ∙ ap (λ (n : ℕ). with_test (record { result = (final.0).result; slow = (final.0).is_slow; late = nat_lt 1 n; flaky = attempts.flaky_result }) stats) (sym (length_map record_of attempts.statuses))
+    ∙ ap (λ (f : FlakyResult). with_test (record { result = (final.0).result; slow = (final.0).is_slow; late = nat_lt 1 (length (map record_of attempts.statuses)); flaky = f }) stats) rule
+    ∙ sym (finished_adds (record { plan = plan; records = map record_of attempts.statuses; mark = mark }) (record_of final.0) stats over (last_told attempts.statuses final.0 final.1))
+
+-- what a test keeps after one more attempt
+pub test_more : (plan : PlannedTest) (old new : SlotState) (before after : Mark) (told : Record) (status : Status) (reason : Option CancelReason) (finished : Bool) (many : ℕ)
+    → KeepsTest plan old before → many ≡ length old.statuses → IsStatusOf (many + 1) plan.tries told status
+    → new.statuses ≡ old.statuses ++ status ∷ [] → new.rule ≡ Some plan.flaky
+    → finished ≡ (is_success told.result || nat_le plan.tries (many + 1) || is_some reason)
+    → after ≡ cond finished (marks.Finished reason) marks.Between
+    → KeepsTest plan new after
+test_more plan old new before after told status reason finished many kept count made statuses rule finishes marked =
+    let number : many + 1 ≡ 1 + length old.statuses = omega (arith, count) in
+    let size : length new.statuses ≡ length old.statuses + 1 = ap length statuses ∙ length-append old.statuses (status ∷ []) in
+    record {
+      made = subst (λ (s : List Status). AreStatusesFrom 1 plan.tries (map record_of s) s) (sym statuses)
+          (status_more 1 plan.tries old.statuses told status kept.made (subst (λ (n : ℕ). IsStatusOf n plan.tries told status) number made));
+      rule = subst (KeepsRule plan.flaky) (sym rule) refl;
+      room = λ runs. absurd (none_runs finished (sym (ap is_running_mark marked) ∙ runs));
+      ended = λ over. ap is_some rule;
+      tries_left = λ open_still. tries_left size (none_finished finished (sym (ap is_finished_mark marked) ∙ open_still));
+    }
+  where
+    none_runs : (b : Bool) → is_running_mark (cond b (marks.Finished reason) marks.Between) ≡ true → ⊥
+    none_runs true h = cc
+    none_runs false h = cc
+
+    none_finished : (b : Bool) → is_finished_mark (cond b (marks.Finished reason) marks.Between) ≡ false → b ≡ false
+    none_finished true h = cc
+    none_finished false h = refl
+
+    middle : (a b c : Bool) → (a || b || c) ≡ false → b ≡ false
+    middle true b c h = cc
+    middle false true c h = cc
+    middle false false c h = refl
+
+    tries_left : length new.statuses ≡ length old.statuses + 1 → finished ≡ false → length new.statuses ≤ plan.tries - 1
+    tries_left size open_still =
+        let more = middle (is_success told.result) (nat_le plan.tries (many + 1)) (is_some reason) (sym finishes ∙ open_still) in
+        grind (arith, nat_tests, more, size, count)
