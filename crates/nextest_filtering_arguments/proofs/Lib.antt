@@ -1,0 +1,9 @@
+pub mod Blanks
+pub mod Fronts
+pub mod Spans
+pub mod Trimming
+pub mod Cutting
+pub mod Escapes
+pub mod Reading
+pub mod Arguments
+pub mod Signs

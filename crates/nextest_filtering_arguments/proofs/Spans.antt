@@ -1,0 +1,77 @@
+-- Rests of the input, and spans in it.
+use Rattle.std.specs.Prelude.{◌≡◌, refl, ℕ, ◌-◌, ◌<◌, ◌≤◌, List, [], ◌∷◌, ◌++◌, length, take, drop, if◌then◌else◌, Bool, true, false}
+use Rattle.std.proofs.Common.{arith, length-append}
+use Rattle.std.proofs.Math.Path.{ap, sym, subst, ◌∙◌}
+use Rattle.std.proofs.Math.Seq.{drop-append_seam, take-append_seam}
+use Rattle.std.proofs.lemmas.List.{append_assoc}
+use Rattle.nextest_filtering_texts.specs.Text.{is_blank}
+use Rattle.nextest_filtering_trees.specs.Grammar.{unblanked}
+use Rattle.nextest_filtering_trees.specs.declared.leaf.SourceSpan.{SourceSpan}
+use Rattle.nextest_filtering_arguments.specs.Faults.{IsSuffix, here, Lies, spanned}
+
+-- a rest of a rest is one
+pub suffix_trans : (a b c : List ℕ) → IsSuffix a b → IsSuffix b c → IsSuffix a c
+suffix_trans a b c (x, e) (y, f) = (y ++ x, f ∙ (ap (λ l. y ++ l) e ∙ sym (append_assoc y x a)))
+
+-- what stands behind a front is a rest
+pub suffix_behind : (front rest text : List ℕ) → text ≡ front ++ rest → IsSuffix rest text
+suffix_behind front rest text e = (front, e)
+
+-- a byte more in front
+suffix_by : (byte : ℕ) (rest : List ℕ) (b : Bool) → IsSuffix (unblanked rest) rest → IsSuffix (if b then unblanked rest else byte ∷ rest) (byte ∷ rest)
+suffix_by byte rest true (front, e) = (byte ∷ front, ap (λ l. byte ∷ l) e)
+suffix_by byte rest false known = ([], refl)
+
+-- what is left without blanks at the front is a rest
+pub suffix_unblanked : (text : List ℕ) → IsSuffix (unblanked text) text
+suffix_unblanked [] = ([], refl)
+suffix_unblanked (byte ∷ rest) = suffix_by byte rest (is_blank byte) (suffix_unblanked rest)
+
+-- a rest is no longer
+pub suffix_len : (rest text : List ℕ) → IsSuffix rest text → length rest ≤ length text
+suffix_len rest text (front, e) = Prim.omega (arith, ap length e, length-append front rest)
+
+-- a span of so many bytes of a rest lies in the input
+pub here_lies : (input rest : List ℕ) (n : ℕ) → IsSuffix rest input → n ≤ length rest → Lies input (here input rest n)
+here_lies input rest n (front, e) short = Prim.omega (arith, ap length e, length-append front rest)
+
+-- it begins behind what stands before the rest
+starts : (input rest front : List ℕ) → input ≡ front ++ rest → length input - length rest ≡ length front
+starts input rest front e = Prim.omega (arith, ap length e, length-append front rest)
+
+-- it holds the first bytes of the rest
+pub here_spans : (input rest : List ℕ) (n : ℕ) → IsSuffix rest input → spanned input (here input rest n) ≡ take n rest
+here_spans input rest n (front, e) = ap (take n) (ap (λ k. drop k input) (starts input rest front e) ∙ (ap (drop (length front)) e ∙ drop-append_seam front rest))
+
+-- what follows a word or a sign is a rest
+pub suffix_token : (front rest text : List ℕ) → unblanked text ≡ front ++ rest → IsSuffix rest text
+suffix_token front rest text e = suffix_trans rest (unblanked text) text (front, e) (suffix_unblanked text)
+
+-- and shorter
+pub shorter_token : (front rest text : List ℕ) → unblanked text ≡ front ++ rest → 0 < length front → length rest < length text
+shorter_token front rest text e some =
+    Prim.omega (arith, some, ap length e, length-append front rest, suffix_len (unblanked text) text (suffix_unblanked text))
+
+-- what is left without blanks of a rest is one
+pub suffix_within : (text input : List ℕ) → IsSuffix text input → IsSuffix (unblanked text) input
+suffix_within text input known = suffix_trans (unblanked text) text input (suffix_unblanked text) known
+
+-- where a text without its blanks stands, a rest of the input stands
+pub suffix_at : (ahead text input : List ℕ) → ahead ≡ unblanked text → IsSuffix text input → IsSuffix ahead input
+suffix_at ahead text input is within = subst (λ l. IsSuffix l input) (sym is) (suffix_within text input within)
+
+-- the span of what a rest begins with
+pub told : (input rest behind : List ℕ) (span : SourceSpan) (front : List ℕ) → span ≡ here input rest (length front) → IsSuffix rest input → rest ≡ front ++ behind
+    → Lies input span × (spanned input span ≡ front)
+told input rest behind span front is within e = (
+  subst (Lies input) (sym is) (here_lies input rest (length front) within (Prim.omega (arith, ap length e, length-append front behind))),
+  ap (spanned input) is ∙ (here_spans input rest (length front) within ∙ (ap (take (length front)) e ∙ take-append_seam front behind)),
+)
+
+-- a rest of what is a rest of the input, which stayed
+pub suffix_in : (rest text input now : List ℕ) → now ≡ input → IsSuffix rest text → IsSuffix text input → IsSuffix rest now
+suffix_in rest text input now same within known = subst (IsSuffix rest) (sym same) (suffix_trans rest text input within known)
+
+-- all of the input is a rest of it
+pub suffix_all : (text input : List ℕ) → input ≡ text → IsSuffix text input
+suffix_all text input is = ([], is)

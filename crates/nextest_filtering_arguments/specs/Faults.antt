@@ -1,0 +1,71 @@
+-- Where faults stand.
+use Rattle.std.specs.Prelude.{◌≡◌, ◌⊎◌, ℕ, Bool, ◌+◌, ◌-◌, ◌≤◌, List, [], ◌∷◌, ◌++◌, length, take, drop, codes, encode_utf8}
+use Rattle.std.specs.List.{AllByRecursion}
+use Rattle.std.specs.Char.{IsScalar}
+use Rattle.nextest_filtering_trees.specs.declared.leaf.SourceSpan.{SourceSpan}
+use Rattle.nextest_filtering_arguments.specs.declared.error.ParseSingleError.{ParseSingleError}
+use Rattle.nextest_filtering_arguments.specs.declared.error.ParseSingleError.TheVariants as fault
+
+-- the faults of an input so far, and whether it can get no tree
+pub record Found : Type 0 where
+  pub input : List ℕ
+  pub list : List ParseSingleError
+  pub hopeless : Bool
+
+-- how many there are
+abbrev pub count : Found → ℕ
+count found = length found.list
+
+-- a rest of the input
+abbrev pub IsSuffix : List ℕ → List ℕ → Type 0
+IsSuffix rest input = (front : List ℕ) × (input ≡ front ++ rest)
+
+-- so many bytes where a rest of the input begins
+abbrev pub here : List ℕ → List ℕ → ℕ → SourceSpan
+here input rest n = record { offset = length input - length rest; length = n }
+
+-- so many bytes, behind offset bytes of a rest of the input
+abbrev pub within : List ℕ → List ℕ → ℕ → ℕ → SourceSpan
+within input rest offset n = record { offset = length input - length rest + offset; length = n }
+
+-- the bytes that a span holds
+abbrev pub spanned : List ℕ → SourceSpan → List ℕ
+spanned input span = take span.length (drop span.offset input)
+
+-- the span lies in the input
+abbrev pub Lies : List ℕ → SourceSpan → Type 0
+Lies input span = span.offset + span.length ≤ length input
+
+-- a `\` alone, or with the whole character behind it
+abbrev pub IsEscape : List ℕ → Type 0
+IsEscape bytes = (bytes ≡ 92 ∷ []) ⊎ ((character : ℕ) × IsScalar character × (bytes ≡ 92 ∷ encode_utf8 character))
+
+-- the span is empty
+abbrev pub IsPlace : List ℕ → SourceSpan → Type 0
+IsPlace input span = Lies input span × (span.length ≡ 0)
+
+-- the span runs to the input's end
+abbrev pub RunsOut : List ℕ → SourceSpan → Type 0
+RunsOut input span = span.offset + span.length ≡ length input
+
+-- where a fault may stand: an operator's span is the operator, a comma's the comma, an escape's the backslash and the character
+-- behind it, if there is one
+abbrev pub IsFaultOf : List ℕ → ParseSingleError → Type 0
+IsFaultOf input (fault.InvalidGlob span) = Lies input span
+IsFaultOf input (fault.InvalidRegexWithoutMessage span) = Lies input span
+IsFaultOf input (fault.ExpectedCloseRegex span) = IsPlace input span × RunsOut input span
+IsFaultOf input (fault.InvalidOrOperator span) = Lies input span × ((spanned input span ≡ codes "||") ⊎ (spanned input span ≡ codes "OR"))
+IsFaultOf input (fault.InvalidAndOperator span) = Lies input span × ((spanned input span ≡ codes "&&") ⊎ (spanned input span ≡ codes "AND"))
+IsFaultOf input (fault.UnexpectedArgument span) = Lies input span
+IsFaultOf input (fault.UnexpectedComma span) = Lies input span × (spanned input span ≡ codes ",")
+IsFaultOf input (fault.InvalidString span) = IsPlace input span
+IsFaultOf input (fault.ExpectedOpenParenthesis span) = IsPlace input span
+IsFaultOf input (fault.ExpectedCloseParenthesis span) = IsPlace input span
+IsFaultOf input (fault.InvalidEscapeCharacter span) = Lies input span × IsEscape (spanned input span)
+IsFaultOf input (fault.ExpectedExpr span) = RunsOut input span
+IsFaultOf input (fault.ExpectedEndOfExpression span) = RunsOut input span
+IsFaultOf input (fault.InvalidPlatformArgument span) = Lies input span
+
+-- each of them is one of the input's
+abbrev pub AreFaultsOf : List ℕ → List ParseSingleError → Type 0
+AreFaultsOf input = AllByRecursion (IsFaultOf input)

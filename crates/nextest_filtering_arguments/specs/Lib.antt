@@ -1,0 +1,5 @@
+pub mod Blanks
+pub mod Faults
+pub mod Kinds
+pub mod Texts
+pub mod Matchers

@@ -1,0 +1,22 @@
+//! The arguments of predicates: texts, matchers, platforms, as they are read, and what they are refused for.
+#![tactic(auto)]
+
+mod cursor;
+mod error;
+mod faults;
+mod matchers;
+mod platforms;
+mod stop;
+mod subject;
+#[cfg(test)]
+mod tests;
+mod text;
+
+pub use cursor::{begins_blank, behind, skip_blanks, trim_blanks_end};
+pub use error::ParseSingleError;
+pub use faults::Faults;
+pub use matchers::matcher;
+pub use platforms::platform;
+pub use stop::Stop;
+pub use subject::Subject;
+pub use text::{TextArgument, text_argument};

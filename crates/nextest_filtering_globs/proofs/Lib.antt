@@ -1,0 +1,8 @@
+pub mod PlainTokens
+pub mod Beginnings
+pub mod Splits
+pub mod Unique
+pub mod Refusals
+pub mod Steps
+pub mod Whole
+pub mod Sizes

@@ -1,0 +1,9 @@
+pub mod Signs
+pub mod Tree
+pub mod Syntax
+pub mod Plain
+pub mod Reading
+pub mod Laws
+pub mod Message
+pub mod Glob
+pub mod Code

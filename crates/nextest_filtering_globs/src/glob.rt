@@ -1,0 +1,101 @@
+// A glob: its text and its tokens.
+ghost use Rattle.std.specs.Prelude.{◌≡◌, nat_eq, chars, IfOk};
+ghost use Rattle.std.proofs.Common.{rules};
+ghost use Rattle.std.specs.Cmp.Rules.{comparing};
+ghost use Rattle.std.specs.Cmp.Lexicographic.{pointwise, nat_list_eq_equiv};
+ghost use Rattle.std.specs.Cmp.{partial_equiv_from_equiv};
+ghost use Rattle.nextest_filtering_globs.specs.Plain.{plain_all};
+ghost use Rattle.nextest_filtering_globs.specs.Syntax.{IsGlob};
+ghost use Rattle.nextest_filtering_globs.specs.Glob.{Constructs};
+
+use super::construct_error::GlobConstructError;
+use super::copying::copy_tokens;
+use super::reading::read_tokens;
+use super::token::GlobToken;
+use nextest_text::Text;
+use std::alloc::{AllocError, Global};
+use std::marker::Model;
+
+/// A glob pattern. In a clause it is its text and the plain tree of its tokens.
+#[derive(Debug, Drop)]
+pub struct GenericGlob {
+    text: Text,
+    tokens: Vec<GlobToken>,
+}
+
+impl Model for GenericGlob {
+    ghost use Rattle.nextest_filtering_globs.specs.Glob.{Glob, glob, glob_code};
+    ghost use Rattle.nextest_filtering_globs.specs.Plain.{plain_all};
+    ghost use Rattle.nextest_filtering_globs.specs.Syntax.{IsGlob};
+
+    ghost Value = { Glob };
+
+    ghost coded = { glob_code };
+
+    ghost view = { λ it. glob it.text (plain_all it.tokens.items) };
+
+    ghost invariant = { λ it. IsGlob it.text (plain_all it.tokens.items) };
+}
+
+impl GenericGlob {
+    /// The glob that `text` is. `InvalidGlob` says that it is none, and want of memory says nothing of the text.
+    /// The text is gone after either.
+    pub fn new(alloc: Global, text: Text) -> Result<GenericGlob, GlobConstructError>
+        ensures { Constructs text result }
+    {
+        let characters = characters_of(alloc, text.as_str())?;
+        let (tokens, left) = read_tokens(alloc, false, characters.as_slice())?;
+        if left.is_empty() {
+            Ok(GenericGlob { text, tokens })
+        } else {
+            Err(GlobConstructError::InvalidGlob)
+        }
+    }
+
+    /// The text, lent.
+    pub fn as_str(&self) -> &str
+        ensures { result.now ≡ self.now.text }
+    {
+        self.text.as_str()
+    }
+
+    /// The tokens, lent: those that the text spells.
+    pub fn tokens(&self) -> &[GlobToken]
+        ensures value { plain_all result.now ≡ self.now.tokens }
+        ensures spelled { IsGlob self.now.text self.now.tokens }
+    {
+        self.tokens.as_slice()
+    }
+}
+
+// The characters of a text.
+fn characters_of(alloc: Global, text: &str) -> Result<Vec<char>, AllocError>
+    ensures { IfOk result (λ characters. characters.items ≡ chars text.now) }
+{
+    text.chars().collect(alloc)
+}
+
+impl Clone for GenericGlob {
+    ghost is_clone = { λ original copy. copy ≡ original };
+
+    fn clone(&self) -> Result<GenericGlob, AllocError> {
+        Ok(GenericGlob {
+            text: self.text.clone()?,
+            tokens: copy_tokens(&self.tokens)?,
+        })
+    }
+}
+
+impl PartialEq for GenericGlob {
+    ghost eq = { λ x y. pointwise nat_eq x.text y.text };
+
+    ghost laws = { Prim.search (comparing, rules, nat_list_eq_equiv) };
+
+    fn eq(&self, other: &GenericGlob) -> bool {
+        self.text == other.text
+    }
+}
+
+impl Eq for GenericGlob {
+    ghost laws = { Prim.search (comparing, rules, nat_list_eq_equiv) };
+}

@@ -1,0 +1,7 @@
+//! What holds of every glob. Each function does nothing, and its contract is the law.
+ghost use Rattle.nextest_filtering_globs.specs.Laws.{OneReading};
+
+/// A text spells one list of tokens at most.
+pub fn one_reading()
+    ensures { OneReading }
+{}

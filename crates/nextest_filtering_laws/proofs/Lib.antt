@@ -1,0 +1,5 @@
+pub mod Texts
+pub mod Printed
+pub mod Arguments
+pub mod Leaves
+pub mod Trees

@@ -1,0 +1,6 @@
+//! What holds of filtersets and of how they print.
+#![tactic(auto)]
+
+pub mod laws;
+#[cfg(test)]
+mod tests;

@@ -1,0 +1,25 @@
+use Rattle.std.proofs.Common.{arith}
+use Rattle.std.proofs.Math.Path.{ap, sym, ◌∙◌}
+use Rattle.std.specs.Prelude.{length, refl}
+use Rattle.std.proofs.lemmas.Result.{IfOk-weaker}
+use Rattle.nextest_filtering_arguments.proofs.Spans.{suffix_at, suffix_in, suffix_trans, here_lies}
+use Rattle.nextest_filtering_syntax.proofs.Closings.{closed, suffix_front}
+use Rattle.nextest_filtering_syntax.proofs.Leaves.{matchers, argued_from, argued_not_from, told_none_from, matcher_passes}
+use Rattle.nextest_filtering_syntax.proofs.leaf.about.Goals as goal
+
+pub matcher-requires : goal.matcher-requires
+matcher-requires c = record { suffix = suffix_trans _ _ _ c.requires.suffix c.requires.start }
+
+pub returns-in_err-found-clause-finds : goal.returns-in_err-found-clause-finds
+returns-in_err-found-clause-finds c = matcher_passes _ _ _ _ _ _ c.in_err-found.ensures.finds c.from_residual.ensures.1
+
+pub close_argument-requires : goal.close_argument-requires
+close_argument-requires c = record { suffix = suffix_in _ _ _ _ c.in_ok-found.ensures.input c.in_ok-found.ensures.finds.behind (suffix_trans _ _ _ c.requires.suffix c.requires.start) }
+
+pub returns-in_default-clause-finds : goal.returns-in_default-clause-finds
+returns-in_default-clause-finds c =
+    argued_not_from _ _ _ _ _ _ _ _ _ _ (matchers c.args.subject) c.in_default.is (ap length c.give_up.ensures.list) c.in_ok-found.ensures.finds c.in_ok-rest.ensures.closes
+
+pub returns-clause-finds : goal.returns-clause-finds
+returns-clause-finds c =
+    argued_from _ _ _ _ _ _ _ _ _ _ (matchers c.args.subject) c.in-Some.is c.leaf.ensures c.in_ok-found.ensures.finds c.in_ok-rest.ensures.closes

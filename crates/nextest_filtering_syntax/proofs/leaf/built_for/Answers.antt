@@ -1,0 +1,22 @@
+use Rattle.std.proofs.Common.{arith}
+use Rattle.std.proofs.Math.Path.{ap, sym, ◌∙◌}
+use Rattle.std.specs.Prelude.{length, refl}
+use Rattle.std.proofs.lemmas.Result.{IfOk-weaker}
+use Rattle.nextest_filtering_arguments.proofs.Spans.{suffix_at, suffix_in, suffix_trans, here_lies}
+use Rattle.nextest_filtering_syntax.proofs.Closings.{closed, suffix_front}
+use Rattle.nextest_filtering_syntax.proofs.Leaves.{platforms, argued_from, argued_not_from, told_none_from}
+use Rattle.nextest_filtering_syntax.proofs.leaf.built_for.Goals as goal
+
+pub platform-requires : goal.platform-requires
+platform-requires c = record { suffix = suffix_trans _ _ _ c.requires.suffix c.requires.start }
+
+pub close_argument-requires : goal.close_argument-requires
+close_argument-requires c = record { suffix = suffix_in _ _ _ _ c.in_ok-found.ensures.input c.in_ok-found.ensures.reads.behind (suffix_trans _ _ _ c.requires.suffix c.requires.start) }
+
+pub returns-in_default-clause-finds : goal.returns-in_default-clause-finds
+returns-in_default-clause-finds c =
+    argued_not_from _ _ _ _ _ _ _ _ _ _ platforms c.in_default.is (ap length c.give_up.ensures.list) c.in_ok-found.ensures.reads c.in_ok-rest.ensures.closes
+
+pub returns-clause-finds : goal.returns-clause-finds
+returns-clause-finds c =
+    argued_from _ _ _ _ _ _ _ _ _ _ platforms c.in-Some.is refl c.in_ok-found.ensures.reads c.in_ok-rest.ensures.closes

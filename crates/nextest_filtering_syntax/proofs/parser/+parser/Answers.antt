@@ -1,0 +1,108 @@
+use Rattle.std.proofs.Common.{arith, rules, ◌∷◌, []}
+use Rattle.std.proofs.Math.Path.{ap, sym, subst, ◌∙◌}
+use Rattle.nextest_filtering_trees.specs.Tree.{Tree, negation, parens}
+use Rattle.nextest_filtering_trees.specs.Grammar.{Unary, Conjunction, Expression, ReadsOr, ReadsJoint, joined}
+use Rattle.nextest_filtering_syntax.specs.Parsing.{Anywhere, Closes, ClosesConjunction, IsPart}
+use Rattle.nextest_filtering_syntax.proofs.Chains.{operator_found, no_operator_found, read_as, begins, begins_not, goes_on, goes_not, ends_here, conjunction_level, expression_level}
+use Rattle.nextest_filtering_syntax.proofs.Operands.{renamed, negated, negated_not, grouped, grouped_not, predicate_finds, passes}
+use Rattle.nextest_filtering_arguments.proofs.Spans.{suffix_trans, suffix_token, shorter_token}
+use Rattle.nextest_filtering_syntax.proofs.Single.{not_behind}
+use Rattle.nextest_filtering_arguments.proofs.Spans.{suffix_in}
+use Rattle.nextest_filtering_syntax.proofs.parser.+parser.Goals as goal
+
+pub conjunction-returns-in_err-tree-clause-finds : goal.conjunction-returns-in_err-tree-clause-finds
+conjunction-returns-in_err-tree-clause-finds t c =
+    passes _ _ _ _ _ _ _ (begins_not _ _ _ conjunction_level) c.in_err-tree.ensures.finds c.from_residual.ensures.1
+
+pub conjunction-loop-op-init : goal.conjunction-loop-op-init
+conjunction-loop-op-init t c = (Prim.search rules, c.in_ok-tree.ensures.input, begins _ _ _ _ _ conjunction_level c.in_ok-tree.ensures.finds)
+
+pub conjunction-joint_operator-requires : goal.conjunction-joint_operator-requires
+conjunction-joint_operator-requires t c =
+    record { suffix = suffix_in _ _ _ _ c.loop-op.invariant.1 c.loop-op.invariant.2.behind c.requires.1.1 }
+
+pub conjunction-operand-requires-in-Some : goal.conjunction-operand-requires-in-Some
+conjunction-operand-requires-in-Some t c =
+    let found = operator_found _ _ _ _ _ _ c.in-Some.is c.in_ok-op.ensures.finds in (
+      Prim.omega (arith, c.well_formed, found.shorter, c.loop-op.invariant.2.shorter),
+      suffix_in _ _ _ _ (c.in_ok-op.ensures.input ∙ c.loop-op.invariant.1) (suffix_trans _ _ _ found.behind c.loop-op.invariant.2.behind) c.requires.1.1,
+    )
+
+pub conjunction-returns-in_err-right-clause-finds : goal.conjunction-returns-in_err-right-clause-finds
+conjunction-returns-in_err-right-clause-finds t c =
+    passes _ _ _ _ _ _ _ (goes_not _ _ _ _ _ _ _ _ _ conjunction_level c.loop-op.invariant.2 (operator_found _ _ _ _ _ _ c.in-Some.is c.in_ok-op.ensures.finds)) c.in_err-right.ensures.finds c.from_residual-in_err-right.ensures.1
+
+pub conjunction-loop-op-preserved : goal.conjunction-loop-op-preserved
+conjunction-loop-op-preserved t c = (
+  Prim.search rules,
+  c.in_ok-right.ensures.input ∙ (c.in_ok-op.ensures.input ∙ c.loop-op.invariant.1),
+  read_as _ _ _ _ _ _ c.in_ok-tree-2.ensures
+      (goes_on _ _ _ _ _ _ _ _ _ _ _ conjunction_level c.loop-op.invariant.2 (operator_found _ _ _ _ _ _ c.in-Some.is c.in_ok-op.ensures.finds) c.in_ok-right.ensures.finds),
+)
+
+pub conjunction-returns-clause-finds : goal.conjunction-returns-clause-finds
+conjunction-returns-clause-finds t c = ends_here _ _ _ _ _ _ c.loop-op.invariant.2 (no_operator_found _ _ _ _ _ _ c.in_default.is c.in_ok-op.ensures.finds)
+
+pub expression-returns-in_err-tree-clause-finds : goal.expression-returns-in_err-tree-clause-finds
+expression-returns-in_err-tree-clause-finds t c =
+    passes _ _ _ _ _ _ _ (begins_not _ _ _ expression_level) c.in_err-tree.ensures.finds c.from_residual.ensures.1
+
+pub expression-loop-op-init : goal.expression-loop-op-init
+expression-loop-op-init t c = (Prim.search rules, c.in_ok-tree.ensures.input, begins _ _ _ _ _ expression_level c.in_ok-tree.ensures.finds)
+
+pub expression-or_operator-requires : goal.expression-or_operator-requires
+expression-or_operator-requires t c =
+    record { suffix = suffix_in _ _ _ _ c.loop-op.invariant.1 c.loop-op.invariant.2.behind c.requires.1.1 }
+
+pub expression-conjunction-requires-in-Some : goal.expression-conjunction-requires-in-Some
+expression-conjunction-requires-in-Some t c =
+    let found = operator_found _ _ _ _ _ _ c.in-Some.is c.in_ok-op.ensures.finds in (
+      Prim.omega (arith, c.well_formed, found.shorter, c.loop-op.invariant.2.shorter),
+      suffix_in _ _ _ _ (c.in_ok-op.ensures.input ∙ c.loop-op.invariant.1) (suffix_trans _ _ _ found.behind c.loop-op.invariant.2.behind) c.requires.1.1,
+    )
+
+pub expression-returns-in_err-operand-clause-finds : goal.expression-returns-in_err-operand-clause-finds
+expression-returns-in_err-operand-clause-finds t c =
+    passes _ _ _ _ _ _ _ (goes_not _ _ _ _ _ _ _ _ _ expression_level c.loop-op.invariant.2 (operator_found _ _ _ _ _ _ c.in-Some.is c.in_ok-op.ensures.finds)) c.in_err-operand.ensures.finds c.from_residual-in_err-operand.ensures.1
+
+pub expression-loop-op-preserved : goal.expression-loop-op-preserved
+expression-loop-op-preserved t c = (
+  Prim.search rules,
+  c.in_ok-operand.ensures.input ∙ (c.in_ok-op.ensures.input ∙ c.loop-op.invariant.1),
+  read_as _ _ _ _ _ _ c.in_ok-tree-2.ensures
+      (goes_on _ _ _ _ _ _ _ _ _ _ _ expression_level c.loop-op.invariant.2 (operator_found _ _ _ _ _ _ c.in-Some.is c.in_ok-op.ensures.finds) c.in_ok-operand.ensures.finds),
+)
+
+pub expression-returns-clause-finds : goal.expression-returns-clause-finds
+expression-returns-clause-finds t c = ends_here _ _ _ _ _ _ c.loop-op.invariant.2 (no_operator_found _ _ _ _ _ _ c.in_default.is c.in_ok-op.ensures.finds)
+
+pub operand-operand-requires : goal.operand-operand-requires
+operand-operand-requires t c =
+    let behind = not_behind _ _ _ c.in-Some.ensures.some in
+    (Prim.omega (arith, c.well_formed, behind.1), suffix_trans _ _ _ behind.0 c.requires.1.1)
+
+pub operand-returns-in-Some-clause-finds : goal.operand-returns-in-Some-clause-finds
+operand-returns-in-Some-clause-finds t c =
+    renamed _ _ _ _ _ _ c.in_ok-tree.ensures (negated _ _ _ _ _ _ _ c.in-Some.ensures.some c.in_ok-inside.ensures.finds)
+
+pub operand-expression-requires : goal.operand-expression-requires
+operand-expression-requires t c =
+    let opens = sym c.skip_blanks.ensures ∙ c.in-Some-behind.ensures.some in
+    let less = shorter_token (40 ∷ []) c.in-Some-behind.inside.now c.args.text.now opens (Prim.omega arith) in (
+      Prim.omega (arith, c.well_formed, less),
+      suffix_trans _ _ _ (suffix_token (40 ∷ []) _ _ opens) c.requires.1.1,
+    )
+
+pub operand-close-requires : goal.operand-close-requires
+operand-close-requires t c =
+    let opens = sym c.skip_blanks.ensures ∙ c.in-Some-behind.ensures.some in
+    record { suffix = suffix_in _ _ _ _ c.in_ok-tree-2.ensures.input (suffix_trans _ _ _ c.in_ok-tree-2.ensures.finds.behind (suffix_token (40 ∷ []) _ _ opens)) c.requires.1.1 }
+
+pub operand-returns-in-Some-behind-clause-finds : goal.operand-returns-in-Some-behind-clause-finds
+operand-returns-in-Some-behind-clause-finds t c =
+    renamed _ _ _ _ _ _ c.in_ok-tree-3.ensures
+    (grouped _ _ _ _ _ _ _ _ (sym c.skip_blanks.ensures ∙ c.in-Some-behind.ensures.some) c.in_ok-tree-2.ensures.finds c.in_ok-rest.ensures.closes)
+
+pub operand-returns-clause-finds : goal.operand-returns-clause-finds
+operand-returns-clause-finds t c =
+    predicate_finds _ _ _ _ c.in_default.ensures.none (λ rest e. c.in_default-behind.ensures.none rest (c.skip_blanks.ensures ∙ e)) c.predicate.ensures.finds

@@ -1,0 +1,16 @@
+//! The filterset language: reading texts as trees, with recovery from faults.
+#![tactic(auto)]
+
+mod closing;
+mod leaf;
+mod name;
+mod operators;
+mod parser;
+mod reading;
+#[cfg(test)]
+mod tests;
+mod whole;
+
+pub use nextest_filtering_arguments::ParseSingleError;
+pub use reading::{ParseError, Reading};
+pub use whole::{parse, read};

@@ -1,0 +1,14 @@
+use Rattle.std.proofs.Common.{◌++◌, rules}
+use Rattle.std.proofs.Output.{has_written_append}
+use Rattle.nextest_filtering_texts.specs.Printing.{printed_character}
+use Rattle.nextest_filtering_texts.proofs.Shown.{printed_more}
+use Rattle.nextest_filtering_texts.proofs.printing.MiddleDisplay.fmt.Goals as goal
+
+pub loop-character-preserved : goal.loop-character-preserved
+loop-character-preserved g c = λ plain.
+    let known = c.loop-character.invariant plain in
+    let character = c.in-Some.character in (
+      known.0 ++ printed_character character,
+      has_written_append _ _ _ _ _ _ known.1 (search rules),
+      printed_more _ known.0 c.loop-character.character-iterator.rest.now c.next.new.self.rest.now character known.2 c.in-Some.ensures.steps.0,
+    )

@@ -1,0 +1,32 @@
+//! What holds of every text, and of how it prints. Each function does nothing, and its contract is the law.
+ghost use Rattle.nextest_filtering_texts.specs.Laws.{OneText, OneReading, OneRegex, EscapedReadsBack, EscapedHasNoBlankEnds, PlainAround};
+
+/// Nothing stands for two texts.
+pub fn one_text()
+    ensures { OneText }
+{}
+
+/// Nothing is read in two ways, bad escapes included.
+pub fn one_reading()
+    ensures { OneReading }
+{}
+
+/// Nothing stands for two regular expressions.
+pub fn one_regex()
+    ensures { OneRegex }
+{}
+
+/// What is printed of a text is read as that text.
+pub fn escaped_reads_back()
+    ensures { EscapedReadsBack }
+{}
+
+/// What is printed of a text begins as the text or with a backslash, and neither begins nor ends with a blank.
+pub fn escaped_has_no_blank_ends()
+    ensures { EscapedHasNoBlankEnds }
+{}
+
+/// Blanks around a text stand for themselves.
+pub fn plain_around()
+    ensures { PlainAround }
+{}

@@ -1,0 +1,19 @@
+//! The trees of the filterset language: operators, leaves and matchers as they are written, and how they print.
+#![tactic(auto)]
+
+mod copying;
+mod leaf;
+mod matcher;
+mod operators;
+mod pattern;
+mod printing;
+mod runtime;
+#[cfg(test)]
+mod tests;
+mod tree;
+
+pub use leaf::{BuildPlatform, ParsedLeaf, SourceSpan};
+pub use matcher::NameMatcher;
+pub use operators::{AndOperator, DifferenceOperator, Joint, NotOperator, OrOperator};
+pub use pattern::{Pattern, PatternError};
+pub use tree::ParsedExpr;

@@ -1,0 +1,32 @@
+// What a name has to match.
+use crate::pattern::Pattern;
+use nextest_filtering_globs::GenericGlob;
+use nextest_text::Text;
+
+/// What a name has to match.
+#[derive(Debug, Drop)]
+pub enum NameMatcher {
+    /// The name is this text.
+    Equal {
+        /// The text.
+        value: Text,
+        /// Whether it was written without its sign `=`.
+        implicit: bool,
+    },
+    /// The name has this text in it.
+    Contains {
+        /// The text.
+        value: Text,
+        /// Whether it was written without its sign `~`.
+        implicit: bool,
+    },
+    /// The whole name matches this glob.
+    Glob {
+        /// The glob.
+        glob: GenericGlob,
+        /// Whether it was written without its sign `#`.
+        implicit: bool,
+    },
+    /// A part of the name matches this regular expression.
+    Regex(Pattern),
+}
