@@ -4,6 +4,9 @@
 ghost use Rattle.std.specs.Prelude.{◌≡◌, ◌↔◌, true, codes};
 ghost use Rattle.std.specs.Str.Iter.{HasSubslice};
 
+#[cfg(test)]
+mod tests;
+
 pub use nextest_filtering_arguments::ParseSingleError;
 pub use nextest_filtering_globs::{ClassRange, GenericGlob, GlobConstructError, GlobToken};
 pub use nextest_filtering_syntax::{ParseError, Reading, parse, read};
@@ -15,7 +18,7 @@ pub use nextest_filtering_trees::{
 /// The laws of the language over its definitions.
 pub mod laws {
     pub use nextest_filtering_globs::laws::one_reading as one_glob_reading;
-    pub use nextest_filtering_laws::laws::{one_tree, printed_reads_back};
+    pub use nextest_filtering_laws::laws::{one_tree, printed_reads_back, reads_back_exactly};
     pub use nextest_filtering_texts::laws::{escaped_reads_back, one_regex, one_text};
 }
 

@@ -32,7 +32,6 @@ with_blanks raw meant end spelled =
     let around = blanks_before end in
     plain_around [] raw around.0 meant tt around.1 spelled.stands
 
--- a text with a `)` behind it is one, and what follows it too
 pub one_spelled : (text raw meant end x other another stop y : List ℕ) → Behind raw text end → Spells raw meant → unblanked end ≡ 41 ∷ x
     → Behind other text stop → Spells other another → unblanked stop ≡ 41 ∷ y → (another ≡ meant) × (y ≡ x)
 one_spelled text raw meant end x other another stop y there spelled closes there_too spelled_too closes_too =
@@ -47,13 +46,12 @@ one_spelled text raw meant end x other another stop y there spelled closes there
 
 -- ---- matchers
 
--- a matcher is its parts
 matcher_is : (m : Matcher) (comparison : Comparison) (implicit : Bool) (text : List ℕ) → m.comparison ≡ comparison → m.implicit ≡ implicit → m.text ≡ text
     → m ≡ record { comparison = comparison; implicit = implicit; text = text }
 matcher_is m comparison implicit text a b c = Prim.rw (sym a, sym b, sym c) refl
 
 -- the sign in front of a text that is compared with so
-abbrev sign : Comparison → ℕ
+abbrev pub sign : Comparison → ℕ
 sign equal = 61
 sign contains = 126
 sign glob = 35
@@ -84,7 +82,7 @@ signed_first glob text argument end (raw, behind, first, place, spelled) = (behi
 signed_first regex text argument end (raw, place, stands) = ((raw ++ 47 ∷ []) ++ end, place)
 
 -- and one without begins with none
-bare_apart : (comparison : Comparison) (raw argument end inside : List ℕ) → Behind raw argument end → raw ≢ []
+pub bare_apart : (comparison : Comparison) (raw argument end inside : List ℕ) → Behind raw argument end → raw ≢ []
     → ((behind : List ℕ) (byte : ℕ) → raw ≡ byte ∷ behind → is_sign byte ≡ false) → unblanked argument ≡ sign comparison ∷ inside → ⊥
 bare_apart comparison [] argument end inside place some unsigned is = some refl
 bare_apart comparison (first ∷ raw) argument end inside place some unsigned is =
@@ -108,7 +106,6 @@ one_pattern raw text end x other another stop y stands closes stands_too closes_
       same_rest 41 41 _ _ _ closes_too (ap unblanked (same_rest 47 47 _ _ _ refl ends) ∙ closes),
     )
 
--- an argument with a sign is one
 one_signed : (comparison : Comparison) (text another argument end x stop y : List ℕ) → ReadsSigned comparison text argument end → unblanked end ≡ 41 ∷ x
     → ReadsSigned comparison another argument stop → unblanked stop ≡ 41 ∷ y → (another ≡ text) × (y ≡ x)
 one_signed equal text another argument end x stop y (raw, behind, first, place, spelled) closes (other, next, first_too, place_too, spelled_too) closes_too =
@@ -121,7 +118,6 @@ one_signed regex text another argument end x stop y (raw, place, stands) closes 
     one_pattern raw text end x other another stop y stands closes stands_too closes_too
     (sym (append_assoc raw (47 ∷ []) end) ∙ same_rest 47 47 _ _ _ place place_too ∙ append_assoc other (47 ∷ []) stop)
 
--- and so is each, with a sign or without
 pub one_matcher : (subject : Subject) (m other : Matcher) (argument end x stop y : List ℕ) → ReadsMatcher subject m argument end → unblanked end ≡ 41 ∷ x
     → ReadsMatcher subject other argument stop → unblanked stop ≡ 41 ∷ y → (other ≡ m) × (y ≡ x)
 one_matcher subject m other argument end x stop y (compares, inl (is, signed)) closes (compares_too, inl (is_too, signed_too)) closes_too =

@@ -35,7 +35,6 @@ opened_behind : (it : Leaf) (text rest : List ℕ) → (read : ReadsLeaf it text
 opened_behind it text rest read =
     suffix_trans read.opened read.named text (suffix_token (40 ∷ []) read.opened read.named read.opens) (suffix_token (leaf_word it) read.named text read.name)
 
--- and what stands behind it all, which is shorter
 pub leaf_behind : (it : Leaf) (text rest : List ℕ) → ReadsLeaf it text rest → IsSuffix rest text × (length rest < length text)
 leaf_behind it text rest read =
     let within = suffix_trans read.read read.opened text (argument_behind it read.opened read.read read.argument) (opened_behind it text rest read) in (
@@ -72,7 +71,6 @@ same_kind it other text rest end read found =
 same_close : (argument end x stop y : List ℕ) → argument ≡ end → unblanked end ≡ 41 ∷ x → argument ≡ stop → unblanked stop ≡ 41 ∷ y → y ≡ x
 same_close argument end x stop y is closes is_too closes_too = same_rest 41 41 _ _ _ closes_too (ap unblanked (sym is_too ∙ is) ∙ closes)
 
--- two arguments of predicates of one name are one
 one_argument : (it other : Leaf) (argument end x stop y : List ℕ) → kind_of other ≡ kind_of it → ReadsArgument it argument end → unblanked end ≡ 41 ∷ x
     → ReadsArgument other argument stop → unblanked stop ≡ 41 ∷ y → (other ≡ it) × (y ≡ x)
 one_argument (matching subject m) other argument end x stop y same reads closes reads_too closes_too =
@@ -93,7 +91,6 @@ one_argument nothing other argument end x stop y same reads closes reads_too clo
     let is = is_nothing other same in
     (is, same_close argument end x stop y reads closes (subst (λ (l : Leaf). ReadsArgument l argument stop) is reads_too) closes_too)
 
--- a text begins with one predicate at most
 pub one_leaf : (it other : Leaf) (text rest end : List ℕ) → ReadsLeaf it text rest → ReadsLeaf other text end → (other ≡ it) × (end ≡ rest)
 one_leaf it other text rest end read found =
     let same = same_kind it other text rest end read found in

@@ -45,11 +45,11 @@ space_before_conjunction _ _ _ (next_operand op a b t text middle behind rest le
 -- ---- operators
 
 -- how an intersection or a difference is written
-abbrev joint_word : Joint → List ℕ
+abbrev pub joint_word : Joint → List ℕ
 joint_word (And op) = and_word op
 joint_word (joint.Minus op) = minus_word op
 
-printed_joined : (op : Joint) (a b : Tree) → printed (joined op a b) ≡ between (printed a) (joint_word op) (printed b)
+pub printed_joined : (op : Joint) (a b : Tree) → printed (joined op a b) ≡ between (printed a) (joint_word op) (printed b)
 printed_joined (And op) a b = refl
 printed_joined (joint.Minus op) a b = refl
 
@@ -61,7 +61,7 @@ unsigned_right : (op : Joint) (a b : Tree) → HasNoSignedBare (joined op a b) �
 unsigned_right (And op) a b unsigned = unsigned.1
 unsigned_right (joint.Minus op) a b unsigned = unsigned.1
 
-between_parts : (left word right rest : List ℕ) → between left word right ++ rest ≡ left ++ 32 ∷ (word ++ 32 ∷ (right ++ rest))
+pub between_parts : (left word right rest : List ℕ) → between left word right ++ rest ≡ left ++ 32 ∷ (word ++ 32 ∷ (right ++ rest))
 between_parts left word right rest =
     append_assoc (left ++ codes " " ++ word ++ codes " ") right rest ∙ append_assoc (left ++ codes " " ++ word) (codes " ") (right ++ rest)
     ∙ append_assoc (left ++ codes " ") word (32 ∷ (right ++ rest)) ∙ append_assoc left (codes " ") (word ++ 32 ∷ (right ++ rest))
@@ -72,17 +72,17 @@ not_stands LiteralNot t rest operand =
     (space_before_unary (printed t ++ rest) t rest operand)
 not_stands Exclamation t rest operand = a_negation Exclamation t ((not_front Exclamation ++ printed t) ++ rest) (printed t ++ rest) rest refl operand
 
-or_stands : (op : OrOperator) (rest : List ℕ) → ReadsOr op (32 ∷ (or_word op ++ 32 ∷ rest)) (32 ∷ rest)
+pub or_stands : (op : OrOperator) (rest : List ℕ) → ReadsOr op (32 ∷ (or_word op ++ 32 ∷ rest)) (32 ∷ rest)
 or_stands LiteralOr rest = (refl, refl)
 or_stands Pipe rest = refl
 or_stands Plus rest = refl
 
-joint_stands : (op : Joint) (rest : List ℕ) → ReadsJoint op (32 ∷ (joint_word op ++ 32 ∷ rest)) (32 ∷ rest)
+pub joint_stands : (op : Joint) (rest : List ℕ) → ReadsJoint op (32 ∷ (joint_word op ++ 32 ∷ rest)) (32 ∷ rest)
 joint_stands (And LiteralAnd) rest = (refl, refl)
 joint_stands (And Ampersand) rest = refl
 joint_stands (joint.Minus Minus) rest = refl
 
-group_parts : (inside rest : List ℕ) → (codes "(" ++ inside ++ codes ")") ++ rest ≡ 40 ∷ (inside ++ 41 ∷ rest)
+pub group_parts : (inside rest : List ℕ) → (codes "(" ++ inside ++ codes ")") ++ rest ≡ 40 ∷ (inside ++ 41 ∷ rest)
 group_parts inside rest = ap (λ (x : List ℕ). 40 ∷ x) (append_assoc inside (codes ")") rest)
 
 -- ---- trees
@@ -95,7 +95,7 @@ mutual
       (a_group t (40 ∷ (printed t ++ 41 ∷ rest)) (printed t ++ 41 ∷ rest) (41 ∷ rest) rest refl (expression_prints inside t behind read unsigned (41 ∷ rest)) refl)
   unary_prints _ _ _ (a_predicate it text end reads) unsigned rest = a_predicate it (printed (set it) ++ rest) rest (leaf_prints it text end rest unsigned reads)
 
-  conjunction_prints : (text : List ℕ) (t : Tree) (end : List ℕ) → Conjunction text t end → HasNoSignedBare t → (rest : List ℕ) → Conjunction (printed t ++ rest) t rest
+  pub conjunction_prints : (text : List ℕ) (t : Tree) (end : List ℕ) → Conjunction text t end → HasNoSignedBare t → (rest : List ℕ) → Conjunction (printed t ++ rest) t rest
   conjunction_prints _ _ _ (first_operand t text end operand) unsigned rest = first_operand t (printed t ++ rest) rest (unary_prints text t end operand unsigned rest)
   conjunction_prints _ _ _ (next_operand op a b t text middle behind end left reads right is) unsigned rest =
       let both = subst HasNoSignedBare is unsigned in
@@ -107,7 +107,7 @@ mutual
       (joint_stands op (printed b ++ rest))
       (space_before_unary (printed b ++ rest) b rest (unary_prints behind b end right (unsigned_right op a b both) rest)) is)
 
-  expression_prints : (text : List ℕ) (t : Tree) (end : List ℕ) → Expression text t end → HasNoSignedBare t → (rest : List ℕ) → Expression (printed t ++ rest) t rest
+  pub expression_prints : (text : List ℕ) (t : Tree) (end : List ℕ) → Expression text t end → HasNoSignedBare t → (rest : List ℕ) → Expression (printed t ++ rest) t rest
   expression_prints _ _ _ (first_conjunction t text end read) unsigned rest = first_conjunction t (printed t ++ rest) rest (conjunction_prints text t end read unsigned rest)
   expression_prints _ _ _ (next_conjunction op a b text middle behind end left reads right) unsigned rest =
       let ahead = 32 ∷ (printed b ++ rest) in

@@ -94,7 +94,7 @@ bare_is_no_regex binary_id same = cc
 bare_is_no_regex test_name same = cc
 bare_is_no_regex group same = cc
 
-printed_bare : (subject : Subject) (c : Comparison) (text : List ℕ) → c ≡ bare subject → printed_as c true text ≡ escaped text
+pub printed_bare : (subject : Subject) (c : Comparison) (text : List ℕ) → c ≡ bare subject → printed_as c true text ≡ escaped text
 printed_bare subject equal text same = refl
 printed_bare subject contains text same = refl
 printed_bare subject glob text same = refl
@@ -139,7 +139,7 @@ argument_prints default_filter argument end rest unsigned reads = refl
 argument_prints everything argument end rest unsigned reads = refl
 argument_prints nothing argument end rest unsigned reads = refl
 
-word_stands : (it : Leaf) (rest : List ℕ) → unblanked (leaf_word it ++ rest) ≡ leaf_word it ++ rest
+pub word_stands : (it : Leaf) (rest : List ℕ) → unblanked (leaf_word it ++ rest) ≡ leaf_word it ++ rest
 word_stands (matching package_name m) rest = refl
 word_stands (matching dependencies m) rest = refl
 word_stands (matching dependents m) rest = refl
@@ -153,7 +153,7 @@ word_stands default_filter rest = refl
 word_stands everything rest = refl
 word_stands nothing rest = refl
 
-parts_of : (word argument rest : List ℕ) → (word ++ codes "(" ++ argument ++ codes ")") ++ rest ≡ word ++ 40 ∷ (argument ++ 41 ∷ rest)
+pub parts_of : (word argument rest : List ℕ) → (word ++ codes "(" ++ argument ++ codes ")") ++ rest ≡ word ++ 40 ∷ (argument ++ 41 ∷ rest)
 parts_of word argument rest =
     append_assoc (word ++ codes "(" ++ argument) (codes ")") rest ∙ append_assoc (word ++ codes "(") argument (41 ∷ rest)
     ∙ append_assoc word (codes "(") (argument ++ 41 ∷ rest)

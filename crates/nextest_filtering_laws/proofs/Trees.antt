@@ -33,7 +33,6 @@ leaf_opens default_filter rest = refl
 leaf_opens everything rest = refl
 leaf_opens nothing rest = refl
 
--- a negation begins so, and no predicate does
 not_opens : (op : NotOperator) (text behind : List ℕ) → ReadsNot op text behind → opens (unblanked text) ≡ true
 not_opens LiteralNot text behind reads = ap opens reads.0
 not_opens Exclamation text behind reads = ap opens reads
@@ -47,7 +46,6 @@ leaf_only it _ rest _ _ read (a_negation op t text behind end reads operand) = a
 leaf_only it _ rest _ _ read (a_group t text inside behind end first reads closes) = absurd (no_leaf it text rest read (ap opens first))
 leaf_only it _ rest _ _ read (a_predicate other text end found) = let one = one_leaf it other text rest end read found in (ap set one.0, one.1)
 
--- so a predicate is the only operand there
 leaf_part : (it : Leaf) (text rest : List ℕ) → ReadsLeaf it text rest → IsPart Unary Anywhere text 0 0 (set it) rest
 leaf_part it text rest read =
     let behind = leaf_behind it text rest read in
@@ -61,15 +59,13 @@ leaf_part it text rest read =
 
 -- ---- operators
 
--- where a conjunction ends, no operator joins more to it
 no_joint : (rest : List ℕ) → ClosesConjunction rest → IsNoOperator ReadsJoint rest 0 0
 no_joint rest closes = record { same = refl; never = λ op behind reads. joint_goes_on op rest behind reads closes }
 
--- nor where an expression ends
 no_or : (rest : List ℕ) → Closes rest → IsNoOperator ReadsOr rest 0 0
 no_or rest closes = record { same = refl; never = λ op behind reads. or_goes_on op rest behind reads closes }
 
--- ---- trees: what each derivation reads is what every other one of the same text reads
+-- ---- trees
 
 abbrev ReadConjunction : List ℕ → Tree → List ℕ → Type 0
 ReadConjunction text t rest = HasRead ReadsJoint Unary joined Conjunction ClosesConjunction text 0 0 t rest
@@ -78,7 +74,7 @@ abbrev ReadExpression : List ℕ → Tree → List ℕ → Type 0
 ReadExpression text t rest = HasRead ReadsOr Conjunction union Expression Closes text 0 0 t rest
 
 mutual
-  one_operand : (text : List ℕ) (t : Tree) (rest : List ℕ) → Unary text t rest → IsPart Unary Anywhere text 0 0 t rest
+  pub one_operand : (text : List ℕ) (t : Tree) (rest : List ℕ) → Unary text t rest → IsPart Unary Anywhere text 0 0 t rest
   one_operand _ _ _ (a_negation op t text behind rest reads operand) = negated op text behind 0 0 t rest reads (one_operand behind t rest operand)
   one_operand _ _ _ (a_group t text inside behind rest first read closes) =
       grouped text inside behind rest 0 0 0 t first
@@ -100,7 +96,6 @@ mutual
       goes_on text 0 0 0 0 a b op middle behind rest expression_level (expression_read text a middle left (inr (op, behind, reads)))
       (right_or_step op middle behind 0 reads) (ends_here behind 0 0 0 b rest (conjunction_read behind b rest right) (no_joint rest closes))
 
--- behind a whole text stand only blanks, so that no reading goes on
 pub one_tree : (text : List ℕ) (a b : Tree) → IsFilterset text a → IsFilterset text b → a ≡ b
 one_tree text a b left right =
     let read = expression_read text a left.rest left.read (inl (inl left.blank)) in

@@ -1,5 +1,5 @@
 -- What holds of every filterset.
-use Rattle.std.specs.Prelude.{◌≡◌, ℕ, ◌==◌, Bool, true, false, ◌||◌, List, ◌∷◌, ⊤}
+use Rattle.std.specs.Prelude.{◌≡◌, ◌↔◌, ℕ, ◌==◌, Bool, true, false, ◌||◌, List, ◌∷◌, ⊤}
 use Rattle.nextest_filtering_trees.specs.Tree.{Matcher, Leaf, matching, built_for, default_filter, everything, nothing, Tree, negation, union, intersection, difference, parens, set}
 use Rattle.nextest_filtering_trees.specs.Grammar.{IsFilterset}
 use Rattle.nextest_filtering_trees.specs.Printing.{printed}
@@ -38,6 +38,10 @@ pub record IsWellFormed (tree : Tree) : Type 0 where
 -- what is printed of such a filterset is this filterset
 abbrev pub ReadsBack : Type 0
 ReadsBack = (tree : Tree) → IsWellFormed tree → IsFilterset (printed tree) tree
+
+-- and so it is of no other: what is printed of a tree is read as that tree exactly where the tree is well formed
+abbrev pub ReadsBackExactly : Type 0
+ReadsBackExactly = (tree : Tree) → IsFilterset (printed tree) tree ↔ IsWellFormed tree
 
 -- a text is one filterset at most
 abbrev pub OneTree : Type 0
