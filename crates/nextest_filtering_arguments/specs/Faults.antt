@@ -48,8 +48,8 @@ IsPlace input span = Lies input span × (span.length ≡ 0)
 abbrev pub RunsOut : List ℕ → SourceSpan → Type 0
 RunsOut input span = span.offset + span.length ≡ length input
 
--- where a fault may stand: an operator's span is the operator, a comma's the comma, an escape's the backslash and the character
--- behind it, if there is one
+-- where a fault may stand: an operator's span is the operator, a comma's the comma, an escape's a backslash, alone or with the whole
+-- character behind it
 abbrev pub IsFaultOf : List ℕ → ParseSingleError → Type 0
 IsFaultOf input (fault.InvalidGlob span) = Lies input span
 IsFaultOf input (fault.InvalidRegexWithoutMessage span) = Lies input span
