@@ -45,34 +45,46 @@ int posix_memalign(void **p, size_t a, size_t n) { return fails() ? ENOMEM : REA
 """
 
 
-def run(library, number, sample, mark):
+def build_library(folder):
+    """Builds what stands before the C library's calls, and gives its path."""
+    source, library = folder / "fails.c", folder / "fails.so"
+    source.write_text(FAILS)
+    subprocess.run(["cc", "-shared", "-fPIC", "-O1", "-o", library, source, "-ldl"], check=True)
+    return library
+
+
+def run(program, library, number, sample, mark):
     """The exit status and the output of a run, and whether a request failed in it."""
     mark.unlink(missing_ok=True)
     done = subprocess.run(
-        [PROGRAM], input=sample, capture_output=True,
+        [program], input=sample, capture_output=True,
         env={"LD_PRELOAD": str(library), "FAILING_ALLOCATION": str(number), "FAILED": str(mark)},
     )
     return done.returncode, done.stdout, mark.exists()
 
 
-def main():
-    sample = SAMPLE.read_bytes()
-    with tempfile.TemporaryDirectory() as folder:
-        source, library, mark = (pathlib.Path(folder) / name for name in ("fails.c", "fails.so", "failed"))
-        source.write_text(FAILS)
-        subprocess.run(["cc", "-shared", "-fPIC", "-O1", "-o", library, source, "-ldl"], check=True)
-        status, whole, _ = run(library, 0, sample, mark)
+def fail_each(program, sample, wants):
+    """Lets each request fail in turn: how many there are, how many runs end for want of memory, by the exit status `wants`,
+    and the status of the whole run, as which all others end."""
+    with tempfile.TemporaryDirectory() as name:
+        folder = pathlib.Path(name)
+        library, mark = build_library(folder), folder / "failed"
+        status, whole, _ = run(program, library, 0, sample, mark)
         number, wanting = 1, 0
         while True:
-            code, output, failed = run(library, number, sample, mark)
+            code, output, failed = run(program, library, number, sample, mark)
             if not failed:
-                break
+                return number - 1, wanting, status
             if (code, output) != (status, whole):
-                if code != 74 or not whole.startswith(output):
-                    sys.exit(f"request {number}: exit {code}, {output!r}")
+                if code != wants or not whole.startswith(output):
+                    sys.exit(f"request {number} of {sample!r}: exit {code}, {output!r}")
                 wanting += 1
             number += 1
-    print(f"{number - 1} requests failed in turn: {wanting} runs exit 74, the others as the whole run does ({status})")
+
+
+def main():
+    count, wanting, status = fail_each(PROGRAM, SAMPLE.read_bytes(), 74)
+    print(f"{count} requests failed in turn: {wanting} runs exit 74, the others as the whole run does ({status})")
 
 
 if __name__ == "__main__":

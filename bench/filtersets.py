@@ -1,15 +1,19 @@
 #!/usr/bin/env python3
-"""Times the reading and printing of long filtersets, and looks how deep they may nest on the ordinary stack.
+"""Times the reading and printing of long filtersets, looks how deep they may nest on the ordinary stack, and lets each request for memory fail in turn.
 
-Run it from the repository's root, with the kit's `rt` on the PATH. It makes a program of its own for the time of the run, and takes it away again.
+Run it from the repository's root, with the kit's `rt` and a C compiler `cc` on the PATH. It makes a program of its own for the time of the run, and takes it
+away again.
 """
 import os
 import shutil
 import subprocess
 import time
 
+from failing_allocations import fail_each
+
 CRATE = "crates/filterset_bench"
-SOURCE = '''//! Reads a filterset from standard input: how many faults it has, and how many bytes its tree prints.
+PROGRAM = CRATE + "/out/filterset_bench"
+SOURCE = '''//! Reads a filterset from standard input, and tells its faults, its tree, and what only a test answers.
 #![tactic(auto)]
 
 use anyhow::Result;
@@ -20,20 +24,32 @@ fn main(rt: HostRuntime) -> Result<()> {
     let mut text = String::new(rt.alloc());
     rt.reader().read_to_string(&mut text)?;
     let reading = read(rt.alloc(), text.as_str())?;
-    let printed = match &reading.tree {
-        Some(tree) => format!(in rt.alloc(); "{tree}")?.len(),
-        None => 0,
-    };
-    println!(rt; "{} {printed}", reading.faults.len())?;
+    for fault in reading.faults.as_slice() {
+        let span = fault.span();
+        println!(rt; "{} {} {}", fault.label(), span.offset, span.length)?;
+    }
+    if let Some(tree) = &reading.tree {
+        println!(rt; "{tree}")?;
+        println!(rt; "{}", tree.runtime_only_leaves(rt.alloc())?.len())?;
+    }
     Ok(())
 }
 '''
-PROGRAM = CRATE + "/out/filterset_bench"
+
+# One of each kind of argument, operator and recovery.
+SAMPLES = (
+    "all()",
+    "test(a\\nb) or not (package(=c) and deps(~d)) - kind(#l*[!a-c]?)",
+    "rdeps(/x{2,3}y|[^z]/) + binary_id(p::q) & platform(host) | group(@g) ! default()",
+    "test(/[/) || package(#a[) and binary(a\\xb) foo",
+    "test(a, b) && test( ) OR test(/a",
+    "not not (all() | (none() - test(\\u{e9})))",
+)
 
 
 def run(text):
     start = time.time()
-    done = subprocess.run([PROGRAM], input=text.encode(), capture_output=True)
+    done = subprocess.run([PROGRAM], input=text.encode(), stdout=subprocess.DEVNULL, stderr=subprocess.DEVNULL)
     return done.returncode, time.time() - start
 
 
@@ -64,6 +80,12 @@ def measure():
     print("operators in a row:", deepest(lambda n: "all()" + " | all()" * n, 2_000_000))
 
 
+def fail_requests():
+    for sample in SAMPLES:
+        count, wanting, _ = fail_each(PROGRAM, sample.encode(), 1)
+        print(f"{count} requests failed in turn, {wanting} runs end for want of memory: {sample}")
+
+
 def main():
     with open("crates.txt", encoding="utf-8") as file:
         crates = file.read()
@@ -74,6 +96,7 @@ def main():
         with open("crates.txt", "a", encoding="utf-8") as file:
             file.write("filterset_bench: nextest_filtering anyhow\n")
         subprocess.run(["rt", "run"], cwd=CRATE, input=b"all()", check=True, stdout=subprocess.DEVNULL)
+        fail_requests()
         measure()
     finally:
         shutil.rmtree(CRATE)

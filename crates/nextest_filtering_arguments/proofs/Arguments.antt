@@ -20,7 +20,7 @@ use Rattle.nextest_filtering_arguments.proofs.Cutting.{unblanked_stops}
 
 -- ---- texts
 
-matcher_same : (m : Matcher) (comparison : Comparison) (implicit : Bool) (text : List ℕ) → m.comparison ≡ comparison → m.implicit ≡ implicit → m.text ≡ text
+pub matcher_same : (m : Matcher) (comparison : Comparison) (implicit : Bool) (text : List ℕ) → m.comparison ≡ comparison → m.implicit ≡ implicit → m.text ≡ text
     → m ≡ record { comparison = comparison; implicit = implicit; text = text }
 matcher_same m comparison implicit text a b c = Prim.rw (sym a, sym b, sym c) refl
 
@@ -56,11 +56,11 @@ compared_reads comparison implicit text meant rest old mid new None it (more, ne
 
 -- ---- platforms
 
-one_platform : (a b : BuildPlatform) → platform_word a ≡ platform_word b → a ≡ b
-one_platform Host Host is = refl
-one_platform Host Target is = absurd (Prim.omega (arith, ap length is))
-one_platform Target Host is = absurd (Prim.omega (arith, ap length is))
-one_platform Target Target is = refl
+pub same_platform : (a b : BuildPlatform) → platform_word a ≡ platform_word b → a ≡ b
+same_platform Host Host is = refl
+same_platform Host Target is = absurd (Prim.omega (arith, ap length is))
+same_platform Target Host is = absurd (Prim.omega (arith, ap length is))
+same_platform Target Target is = refl
 
 pub platform_found : (text meant rest : List ℕ) (old new : ℕ) (platform : BuildPlatform) → IsTextArgument text old new meant rest → meant ≡ platform_word platform
     → IsArgument platform_itself ReadsPlatform text old new (Some platform) rest
@@ -72,7 +72,7 @@ platform_found text meant rest old new platform it is = record {
       (platform, refl, read.1, (read.0, read.2, subst (Spells read.0) is read.3), read.4 ∙ sym (unblanked_stops rest it.stops));
   only = λ value end x has closes.
       let known = it.only has.0 (platform_word value) end x has.1 has.2 closes in
-      (known.0, (platform, refl, one_platform value platform (known.1 ∙ is)), known.2 ∙ sym (unblanked_stops rest it.stops));
+      (known.0, (platform, refl, same_platform value platform (known.1 ∙ is)), known.2 ∙ sym (unblanked_stops rest it.stops));
 }
 
 pub platform_none : (text meant rest : List ℕ) (old mid new : ℕ) → IsTextArgument text old mid meant rest → ((platform : BuildPlatform) → meant ≡ platform_word platform → ⊥)

@@ -1,12 +1,14 @@
 -- Where bad escapes stand in the input.
-use Rattle.std.proofs.Common.{◌≡◌, refl, ℕ, zero, suc, ◌+◌, ◌-◌, ◌<◌, ◌≤◌, List, [], ◌∷◌, ◌++◌, length, get_or, sym, ap, subst, ◌∙◌, arith, inl, inr, append_assoc, length-append}
+use Rattle.std.proofs.Common.{◌≡◌, refl, ℕ, zero, suc, ◌+◌, ◌-◌, ◌<◌, ◌≤◌, List, [], ◌∷◌, ◌++◌, length, get_or, sym, ap, subst, ◌∙◌, arith, append_assoc, length-append}
 use Rattle.std.specs.List.{AllByRecursion}
 use Rattle.nextest_filtering_texts.specs.Spans.{IsBadEscape, IsSpanOf}
+use Rattle.nextest_filtering_texts.specs.Parts.{IsRead}
+use Rattle.nextest_filtering_texts.proofs.Ended.{bad_escapes_stay}
 use Rattle.nextest_filtering_texts.specs.declared.escapes.EscapeSpan.{EscapeSpan}
 use Rattle.nextest_filtering_trees.specs.declared.leaf.SourceSpan.{SourceSpan}
-use Rattle.nextest_filtering_arguments.specs.Faults.{IsSuffix, here, within, Lies, IsEscape, spanned}
+use Rattle.nextest_filtering_arguments.specs.Faults.{IsSuffix, here, within, Lies, spanned, past}
 use Rattle.nextest_filtering_arguments.specs.Texts.{IsFront}
-use Rattle.nextest_filtering_arguments.proofs.Spans.{told, suffix_trans, suffix_len}
+use Rattle.nextest_filtering_arguments.proofs.Spans.{told, told_past, suffix_trans, suffix_len}
 
 -- what holds of each element holds of the one at a place
 pub each_at : {X : Type 0} (P : X → Type 0) (xs : List X) (i : ℕ) (d : X) → AllByRecursion P xs → i < length xs → P (get_or xs i d)
@@ -19,37 +21,37 @@ pub span_at : (whole : List ℕ) (items bad : List EscapeSpan) (i : ℕ) (d : Es
     → IsSpanOf whole (get_or items i d)
 span_at whole items bad i d is each small = each_at (IsSpanOf whole) items i d (subst (AllByRecursion (IsSpanOf whole)) (sym is) each) small
 
-is_escape : (bytes behind : List ℕ) → IsBadEscape bytes behind → IsEscape bytes
-is_escape bytes behind (inl alone) = inl alone.0
-is_escape bytes behind (inr whole) = inr whole
+-- those of the front are those of all
+pub spans_ahead : (ahead whole text : List ℕ) (bad : List EscapeSpan) → IsFront whole ahead → IsRead whole text bad → AllByRecursion (IsSpanOf ahead) bad
+spans_ahead ahead whole text bad (rest, parted, goes, ended) read =
+    subst (λ (l : List ℕ). AllByRecursion (IsSpanOf l) bad) (sym parted) (bad_escapes_stay whole rest text bad goes ended read)
 
--- what stands in front of a bad escape, and it with what follows
-escape_parts : (ahead whole : List ℕ) (span : EscapeSpan) (front : IsFront whole ahead) (at : IsSpanOf whole span)
-    → ahead ≡ at.before ++ (at.bytes ++ (at.behind ++ front.0))
-escape_parts ahead whole span front at =
-    front.1 ∙ ap (λ (l : List ℕ). l ++ front.0) at.whole ∙ append_assoc (at.before ++ at.bytes) at.behind front.0
-    ∙ append_assoc at.before at.bytes (at.behind ++ front.0)
+-- a bad escape and what stands in front of it and behind
+escape_parts : (ahead : List ℕ) (span : EscapeSpan) (at : IsSpanOf ahead span) → ahead ≡ at.before ++ (at.bytes ++ at.behind)
+escape_parts ahead span at = at.whole ∙ append_assoc at.before at.bytes at.behind
 
-pub escape_inside : (ahead whole : List ℕ) (span : EscapeSpan) → IsFront whole ahead → IsSpanOf whole span → span.offset ≤ length ahead
-escape_inside ahead whole span front at =
-    let parts = escape_parts ahead whole span front at in
+pub escape_inside : (ahead : List ℕ) (span : EscapeSpan) → IsSpanOf ahead span → span.offset ≤ length ahead
+escape_inside ahead span at =
+    let parts = escape_parts ahead span at in
     let begins = at.begins in
-    Prim.omega (arith, begins, ap length parts, length-append at.before (at.bytes ++ (at.behind ++ front.0)))
+    Prim.omega (arith, begins, ap length parts, length-append at.before (at.bytes ++ at.behind))
 
 span_same : (a b n m : ℕ) (s t : SourceSpan) → s ≡ record { offset = a; length = n } → t ≡ record { offset = b; length = m } → a ≡ b → n ≡ m → s ≡ t
 span_same a b n m s t left right e f = Prim.cc
 
 -- the span that is told holds the bad escape
-pub escape_told : (input ahead whole : List ℕ) (span : EscapeSpan) (place : SourceSpan) → place ≡ within input ahead span.offset span.length
-    → IsSuffix ahead input → IsFront whole ahead → IsSpanOf whole span → Lies input place × IsEscape (spanned input place)
-escape_told input ahead whole span place is suffix front at =
-    let tail = at.bytes ++ (at.behind ++ front.0) in
-    let parts = escape_parts ahead whole span front at in
+pub escape_told : (input ahead : List ℕ) (span : EscapeSpan) (place : SourceSpan) → place ≡ within input ahead span.offset span.length
+    → IsSuffix ahead input → IsSpanOf ahead span → Lies input place × IsBadEscape (spanned input place) (past input place)
+escape_told input ahead span place is suffix at =
+    let tail = at.bytes ++ at.behind in
+    let parts = escape_parts ahead span at in
     let begins = at.begins in
     let shorter = suffix_len ahead input suffix in
     let offsets : length input - length ahead + span.offset ≡ length input - length tail =
     Prim.omega (arith, begins, shorter, ap length parts, length-append at.before tail) in
     let same : place ≡ here input tail (length at.bytes) =
     span_same _ _ _ _ place (here input tail (length at.bytes)) is refl offsets at.long in
-    let it = told input tail (at.behind ++ front.0) place at.bytes same (suffix_trans tail ahead input (at.before, parts) suffix) refl in
-    (it.0, subst IsEscape (sym it.1) (is_escape at.bytes at.behind at.bad))
+    let within = suffix_trans tail ahead input (at.before, parts) suffix in
+    let it = told input tail at.behind place at.bytes same within refl in
+    let behind = told_past input tail at.behind place at.bytes same within refl in
+    (it.0, subst (IsBadEscape (spanned input place)) (sym behind) (subst (λ (l : List ℕ). IsBadEscape l at.behind) (sym it.1) at.bad))

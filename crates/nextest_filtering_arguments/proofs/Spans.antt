@@ -1,5 +1,5 @@
 -- Rests of the input, and spans in it.
-use Rattle.std.specs.Prelude.{◌≡◌, refl, ℕ, ◌-◌, ◌<◌, ◌≤◌, List, [], ◌∷◌, ◌++◌, length, take, drop, if◌then◌else◌, Bool, true, false}
+use Rattle.std.specs.Prelude.{◌≡◌, refl, ℕ, ◌+◌, ◌-◌, ◌<◌, ◌≤◌, List, [], ◌∷◌, ◌++◌, length, take, drop, if◌then◌else◌, Bool, true, false}
 use Rattle.std.proofs.Common.{arith, length-append}
 use Rattle.std.proofs.Math.Path.{ap, sym, subst, ◌∙◌}
 use Rattle.std.proofs.Math.Seq.{drop-append_seam, take-append_seam}
@@ -7,7 +7,7 @@ use Rattle.std.proofs.lemmas.List.{append_assoc}
 use Rattle.nextest_filtering_texts.specs.Text.{is_blank}
 use Rattle.nextest_filtering_trees.specs.Grammar.{unblanked}
 use Rattle.nextest_filtering_trees.specs.declared.leaf.SourceSpan.{SourceSpan}
-use Rattle.nextest_filtering_arguments.specs.Faults.{IsSuffix, here, Lies, spanned}
+use Rattle.nextest_filtering_arguments.specs.Faults.{IsSuffix, here, Lies, spanned, past}
 
 -- a rest of a rest is one
 pub suffix_trans : (a b c : List ℕ) → IsSuffix a b → IsSuffix b c → IsSuffix a c
@@ -67,6 +67,14 @@ told input rest behind span front is within e = (
   subst (Lies input) (sym is) (here_lies input rest (length front) within (Prim.omega (arith, ap length e, length-append front behind))),
   ap (spanned input) is ∙ (here_spans input rest (length front) within ∙ (ap (take (length front)) e ∙ take-append_seam front behind)),
 )
+
+-- and what stands behind it
+pub told_past : (input rest behind : List ℕ) (span : SourceSpan) (front : List ℕ) → span ≡ here input rest (length front) → IsSuffix rest input → rest ≡ front ++ behind
+    → past input span ≡ behind
+told_past input rest behind span front is (before, whole) e =
+    let parted : input ≡ (before ++ front) ++ behind = whole ∙ ap (λ l. before ++ l) e ∙ sym (append_assoc before front behind) in
+    let ends : length input - length rest + length front ≡ length (before ++ front) = Prim.omega (arith, starts input rest before whole, length-append before front) in
+    ap (past input) is ∙ (ap (λ n. drop n input) ends ∙ (ap (drop (length (before ++ front))) parted ∙ drop-append_seam (before ++ front) behind))
 
 -- a rest of what is a rest of the input, which stayed
 pub suffix_in : (rest text input now : List ℕ) → now ≡ input → IsSuffix rest text → IsSuffix text input → IsSuffix rest now

@@ -1,7 +1,7 @@
 -- Where faults stand.
-use Rattle.std.specs.Prelude.{◌≡◌, ◌⊎◌, ℕ, Bool, ◌+◌, ◌-◌, ◌≤◌, List, [], ◌∷◌, ◌++◌, length, take, drop, codes, encode_utf8}
+use Rattle.std.specs.Prelude.{◌≡◌, ◌⊎◌, ℕ, Bool, ◌+◌, ◌-◌, ◌≤◌, List, ◌++◌, length, take, drop, codes}
 use Rattle.std.specs.List.{AllByRecursion}
-use Rattle.std.specs.Char.{IsScalar}
+use Rattle.nextest_filtering_texts.specs.Spans.{IsBadEscape}
 use Rattle.nextest_filtering_trees.specs.declared.leaf.SourceSpan.{SourceSpan}
 use Rattle.nextest_filtering_arguments.specs.declared.error.ParseSingleError.{ParseSingleError}
 use Rattle.nextest_filtering_arguments.specs.declared.error.ParseSingleError.TheVariants as fault
@@ -32,13 +32,13 @@ within input rest offset n = record { offset = length input - length rest + offs
 abbrev pub spanned : List ℕ → SourceSpan → List ℕ
 spanned input span = take span.length (drop span.offset input)
 
+-- the bytes behind it
+abbrev pub past : List ℕ → SourceSpan → List ℕ
+past input span = drop (span.offset + span.length) input
+
 -- the span lies in the input
 abbrev pub Lies : List ℕ → SourceSpan → Type 0
 Lies input span = span.offset + span.length ≤ length input
-
--- a `\` alone, or with the whole character behind it
-abbrev pub IsEscape : List ℕ → Type 0
-IsEscape bytes = (bytes ≡ 92 ∷ []) ⊎ ((character : ℕ) × IsScalar character × (bytes ≡ 92 ∷ encode_utf8 character))
 
 -- the span is empty
 abbrev pub IsPlace : List ℕ → SourceSpan → Type 0
@@ -48,8 +48,8 @@ IsPlace input span = Lies input span × (span.length ≡ 0)
 abbrev pub RunsOut : List ℕ → SourceSpan → Type 0
 RunsOut input span = span.offset + span.length ≡ length input
 
--- where a fault may stand: an operator's span is the operator, a comma's the comma, an escape's a backslash, alone or with the whole
--- character behind it
+-- where a fault may stand: an operator's span is the operator, a comma's the comma, an escape's a backslash with
+-- the whole character behind it, or the one that is the input's last byte
 abbrev pub IsFaultOf : List ℕ → ParseSingleError → Type 0
 IsFaultOf input (fault.InvalidGlob span) = Lies input span
 IsFaultOf input (fault.InvalidRegexWithoutMessage span) = Lies input span
@@ -61,7 +61,7 @@ IsFaultOf input (fault.UnexpectedComma span) = Lies input span × (spanned input
 IsFaultOf input (fault.InvalidString span) = IsPlace input span
 IsFaultOf input (fault.ExpectedOpenParenthesis span) = IsPlace input span
 IsFaultOf input (fault.ExpectedCloseParenthesis span) = IsPlace input span
-IsFaultOf input (fault.InvalidEscapeCharacter span) = Lies input span × IsEscape (spanned input span)
+IsFaultOf input (fault.InvalidEscapeCharacter span) = Lies input span × IsBadEscape (spanned input span) (past input span)
 IsFaultOf input (fault.ExpectedExpr span) = RunsOut input span
 IsFaultOf input (fault.ExpectedEndOfExpression span) = RunsOut input span
 IsFaultOf input (fault.InvalidPlatformArgument span) = Lies input span

@@ -1,15 +1,15 @@
 -- What reading a text as an argument gives, faults and all.
 use Rattle.std.specs.Prelude.{◌≡◌, ◌≢◌, ℕ, ◌≤◌, List, [], ◌∷◌, ◌++◌, length}
 use Rattle.nextest_filtering_texts.specs.Text.{IsText}
-use Rattle.nextest_filtering_texts.specs.Ends.{Stops, IsUnended}
+use Rattle.nextest_filtering_texts.specs.Ends.{Stops, IsUnended, IsEnded}
 use Rattle.nextest_filtering_trees.specs.Grammar.{unblanked, Behind, Spells}
 use Rattle.nextest_filtering_trees.specs.declared.leaf.SourceSpan.{SourceSpan}
 use Rattle.nextest_filtering_arguments.specs.Blanks.{AreBlanks, HasBareEnd}
 use Rattle.nextest_filtering_arguments.specs.Faults.{IsSuffix, here}
 
--- the rest begins with those bytes
+-- those bytes stand at the text's front, up to its first `)` or `,` that isn't escaped, or to its end
 abbrev pub IsFront : List ℕ → List ℕ → Type 0
-IsFront front text = (rest : List ℕ) × (text ≡ front ++ rest)
+IsFront front text = (rest : List ℕ) × (text ≡ front ++ rest) × IsUnended front × IsEnded front rest
 
 -- the span holds what comes next in a rest of the input up to where the text goes on, blanks around it aside
 abbrev pub IsPlaced : List ℕ → List ℕ → List ℕ → SourceSpan → Type 0

@@ -1,14 +1,22 @@
 // What stands at the front of a text.
 ghost use Rattle.std.specs.Prelude.{◌≡◌, ◌++◌, ℕ, List, IfSome, IfNone, drop, true};
+ghost use Rattle.nextest_filtering_texts.specs.Text.{is_blank};
 ghost use Rattle.nextest_filtering_trees.specs.Grammar.{unblanked};
 ghost use Rattle.nextest_filtering_arguments.specs.Blanks.{has_blank_front, EndsBlank, HasBareEnd, IsTrimmed};
+
+/// Whether the byte is a blank: a space, a tab, a line feed or a carriage return.
+pub fn is_blank(byte: u8) -> bool
+    ensures { result ≡ is_blank byte }
+{
+    matches!(byte, b' ' | b'\t' | b'\n' | b'\r')
+}
 
 /// Whether the first byte is a blank.
 pub fn begins_blank(text: &str) -> bool
     ensures { result ≡ has_blank_front text.now }
 {
     match text.as_bytes().first() {
-        Some(byte) => matches!(*byte, b' ' | b'\t' | b'\n' | b'\r'),
+        Some(byte) => is_blank(*byte),
         None => false,
     }
 }

@@ -75,6 +75,7 @@ impl<'i> Faults<'i> {
         ensures input { self.new.input ≡ self.old.input }
         ensures ok { OnOk result (count self.new ≡ count self.old + 1) }
         ensures err { OnErr result (count self.new ≡ count self.old) }
+        ensures hopeless { self.new.hopeless ≡ self.old.hopeless }
     {
         self.list.push(fault)?;
         Ok(())

@@ -12,7 +12,7 @@ mod subject;
 mod tests;
 mod text;
 
-pub use cursor::{begins_blank, behind, skip_blanks, trim_blanks_end};
+pub use cursor::{begins_blank, behind, is_blank, skip_blanks, trim_blanks_end};
 pub use error::ParseSingleError;
 pub use faults::Faults;
 pub use matchers::matcher;

@@ -1,6 +1,5 @@
 // A text as an argument.
 ghost use Rattle.std.specs.Prelude.{◌≡◌, IfOk, OnOk};
-ghost use Rattle.nextest_filtering_texts.specs.Ends.{IsUnended};
 ghost use Rattle.nextest_filtering_arguments.specs.Blanks.{IsTrimmed};
 ghost use Rattle.nextest_filtering_arguments.specs.Faults.{IsSuffix, Lies, count};
 ghost use Rattle.nextest_filtering_arguments.specs.Texts.{IsFront, IsPlaced, IsLookedAt, IsMeant, IsTextArgument};
@@ -56,7 +55,6 @@ fn meaning_of(
     requires suffix { IsSuffix ahead.now faults.old.input }
     requires front { IsFront whole.now ahead.now }
     requires trimmed { IsTrimmed whole.now raw.now }
-    requires unended { IsUnended whole.now }
     ensures input { faults.new.input ≡ faults.old.input }
     ensures meant { IfOk result (λ found. IsMeant raw.now (count faults.old) (count faults.new) found) }
 {

@@ -1,5 +1,5 @@
 -- An argument with a `)` behind it is one at most.
-use Rattle.std.proofs.Common.{◌≡◌, ◌≢◌, refl, ℕ, Bool, true, false, List, [], ◌∷◌, ◌++◌, sym, ap, subst, ◌∙◌, inl, inr, length, arith, append_assoc}
+use Rattle.std.proofs.Common.{◌≡◌, ◌≢◌, refl, ℕ, true, false, List, [], ◌∷◌, ◌++◌, sym, ap, subst, ◌∙◌, inl, inr, append_assoc}
 use Rattle.std.specs.Prelude.{◌==◌, if◌then◌else◌}
 use Rattle.std.proofs.lemmas.Bool.{false≢true}
 use Rattle.std.proofs.lemmas.List.{append_cancel_left}
@@ -9,7 +9,6 @@ use Rattle.nextest_filtering_texts.proofs.Pieces.{plain_around, one_text}
 use Rattle.nextest_filtering_texts.proofs.Fronts.{text_only, text_parts}
 use Rattle.nextest_filtering_texts.proofs.Slashes.{regex_only, one_regex}
 use Rattle.nextest_filtering_trees.specs.declared.leaf.BuildPlatform.{BuildPlatform}
-use Rattle.nextest_filtering_trees.specs.declared.leaf.BuildPlatform.TheVariants.{Host, Target}
 use Rattle.nextest_filtering_trees.specs.Tree.{Comparison, equal, contains, glob, regex, Matcher, Subject}
 use Rattle.nextest_filtering_trees.specs.Words.{platform_word}
 use Rattle.nextest_filtering_trees.specs.Grammar.{unblanked, Behind, Spells, is_sign, bare, ReadsSigned, ReadsMatcher}
@@ -17,6 +16,7 @@ use Rattle.nextest_filtering_arguments.specs.Matchers.{ReadsPlatform}
 use Rattle.nextest_filtering_arguments.proofs.Fronts.{same_rest, same_first}
 use Rattle.nextest_filtering_arguments.proofs.Trimming.{trimmed_once}
 use Rattle.nextest_filtering_arguments.proofs.Cutting.{blanks_before}
+use Rattle.nextest_filtering_arguments.proofs.Arguments.{matcher_same, same_platform}
 
 -- ---- texts
 
@@ -45,10 +45,6 @@ one_spelled text raw meant end x other another stop y there spelled closes there
     (one_text raw another meant (subst (λ (l : List ℕ). IsText l another) raws spelled_too.stands) spelled.stands, same_rest 41 41 _ _ _ refl same.1)
 
 -- ---- matchers
-
-matcher_is : (m : Matcher) (comparison : Comparison) (implicit : Bool) (text : List ℕ) → m.comparison ≡ comparison → m.implicit ≡ implicit → m.text ≡ text
-    → m ≡ record { comparison = comparison; implicit = implicit; text = text }
-matcher_is m comparison implicit text a b c = Prim.rw (sym a, sym b, sym c) refl
 
 -- the sign in front of a text that is compared with so
 abbrev pub sign : Comparison → ℕ
@@ -126,7 +122,7 @@ one_matcher subject m other argument end x stop y (compares, inl (is, signed)) c
     let kinds : other.comparison ≡ m.comparison =
     sym (sign_tells other.comparison) ∙ ap by_sign (same_first (sign other.comparison) (sign m.comparison) (unblanked argument) next.0 first.0 next.1 first.1) ∙ sign_tells m.comparison in
     let one = one_signed m.comparison m.text other.text argument end x stop y signed closes (subst (λ (k : Comparison). ReadsSigned k other.text argument stop) kinds signed_too) closes_too in
-    (matcher_is other m.comparison false m.text kinds is_too one.0 ∙ sym (matcher_is m m.comparison false m.text refl is refl), one.1)
+    (matcher_same other m.comparison false m.text kinds is_too one.0 ∙ sym (matcher_same m m.comparison false m.text refl is refl), one.1)
 one_matcher subject m other argument end x stop y (compares, inl (is, signed)) closes (compares_too, inr (is_too, kind_too, alone)) closes_too =
     let first = signed_first m.comparison m.text argument end signed in
     absurd (bare_apart m.comparison alone.raw argument stop first.0 alone.place alone.spelled.some alone.unsigned first.1)
@@ -135,15 +131,9 @@ one_matcher subject m other argument end x stop y (compares, inr (is, kind_is, a
     absurd (bare_apart other.comparison alone.raw argument end first.0 alone.place alone.spelled.some alone.unsigned first.1)
 one_matcher subject m other argument end x stop y (compares, inr (is, kind_is, alone)) closes (compares_too, inr (is_too, kind_too, beside)) closes_too =
     let one = one_spelled argument alone.raw m.text end x beside.raw other.text stop y alone.place alone.spelled closes beside.place beside.spelled closes_too in
-    (matcher_is other (bare subject) true m.text kind_too is_too one.0 ∙ sym (matcher_is m (bare subject) true m.text kind_is is refl), one.1)
+    (matcher_same other (bare subject) true m.text kind_too is_too one.0 ∙ sym (matcher_same m (bare subject) true m.text kind_is is refl), one.1)
 
 -- ---- platforms
-
-same_platform : (a b : BuildPlatform) → platform_word a ≡ platform_word b → a ≡ b
-same_platform Host Host is = refl
-same_platform Host Target is = absurd (Prim.omega (arith, ap length is))
-same_platform Target Host is = absurd (Prim.omega (arith, ap length is))
-same_platform Target Target is = refl
 
 pub one_platform : (platform other : BuildPlatform) (argument end x stop y : List ℕ) → ReadsPlatform platform argument end → unblanked end ≡ 41 ∷ x
     → ReadsPlatform other argument stop → unblanked stop ≡ 41 ∷ y → (other ≡ platform) × (y ≡ x)

@@ -1,15 +1,13 @@
 -- A predicate that a text begins with is the only one.
-use Rattle.std.proofs.Common.{◌≡◌, refl, ℕ, ◌<◌, Bool, true, false, List, [], ◌∷◌, ◌++◌, length, sym, ap, subst, ◌∙◌, inl, inr, arith}
-use Rattle.std.specs.Prelude.{if◌then◌else◌}
-use Rattle.nextest_filtering_texts.specs.Text.{is_blank}
+use Rattle.std.proofs.Common.{◌≡◌, ℕ, ◌<◌, List, [], ◌∷◌, ◌++◌, length, sym, ap, subst, ◌∙◌, inl, inr, arith}
 use Rattle.nextest_filtering_trees.specs.Tree.{Comparison, equal, contains, glob, regex, Matcher, Subject, Leaf, matching, built_for, default_filter, everything, nothing}
 use Rattle.nextest_filtering_trees.specs.Grammar.{unblanked, ReadsSigned, ReadsMatcher, leaf_word, ReadsArgument, ReadsLeaf}
 use Rattle.nextest_filtering_arguments.specs.Faults.{IsSuffix}
-use Rattle.nextest_filtering_arguments.proofs.Fronts.{same_first, same_rest}
+use Rattle.nextest_filtering_arguments.proofs.Fronts.{same_rest}
 use Rattle.nextest_filtering_arguments.proofs.Spans.{suffix_trans, suffix_token, shorter_token, suffix_len}
-use Rattle.nextest_filtering_syntax.specs.Names.{is_name_byte, goes_on}
 use Rattle.nextest_filtering_syntax.proofs.Names.{kind_of, named_so, has_name, is_matching, is_built_for, is_default, is_everything, is_nothing}
 use Rattle.nextest_filtering_laws.proofs.Arguments.{one_matcher, one_platform}
+use Rattle.nextest_filtering_syntax.proofs.Leaves.{opens_ends}
 
 -- ---- what stands behind a predicate
 
@@ -44,25 +42,14 @@ leaf_behind it text rest read =
 
 -- ---- names
 
-blank_ends_name : (byte : ℕ) (rest : List ℕ) (b : Bool) → is_blank byte ≡ b → (opened : List ℕ) → (if b then unblanked rest else byte ∷ rest) ≡ 40 ∷ opened → is_name_byte byte ≡ false
-blank_ends_name byte rest true blank opened e = Prim.grind (arith, blank)
-blank_ends_name byte rest false blank opened e = Prim.grind (arith, first) where
-  first : byte ≡ 40
-  first = same_first byte 40 (byte ∷ rest) rest opened refl e
-
--- a name ends where a `(` follows
-name_ends : (text opened : List ℕ) → unblanked text ≡ 40 ∷ opened → goes_on text ≡ false
-name_ends [] opened e = refl
-name_ends (byte ∷ rest) opened e = blank_ends_name byte rest (is_blank byte) refl opened e
-
 -- two predicates that a text begins with have one name, and one argument follows
 same_kind : (it other : Leaf) (text rest end : List ℕ) (read : ReadsLeaf it text rest) (found : ReadsLeaf other text end)
     → (kind_of other ≡ kind_of it) × (found.opened ≡ read.opened)
 same_kind it other text rest end read found =
-    let ends = name_ends read.named read.opened read.opens in
+    let ends = opens_ends read.named read.opened read.opens in
     let known = has_name it (unblanked text) read.named read.name ends in
     let mine = named_so known.0 it (unblanked text) read.named read.named known.1 read.name ends in
-    let its = named_so known.0 other (unblanked text) read.named found.named known.1 found.name (name_ends found.named found.opened found.opens) in
+    let its = named_so known.0 other (unblanked text) read.named found.named known.1 found.name (opens_ends found.named found.opened found.opens) in
     (its.0 ∙ sym mine.0, same_rest 40 40 _ _ _ found.opens (ap unblanked its.1 ∙ read.opens))
 
 -- ---- one predicate

@@ -1,15 +1,13 @@
 -- Predicates: their names, and their arguments in parentheses.
-use Rattle.std.specs.Prelude.{◌≡◌, ◌⊎◌, refl, ℕ, ◌+◌, ◌-◌, ◌<◌, ◌≤◌, ◌==◌, Bool, true, false, List, [], ◌∷◌, ◌++◌, length, Option, Some, None, Result, Ok, Err, if◌then◌else◌}
+use Rattle.std.specs.Prelude.{◌≡◌, refl, ℕ, ◌+◌, ◌<◌, ◌≤◌, Bool, true, false, List, [], ◌∷◌, ◌++◌, length, Option, Some, None, Result, Ok, Err, if◌then◌else◌}
 use Rattle.std.specs.Result.{IsErrAnd, IfOk}
 use Rattle.std.specs.Borrow.{Bor}
-use Rattle.std.proofs.Common.{arith, rules, inl, inr, length-append}
+use Rattle.std.proofs.Common.{arith, rules, length-append}
 use Rattle.std.proofs.Math.Path.{ap, sym, subst, ◌∙◌}
 use Rattle.std.proofs.lemmas.Result.{err_from_is_err_and}
 use Rattle.nextest_filtering_texts.specs.Text.{is_blank}
-use Rattle.nextest_filtering_trees.specs.declared.leaf.BuildPlatform.{BuildPlatform}
-use Rattle.nextest_filtering_trees.specs.declared.matcher.NameMatcher.{NameMatcher}
 use Rattle.nextest_filtering_trees.specs.declared.tree.ParsedExpr.{ParsedExpr}
-use Rattle.nextest_filtering_trees.specs.Tree.{Subject, Matcher, Leaf, matching, built_for, default_filter, everything, nothing, Tree, set, tree_of, matcher_of}
+use Rattle.nextest_filtering_trees.specs.Tree.{Leaf, matching, built_for, default_filter, everything, nothing, Tree, set, tree_of, matcher_of}
 use Rattle.nextest_filtering_trees.specs.Grammar.{unblanked, leaf_word, ReadsLeaf, ReadsArgument, ReadsMatcher}
 use Rattle.nextest_filtering_arguments.specs.declared.stop.Stop.{Stop}
 use Rattle.nextest_filtering_arguments.specs.declared.stop.Stop.TheVariants.{NoTree, Memory}
@@ -175,7 +173,7 @@ blank_ends_name byte rest false blank opened e = Prim.grind (arith, first) where
   first = same_first byte 40 (byte ∷ rest) rest opened refl e
 
 -- a name ends where a `(` follows
-opens_ends : (text opened : List ℕ) → unblanked text ≡ 40 ∷ opened → goes_on text ≡ false
+pub opens_ends : (text opened : List ℕ) → unblanked text ≡ 40 ∷ opened → goes_on text ≡ false
 opens_ends [] opened e = refl
 opens_ends (byte ∷ rest) opened e = blank_ends_name byte rest (is_blank byte) refl opened e
 

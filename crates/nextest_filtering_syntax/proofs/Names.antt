@@ -1,11 +1,10 @@
 -- The name of a predicate tells which one it is.
-use Rattle.std.specs.Prelude.{◌≡◌, ◌⊎◌, refl, ℕ, ◌==◌, Bool, true, false, List, [], ◌∷◌, ◌++◌, length, drop, codes, bytes_eq, if◌then◌else◌}
+use Rattle.std.specs.Prelude.{◌≡◌, refl, ℕ, Bool, true, false, List, [], ◌∷◌, ◌++◌, codes, bytes_eq, if◌then◌else◌}
 use Rattle.std.specs.List.{AllByRecursion}
-use Rattle.std.proofs.Common.{arith, rules, inl, inr}
-use Rattle.std.proofs.Math.Path.{ap, sym, subst, ◌∙◌}
+use Rattle.std.proofs.Common.{arith, rules}
+use Rattle.std.proofs.Math.Path.{ap, sym, ◌∙◌}
 use Rattle.nextest_filtering_trees.specs.declared.leaf.BuildPlatform.{BuildPlatform}
 use Rattle.nextest_filtering_trees.specs.Tree.{Subject, package_name, dependencies, dependents, kind, binary_name, binary_id, test_name, group, Matcher, Leaf, matching, built_for, default_filter, everything, nothing}
-use Rattle.nextest_filtering_trees.specs.Words.{subject_word}
 use Rattle.nextest_filtering_trees.specs.Grammar.{leaf_word}
 use Rattle.nextest_filtering_arguments.specs.Matchers.{subject_of}
 use Rattle.nextest_filtering_arguments.specs.declared.subject.Subject.TheVariants as subject
@@ -22,7 +21,7 @@ longer_name word text rest e goes there x f ends = Prim.grind (arith, ap goes_on
 abbrev IsName : List ℕ → Type 0
 IsName = AllByRecursion (λ byte. is_name_byte byte ≡ true)
 
-true_is_not_false : true ≡ false → ⊥
+pub true_is_not_false : true ≡ false → ⊥
 true_is_not_false e = Prim.search rules
 
 -- a name and what follows it are told apart in one way

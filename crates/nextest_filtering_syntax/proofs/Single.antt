@@ -1,28 +1,25 @@
 -- At most one operator stands at a place.
-use Rattle.std.specs.Prelude.{◌≡◌, ◌⊎◌, refl, ℕ, ◌+◌, ◌<◌, ◌≤◌, ◌==◌, Bool, true, false, not, ◌||◌, List, [], ◌∷◌, ◌++◌, length, codes}
-use Rattle.std.proofs.Common.{arith, rules, inl, inr}
-use Rattle.std.specs.Prelude.{Option, Some, None, Ok, IfSome, IfNone}
+use Rattle.std.specs.Prelude.{◌≡◌, ◌⊎◌, refl, ℕ, ◌+◌, ◌<◌, ◌==◌, Bool, true, false, not, ◌||◌, List, [], ◌∷◌, ◌++◌, length, codes}
+use Rattle.std.proofs.Common.{arith, inl, inr}
+use Rattle.std.specs.Prelude.{Option, Some, None, IfSome, IfNone}
 use Rattle.std.specs.Borrow.{Bor}
 use Rattle.std.proofs.Math.Path.{ap, sym, ◌∙◌}
-use Rattle.std.proofs.Math.Seq.{drop-append_seam}
 use Rattle.nextest_filtering_trees.specs.declared.operators.NotOperator.{NotOperator}
 use Rattle.nextest_filtering_trees.specs.declared.operators.NotOperator.TheVariants.{LiteralNot, Exclamation}
 use Rattle.nextest_filtering_trees.specs.declared.operators.OrOperator.{OrOperator}
 use Rattle.nextest_filtering_trees.specs.declared.operators.OrOperator.TheVariants.{LiteralOr, Pipe, Plus}
-use Rattle.nextest_filtering_trees.specs.declared.operators.AndOperator.{AndOperator}
 use Rattle.nextest_filtering_trees.specs.declared.operators.AndOperator.TheVariants.{LiteralAnd, Ampersand}
-use Rattle.nextest_filtering_trees.specs.declared.operators.DifferenceOperator.{DifferenceOperator}
 use Rattle.nextest_filtering_trees.specs.declared.operators.DifferenceOperator.TheVariants.{Minus}
 use Rattle.nextest_filtering_trees.specs.declared.operators.Joint.{Joint}
 use Rattle.nextest_filtering_trees.specs.declared.operators.Joint.TheVariants.{And}
 use Rattle.nextest_filtering_trees.specs.declared.operators.Joint.TheVariants as joint
-use Rattle.nextest_filtering_trees.specs.declared.leaf.BuildPlatform.{BuildPlatform}
-use Rattle.nextest_filtering_trees.specs.Tree.{Subject, package_name, dependencies, dependents, kind, binary_name, binary_id, test_name, group, Leaf, matching, built_for, default_filter, everything, nothing, Tree}
-use Rattle.nextest_filtering_trees.specs.Grammar.{unblanked, leaf_word, ReadsNot, ReadsOr, ReadsJoint, Unary, a_negation, a_group, a_predicate, Conjunction, first_operand, next_operand, Expression, ReadsLeaf}
+use Rattle.nextest_filtering_trees.specs.Tree.{package_name, dependencies, dependents, kind, binary_name, binary_id, test_name, group, Leaf, matching, built_for, default_filter, everything, nothing, Tree}
+use Rattle.nextest_filtering_trees.specs.Grammar.{unblanked, leaf_word, ReadsNot, ReadsOr, ReadsJoint, Unary, a_negation, a_group, a_predicate, Conjunction, first_operand, next_operand}
 use Rattle.nextest_filtering_arguments.specs.Faults.{IsSuffix}
 use Rattle.nextest_filtering_syntax.specs.Parsing.{Closes, ClosesConjunction, IsOperator, FindsOperator}
 use Rattle.nextest_filtering_arguments.proofs.Fronts.{apart, same_rest}
 use Rattle.nextest_filtering_arguments.proofs.Spans.{suffix_token, shorter_token}
+use Rattle.nextest_filtering_syntax.proofs.Names.{true_is_not_false}
 
 pub one_not : (a b : NotOperator) (text x y : List ℕ) → ReadsNot a text x → ReadsNot b text y → (b ≡ a) × (y ≡ x)
 one_not LiteralNot LiteralNot text x y e f = (refl, same_rest 116 116 _ _ _ refl (same_rest 111 111 _ _ _ refl (same_rest 110 110 _ _ _ f.0 e.0)))
@@ -144,9 +141,6 @@ right_joint_step op text rest n reads = record {
   reads = λ _. reads;
   only = λ other next t end found _. (refl, (one_joint op other text rest next reads found).0, (one_joint op other text rest next reads found).1);
 }
-
-true_is_not_false : true ≡ false → ⊥
-true_is_not_false e = Prim.search rules
 
 -- behind the first of two signs stands no operand
 no_operand : (text rest : List ℕ) (byte : ℕ) → starts (byte ∷ rest) ≡ false → unblanked (byte ∷ rest) ≡ byte ∷ rest → text ≡ byte ∷ rest

@@ -1,6 +1,6 @@
 -- What is told of an operator.
-use Rattle.std.specs.Prelude.{◌≡◌, ◌⊎◌, refl, ℕ, ◌+◌, ◌≤◌, List, [], ◌∷◌, ◌++◌, length, take, codes}
-use Rattle.std.proofs.Common.{arith, inl, inr, length-append}
+use Rattle.std.specs.Prelude.{◌≡◌, ◌⊎◌, ℕ, List, ◌∷◌, codes}
+use Rattle.std.proofs.Common.{inl, inr}
 use Rattle.std.proofs.Math.Path.{ap, ◌∙◌}
 use Rattle.nextest_filtering_trees.specs.declared.leaf.SourceSpan.{SourceSpan}
 use Rattle.nextest_filtering_arguments.specs.Faults.{IsSuffix, here, Lies, spanned}

@@ -1,22 +1,17 @@
 -- Whole texts.
-use Rattle.std.specs.Prelude.{◌≡◌, ◌≢◌, ◌⊎◌, refl, ℕ, ◌+◌, ◌<◌, ◌≤◌, Bool, true, false, List, [], ◌∷◌, ◌++◌, length, Option, Some, None, Result, Ok, Err}
-use Rattle.std.proofs.Common.{arith, rules, inl, inr}
+use Rattle.std.specs.Prelude.{◌≡◌, ◌≢◌, refl, ℕ, List, [], ◌∷◌, length, Some, None, Result, Ok, Err}
+use Rattle.std.proofs.Common.{arith}
 use Rattle.std.proofs.Math.Path.{ap, sym, subst, ◌∙◌}
 use Rattle.nextest_filtering_trees.specs.declared.tree.ParsedExpr.{ParsedExpr}
 use Rattle.nextest_filtering_trees.specs.Tree.{Tree, tree_of}
-use Rattle.nextest_filtering_trees.specs.Grammar.{unblanked, Expression, IsFilterset}
+use Rattle.nextest_filtering_trees.specs.Grammar.{IsFilterset}
 use Rattle.nextest_filtering_arguments.specs.declared.error.ParseSingleError.{ParseSingleError}
 use Rattle.nextest_filtering_arguments.specs.declared.stop.Stop.{Stop}
 use Rattle.nextest_filtering_arguments.specs.declared.stop.Stop.TheVariants.{NoTree}
-use Rattle.nextest_filtering_arguments.specs.Faults.{IsSuffix, AreFaultsOf}
-use Rattle.nextest_filtering_syntax.specs.Parsing.{Closes, IsPart, IsNoPart}
+use Rattle.nextest_filtering_arguments.specs.Faults.{AreFaultsOf}
 use Rattle.nextest_filtering_syntax.proofs.Leaves.{some_is, none_is_not}
 use Rattle.nextest_filtering_syntax.specs.Reading.{ReadsWhole, IsReadingOf}
 use Rattle.nextest_filtering_syntax.specs.declared.reading.Reading.{Reading}
-
--- the whole input is a rest of itself
-pub suffix_all : (input text : List ℕ) → input ≡ text → IsSuffix text input
-suffix_all input text e = ([], e)
 
 no_length : (list : List ParseSingleError) → length list ≡ 0 → list ≡ []
 no_length [] e = refl

@@ -1,5 +1,5 @@
 -- The names of predicates.
-use Rattle.std.specs.Prelude.{◌≡◌, ℕ, ◌==◌, Bool, true, false, ◌||◌, ◌&&◌, nat_le, List, [], ◌∷◌, ◌++◌, codes}
+use Rattle.std.specs.Prelude.{◌≡◌, ℕ, ◌==◌, Bool, false, ◌||◌, ◌&&◌, nat_le, List, [], ◌∷◌, ◌++◌, codes}
 use Rattle.nextest_filtering_trees.specs.Words.{subject_word}
 use Rattle.nextest_filtering_arguments.specs.Matchers.{subject_of}
 use Rattle.nextest_filtering_syntax.specs.declared.name.Name.{Name}

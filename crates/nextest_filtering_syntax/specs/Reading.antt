@@ -1,5 +1,5 @@
 -- What reading a whole text gives.
-use Rattle.std.specs.Prelude.{◌≡◌, ◌≢◌, ℕ, ◌<◌, List, [], Option, Some, None, Result, Ok, Err}
+use Rattle.std.specs.Prelude.{◌≡◌, ◌≢◌, ℕ, ◌<◌, List, [], Some, Result, Ok, Err}
 use Rattle.nextest_filtering_trees.specs.declared.tree.ParsedExpr.{ParsedExpr}
 use Rattle.nextest_filtering_trees.specs.Tree.{Tree, tree_of}
 use Rattle.nextest_filtering_trees.specs.Grammar.{IsFilterset}

@@ -7,7 +7,9 @@ ghost use Rattle.nextest_filtering_trees.specs.declared.operators.Joint.{Joint};
 ghost use Rattle.nextest_filtering_arguments.specs.Faults.{IsSuffix, count};
 ghost use Rattle.nextest_filtering_syntax.specs.Parsing.{FindsOperator, Closes, ClosesConjunction};
 
-use nextest_filtering_arguments::{Faults, ParseSingleError, begins_blank, behind, skip_blanks};
+use nextest_filtering_arguments::{
+    Faults, ParseSingleError, begins_blank, behind, is_blank, skip_blanks,
+};
 use nextest_filtering_trees::{AndOperator, DifferenceOperator, Joint, NotOperator, OrOperator};
 use std::alloc::AllocError;
 
@@ -16,7 +18,7 @@ fn ends_word(text: &str) -> bool
     ensures { result ≡ ends_word text.now }
 {
     match text.as_bytes().first() {
-        Some(byte) => matches!(*byte, b' ' | b'\t' | b'\n' | b'\r' | b'(' | b'!'),
+        Some(byte) => is_blank(*byte) || *byte == b'(' || *byte == b'!',
         None => false,
     }
 }

@@ -4,3 +4,4 @@ pub mod Fronts
 pub mod Slashes
 pub mod Letters
 pub mod Readings
+pub mod Ended

@@ -1,11 +1,10 @@
 -- What a reading of a text with escapes knows, escape by escape.
 use Rattle.std.proofs.lemmas.Str.{encode_same, len_utf8_bounds, length-encode}
-use Rattle.std.proofs.Common.{◌≡◌, ◌≢◌, ℕ, ◌+◌, ◌-◌, ◌<◌, ◌≤◌, Bool, true, false, not, eqb, List, [], ◌∷◌, ◌++◌, length, get_or, Option, Some, None, refl, sym, ap, ◌∙◌, subst, arith, inl, inr, ltb, suc}
+use Rattle.std.proofs.Common.{◌≡◌, ◌≢◌, ℕ, ◌+◌, ◌-◌, ◌<◌, ◌≤◌, Bool, true, false, not, eqb, List, [], ◌∷◌, ◌++◌, length, get_or, Option, Some, None, refl, sym, ap, ◌∙◌, subst, arith, inl, inr, suc}
 use Rattle.std.specs.Prelude.{encode_utf8}
 use Rattle.std.specs.List.{AllByRecursion, flat_map}
-use Rattle.std.specs.Char.{digit_value}
 use Rattle.std.specs.Str.Parse.{AllDigits}
-use Rattle.std.proofs.lemmas.Bool.{and_parts, and_from, not_from_false, ne_eqb, lt-ltb, false≢true}
+use Rattle.std.proofs.lemmas.Bool.{and_parts, and_from, not_from_false, ne_eqb, false≢true}
 use Rattle.std.proofs.lemmas.List.{append-nil, append_assoc, length-append}
 use Rattle.nextest_filtering_texts.specs.declared.escapes.EscapeSpan.{EscapeSpan}
 use Rattle.nextest_filtering_texts.specs.Text.{Piece, Plain, Escaped, Unicode, IsPiece, IsText, spelling, meaning, is_plain, is_end}
@@ -13,6 +12,7 @@ use Rattle.nextest_filtering_texts.specs.Ends.{IsUnended, unended}
 use Rattle.nextest_filtering_texts.specs.Spans.{IsBadEscape, IsSpanOf, Rise}
 use Rattle.nextest_filtering_texts.specs.Reading.{ReadsEscape}
 use Rattle.nextest_filtering_texts.specs.Parts.{Part, Good, Bad, IsLoosePiece, IsPart, AreParts, IsRead, part_bytes, part_text, span_at, spans_of}
+use Rattle.nextest_filtering_texts.proofs.Fronts.{digit_not}
 use Rattle.nextest_filtering_texts.proofs.Pieces.{text_behind, text_first, same_piece, first_byte}
 
 -- ---- pieces where a plain `)` or `,` stands for itself
@@ -57,17 +57,13 @@ loose_all (byte ∷ bytes) bare = loose_more (Plain byte) bytes bytes bare.0 (lo
 
 -- ---- with no end inside, such pieces are pieces
 
-digit_not : (byte other : ℕ) → digit_value byte < 16 → ltb (digit_value other) 16 ≡ false → eqb byte other ≡ false
-digit_not byte other small large = ne_eqb byte other
-    (λ same. false≢true (sym large ∙ lt-ltb (digit_value other) 16 (subst (λ (b : ℕ). digit_value b < 16) same small)))
-
 digits_ended : (digits more : List ℕ) → AllDigits 16 digits → unended false ((digits ++ 125 ∷ []) ++ more) ≡ true → unended false more ≡ true
 digits_ended [] more are goes = goes
 digits_ended (byte ∷ digits) more are goes =
     let next = (and_parts (not (is_end byte)) _ goes).1 in
     digits_ended digits more are.1 (ap (λ (b : Bool). unended b ((digits ++ 125 ∷ []) ++ more)) (sym (digit_not byte 92 are.0 refl)) ∙ next)
 
-piece_tight : (p : Piece) (more : List ℕ) → IsLoosePiece p → unended false (spelling p ++ more) ≡ true → IsPiece p × (unended false more ≡ true)
+pub piece_tight : (p : Piece) (more : List ℕ) → IsLoosePiece p → unended false (spelling p ++ more) ≡ true → IsPiece p × (unended false more ≡ true)
 piece_tight (Plain byte) more is goes =
     let parts = and_parts (not (is_end byte)) _ goes in
     let bare = ne_eqb byte 92 is in (

@@ -17,6 +17,11 @@ unended false (byte ∷ rest) = not (is_end byte) && unended (byte == 92) rest
 abbrev pub IsUnended : List ℕ → Type 0
 IsUnended raw = unended false raw ≡ true
 
+-- nothing follows, or a byte with which the bytes hold an end
+abbrev pub IsEnded : List ℕ → List ℕ → Type 0
+IsEnded raw [] = ⊤
+IsEnded raw (byte ∷ rest) = unended false (raw ++ byte ∷ []) ≡ false
+
 -- whatever is a text in front with an end behind it is this front, and what follows it this rest
 abbrev pub IsOnlyText : List ℕ → List ℕ → List ℕ → Type 0
 IsOnlyText input front behind = (raw text rest : List ℕ) → IsText raw text → Stops rest → input ≡ raw ++ rest → (raw ≡ front) × (rest ≡ behind)

@@ -2,6 +2,8 @@
 use Rattle.std.specs.Prelude.{◌≡◌, ◌↔◌, ◌⊎◌, ℕ, true, false, List, [], ◌∷◌, ◌++◌}
 use Rattle.std.specs.List.{AllByRecursion}
 use Rattle.nextest_filtering_texts.specs.Text.{IsText, is_blank}
+use Rattle.nextest_filtering_texts.specs.Ends.{IsUnended, IsEnded}
+use Rattle.nextest_filtering_texts.specs.Spans.{IsSpanOf}
 use Rattle.nextest_filtering_texts.specs.Parts.{IsRead}
 use Rattle.nextest_filtering_texts.specs.Printing.{escaped}
 use Rattle.nextest_filtering_texts.specs.declared.escapes.EscapeSpan.{EscapeSpan}
@@ -14,6 +16,11 @@ OneText = (raw a b : List ℕ) → IsText raw a → IsText raw b → a ≡ b
 -- bytes, of whatever kind, are read in one way: as one text, with one list of bad escapes
 abbrev pub OneReading : Type 0
 OneReading = (raw a b : List ℕ) (s t : List EscapeSpan) → IsRead raw a s → IsRead raw b t → (a ≡ b) × (s ≡ t)
+
+-- the bad escapes of the bytes before an end are bad escapes of all: what is told alone ends all
+abbrev pub BadEscapesStay : Type 0
+BadEscapesStay = (raw behind text : List ℕ) (bad : List EscapeSpan) → IsUnended raw → IsEnded raw behind → IsRead raw text bad
+    → AllByRecursion (IsSpanOf (raw ++ behind)) bad
 
 -- bytes stand for one regular expression at most
 abbrev pub OneRegex : Type 0

@@ -1,7 +1,7 @@
 // Where a text with escapes and a regular expression end.
 ghost use Rattle.std.specs.Prelude.{◌≡◌, ◌∷◌, ◌++◌, IfSome, IfNone};
 ghost use Rattle.nextest_filtering_texts.specs.Text.{is_end};
-ghost use Rattle.nextest_filtering_texts.specs.Ends.{Stops, IsUnended, IsOnlyText};
+ghost use Rattle.nextest_filtering_texts.specs.Ends.{Stops, IsUnended, IsEnded, IsOnlyText};
 ghost use Rattle.nextest_filtering_texts.specs.Regex.{HasRegexText, HasNoRegex, IsOnlyRegex};
 
 /// Whether the byte ends a text, where it isn't escaped.
@@ -17,6 +17,7 @@ pub fn split_text(input: &str) -> (&str, &str)
     ensures whole { input.now ≡ result.0.now ++ result.1.now }
     ensures stops { Stops result.1.now }
     ensures unended { IsUnended result.0.now }
+    ensures ended { IsEnded result.0.now result.1.now }
     ensures only { IsOnlyText input.now result.0.now result.1.now }
 {
     let mut escaped = false;

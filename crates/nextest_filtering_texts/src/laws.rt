@@ -1,5 +1,5 @@
 //! What holds of every text, and of how it prints. Each function does nothing, and its contract is the law.
-ghost use Rattle.nextest_filtering_texts.specs.Laws.{OneText, OneReading, OneRegex, EscapedReadsBack, EscapedHasNoBlankEnds, PlainAround};
+ghost use Rattle.nextest_filtering_texts.specs.Laws.{OneText, OneReading, OneRegex, BadEscapesStay, EscapedReadsBack, EscapedHasNoBlankEnds, PlainAround};
 
 /// Nothing stands for two texts.
 pub fn one_text()
@@ -9,6 +9,12 @@ pub fn one_text()
 /// Nothing is read in two ways, bad escapes included.
 pub fn one_reading()
     ensures { OneReading }
+{}
+
+/// The bad escapes of bytes with the end of a text behind them are bad escapes of all: a backslash is told alone only
+/// where it is the last byte of all.
+pub fn bad_escapes_stay()
+    ensures { BadEscapesStay }
 {}
 
 /// Nothing stands for two regular expressions.

@@ -10,6 +10,15 @@ use Rattle.test_runner_core_judging.specs.Check.{FirstRefused, IsReading}
 use Rattle.test_runner_core_judging.specs.Judging.{refusal_of}
 use Rattle.test_runner_core_judging.specs.declared.refused_line.LineRefusal.{LineRefusal}
 use Rattle.test_runner_core_judging.specs.declared.refused_line.RefusedLine.{RefusedLine}
+use Rattle.test_runner_core_log.specs.Lent.{line_meant}
+use Rattle.test_runner_core_log.specs.Reading.{LendsLine, ReadsLine}
+use Rattle.test_runner_core_log.specs.declared.lent.LentLine.{LentLine}
+use Rattle.test_runner_core_log.specs.declared.log_line.LogLine.{LogLine}
+
+-- what is read where its texts still stand in the line is read
+pub lent_reads : (bytes : List ℕ) (found : Option LentLine) → LendsLine bytes (Ok found) → (line : Option LogLine) × ReadsLine bytes (Ok line)
+lent_reads bytes None is = (None, is)
+lent_reads bytes (Some lent) is = (Some (line_meant lent), is)
 
 -- what is found ahead is what there is to find in the whole log, where its bytes are known
 abbrev pub FindsAll : Option (List ℕ) → ℕ → Cursor → Option (List ℕ) → Type 0

@@ -38,7 +38,7 @@ plans_same a b scripts tests listed skipped limit =
     ap (λ (x : List (List ℕ)). record { scripts = x; tests = a.tests; listed = a.listed; skipped = a.skipped; limit = a.limit }) scripts
     ∙ ap (λ (x : List PlanTest). record { scripts = b.scripts; tests = x; listed = a.listed; skipped = a.skipped; limit = a.limit }) tests
     ∙ ap (λ (x : List (List ℕ)). record { scripts = b.scripts; tests = b.tests; listed = x; skipped = a.skipped; limit = a.limit }) listed
-    ∙ ap (λ (x : ℕ). record { scripts = b.scripts; tests = b.tests; listed = b.listed; skipped = x; limit = a.limit }) skipped
+    ∙ ap (λ (x : List OwnedTestInstanceId). record { scripts = b.scripts; tests = b.tests; listed = b.listed; skipped = x; limit = a.limit }) skipped
     ∙ ap (λ (x : MaxFail). record { scripts = b.scripts; tests = b.tests; listed = b.listed; skipped = b.skipped; limit = x }) limit
 
 plans_of_one : (inputs : Inputs) (it : Planned) (a b : Plan) → IsPlanOf inputs it a → IsPlanOf inputs it b → a ≡ b

@@ -5,9 +5,9 @@ ghost use Rattle.test_runner_core_lines.specs.Calls.{TellsFailure};
 ghost use Rattle.test_runner_core_judging.specs.Check.{FirstRefused, IsReading};
 
 use crate::refused_line::{LineRefusal, RefusedLine, refusal_for, refused_at};
-use std::alloc::{AllocError, Global};
+use std::alloc::Global;
 use test_runner_core_lines::{LogFault, LogLines, Next};
-use test_runner_core_log::{LogLine, ParseLineError};
+use test_runner_core_log::{LentLine, SpellingError};
 use test_runner_core_streams::LogReader;
 
 /// Finds the first line of a log that is refused whatever the plan; `None` where every line is empty or spells an
@@ -30,7 +30,7 @@ pub fn first_refused<R: LogReader>(
             Next::Refused(fault) => return Ok(Some(refused_at(number, refusal_for(fault)))),
             Next::End => return Ok(None),
         }
-        if let Some(refusal) = refusal_in(alloc, lines.line())? {
+        if let Some(refusal) = refusal_in(lines.line()) {
             return Ok(Some(refused_at(number, refusal)));
         }
         number += 1;
@@ -38,13 +38,12 @@ pub fn first_refused<R: LogReader>(
 }
 
 // Why the bytes of a line are refused, if they are.
-fn refusal_in(alloc: Global, bytes: &[u8]) -> Result<Option<LineRefusal>, AllocError>
-    ensures { IfOk result (IsReading bytes.now) }
+fn refusal_in(bytes: &[u8]) -> Option<LineRefusal>
+    ensures { IsReading bytes.now result }
 {
-    match LogLine::parse(alloc, bytes) {
-        Ok(_) => Ok(None),
-        Err(ParseLineError::NotUtf8) => Ok(Some(LineRefusal::NotUtf8)),
-        Err(ParseLineError::BadLine) => Ok(Some(LineRefusal::BadLine)),
-        Err(ParseLineError::OutOfMemory) => Err(AllocError),
+    match LentLine::parse(bytes) {
+        Ok(_) => None,
+        Err(SpellingError::NotUtf8) => Some(LineRefusal::NotUtf8),
+        Err(SpellingError::BadLine) => Some(LineRefusal::BadLine),
     }
 }

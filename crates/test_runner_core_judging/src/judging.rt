@@ -2,13 +2,14 @@
 ghost use Rattle.std.specs.Prelude.{◌≡◌, ◌+◌, ◌^◌, ◌<◌, ◌≤◌, IfOk, IfSome};
 ghost use Rattle.test_runner_core_lines.specs.Calls.{TellsFailure};
 ghost use Rattle.test_runner_core_lines.specs.Cursor.{items_ahead};
+ghost use Rattle.test_runner_core_log.specs.Lent.{line_meant};
 ghost use Rattle.test_runner_core_judging.specs.Judging as judging;
 
 use crate::refused_line::{LineRefusal, RefusedLine, refusal_for, refused_at};
 use nextest_run_events_instances::TestInstanceId;
 use std::alloc::{AllocError, Global};
 use test_runner_core_lines::{LogFault, LogLines, Next};
-use test_runner_core_log::{LogLine, ParseLineError};
+use test_runner_core_log::{LentLine, SpellingError};
 use test_runner_core_progress::StartFault;
 use test_runner_core_session::Session;
 use test_runner_core_streams::LogReader;
@@ -51,25 +52,28 @@ fn judge_line(
 ) -> Result<Option<LineRefusal>, AllocError>
     ensures { IfOk result (λ refused. judging.JudgesLine session.old bytes.now refused session.new) }
 {
-    match LogLine::parse(alloc, bytes) {
+    match LentLine::parse(bytes) {
         Ok(None) => Ok(None),
-        Ok(Some(line)) => take_step(session, line),
-        Err(ParseLineError::NotUtf8) => Ok(Some(LineRefusal::NotUtf8)),
-        Err(ParseLineError::BadLine) => Ok(Some(LineRefusal::BadLine)),
-        Err(ParseLineError::OutOfMemory) => Err(AllocError),
+        Ok(Some(line)) => take_step(alloc, session, line),
+        Err(SpellingError::NotUtf8) => Ok(Some(LineRefusal::NotUtf8)),
+        Err(SpellingError::BadLine) => Ok(Some(LineRefusal::BadLine)),
     }
 }
 
 // Takes the step of a line's event: why it is refused, if it is.
-fn take_step(session: &mut Session<'_>, line: LogLine) -> Result<Option<LineRefusal>, AllocError>
-    ensures { IfOk result (λ refused. judging.Steps session.old line refused session.new) }
+fn take_step(
+    alloc: Global,
+    session: &mut Session<'_>,
+    line: LentLine<'_>,
+) -> Result<Option<LineRefusal>, AllocError>
+    ensures { IfOk result (λ refused. judging.Steps session.old (line_meant line.entry) refused session.new) }
 {
     let taken = match line {
-        LogLine::Script { id, record } => session.script_finished(id.as_str(), record),
-        LogLine::Start { binary, name } => {
+        LentLine::Script { id, record } => session.script_finished(id, record.own(alloc)?),
+        LentLine::Start { binary, name } => {
             let test = TestInstanceId {
-                binary_id: binary.as_str(),
-                test_name: name.as_str(),
+                binary_id: binary,
+                test_name: name,
             };
             match session.start(test) {
                 Ok(()) => Ok(()),
@@ -77,18 +81,18 @@ fn take_step(session: &mut Session<'_>, line: LogLine) -> Result<Option<LineRefu
                 Err(StartFault::OutOfMemory) => return Err(AllocError),
             }
         }
-        LogLine::End {
+        LentLine::End {
             binary,
             name,
             record,
         } => {
             let test = TestInstanceId {
-                binary_id: binary.as_str(),
-                test_name: name.as_str(),
+                binary_id: binary,
+                test_name: name,
             };
-            session.attempt_finished(test, record)
+            session.attempt_finished(test, record.own(alloc)?)
         }
-        LogLine::Stop { reason } => session.stop(reason),
+        LentLine::Stop { reason } => session.stop(reason),
     };
     match taken {
         Ok(()) => Ok(None),

@@ -33,7 +33,7 @@ fn judged(alloc: Global, log: &str, piece: usize) -> Result<(u64, Option<LineRef
         scripts: Listing::new(alloc),
         tests,
         listed: Listing::new(alloc),
-        skipped: 0,
+        skipped: Listing::new(alloc),
         limit: MaxFail::Count {
             max_fail: 1,
             terminate: TerminateMode::Wait,

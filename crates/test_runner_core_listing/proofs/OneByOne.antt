@@ -1,10 +1,38 @@
 -- The names of a binary, one after another.
-use Rattle.std.proofs.Common.{◌≡◌, ℕ, ◌+◌, ◌<◌, ◌==◌, ◌∷◌, ◌++◌, [], List, length, get_or, take, drop, Bool, Option, Some, ap, sym, ◌∙◌, cond, drop-cons, add-one}
+use Rattle.std.proofs.Common.{◌≡◌, ℕ, ◌+◌, ◌<◌, ◌==◌, ◌∷◌, ◌++◌, [], List, length, get_or, take, drop, Bool, true, false, ◌||◌, Option, Some, refl, ap, sym, ◌∙◌, cond, drop-cons, add-one}
+use Rattle.std.specs.HashSet.{HashSet, contains_by, Updates}
+use Rattle.std.specs.Str.{bytes_eq}
+use Rattle.std.specs.Cmp.Lexicographic.{nat_list_eq_equiv}
 use Rattle.std.proofs.lemmas.List.{take_more}
+use Rattle.std.proofs.lemmas.List.Folds.{list_any-append}
+use denote.Ref.{Bor}
 use Rattle.test_runner_core_workspace.specs.Workspace.{is_among, has_separator}
 use Rattle.test_runner_core_listing.specs.Listing.{refused_name}
 use Rattle.test_runner_core_listing.specs.declared.listing_fault.ListingFault.{ListingFault}
 use Rattle.test_runner_core_listing.specs.declared.listing_fault.ListingFault.TheVariants as refused
+
+-- a set has a name
+abbrev pub has_name : {S : Type 0} → HashSet (Bor (List ℕ)) S → List ℕ → Bool
+has_name set name = contains_by (λ key. bytes_eq name key.now) set
+
+taken : (c m : Bool) → cond c true m ≡ (m || (c || false))
+taken true true = refl
+taken true false = refl
+taken false true = refl
+taken false false = refl
+
+-- a set of names with one more in it
+pub names_more : {S : Type 0} (set new : HashSet (Bor (List ℕ)) S) (key : Bor (List ℕ)) (names : List (List ℕ))
+    → Updates (λ x y. bytes_eq x.now y.now) set new key true
+    → ((name : List ℕ) → has_name set name ≡ is_among names name)
+    → (name : List ℕ) → has_name new name ≡ is_among (names ++ key.now ∷ []) name
+names_more set new key names update before name =
+    let one : has_name new name ≡ cond (bytes_eq key.now name) true (has_name set name) = update.0 (record { ref_ptr = (0, 0); now = name }) in
+    one
+    ∙ ap (λ (b : Bool). cond b true (has_name set name)) (nat_list_eq_equiv.symm key.now name)
+    ∙ ap (λ (b : Bool). cond (bytes_eq name key.now) true b) (before name)
+    ∙ taken (bytes_eq name key.now) (is_among names name)
+    ∙ sym (list_any-append (bytes_eq name) names (key.now ∷ []))
 
 -- what is refused from a name on, by the three tests of it
 abbrev pub from_name : Bool → Bool → Bool → Option ListingFault → Option ListingFault

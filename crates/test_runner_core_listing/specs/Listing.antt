@@ -1,5 +1,5 @@
 -- What the listed binaries answer, and which of their tests are selected.
-use Rattle.std.specs.Prelude.{◌≡◌, ℕ, ◌+◌, ◌-◌, ◌==◌, Bool, true, false, length, List, [], ◌∷◌, ◌++◌, Option, None, Some, Result, Ok, Err, map, filter, if◌then◌else◌}
+use Rattle.std.specs.Prelude.{◌≡◌, ℕ, ◌==◌, Bool, true, false, not, length, List, [], ◌∷◌, ◌++◌, Option, None, Some, Result, Ok, Err, map, filter, if◌then◌else◌}
 use Rattle.std.specs.Ordering.{nat_cmp, ordering_then}
 use Rattle.std.specs.declared.cmp.Ordering.{Ordering}
 use Rattle.std.specs.Cmp.Lexicographic.{slice_cmp}
@@ -42,13 +42,17 @@ Accepts (Err refusal) given = given ≡ Err refusal
 abbrev pub listed_of : Filter → List Binary → List Binary
 listed_of chosen binaries = if may_hold chosen then binaries else []
 
+-- tests of a binary, by their names
+abbrev pub tests_of : Binary → List (List ℕ) → List OwnedTestInstanceId
+tests_of binary names = map (λ name. record { binary_id = binary.id; test_name = name }) names
+
 -- the tests of a binary on which a filter holds
 abbrev pub selected_in : Filter → Binary → List (List ℕ) → List OwnedTestInstanceId
-selected_in chosen binary names = map (λ name. record { binary_id = binary.id; test_name = name }) (filter (holds chosen) names)
+selected_in chosen binary names = tests_of binary (filter (holds chosen) names)
 
--- how many names aren't selected
-abbrev pub skipped_in : Filter → List (List ℕ) → ℕ
-skipped_in chosen names = length names - length (filter (holds chosen) names)
+-- the others
+abbrev pub skipped_in : Filter → Binary → List (List ℕ) → List OwnedTestInstanceId
+skipped_in chosen binary names = tests_of binary (filter (λ name. not (holds chosen name)) names)
 
 infixl 10 ◌>>=◌
 abbrev pub ◌>>=◌ : {A B : Type 0} → Result A ListingFault → (A → Result B ListingFault) → Result B ListingFault
@@ -57,11 +61,11 @@ Err refusal >>= next = Err refusal
 
 -- what binaries give one after another, up to the first whose answer is refused
 abbrev pub listing : (Binary → Answer) → Filter → List Binary → Result Selection ListingFault
-listing answer chosen [] = Ok (record { tests = []; skipped = 0 })
+listing answer chosen [] = Ok (record { tests = []; skipped = [] })
 listing answer chosen (binary ∷ binaries) = do
   names ← accepted (answer binary)
   rest ← listing answer chosen binaries
-  Ok (record { tests = selected_in chosen binary names ++ rest.tests; skipped = skipped_in chosen names + rest.skipped })
+  Ok (record { tests = selected_in chosen binary names ++ rest.tests; skipped = skipped_in chosen binary names ++ rest.skipped })
 
 -- the ids of the binaries that are asked: up to the first whose answer is refused
 abbrev pub asked_after : {A : Type 0} → Result A ListingFault → List (List ℕ) → List (List ℕ)
@@ -75,7 +79,7 @@ asked_of answer (binary ∷ binaries) = binary.id ∷ asked_after (accepted (ans
 -- one binary's tests are added to what was found; want of memory says nothing
 abbrev pub Adds : {T : Type 0} → Result T ListingFault → Result (List (List ℕ)) ListingFault → Filter → Binary → Selection → Selection → Type 0
 Adds (Ok done) answered chosen binary old new =
-    (names : List (List ℕ)) × (answered ≡ Ok names) × (new.tests ≡ old.tests ++ selected_in chosen binary names) × (new.skipped ≡ old.skipped + skipped_in chosen names)
+    (names : List (List ℕ)) × (answered ≡ Ok names) × (new.tests ≡ old.tests ++ selected_in chosen binary names) × (new.skipped ≡ old.skipped ++ skipped_in chosen binary names)
 Adds (Err refused.OutOfMemory) answered chosen binary old new = Unit {0}
 Adds (Err refusal) answered chosen binary old new = answered ≡ Err refusal
 
@@ -89,7 +93,7 @@ Lists (Err refusal) given = given ≡ Err refusal
 abbrev pub instance_cmp : OwnedTestInstanceId → OwnedTestInstanceId → Ordering
 instance_cmp a b = ordering_then (slice_cmp nat_cmp a.binary_id b.binary_id) (slice_cmp nat_cmp a.test_name b.test_name)
 
--- a selection has the listed tests in rising order
+-- a selection has the listed tests in rising order, and leaves out the others as they were listed
 pub record Selects (listed : Selection) (selection : Selection) : Type 0 where
   pub tests : IsPermutation listed.tests selection.tests
   pub order : IsSorted instance_cmp selection.tests

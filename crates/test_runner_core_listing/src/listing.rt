@@ -34,22 +34,26 @@ fn names_of<L: Lister>(
     }
 }
 
-// Adds the tests of a binary on which the filter holds.
-fn add_selected(
-    alloc: Global,
+// Adds the tests of a binary: those on which the filter holds to the selected ones, and the others to those left out.
+fn add_tests(
     binary: &Binary,
-    names: &[Text],
+    names: Listing<Text>,
     filter: &Filter,
-    tests: &mut Listing<OwnedTestInstanceId>,
+    found: &mut Selection,
 ) -> Result<(), AllocError>
-    ensures { OnOk result (tests.new ≡ tests.old ++ words.selected_in filter.now binary.now names.now) }
+    ensures tests { OnOk result (found.new.tests ≡ found.old.tests ++ words.selected_in filter.now binary.now names) }
+    ensures skipped { OnOk result (found.new.skipped ≡ found.old.skipped ++ words.skipped_in filter.now binary.now names) }
 {
-    for name in names {
-        if filter.holds(name.as_str()) {
-            tests.push(OwnedTestInstanceId {
-                binary_id: binary.id.clone()?,
-                test_name: name.clone()?,
-            })?;
+    for name in Vec::from(names) {
+        let selected = filter.holds(name.as_str());
+        let test = OwnedTestInstanceId {
+            binary_id: binary.id.clone()?,
+            test_name: name,
+        };
+        if selected {
+            found.tests.push(test)?;
+        } else {
+            found.skipped.push(test)?;
         }
     }
     Ok(())
@@ -68,14 +72,7 @@ fn list_one<L: Lister>(
     ensures asks { words.Asks result (L.asked lister.old) (binary.now.id ∷ []) (L.asked lister.new) }
 {
     let names = names_of(alloc, binary, lister)?;
-    let before = found.tests.len();
-    add_selected(alloc, binary, names.as_slice(), filter, &mut found.tests)?;
-    let selected = found.tests.len().saturating_sub(before);
-    let more = names.len().saturating_sub(selected);
-    let Some(skipped) = found.skipped.checked_add(more) else {
-        return Err(ListingFault::OutOfMemory);
-    };
-    found.skipped = skipped;
+    add_tests(binary, names, filter, found)?;
     Ok(())
 }
 
@@ -92,7 +89,7 @@ fn list_each<L: Lister>(
 {
     let mut found = Selection {
         tests: Listing::new(alloc),
-        skipped: 0,
+        skipped: Listing::new(alloc),
     };
     for binary in binaries {
         list_one(alloc, binary, filter, lister, &mut found)?;

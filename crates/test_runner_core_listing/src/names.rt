@@ -5,14 +5,14 @@ ghost use Rattle.test_runner_core_listing.specs.Listing.{refused_name};
 use crate::listing_fault::ListingFault;
 use nextest_text::Text;
 use std::alloc::{AllocError, Global};
-use std::collections::BTreeSet;
+use std::collections::HashSet;
 use test_runner_core_workspace::has_separator;
 
 // Why the names of a binary are refused, if they are.
 pub(crate) fn refusal(alloc: Global, names: &[Text]) -> Result<Option<ListingFault>, AllocError>
     ensures { IfOk result (λ refused. refused ≡ refused_name [] names.now) }
 {
-    let mut before = BTreeSet::new(alloc);
+    let mut before = HashSet::with_capacity(alloc, names.len())?;
     for name in names {
         if name.is_empty() {
             return Ok(Some(ListingFault::EmptyTestName));

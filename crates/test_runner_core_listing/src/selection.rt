@@ -1,12 +1,12 @@
-// The selected tests.
+// The selected tests, and those that are left out.
 use nextest_run_events_instances::OwnedTestInstanceId;
 use nextest_text::Listing;
 
-/// The selected tests.
+/// The selected tests, and those that are left out.
 #[derive(Clone, Debug, PartialEq, Eq, Drop)]
 pub struct Selection {
-    /// Them, rising by binary id and then by name.
+    /// The selected ones, rising by binary id and then by name.
     pub tests: Listing<OwnedTestInstanceId>,
-    /// How many listed tests aren't selected.
-    pub skipped: usize,
+    /// Those that are listed and not selected, as they were listed.
+    pub skipped: Listing<OwnedTestInstanceId>,
 }

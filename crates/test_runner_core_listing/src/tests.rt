@@ -97,7 +97,7 @@ fn tests_rise_by_binary_and_name(rt: HostRuntime) -> Result<(), Fail> {
     let (found, asked) = selected(alloc, &Filter::All, &["b", "a"], &["a"])?;
     let selection = found?;
     assert_eq!(rt; asked, 2);
-    assert_eq!(rt; selection.skipped, 0);
+    assert!(rt; selection.skipped.is_empty());
     let rising = [("p", "a"), ("p", "b"), ("q", "a")];
     assert_eq!(rt; selection.tests.len(), rising.len());
     for (test, (id, name)) in selection.tests.as_slice().iter().zip(rising) {
@@ -113,14 +113,17 @@ fn what_a_filter_leaves_out_is_skipped(rt: HostRuntime) -> Result<(), Fail> {
     let slow = Filter::NameHas(Text::from_str(alloc, "slow")?);
     let (found, asked) = selected(alloc, &slow, &["a", "slow_b"], &["c", "d"])?;
     let selection = found?;
-    assert_eq!(rt;
-        (selection.tests.len(), selection.skipped, asked),
-        (1, 3, 2)
-    );
+    assert_eq!(rt; (selection.tests.len(), asked), (1, 2));
+    let left_out = [("q", "a"), ("p", "c"), ("p", "d")];
+    assert_eq!(rt; selection.skipped.len(), left_out.len());
+    for (test, (id, name)) in selection.skipped.as_slice().iter().zip(left_out) {
+        assert_eq!(rt; test.binary_id.as_str(), id);
+        assert_eq!(rt; test.test_name.as_str(), name);
+    }
     let (found, asked) = selected(alloc, &Filter::Nothing, &["a", "a"], &[""])?;
     let selection = found?;
     assert_eq!(rt;
-        (selection.tests.len(), selection.skipped, asked),
+        (selection.tests.len(), selection.skipped.len(), asked),
         (0, 0, 0)
     );
     Ok(())

@@ -2,9 +2,13 @@
 use Rattle.std.specs.Prelude.{◌≡◌, ◌≢◌, ℕ, List, [], Option, Some, None, Result, Ok, Err, ⊤}
 use Rattle.std.specs.Str.{IsUtf8}
 use Rattle.test_runner_core_log.specs.Spelling.{Spells}
+use Rattle.test_runner_core_log.specs.Lent.{line_meant}
+use Rattle.test_runner_core_log.specs.Message.{as_told}
+use Rattle.test_runner_core_log.specs.declared.lent.LentLine.{LentLine}
 use Rattle.test_runner_core_log.specs.declared.log_line.LogLine.{LogLine}
 use Rattle.test_runner_core_log.specs.declared.parse_line_error.ParseLineError.{ParseLineError}
 use Rattle.test_runner_core_log.specs.declared.parse_line_error.ParseLineError.TheVariants as fault
+use Rattle.test_runner_core_log.specs.declared.spelling_error.SpellingError.{SpellingError}
 
 -- an empty line is no event, any other is the event that it spells. A line that isn't UTF-8 is refused as that, and
 -- else as bad where it isn't empty and spells no event. Want of memory says nothing
@@ -14,6 +18,12 @@ ReadsLine bytes (Ok (Some line)) = Spells line bytes
 ReadsLine bytes (Err fault.NotUtf8) = IsUtf8 bytes → ⊥
 ReadsLine bytes (Err fault.BadLine) = IsUtf8 bytes × (bytes ≢ []) × ((line : LogLine) → Spells line bytes → ⊥)
 ReadsLine bytes (Err fault.OutOfMemory) = ⊤
+
+-- the same where the event's texts still stand in the line, so that no memory is wanted
+abbrev pub LendsLine : List ℕ → Result (Option LentLine) SpellingError → Type 0
+LendsLine bytes (Ok None) = bytes ≡ []
+LendsLine bytes (Ok (Some lent)) = Spells (line_meant lent) bytes
+LendsLine bytes (Err error) = ReadsLine bytes (Err (as_told error))
 
 -- the line spells some event
 abbrev pub SpellsEvent : List ℕ → Type 0

@@ -1,9 +1,12 @@
 // An event whose texts still stand in their line, so that it takes no memory.
 ghost use Rattle.std.specs.Prelude.{◌≡◌, IfOk};
 ghost use Rattle.test_runner_core_log.specs.Lent.{failure_meant, result_meant, stream_meant, record_meant, line_meant};
+ghost use Rattle.test_runner_core_log.specs.Reading.{LendsLine};
 
 use super::log_line::LogLine;
+use super::reading::lent_of;
 use super::signals::own_name;
+use super::spelling_error::SpellingError;
 use nextest_config_elements_plain::{LeakTimeoutResult, SlowTimeoutResult};
 use nextest_run_events_results::{
     AbortDescription, CancelReason, ExecutionResultDescription, FailureDescription,
@@ -136,7 +139,15 @@ impl LentRecord {
     }
 }
 
-impl LentLine<'_> {
+impl<'a> LentLine<'a> {
+    /// Reads a line, its line feed left aside, without memory: the event that it spells, or `None` for the empty line.
+    /// A line that isn't UTF-8 is refused as that, and any other that spells no event as bad.
+    pub fn parse(bytes: &'a [u8]) -> Result<Option<LentLine<'a>>, SpellingError>
+        ensures { LendsLine bytes.now result }
+    {
+        lent_of(bytes)
+    }
+
     /// The event that is meant, with texts of its own. Only want of memory refuses it.
     pub fn own(self, alloc: Global) -> Result<LogLine, AllocError>
         ensures { IfOk result (λ line. line ≡ line_meant self.entry) }

@@ -8,10 +8,13 @@ mod parse_line_error;
 mod reading;
 mod reasons;
 mod signals;
+mod spelling_error;
 #[cfg(test)]
 mod tests;
 mod writing;
 
+pub use lent::{LentFailure, LentLine, LentRecord, LentResult, LentStream};
 pub use log_line::LogLine;
 pub use parse_line_error::ParseLineError;
 pub use reasons::reason_word;
+pub use spelling_error::SpellingError;

@@ -3,8 +3,8 @@ ghost use Rattle.std.specs.Prelude.{◌≡◌, ◌↔◌, IsTrue, IfOk, IsErrOf,
 ghost use Rattle.test_runner_core_log.specs.Spelling.{Spells, HasSpelling};
 ghost use Rattle.test_runner_core_log.specs.Reading.{ReadsLine, SpellsEvent};
 
+use super::lent::LentLine;
 use super::parse_line_error::ParseLineError;
-use super::reading::line_of;
 use super::reasons::reason_word;
 use super::writing::{
     are_fields, is_field, is_outer, push_field, push_record, record_is_spellable,
@@ -113,5 +113,16 @@ impl LogLine {
                 Ok(line)
             }
         }
+    }
+}
+
+// The event of a line, with texts of its own.
+fn line_of(alloc: Global, bytes: &[u8]) -> Result<Option<LogLine>, ParseLineError>
+    ensures exact { ReadsLine bytes.now result }
+    ensures memory { IsErrOf result ParseLineError.OutOfMemory → SpellsEvent bytes.now }
+{
+    match LentLine::parse(bytes)? {
+        Some(line) => Ok(Some(line.own(alloc)?)),
+        None => Ok(None),
     }
 }

@@ -1,19 +1,17 @@
 // Reading an event from its line, field by field, with no memory.
-ghost use Rattle.std.specs.Prelude.{◌≡◌, [], ◌∷◌, List, ℕ, codes, MatchOption, IsErrOf};
+ghost use Rattle.std.specs.Prelude.{◌≡◌, [], ◌∷◌, List, ℕ, codes, MatchOption};
 ghost use Rattle.nextest_run_events_results.specs.declared.result.ExecutionResultDescription.TheVariants as ended;
 ghost use Rattle.test_runner_core_log.specs.Spelling.{SpellsFailure, SpellsResult, SpellsSlow, SpellsNanos, SpellsStream, SpellsRecord, SpellsReason, SpellsFields, Spells};
 ghost use Rattle.test_runner_core_log.specs.Fields.{fields_of, Reads};
-ghost use Rattle.test_runner_core_log.specs.Reading.{ReadsLine, SpellsEvent};
+ghost use Rattle.test_runner_core_log.specs.Reading.{LendsLine};
 ghost use Rattle.test_runner_core_log.specs.Lent.{failure_meant, failed_meant, result_meant, stream_meant, record_meant, line_meant};
 
 use super::lent::{LentFailure, LentLine, LentRecord, LentResult, LentStream};
-use super::log_line::LogLine;
-use super::parse_line_error::ParseLineError;
+use super::spelling_error::SpellingError;
 use super::signals::is_signal;
 use nextest_config_elements_plain::{LeakTimeoutResult, SlowTimeoutResult};
 use nextest_run_events_results::CancelReason;
 use nextest_text::{i32_of_decimal, u64_of_decimal};
-use std::alloc::Global;
 
 // The first field, and what follows its tab.
 fn next_field(rest: &str) -> Option<(&str, &str)>
@@ -208,18 +206,17 @@ fn lent_line_of(line: &str) -> Option<LentLine<'_>>
 }
 
 /// Reads a line, its line feed left aside.
-pub fn line_of(alloc: Global, bytes: &[u8]) -> Result<Option<LogLine>, ParseLineError>
-    ensures exact { ReadsLine bytes.now result }
-    ensures memory { IsErrOf result ParseLineError.OutOfMemory → SpellsEvent bytes.now }
+pub fn lent_of(bytes: &[u8]) -> Result<Option<LentLine<'_>>, SpellingError>
+    ensures { LendsLine bytes.now result }
 {
     let Ok(text) = str::from_utf8(bytes) else {
-        return Err(ParseLineError::NotUtf8);
+        return Err(SpellingError::NotUtf8);
     };
     if text.is_empty() {
         return Ok(None);
     }
     let Some(lent) = lent_line_of(text) else {
-        return Err(ParseLineError::BadLine);
+        return Err(SpellingError::BadLine);
     };
-    Ok(Some(lent.own(alloc)?))
+    Ok(Some(lent))
 }

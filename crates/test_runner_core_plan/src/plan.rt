@@ -30,8 +30,8 @@ pub struct Plan {
     pub tests: Listing<PlanTest>,
     /// The ids of the listed binaries, in the workspace's order.
     pub listed: Listing<Text>,
-    /// How many listed tests aren't selected.
-    pub skipped: usize,
+    /// The tests that are listed and not selected: the binaries' in their order, each as it lists them.
+    pub skipped: Listing<OwnedTestInstanceId>,
     /// How many failing tests stop the run.
     pub limit: MaxFail,
 }

@@ -156,7 +156,7 @@ fn a_plan_has_the_selected_tests(rt: HostRuntime) -> Result<(), Fail> {
     let plan = Plan::build(alloc, &inputs, &mut lister)?;
     let told = format!(in alloc; "{plan:?}")?;
     assert_eq!(rt;
-        (plan.tests.len(), plan.skipped, plan.listed.len()),
+        (plan.tests.len(), plan.skipped.len(), plan.listed.len()),
         (2, 1, 1)
     );
     for (test, name) in plan.tests.as_slice().iter().zip(["slow_a", "slow_b"]) {

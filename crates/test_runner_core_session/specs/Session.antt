@@ -20,7 +20,7 @@ run_test test = record { tries = test.tries; flaky = test.settings.flaky_result 
 
 -- a plan as a run sees it
 abbrev pub run_plan : Plan → runs.Plan
-run_plan plan = record { scripts = length plan.scripts; tests = map run_test plan.tests; limit = plan.limit; skipped = plan.skipped }
+run_plan plan = record { scripts = length plan.scripts; tests = map run_test plan.tests; limit = plan.limit; skipped = length plan.skipped }
 
 -- the run of a plan in which nothing ended
 abbrev pub session_of : Plan → SessionState

@@ -49,7 +49,8 @@ impl<'a> Places<'a> {
     }
 }
 
-// From each name to the place of the first test that has it.
+// From each name to the place of the first test that has it: from the last test on, so that a test takes the place of
+// those behind it that have its name.
 fn index_of<'a>(
     alloc: Global,
     tests: &'a [PlanTest],
@@ -57,11 +58,8 @@ fn index_of<'a>(
     ensures { IfOk result (λ index. IsIndex index (map (λ test. test.instance) tests.now)) }
 {
     let mut index = IndexMap::with_capacity(alloc, tests.len())?;
-    for (place, test) in tests.iter().enumerate() {
-        let name = test.instance.as_ref();
-        if !index.contains_key(&name) {
-            index.insert(name, place)?;
-        }
+    for place in (0..tests.len()).rev() {
+        index.insert(tests[place].instance.as_ref(), place)?;
     }
     Ok(index)
 }

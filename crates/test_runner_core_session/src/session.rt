@@ -64,7 +64,7 @@ impl<'a> Session<'a> {
                 scripts.len(),
                 planned.as_slice(),
                 plan.limit,
-                plan.skipped,
+                plan.skipped.len(),
             )?,
         })
     }

@@ -34,7 +34,7 @@ fn plan_of(alloc: Global, tests: &[(&str, &str)]) -> Result<Plan, AllocError> {
         scripts: Listing::new(alloc),
         tests: planned,
         listed: Listing::new(alloc),
-        skipped: 0,
+        skipped: Listing::new(alloc),
         limit: MaxFail::Count {
             max_fail: 1,
             terminate: TerminateMode::Wait,

@@ -1,16 +1,16 @@
 use Rattle.std.proofs.Common.{List, ℕ, sym, subst}
 use Rattle.nextest_filtering_arguments.specs.Faults.{IsSuffix}
-use Rattle.nextest_filtering_arguments.proofs.Escapes.{span_at, escape_inside, escape_told}
+use Rattle.nextest_filtering_arguments.proofs.Escapes.{span_at, spans_ahead, escape_inside, escape_told}
 use Rattle.nextest_filtering_arguments.proofs.text.report_escapes.Goals as goal
 
 pub span_within-place-requires : goal.span_within-place-requires
 span_within-place-requires c = record {
   suffix = subst (λ (l : List ℕ). IsSuffix c.args.ahead.now l) (sym c.loop-span.invariant.0) c.requires.suffix;
-  inside = escape_inside _ _ _ c.requires.front (span_at _ _ _ _ _ c.as_slice-span-items.ensures c.in_ok-read.ensures.spans c.loop-span-test.true);
+  inside = escape_inside _ _ (span_at _ _ _ _ _ c.as_slice-span-items.ensures (spans_ahead _ _ _ _ c.requires.front c.in_ok-read.ensures.read) c.loop-span-test.true);
 }
 
 pub report-requires : goal.report-requires
 report-requires c = record {
-  fault = escape_told _ _ _ _ _ c.span_within-place.ensures (subst (λ (l : List ℕ). IsSuffix c.args.ahead.now l) (sym c.loop-span.invariant.0) c.requires.suffix) c.requires.front
-      (span_at _ _ _ _ record { offset = 0; length = 0 } c.as_slice-span-items.ensures c.in_ok-read.ensures.spans c.loop-span-test.true);
+  fault = escape_told _ _ _ _ c.span_within-place.ensures (subst (λ (l : List ℕ). IsSuffix c.args.ahead.now l) (sym c.loop-span.invariant.0) c.requires.suffix)
+      (span_at _ _ _ _ record { offset = 0; length = 0 } c.as_slice-span-items.ensures (spans_ahead _ _ _ _ c.requires.front c.in_ok-read.ensures.read) c.loop-span-test.true);
 }

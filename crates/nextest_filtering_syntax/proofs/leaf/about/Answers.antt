@@ -1,10 +1,7 @@
-use Rattle.std.proofs.Common.{arith}
-use Rattle.std.proofs.Math.Path.{ap, sym, ◌∙◌}
-use Rattle.std.specs.Prelude.{length, refl}
-use Rattle.std.proofs.lemmas.Result.{IfOk-weaker}
-use Rattle.nextest_filtering_arguments.proofs.Spans.{suffix_at, suffix_in, suffix_trans, here_lies}
-use Rattle.nextest_filtering_syntax.proofs.Closings.{closed, suffix_front}
-use Rattle.nextest_filtering_syntax.proofs.Leaves.{matchers, argued_from, argued_not_from, told_none_from, matcher_passes}
+use Rattle.std.proofs.Math.Path.{ap}
+use Rattle.std.specs.Prelude.{length}
+use Rattle.nextest_filtering_arguments.proofs.Spans.{suffix_in, suffix_trans}
+use Rattle.nextest_filtering_syntax.proofs.Leaves.{matchers, argued_from, argued_not_from, matcher_passes}
 use Rattle.nextest_filtering_syntax.proofs.leaf.about.Goals as goal
 
 pub matcher-requires : goal.matcher-requires

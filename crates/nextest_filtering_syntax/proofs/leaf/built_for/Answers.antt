@@ -1,10 +1,7 @@
-use Rattle.std.proofs.Common.{arith}
-use Rattle.std.proofs.Math.Path.{ap, sym, ◌∙◌}
+use Rattle.std.proofs.Math.Path.{ap}
 use Rattle.std.specs.Prelude.{length, refl}
-use Rattle.std.proofs.lemmas.Result.{IfOk-weaker}
-use Rattle.nextest_filtering_arguments.proofs.Spans.{suffix_at, suffix_in, suffix_trans, here_lies}
-use Rattle.nextest_filtering_syntax.proofs.Closings.{closed, suffix_front}
-use Rattle.nextest_filtering_syntax.proofs.Leaves.{platforms, argued_from, argued_not_from, told_none_from}
+use Rattle.nextest_filtering_arguments.proofs.Spans.{suffix_in, suffix_trans}
+use Rattle.nextest_filtering_syntax.proofs.Leaves.{platforms, argued_from, argued_not_from}
 use Rattle.nextest_filtering_syntax.proofs.leaf.built_for.Goals as goal
 
 pub platform-requires : goal.platform-requires

@@ -1,8 +1,5 @@
-use Rattle.std.proofs.Common.{arith}
-use Rattle.std.proofs.Math.Path.{ap, sym, ◌∙◌}
-use Rattle.std.specs.Prelude.{length, refl}
 use Rattle.std.proofs.lemmas.Result.{IfOk-weaker}
-use Rattle.nextest_filtering_arguments.proofs.Spans.{suffix_at, suffix_in, suffix_trans, here_lies}
+use Rattle.nextest_filtering_arguments.proofs.Spans.{suffix_at, suffix_in, suffix_trans}
 use Rattle.nextest_filtering_syntax.proofs.Closings.{closed, suffix_front, suffix_cut, trimmed_fits}
 use Rattle.nextest_filtering_syntax.proofs.Leaves.{unexpected, lies_at}
 use Rattle.nextest_filtering_syntax.proofs.leaf.no_argument.Goals as goal

@@ -1,9 +1,6 @@
-use Rattle.std.proofs.Common.{arith}
-use Rattle.std.proofs.Math.Path.{ap, sym, ◌∙◌}
-use Rattle.std.specs.Prelude.{length, refl, ◌∷◌, []}
-use Rattle.std.proofs.lemmas.Result.{IfOk-weaker}
-use Rattle.nextest_filtering_arguments.proofs.Spans.{suffix_token, suffix_at, suffix_in, suffix_trans, here_lies}
-use Rattle.nextest_filtering_syntax.proofs.Closings.{closed, suffix_front}
+use Rattle.std.proofs.Math.Path.{sym, ◌∙◌}
+use Rattle.std.specs.Prelude.{◌∷◌, []}
+use Rattle.nextest_filtering_arguments.proofs.Spans.{suffix_token, suffix_at, suffix_trans}
 use Rattle.nextest_filtering_syntax.proofs.Leaves.{predicate_finds_so, unopened_finds, unnamed_finds, runs_out_at, name_rest}
 use Rattle.nextest_filtering_syntax.proofs.leaf.predicate.Goals as goal
 

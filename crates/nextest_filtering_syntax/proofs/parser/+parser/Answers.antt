@@ -1,10 +1,7 @@
 use Rattle.std.proofs.Common.{arith, rules, ◌∷◌, []}
-use Rattle.std.proofs.Math.Path.{ap, sym, subst, ◌∙◌}
-use Rattle.nextest_filtering_trees.specs.Tree.{Tree, negation, parens}
-use Rattle.nextest_filtering_trees.specs.Grammar.{Unary, Conjunction, Expression, ReadsOr, ReadsJoint, joined}
-use Rattle.nextest_filtering_syntax.specs.Parsing.{Anywhere, Closes, ClosesConjunction, IsPart}
+use Rattle.std.proofs.Math.Path.{sym, ◌∙◌}
 use Rattle.nextest_filtering_syntax.proofs.Chains.{operator_found, no_operator_found, read_as, begins, begins_not, goes_on, goes_not, ends_here, conjunction_level, expression_level}
-use Rattle.nextest_filtering_syntax.proofs.Operands.{renamed, negated, negated_not, grouped, grouped_not, predicate_finds, passes}
+use Rattle.nextest_filtering_syntax.proofs.Operands.{renamed, negated, grouped, predicate_finds, passes}
 use Rattle.nextest_filtering_arguments.proofs.Spans.{suffix_trans, suffix_token, shorter_token}
 use Rattle.nextest_filtering_syntax.proofs.Single.{not_behind}
 use Rattle.nextest_filtering_arguments.proofs.Spans.{suffix_in}

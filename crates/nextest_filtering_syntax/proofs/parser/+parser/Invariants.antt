@@ -1,4 +1,4 @@
-use Rattle.std.proofs.Common.{◌≡◌, ℕ, ◌+◌, ◌*◌, length}
+use Rattle.std.proofs.Common.{◌≡◌, ◌+◌, ◌*◌, length}
 use denote.Text.{Utf8}
 use denote.Shadow.{shadow}
 use Rattle.nextest_filtering_trees.specs.Tree.{tree_of, union}

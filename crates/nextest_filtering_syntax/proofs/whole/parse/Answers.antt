@@ -1,4 +1,3 @@
-use Rattle.std.proofs.Math.Path.{sym, ◌∙◌}
 use Rattle.nextest_filtering_syntax.proofs.Wholes.{parse_some, parse_none}
 use Rattle.nextest_filtering_syntax.proofs.whole.parse.Goals as goal
 

@@ -1,5 +1,5 @@
 use Rattle.std.proofs.Common.{refl}
-use Rattle.std.proofs.Math.Path.{sym, ◌∙◌}
+use Rattle.std.proofs.Math.Path.{◌∙◌}
 use Rattle.nextest_filtering_syntax.proofs.Wholes.{reading_tree, reading_none}
 use Rattle.nextest_filtering_syntax.proofs.whole.read.Goals as goal
 

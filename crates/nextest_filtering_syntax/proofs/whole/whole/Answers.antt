@@ -1,7 +1,5 @@
-use Rattle.std.proofs.Math.Path.{ap, sym, ◌∙◌}
-use Rattle.nextest_filtering_arguments.proofs.Spans.{suffix_at, suffix_in}
+use Rattle.nextest_filtering_arguments.proofs.Spans.{suffix_at, suffix_in, suffix_all}
 use Rattle.nextest_filtering_syntax.proofs.Leaves.{runs_out_at}
-use Rattle.nextest_filtering_syntax.proofs.Wholes.{suffix_all}
 use Rattle.nextest_filtering_syntax.proofs.whole.whole.Goals as goal
 
 pub span-span-requires : goal.span-span-requires

@@ -2,7 +2,7 @@ use Rattle.std.proofs.Common.{◌≡◌, ◌++◌, ◌+◌, ◌<◌, ◌≤◌, 
 use Rattle.std.proofs.lemmas.List.{append-nil, take-append-drop}
 use Rattle.nextest_filtering_texts.specs.Text.{is_end}
 use Rattle.nextest_filtering_texts.specs.Ends.{IsUnended}
-use Rattle.nextest_filtering_texts.proofs.Fronts.{text_front, text_found, text_skipped, text_passed, text_all, text_parts, unended_front}
+use Rattle.nextest_filtering_texts.proofs.Fronts.{text_front, text_found, text_skipped, text_passed, text_all, text_parts, unended_front, text_ended}
 use Rattle.nextest_filtering_texts.proofs.ends.split_text.Goals as goal
 use Rattle.nextest_filtering_texts.proofs.ends.split_text.Goals.{then-escaped, else-escaped+else-is_end}
 
@@ -19,13 +19,16 @@ front_is c =
 pub returns-then-is_end-clause-unended : goal.returns-then-is_end-clause-unended
 returns-then-is_end-clause-unended c = subst IsUnended (front_is c) (unended_front false c.args.input.now)
 
+parts_are : (c : goal.After-split_at) → c.args.input.now ≡ c.split_at.result.0.now ++ c.split_at.result.1.now
+parts_are c = rw (c.split_at.ensures.front, c.split_at.ensures.back) (sym (take-append-drop c.loop-index.index c.args.input.now))
+
+pub returns-then-is_end-clause-ended : goal.returns-then-is_end-clause-ended
+returns-then-is_end-clause-ended c = text_ended c.args.input.now c.split_at.result.0.now c.split_at.result.1.now (front_is c) (parts_are c)
+
 pub returns-then-is_end-clause-only : goal.returns-then-is_end-clause-only
 returns-then-is_end-clause-only c = λ raw text rest has stops whole.
     let input = c.args.input.now in
-    let i = c.loop-index.index in
-    let parts : input ≡ c.split_at.result.0.now ++ c.split_at.result.1.now =
-    rw (c.split_at.ensures.front, c.split_at.ensures.back) (sym (take-append-drop i input)) in
-    text_parts input c.split_at.result.0.now c.split_at.result.1.now raw text rest parts (front_is c) has stops whole
+    text_parts input c.split_at.result.0.now c.split_at.result.1.now raw text rest (parts_are c) (front_is c) has stops whole
 
 pub loop-index-preserved : goal.loop-index-preserved
 loop-index-preserved c =

@@ -11,7 +11,7 @@ returns-in-Some-clause-found g c =
     let left = g.R.LogReader.left in
     let hands = subst (λ (n : Next). Hands c.loop-lines.lines (left c.loop-lines.reader) c.next.new.self (left c.next.new.reader) (Ok n)) c.in-Line.is c.in_ok-next.ensures.items in
     let reading : IsReading c.next.new.self.line (Some c.in-Some.refusal) =
-    subst (λ (bytes : List ℕ). IsReading bytes (Some c.in-Some.refusal)) c.line.ensures (rw c.in-Some.is at c.in_ok-refusal.ensures) in
+    subst (λ (bytes : List ℕ). IsReading bytes (Some c.in-Some.refusal)) c.line.ensures (rw c.in-Some.is at c.refusal_in.ensures) in
     let found = finds_line (left c.args.reader.now) (left c.loop-lines.reader) (left c.next.new.reader) c.loop-lines.number c.loop-lines.lines c.next.new.self c.in-Some.refusal
     c.loop-lines.invariant.finds hands reading in
     finds_if (left c.args.reader.now) (Some c.refused_at-in-Some.result) (subst (λ (r : RefusedLine). Finds (left c.args.reader.now) (Some r)) (sym c.refused_at-in-Some.ensures) found)

@@ -1,24 +1,32 @@
-use Rattle.std.proofs.Common.{◌≡◌, ◌≤◌, ◌+◌, [], ◌∷◌, ◌++◌, length, map, take, sym, ◌∙◌, ap, arith}
-use Rattle.std.proofs.lemmas.List.{take_more, map-append, length-map, length-take-le}
+use Rattle.std.proofs.Common.{◌≡◌, ℕ, ◌+◌, ◌-◌, ◌<◌, ◌≤◌, List, length, get_or, map, drop, sym, ◌∙◌, ap, subst, arith}
+use Rattle.std.proofs.lemmas.List.{drop_all}
+use Rattle.nextest_run_events_instances.specs.declared.instance.OwnedTestInstanceId.{OwnedTestInstanceId}
 use Rattle.test_runner_core_plan.specs.declared.plan.PlanTest.{PlanTest}
-use Rattle.test_runner_core_session.proofs.Indexes.{index_kept, index_more}
-use Rattle.test_runner_core_session.proofs.places.index_of.Goals.{then-not-contains_key+in_ok-insert, else-not-contains_key}
+use Rattle.test_runner_core_session.proofs.Indexes.{IsIndexFrom, index_none, index_more, from_test}
 use Rattle.test_runner_core_session.proofs.places.index_of.Goals as goal
+
+pub loop-place-init : goal.loop-place-init
+loop-place-init c =
+    let tests = c.args.tests.now in
+    let none = drop_all (length tests) tests (omega arith) in
+    subst (λ (rest : List PlanTest). IsIndexFrom (length tests) c.in_ok-index.index (map (λ (t : PlanTest). t.instance) rest)) (sym none)
+    (index_none c.in_ok-index.index (length tests) c.in_ok-index.ensures.empty)
 
 pub loop-place-preserved : goal.loop-place-preserved
 loop-place-preserved c =
-    let i = c.loop-place.place in
     let tests = c.args.tests.now in
+    let place = c.loop-place.place in
     let test = c.index-tests-place.result in
-    let before = map (λ (t : PlanTest). t.instance) (take i tests) in
-    let grown : map (λ (t : PlanTest). t.instance) (take (i + 1) tests) ≡ before ++ test.instance ∷ [] =
-    ap (map (λ (t : PlanTest). t.instance)) (take_more tests i test c.loop-place-test.true ∙ ap (λ (x : PlanTest). take i tests ++ x ∷ []) (sym c.index-tests-place.is))
-    ∙ map-append (λ (t : PlanTest). t.instance) (take i tests) (test ∷ []) in
-    let inside : i ≤ length tests = omega arith in
-    let at_end : i ≡ length before = (let n : length (take i tests) ≡ i = length-take-le i tests inside in simp length-map (sym n)) in
-    elim c.if-not-contains_key.branch [
-      | then-not-contains_key+in_ok-insert w ↦ rw (grown, w.index-is)
-          (index_more c.loop-place.index w.insert.new.self before test.instance c.as_ref-name.result i c.as_ref-name.ensures.binary_id c.as_ref-name.ensures.test_name at_end c.loop-place.invariant (sym c.contains_key.ensures ∙ w.if-not-contains_key.true) w.in_ok-insert.ensures.updates)
-      | else-not-contains_key w ↦ rw (grown, w.index-is)
-          (index_kept c.loop-place.index before test.instance c.as_ref-name.result c.as_ref-name.ensures.binary_id c.as_ref-name.ensures.test_name c.loop-place.invariant (sym c.contains_key.ensures ∙ w.if-not-contains_key.false))
-    ]
+    let some : 0 < place = c.loop-place-test.true in
+    let inside : place - 1 < length tests = omega (arith, some, c.loop-place.auto.place) in
+    let next : place ≡ (place - 1) + 1 = omega (arith, some) in
+    let behind = map (λ (t : PlanTest). t.instance) (drop place tests) in
+    subst (λ (rest : List OwnedTestInstanceId). IsIndexFrom (place - 1) c.insert.new.self rest) (sym (from_test tests place test some inside))
+    (index_more c.loop-place.index c.insert.new.self behind (get_or tests (place - 1) test).instance c.as_ref.result (place - 1) c.as_ref.ensures.binary_id c.as_ref.ensures.test_name
+    (subst (λ (n : ℕ). IsIndexFrom n c.loop-place.index behind) next c.loop-place.invariant) c.in_ok-insert.ensures.updates)
+
+pub returns : goal.returns
+returns c =
+    let tests = c.args.tests.now in
+    let none : c.loop-place.place ≡ 0 = omega (arith, c.loop-place-test.false) in
+    subst (λ (n : ℕ). IsIndexFrom n c.loop-place.index (map (λ (t : PlanTest). t.instance) (drop n tests))) none c.loop-place.invariant
