@@ -6,3 +6,4 @@ pub mod Operands
 pub mod Single
 pub mod Told
 pub mod Wholes
+pub mod Places

@@ -1,5 +1,5 @@
 -- Whole texts.
-use Rattle.std.specs.Prelude.{◌≡◌, ◌≢◌, refl, ℕ, List, [], ◌∷◌, length, Some, None, Result, Ok, Err}
+use Rattle.std.specs.Prelude.{◌≡◌, ◌≢◌, refl, ℕ, List, [], ◌∷◌, length, Some, None, Result, Ok, Err, IfSome}
 use Rattle.std.proofs.Common.{arith}
 use Rattle.std.proofs.Math.Path.{ap, sym, subst, ◌∙◌}
 use Rattle.nextest_filtering_trees.specs.declared.tree.ParsedExpr.{ParsedExpr}
@@ -10,6 +10,7 @@ use Rattle.nextest_filtering_arguments.specs.declared.stop.Stop.{Stop}
 use Rattle.nextest_filtering_arguments.specs.declared.stop.Stop.TheVariants.{NoTree}
 use Rattle.nextest_filtering_arguments.specs.Faults.{AreFaultsOf}
 use Rattle.nextest_filtering_syntax.proofs.Leaves.{some_is, none_is_not}
+use Rattle.nextest_filtering_syntax.specs.Places.{ArePlaced}
 use Rattle.nextest_filtering_syntax.specs.Reading.{ReadsWhole, IsReadingOf}
 use Rattle.nextest_filtering_syntax.specs.declared.reading.Reading.{Reading}
 
@@ -22,30 +23,36 @@ no_items list e = ap length e
 
 -- a tree that was made
 pub reading_tree : (text input : List ℕ) (tree : ParsedExpr) (r : Reading) (list : List ParseSingleError) → r.tree ≡ Some tree → r.faults.items ≡ list → input ≡ text
-    → AreFaultsOf input r.faults.items → ReadsWhole text (length list) (Ok tree) → IsReadingOf text r
-reading_tree text input tree r list is items same faithful whole = record {
+    → AreFaultsOf input r.faults.items → ReadsWhole text (length list) (Ok tree) → ArePlaced text tree → IsReadingOf text r
+reading_tree text input tree r list is items same faithful whole placed = record {
   accepts = λ none. (tree, is, whole.0 (ap length (sym items ∙ none)));
   only = λ other reads.
       let known = whole.1 other reads in
       (items ∙ no_length list known.0, (tree, is, known.1));
   faithful = subst (λ l. AreFaultsOf l r.faults.items) same faithful;
+  placed = subst (λ found. IfSome found (ArePlaced text)) (sym is) placed;
 }
 
 -- no tree
 pub reading_none : (text input : List ℕ) (e : Stop) (o : Result ParsedExpr Stop) (r : Reading) (list : List ParseSingleError) → o ≡ Err e → e ≡ NoTree → r.faults.items ≡ list → input ≡ text
-    → AreFaultsOf input r.faults.items → ReadsWhole text (length list) o → IsReadingOf text r
-reading_none text input e o r list fails none items same faithful whole =
+    → AreFaultsOf input r.faults.items → ReadsWhole text (length list) o → r.tree ≡ None → IsReadingOf text r
+reading_none text input e o r list fails none items same faithful whole no_tree =
     let known = subst (ReadsWhole text (length list)) (fails ∙ ap Err none) whole in
     record {
       accepts = λ empty. absurd (Prim.omega (arith, known.0, ap length (sym items ∙ empty)));
       only = λ other reads. absurd (known.1 other reads);
       faithful = subst (λ l. AreFaultsOf l r.faults.items) same faithful;
+      placed = subst (λ found. IfSome found (ArePlaced text)) (sym no_tree) tt;
     }
 
-pub parse_some : (text : List ℕ) (r : Reading) (t : ParsedExpr) → r.tree ≡ Some t → IsReadingOf text r → (other : Tree) → IsFilterset text other → other ≡ tree_of t
-parse_some text r t is reading other reads =
-    let known = (reading.only other reads).1 in
-    known.2 ∙ ap tree_of (some_is known.0 t (sym known.1 ∙ is))
+pub parse_some : (text : List ℕ) (r : Reading) (t : ParsedExpr) → r.tree ≡ Some t → IsReadingOf text r
+    → ((other : Tree) → IsFilterset text other → other ≡ tree_of t) × ArePlaced text t
+parse_some text r t is reading = (
+  (λ other reads.
+      let known = (reading.only other reads).1 in
+      known.2 ∙ ap tree_of (some_is known.0 t (sym known.1 ∙ is))),
+  subst (λ found. IfSome found (ArePlaced text)) is reading.placed,
+)
 
 pub parse_none : (text : List ℕ) (r : Reading) → r.tree ≡ None → IsReadingOf text r
     → (r.faults.items ≢ []) × AreFaultsOf text r.faults.items × ((other : Tree) → IsFilterset text other → ⊥)

@@ -1,3 +1,4 @@
 pub mod Names
 pub mod Parsing
+pub mod Places
 pub mod Reading

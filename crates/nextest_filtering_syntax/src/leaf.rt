@@ -1,9 +1,12 @@
 // Predicates: a name, and an argument in parentheses.
-ghost use Rattle.std.specs.Prelude.{◌≡◌, ◌≤◌, ◌<◌, ◌+◌, IfOk, OnOk, Err};
+ghost use Rattle.std.specs.Prelude.{◌≡◌, ◌≤◌, ◌<◌, ◌+◌, IfOk, OnOk, Err, Some, codes};
 ghost use Rattle.nextest_filtering_trees.specs.Tree.{leaf_of, matching, matcher_of};
 ghost use Rattle.nextest_filtering_arguments.specs.Faults.{IsSuffix, count};
 ghost use Rattle.nextest_filtering_arguments.specs.Matchers.{subject_of};
 ghost use Rattle.nextest_filtering_syntax.specs.declared.name.Name.TheVariants.{About, Platform};
+ghost use Rattle.nextest_filtering_trees.specs.Words.{subject_word};
+ghost use Rattle.nextest_filtering_syntax.specs.Names.{name_word};
+ghost use Rattle.nextest_filtering_syntax.specs.Places.{ArePlaced, IsNamed, span_of};
 ghost use Rattle.nextest_filtering_syntax.specs.Parsing.{Anywhere, Finds, FindsArgument, IfToldOf, IsClosed, ReadsPredicate};
 
 use crate::closing::{close, close_argument, split_close};
@@ -17,7 +20,8 @@ use std::alloc::{AllocError, Global};
 
 // The predicate on a subject with this matcher.
 fn leaf(subject: Subject, matcher: NameMatcher, span: SourceSpan) -> ParsedLeaf
-    ensures { leaf_of result ≡ matching (subject_of subject) (matcher_of matcher) }
+    ensures leaf { leaf_of result ≡ matching (subject_of subject) (matcher_of matcher) }
+    ensures span { span_of result ≡ Some span }
 {
     match subject {
         Subject::Package => ParsedLeaf::Package(matcher, span),
@@ -42,8 +46,10 @@ fn about<'i>(
 ) -> Result<(ParsedExpr, &'i str), Stop>
     requires start { IsSuffix start.now faults.old.input }
     requires suffix { IsSuffix text.now start.now }
+    requires named { IsNamed (subject_word (subject_of subject)) start.now text.now }
     ensures input { faults.new.input ≡ faults.old.input }
     ensures finds { FindsArgument (About subject) text.now (count faults.old) (count faults.new) result }
+    ensures placed { IfOk result (λ it. ArePlaced faults.old.input it.0) }
 {
     let (found, behind) = matcher(alloc, faults, subject, text)?;
     let rest = close_argument(faults, behind)?;
@@ -64,8 +70,10 @@ fn built_for<'i>(
 ) -> Result<(ParsedExpr, &'i str), Stop>
     requires start { IsSuffix start.now faults.old.input }
     requires suffix { IsSuffix text.now start.now }
+    requires named { IsNamed (codes "platform") start.now text.now }
     ensures input { faults.new.input ≡ faults.old.input }
     ensures finds { FindsArgument Platform text.now (count faults.old) (count faults.new) result }
+    ensures placed { IfOk result (λ it. ArePlaced faults.old.input it.0) }
 {
     let (found, behind) = platform(alloc, faults, text)?;
     let rest = close_argument(faults, behind)?;
@@ -106,8 +114,10 @@ fn argument<'i>(
 ) -> Result<(ParsedExpr, &'i str), Stop>
     requires start { IsSuffix start.now faults.old.input }
     requires suffix { IsSuffix text.now start.now }
+    requires named { IsNamed (name_word name) start.now text.now }
     ensures input { faults.new.input ≡ faults.old.input }
     ensures finds { FindsArgument name text.now (count faults.old) (count faults.new) result }
+    ensures placed { IfOk result (λ it. ArePlaced faults.old.input it.0) }
 {
     match name {
         Name::About(subject) => about(alloc, faults, subject, start, text),
@@ -134,19 +144,23 @@ fn unopened<'i>(
 ) -> Result<(ParsedExpr, &'i str), Stop>
     requires start { IsSuffix start.now faults.old.input }
     requires suffix { IsSuffix text.now start.now }
+    requires named { IsNamed (name_word name) start.now text.now }
     ensures input { faults.new.input ≡ faults.old.input }
     ensures told { IfToldOf (count faults.old) (count faults.new) result }
     ensures rest { IfOk result (λ it. it.1.now ≡ text.now) }
+    ensures placed { IfOk result (λ it. ArePlaced faults.old.input it.0) }
 {
     let place = faults.span(skip_blanks(text), 0);
     faults.report(ParseSingleError::ExpectedOpenParenthesis(place))?;
-    let leaf = match name {
-        Name::Default => ParsedLeaf::Default(faults.span(start, start.len() - text.len())),
-        Name::All => ParsedLeaf::All,
-        Name::None => ParsedLeaf::None,
-        Name::About(_) | Name::Platform => return Err(Stop::NoTree),
-    };
-    Ok((ParsedExpr::Set(leaf), text))
+    match name {
+        Name::Default => {
+            let span = faults.span(start, start.len() - text.len());
+            Ok((ParsedExpr::Set(ParsedLeaf::Default(span)), text))
+        }
+        Name::All => Ok((ParsedExpr::Set(ParsedLeaf::All), text)),
+        Name::None => Ok((ParsedExpr::Set(ParsedLeaf::None), text)),
+        Name::About(_) | Name::Platform => Err(Stop::NoTree),
+    }
 }
 
 /// The predicate that comes next: a name, and its argument in parentheses.
@@ -158,6 +172,7 @@ pub(crate) fn predicate<'i>(
     requires suffix { IsSuffix text.now faults.old.input }
     ensures input { faults.new.input ≡ faults.old.input }
     ensures finds { Finds ReadsPredicate Anywhere text.now (count faults.old) (count faults.new) result }
+    ensures placed { IfOk result (λ it. ArePlaced faults.old.input it.0) }
 {
     let start = skip_blanks(text);
     let Some((name, named)) = predicate_name(start) else {

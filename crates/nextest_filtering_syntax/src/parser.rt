@@ -1,8 +1,9 @@
 // Expressions, from the operators that bind least to predicates.
-ghost use Rattle.std.specs.Prelude.{◌≡◌, ◌∷◌, IfOk};
+ghost use Rattle.std.specs.Prelude.{◌≡◌, ◌∷◌, ℕ, List, IfOk};
 ghost use Rattle.nextest_filtering_trees.specs.Tree.{tree_of, negation, union, parens};
 ghost use Rattle.nextest_filtering_trees.specs.Grammar.{unblanked, Unary, Conjunction, Expression, joined};
 ghost use Rattle.nextest_filtering_arguments.specs.Faults.{IsSuffix, count};
+ghost use Rattle.nextest_filtering_syntax.specs.Places.{ArePlaced};
 ghost use Rattle.nextest_filtering_syntax.specs.Parsing.{Anywhere, Closes, ClosesConjunction, Finds};
 
 use crate::closing::close;
@@ -19,7 +20,8 @@ fn union(
     left: ParsedExpr,
     right: ParsedExpr,
 ) -> Result<ParsedExpr, AllocError>
-    ensures { IfOk result (λ it. tree_of it ≡ union op (tree_of left) (tree_of right)) }
+    ensures tree { IfOk result (λ it. tree_of it ≡ union op (tree_of left) (tree_of right)) }
+    ensures placed { (input : List ℕ) → ArePlaced input left → ArePlaced input right → IfOk result (ArePlaced input) }
 {
     let left = Box::new(alloc, left)?;
     let right = Box::new(alloc, right)?;
@@ -33,7 +35,8 @@ fn join(
     left: ParsedExpr,
     right: ParsedExpr,
 ) -> Result<ParsedExpr, AllocError>
-    ensures { IfOk result (λ it. tree_of it ≡ joined op (tree_of left) (tree_of right)) }
+    ensures tree { IfOk result (λ it. tree_of it ≡ joined op (tree_of left) (tree_of right)) }
+    ensures placed { (input : List ℕ) → ArePlaced input left → ArePlaced input right → IfOk result (ArePlaced input) }
 {
     let left = Box::new(alloc, left)?;
     let right = Box::new(alloc, right)?;
@@ -45,14 +48,16 @@ fn join(
 
 // Negates an operand.
 fn negate(alloc: Global, op: NotOperator, operand: ParsedExpr) -> Result<ParsedExpr, AllocError>
-    ensures { IfOk result (λ it. tree_of it ≡ negation op (tree_of operand)) }
+    ensures tree { IfOk result (λ it. tree_of it ≡ negation op (tree_of operand)) }
+    ensures placed { (input : List ℕ) → ArePlaced input operand → IfOk result (ArePlaced input) }
 {
     Ok(ParsedExpr::Not(op, Box::new(alloc, operand)?))
 }
 
 // Puts an expression into parentheses.
 fn enclose(alloc: Global, inside: ParsedExpr) -> Result<ParsedExpr, AllocError>
-    ensures { IfOk result (λ it. tree_of it ≡ parens (tree_of inside)) }
+    ensures tree { IfOk result (λ it. tree_of it ≡ parens (tree_of inside)) }
+    ensures placed { (input : List ℕ) → ArePlaced input inside → IfOk result (ArePlaced input) }
 {
     Ok(ParsedExpr::Parens(Box::new(alloc, inside)?))
 }
@@ -67,6 +72,7 @@ pub(crate) fn expression<'i>(
     requires suffix { IsSuffix text.now faults.old.input }
     ensures input { faults.new.input ≡ faults.old.input }
     ensures finds { Finds Expression Closes text.now (count faults.old) (count faults.new) result }
+    ensures placed { IfOk result (λ it. ArePlaced faults.old.input it.0) }
 {
     let (mut tree, mut rest) = conjunction(alloc, faults, text)?;
     while let Some((op, behind)) = or_operator(faults, rest)? {
@@ -87,6 +93,7 @@ fn conjunction<'i>(
     requires suffix { IsSuffix text.now faults.old.input }
     ensures input { faults.new.input ≡ faults.old.input }
     ensures finds { Finds Conjunction ClosesConjunction text.now (count faults.old) (count faults.new) result }
+    ensures placed { IfOk result (λ it. ArePlaced faults.old.input it.0) }
 {
     let (mut tree, mut rest) = operand(alloc, faults, text)?;
     while let Some((op, behind)) = joint_operator(faults, rest)? {
@@ -107,6 +114,7 @@ fn operand<'i>(
     requires suffix { IsSuffix text.now faults.old.input }
     ensures input { faults.new.input ≡ faults.old.input }
     ensures finds { Finds Unary Anywhere text.now (count faults.old) (count faults.new) result }
+    ensures placed { IfOk result (λ it. ArePlaced faults.old.input it.0) }
 {
     if let Some((op, behind)) = not_operator(text) {
         let (inside, rest) = operand(alloc, faults, behind)?;

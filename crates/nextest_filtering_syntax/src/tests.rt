@@ -1,7 +1,7 @@
 // Texts, their trees and their faults.
 use crate::{ParseError, Reading, parse, read};
 use nextest_filtering_arguments::ParseSingleError;
-use nextest_filtering_trees::ParsedExpr;
+use nextest_filtering_trees::{ParsedExpr, ParsedLeaf};
 use std::alloc::Global;
 use std::test::Fail;
 
@@ -281,6 +281,28 @@ fn parsing_is_lenient(rt: HostRuntime) -> Result<(), Fail> {
     assert!(rt;
         matches!(faults.as_slice(), [ParseSingleError::ExpectedOpenParenthesis(span)] if span.offset == 4)
     );
+    Ok(())
+}
+
+// Where a predicate that only a test answers begins, and how long it is.
+fn place_of(leaf: &ParsedLeaf) -> (usize, usize) {
+    match leaf {
+        ParsedLeaf::Test(_, span) | ParsedLeaf::Group(_, span) | ParsedLeaf::Default(span) => {
+            (span.offset, span.length)
+        }
+        _ => (0, 0),
+    }
+}
+
+#[test]
+fn predicates_stand_from_their_name_to_their_parenthesis(rt: HostRuntime) -> Result<(), Fail> {
+    let alloc = rt.alloc();
+    let tree = tree_of(alloc, " not test( a ) | default( ) & group(=\\)) ")?;
+    let leaves = tree.runtime_only_leaves(alloc)?;
+    assert!(rt; leaves.len() == 3);
+    for (leaf, want) in leaves.iter().zip([(5, 9), (17, 10), (30, 10)]) {
+        assert!(rt; place_of(*leaf) == want);
+    }
     Ok(())
 }
 

@@ -137,4 +137,5 @@ fn laws_are_called() {
     laws::escaped_reads_back();
     laws::escaped_has_no_blank_ends();
     laws::plain_around();
+    laws::bad_escapes_stay();
 }

@@ -2,8 +2,8 @@
 //!
 //! `judge` takes inputs, a lister of each binary's tests, a log and a writer of the report, and answers the exit status
 //! of the run that the log tells; `judge_stream` takes inputs and log from one stream. A runner that goes along with its
-//! tests builds a `Plan` and keeps a `Session`; what reads logs takes a `LogLine` from each line, and `first_refused`
-//! checks a log without a plan.
+//! tests builds a `Plan` and keeps a `Session`; what reads logs takes a `LogLine` from each line, or a `LentLine`
+//! without memory, and `first_refused` checks a log without a plan.
 #![tactic(auto)]
 
 pub mod laws;
@@ -20,7 +20,10 @@ pub use test_runner_core_judging::{
 pub use test_runner_core_lines::{
     FIRST_LINE_LIMIT, LINE_LIMIT, LOG_LIMIT, LineFault, LogFault, LogLines, Next,
 };
-pub use test_runner_core_log::{LogLine, ParseLineError, reason_word};
+pub use test_runner_core_log::{
+    LentFailure, LentLine, LentRecord, LentResult, LentStream, LogLine, ParseLineError,
+    SpellingError, reason_word,
+};
 pub use test_runner_core_plan::{LoadFault, Plan, PlanFault, PlanSettings, PlanTest};
 pub use test_runner_core_progress::StartFault;
 pub use test_runner_core_records::{Record, RecordOutput};

@@ -1,7 +1,9 @@
-use Rattle.std.proofs.Math.Path.{ap}
+use Rattle.std.proofs.Math.Path.{ap, ◌∙◌}
 use Rattle.std.specs.Prelude.{length}
 use Rattle.nextest_filtering_arguments.proofs.Spans.{suffix_in, suffix_trans}
 use Rattle.nextest_filtering_syntax.proofs.Leaves.{matchers, argued_from, argued_not_from, matcher_passes}
+use Rattle.nextest_filtering_syntax.proofs.Places.{placed}
+use Rattle.nextest_filtering_trees.specs.Grammar.{leaf_word}
 use Rattle.nextest_filtering_syntax.proofs.leaf.about.Goals as goal
 
 pub matcher-requires : goal.matcher-requires
@@ -19,4 +21,9 @@ returns-in_default-clause-finds c =
 
 pub returns-clause-finds : goal.returns-clause-finds
 returns-clause-finds c =
-    argued_from _ _ _ _ _ _ _ _ _ _ (matchers c.args.subject) c.in-Some.is c.leaf.ensures c.in_ok-found.ensures.finds c.in_ok-rest.ensures.closes
+    argued_from _ _ _ _ _ _ _ _ _ _ (matchers c.args.subject) c.in-Some.is c.leaf.ensures.leaf c.in_ok-found.ensures.finds c.in_ok-rest.ensures.closes
+
+pub returns-clause-placed : goal.returns-clause-placed
+returns-clause-placed c =
+    placed _ _ _ _ _ _ _ _ (c.in_ok-rest.ensures.input ∙ c.in_ok-found.ensures.input) c.leaf.ensures.span (ap leaf_word c.leaf.ensures.leaf) c.span-span.ensures c.requires.start c.requires.named
+    (suffix_trans _ _ _ c.in_ok-rest.ensures.closes.behind c.in_ok-found.ensures.finds.behind)

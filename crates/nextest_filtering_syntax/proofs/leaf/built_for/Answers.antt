@@ -1,7 +1,8 @@
-use Rattle.std.proofs.Math.Path.{ap}
-use Rattle.std.specs.Prelude.{length, refl}
+use Rattle.std.proofs.Math.Path.{ap, ◌∙◌}
+use Rattle.std.specs.Prelude.{length, refl, codes}
 use Rattle.nextest_filtering_arguments.proofs.Spans.{suffix_in, suffix_trans}
 use Rattle.nextest_filtering_syntax.proofs.Leaves.{platforms, argued_from, argued_not_from}
+use Rattle.nextest_filtering_syntax.proofs.Places.{begins_so}
 use Rattle.nextest_filtering_syntax.proofs.leaf.built_for.Goals as goal
 
 pub platform-requires : goal.platform-requires
@@ -17,3 +18,8 @@ returns-in_default-clause-finds c =
 pub returns-clause-finds : goal.returns-clause-finds
 returns-clause-finds c =
     argued_from _ _ _ _ _ _ _ _ _ _ platforms c.in-Some.is refl c.in_ok-found.ensures.reads c.in_ok-rest.ensures.closes
+
+pub returns-clause-placed : goal.returns-clause-placed
+returns-clause-placed c =
+    begins_so _ _ _ _ _ (codes "platform") _ (c.in_ok-rest.ensures.input ∙ c.in_ok-found.ensures.input) c.span-span.ensures c.requires.start c.requires.named
+    (suffix_trans _ _ _ c.in_ok-rest.ensures.closes.behind c.in_ok-found.ensures.reads.behind)

@@ -1,5 +1,15 @@
 use Rattle.nextest_filtering_arguments.proofs.Spans.{suffix_at, suffix_trans}
+use Rattle.std.specs.Prelude.{[], refl, codes}
+use Rattle.std.proofs.Math.Path.{subst}
+use Rattle.nextest_filtering_syntax.specs.Names.{name_word}
+use Rattle.nextest_filtering_syntax.specs.Places.{IsNamed}
+use Rattle.nextest_filtering_syntax.proofs.Places.{begins_so}
 use Rattle.nextest_filtering_syntax.proofs.leaf.unopened.Goals as goal
 
 pub span-place-requires : goal.span-place-requires
 span-place-requires c = record { suffix = suffix_at _ _ _ c.skip_blanks.ensures (suffix_trans _ _ _ c.requires.suffix c.requires.start) }
+
+pub returns-in-Default-clause-placed : goal.returns-in-Default-clause-placed
+returns-in-Default-clause-placed c =
+    begins_so _ _ _ _ _ (codes "default") _ c.in_ok-report.ensures.input c.span-span.ensures c.requires.start
+    (subst (λ n. IsNamed (name_word n) c.args.start.now c.args.text.now) c.in-Default.is c.requires.named) ([], refl)

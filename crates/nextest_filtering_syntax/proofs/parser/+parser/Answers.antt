@@ -5,6 +5,7 @@ use Rattle.nextest_filtering_syntax.proofs.Operands.{renamed, negated, grouped, 
 use Rattle.nextest_filtering_arguments.proofs.Spans.{suffix_trans, suffix_token, shorter_token}
 use Rattle.nextest_filtering_syntax.proofs.Single.{not_behind}
 use Rattle.nextest_filtering_arguments.proofs.Spans.{suffix_in}
+use Rattle.nextest_filtering_syntax.proofs.Places.{placed_in}
 use Rattle.nextest_filtering_syntax.proofs.parser.+parser.Goals as goal
 
 pub conjunction-returns-in_err-tree-clause-finds : goal.conjunction-returns-in_err-tree-clause-finds
@@ -12,7 +13,7 @@ conjunction-returns-in_err-tree-clause-finds t c =
     passes _ _ _ _ _ _ _ (begins_not _ _ _ conjunction_level) c.in_err-tree.ensures.finds c.from_residual.ensures.1
 
 pub conjunction-loop-op-init : goal.conjunction-loop-op-init
-conjunction-loop-op-init t c = (Prim.search rules, c.in_ok-tree.ensures.input, begins _ _ _ _ _ conjunction_level c.in_ok-tree.ensures.finds)
+conjunction-loop-op-init t c = (Prim.search rules, c.in_ok-tree.ensures.input, begins _ _ _ _ _ conjunction_level c.in_ok-tree.ensures.finds, c.in_ok-tree.ensures.placed)
 
 pub conjunction-joint_operator-requires : goal.conjunction-joint_operator-requires
 conjunction-joint_operator-requires t c =
@@ -33,8 +34,9 @@ pub conjunction-loop-op-preserved : goal.conjunction-loop-op-preserved
 conjunction-loop-op-preserved t c = (
   Prim.search rules,
   c.in_ok-right.ensures.input ∙ (c.in_ok-op.ensures.input ∙ c.loop-op.invariant.1),
-  read_as _ _ _ _ _ _ c.in_ok-tree-2.ensures
+  read_as _ _ _ _ _ _ c.in_ok-tree-2.ensures.tree
       (goes_on _ _ _ _ _ _ _ _ _ _ _ conjunction_level c.loop-op.invariant.2 (operator_found _ _ _ _ _ _ c.in-Some.is c.in_ok-op.ensures.finds) c.in_ok-right.ensures.finds),
+  c.in_ok-tree-2.ensures.placed _ c.loop-op.invariant.3 (placed_in _ _ c.in_ok-right.right (c.in_ok-op.ensures.input ∙ c.loop-op.invariant.1) c.in_ok-right.ensures.placed),
 )
 
 pub conjunction-returns-clause-finds : goal.conjunction-returns-clause-finds
@@ -45,7 +47,7 @@ expression-returns-in_err-tree-clause-finds t c =
     passes _ _ _ _ _ _ _ (begins_not _ _ _ expression_level) c.in_err-tree.ensures.finds c.from_residual.ensures.1
 
 pub expression-loop-op-init : goal.expression-loop-op-init
-expression-loop-op-init t c = (Prim.search rules, c.in_ok-tree.ensures.input, begins _ _ _ _ _ expression_level c.in_ok-tree.ensures.finds)
+expression-loop-op-init t c = (Prim.search rules, c.in_ok-tree.ensures.input, begins _ _ _ _ _ expression_level c.in_ok-tree.ensures.finds, c.in_ok-tree.ensures.placed)
 
 pub expression-or_operator-requires : goal.expression-or_operator-requires
 expression-or_operator-requires t c =
@@ -66,8 +68,9 @@ pub expression-loop-op-preserved : goal.expression-loop-op-preserved
 expression-loop-op-preserved t c = (
   Prim.search rules,
   c.in_ok-operand.ensures.input ∙ (c.in_ok-op.ensures.input ∙ c.loop-op.invariant.1),
-  read_as _ _ _ _ _ _ c.in_ok-tree-2.ensures
+  read_as _ _ _ _ _ _ c.in_ok-tree-2.ensures.tree
       (goes_on _ _ _ _ _ _ _ _ _ _ _ expression_level c.loop-op.invariant.2 (operator_found _ _ _ _ _ _ c.in-Some.is c.in_ok-op.ensures.finds) c.in_ok-operand.ensures.finds),
+  c.in_ok-tree-2.ensures.placed _ c.loop-op.invariant.3 (placed_in _ _ c.in_ok-operand.operand (c.in_ok-op.ensures.input ∙ c.loop-op.invariant.1) c.in_ok-operand.ensures.placed),
 )
 
 pub expression-returns-clause-finds : goal.expression-returns-clause-finds
@@ -80,7 +83,7 @@ operand-operand-requires t c =
 
 pub operand-returns-in-Some-clause-finds : goal.operand-returns-in-Some-clause-finds
 operand-returns-in-Some-clause-finds t c =
-    renamed _ _ _ _ _ _ c.in_ok-tree.ensures (negated _ _ _ _ _ _ _ c.in-Some.ensures.some c.in_ok-inside.ensures.finds)
+    renamed _ _ _ _ _ _ c.in_ok-tree.ensures.tree (negated _ _ _ _ _ _ _ c.in-Some.ensures.some c.in_ok-inside.ensures.finds)
 
 pub operand-expression-requires : goal.operand-expression-requires
 operand-expression-requires t c =
@@ -97,9 +100,21 @@ operand-close-requires t c =
 
 pub operand-returns-in-Some-behind-clause-finds : goal.operand-returns-in-Some-behind-clause-finds
 operand-returns-in-Some-behind-clause-finds t c =
-    renamed _ _ _ _ _ _ c.in_ok-tree-3.ensures
+    renamed _ _ _ _ _ _ c.in_ok-tree-3.ensures.tree
     (grouped _ _ _ _ _ _ _ _ (sym c.skip_blanks.ensures ∙ c.in-Some-behind.ensures.some) c.in_ok-tree-2.ensures.finds c.in_ok-rest.ensures.closes)
 
 pub operand-returns-clause-finds : goal.operand-returns-clause-finds
 operand-returns-clause-finds t c =
     predicate_finds _ _ _ _ c.in_default.ensures.none (λ rest e. c.in_default-behind.ensures.none rest (c.skip_blanks.ensures ∙ e)) c.predicate.ensures.finds
+
+pub conjunction-returns-clause-placed : goal.conjunction-returns-clause-placed
+conjunction-returns-clause-placed t c = c.loop-op.invariant.3
+
+pub expression-returns-clause-placed : goal.expression-returns-clause-placed
+expression-returns-clause-placed t c = c.loop-op.invariant.3
+
+pub operand-returns-in-Some-clause-placed : goal.operand-returns-in-Some-clause-placed
+operand-returns-in-Some-clause-placed t c = c.in_ok-tree.ensures.placed _ c.in_ok-inside.ensures.placed
+
+pub operand-returns-in-Some-behind-clause-placed : goal.operand-returns-in-Some-behind-clause-placed
+operand-returns-in-Some-behind-clause-placed t c = c.in_ok-tree-3.ensures.placed _ c.in_ok-tree-2.ensures.placed
