@@ -7,13 +7,13 @@ use Rattle.nextest_filtering_arguments.specs.declared.error.ParseSingleError.{Pa
 use Rattle.nextest_filtering_arguments.specs.declared.error.ParseSingleError.TheVariants as fault
 
 -- the faults of an input so far, and whether it can get no tree
-pub record Found : Type 0 where
+pub record FaultsSoFar : Type 0 where
   pub input : List ℕ
   pub list : List ParseSingleError
   pub hopeless : Bool
 
 -- how many there are
-abbrev pub count : Found → ℕ
+abbrev pub count : FaultsSoFar → ℕ
 count found = length found.list
 
 -- a rest of the input

@@ -14,9 +14,9 @@ pub struct Faults<'i> {
 
 impl<'i> Model for Faults<'i> {
     ghost use Rattle.std.specs.Prelude.{◌≡◌, ◌<◌, true, length};
-    ghost use Rattle.nextest_filtering_arguments.specs.Faults.{Found, AreFaultsOf};
+    ghost use Rattle.nextest_filtering_arguments.specs.Faults.{FaultsSoFar, AreFaultsOf};
 
-    ghost Value = { Found };
+    ghost Value = { FaultsSoFar };
 
     ghost view = { λ f. record { input = f.input.now; list = f.list.items; hopeless = f.hopeless } };
 
