@@ -29,12 +29,23 @@ pub enum LentFailure {
 pub enum LentResult {
     /// A pass.
     Pass,
-    /// A pass that left handles open, and how that is judged.
-    Leak { judged: LeakTimeoutResult },
-    /// A failure, and whether it left handles open too.
-    Fail { failure: LentFailure, leaked: bool },
-    /// An end for taking too long, and how that is judged.
-    Timeout { judged: SlowTimeoutResult },
+    /// A pass that left handles open.
+    Leak {
+        /// How that is judged.
+        judged: LeakTimeoutResult,
+    },
+    /// A failure.
+    Fail {
+        /// Why.
+        failure: LentFailure,
+        /// Whether it left handles open too.
+        leaked: bool,
+    },
+    /// An end for taking too long.
+    Timeout {
+        /// How that is judged.
+        judged: SlowTimeoutResult,
+    },
 }
 
 /// What an OUT or an ERR field says.
@@ -47,30 +58,47 @@ pub enum LentStream {
 /// What the fields of a record say.
 #[derive(Clone, Copy)]
 pub struct LentRecord {
+    /// How it ended.
     pub result: LentResult,
+    /// Whether it was slow.
     pub slow: bool,
+    /// How long it took, in nanoseconds.
     pub nanos: u64,
+    /// Its standard output.
     pub out: LentStream,
+    /// Its standard error.
     pub err: LentStream,
 }
 
 /// What a line says, its texts lent.
 #[derive(Clone, Copy)]
 pub enum LentLine<'a> {
+    /// A setup script ended.
     Script {
+        /// The script's id.
         id: &'a str,
+        /// How it ended.
         record: LentRecord,
     },
+    /// An attempt of a test started.
     Start {
+        /// The id of the test's binary.
         binary: &'a str,
+        /// The test's name.
         name: &'a str,
     },
+    /// The attempt of a test that ran ended.
     End {
+        /// The id of the test's binary.
         binary: &'a str,
+        /// The test's name.
         name: &'a str,
+        /// How it ended.
         record: LentRecord,
     },
+    /// The run was told to stop.
     Stop {
+        /// Why.
         reason: CancelReason,
     },
 }
