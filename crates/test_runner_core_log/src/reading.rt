@@ -7,8 +7,8 @@ ghost use Rattle.test_runner_core_log.specs.Reading.{LendsLine};
 ghost use Rattle.test_runner_core_log.specs.Lent.{failure_meant, failed_meant, result_meant, stream_meant, record_meant, line_meant};
 
 use super::lent::{LentFailure, LentLine, LentRecord, LentResult, LentStream};
-use super::spelling_error::SpellingError;
 use super::signals::is_signal;
+use super::spelling_error::SpellingError;
 use nextest_config_elements_plain::{LeakTimeoutResult, SlowTimeoutResult};
 use nextest_run_events_results::CancelReason;
 use nextest_text::{i32_of_decimal, u64_of_decimal};

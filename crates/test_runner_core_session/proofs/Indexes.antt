@@ -1,5 +1,5 @@
 -- An index of names that grows from the last test on.
-use Rattle.std.proofs.Common.{◌≡◌, ℕ, ◌+◌, ◌-◌, ◌<◌, suc, List, [], ◌∷◌, length, get_or, drop, Bool, ◌&&◌, cond, Option, Some, refl, ap, ◌∙◌, arith, rules, drop-cons, map}
+use Rattle.std.proofs.Common.{◌≡◌, ℕ, ◌+◌, ◌-◌, ◌<◌, suc, List, [], ◌∷◌, length, get_or, drop, Bool, ◌&&◌, cond, Option, Some, ap, ◌∙◌, arith, rules, drop-cons, map}
 use Rattle.std.specs.List.{position_from}
 use Rattle.std.specs.Str.{bytes_eq}
 use Rattle.std.specs.Cmp.Lexicographic.{nat_list_eq_equiv}
