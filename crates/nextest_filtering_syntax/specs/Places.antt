@@ -32,7 +32,7 @@ Begins input word span = Lies input span × ((rest : List ℕ) × (spanned input
 abbrev pub IsPlacedLeaf : List ℕ → ParsedLeaf → Type 0
 IsPlacedLeaf input it = IfSome (span_of it) (Begins input (leaf_word (leaf_of it)))
 
--- each predicate's of a tree
+-- so is that of each predicate of a tree
 abbrev pub ArePlaced : List ℕ → ParsedExpr → Type 0
 ArePlaced input (tree.Not' op p t) = ArePlaced input t
 ArePlaced input (tree.Union' op p a q b) = ArePlaced input a × ArePlaced input b

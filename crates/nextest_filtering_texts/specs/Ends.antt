@@ -17,7 +17,7 @@ unended false (byte ∷ rest) = not (is_end byte) && unended (byte == 92) rest
 abbrev pub IsUnended : List ℕ → Type 0
 IsUnended raw = unended false raw ≡ true
 
--- nothing follows, or a byte with which the bytes hold an end
+-- nothing follows the bytes, or a `)` or a `,` that no `\` of theirs escapes
 abbrev pub IsEnded : List ℕ → List ℕ → Type 0
 IsEnded raw [] = ⊤
 IsEnded raw (byte ∷ rest) = unended false (raw ++ byte ∷ []) ≡ false

@@ -17,7 +17,7 @@ OneText = (raw a b : List ℕ) → IsText raw a → IsText raw b → a ≡ b
 abbrev pub OneReading : Type 0
 OneReading = (raw a b : List ℕ) (s t : List EscapeSpan) → IsRead raw a s → IsRead raw b t → (a ≡ b) × (s ≡ t)
 
--- the bad escapes of the bytes before an end are bad escapes of all: what is told alone ends all
+-- the bad escapes of the bytes before an end are bad escapes of all: a `\` that is told alone is the last byte
 abbrev pub BadEscapesStay : Type 0
 BadEscapesStay = (raw behind text : List ℕ) (bad : List EscapeSpan) → IsUnended raw → IsEnded raw behind → IsRead raw text bad
     → AllByRecursion (IsSpanOf (raw ++ behind)) bad
