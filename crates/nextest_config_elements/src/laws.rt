@@ -1,3 +1,3 @@
 //! What holds of the values. Each function does nothing, and its contract is the law.
 
-pub use nextest_config_elements_levels::laws::{final_levels_rise, levels_rise};
+pub use nextest_config_elements_plain::laws::{final_levels_rise, levels_rise};

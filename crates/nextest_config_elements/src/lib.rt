@@ -4,7 +4,7 @@
 pub mod laws;
 
 pub use nextest_config_elements_identifiers::{InvalidIdentifier, ToolName};
-pub use nextest_config_elements_levels::{FinalStatusLevel, StatusLevel, TestOutputDisplay};
 pub use nextest_config_elements_plain::{
-    FlakyResult, LeakTimeoutResult, MaxFail, NextestRunMode, SlowTimeoutResult, TerminateMode,
+    FinalStatusLevel, FlakyResult, LeakTimeoutResult, MaxFail, NextestRunMode, SlowTimeoutResult,
+    StatusLevel, TerminateMode, TestOutputDisplay,
 };

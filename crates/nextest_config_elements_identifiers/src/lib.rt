@@ -7,8 +7,6 @@
 
 mod invalid_identifier;
 mod plain;
-#[cfg(test)]
-mod tests;
 mod tool_name;
 
 pub use invalid_identifier::InvalidIdentifier;

@@ -1,1 +1,4 @@
+pub mod Display
+pub mod Laws
+pub mod Levels
 pub mod MaxFail

@@ -1,12 +1,16 @@
-//! The plain enums of the configuration: how a test's or a script's end is judged, when a run stops, and what is run.
+//! The plain enums of the configuration: how a test's or a script's end is judged, when a run stops, what is run, and what is
+//! shown of it.
 #![tactic(auto)]
 
+pub mod laws;
 mod max_fail;
+mod output_display;
 mod run_mode;
-#[cfg(test)]
-mod tests;
+mod status_level;
 mod timeouts;
 
 pub use max_fail::{MaxFail, TerminateMode};
+pub use output_display::TestOutputDisplay;
 pub use run_mode::NextestRunMode;
+pub use status_level::{FinalStatusLevel, StatusLevel};
 pub use timeouts::{FlakyResult, LeakTimeoutResult, SlowTimeoutResult};

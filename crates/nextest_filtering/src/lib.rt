@@ -4,8 +4,6 @@
 ghost use Rattle.std.specs.Prelude.{◌≡◌, ◌↔◌, true, codes};
 ghost use Rattle.std.specs.Str.Iter.{HasSubslice};
 
-#[cfg(test)]
-mod tests;
 
 pub use nextest_filtering_arguments::ParseSingleError;
 pub use nextest_filtering_globs::{ClassRange, GenericGlob, GlobConstructError, GlobToken};

@@ -8,8 +8,6 @@ mod matchers;
 mod platforms;
 mod stop;
 mod subject;
-#[cfg(test)]
-mod tests;
 mod text;
 
 pub use cursor::{begins_blank, behind, is_blank, skip_blanks, trim_blanks_end};

@@ -7,8 +7,6 @@ mod copying;
 mod glob;
 pub mod laws;
 mod reading;
-#[cfg(test)]
-mod tests;
 mod token;
 
 pub use construct_error::GlobConstructError;

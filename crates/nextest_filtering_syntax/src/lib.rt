@@ -7,8 +7,6 @@ mod name;
 mod operators;
 mod parser;
 mod reading;
-#[cfg(test)]
-mod tests;
 mod whole;
 
 pub use nextest_filtering_arguments::ParseSingleError;

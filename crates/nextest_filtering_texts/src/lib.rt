@@ -8,8 +8,6 @@ mod hexadecimal;
 pub mod laws;
 mod printing;
 mod regexes;
-#[cfg(test)]
-mod tests;
 
 pub use ends::{split_regex, split_text};
 pub use escapes::{EscapeSpan, Unescaped, unescape};

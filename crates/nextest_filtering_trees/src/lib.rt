@@ -8,8 +8,6 @@ mod operators;
 mod pattern;
 mod printing;
 mod runtime;
-#[cfg(test)]
-mod tests;
 mod tree;
 
 pub use leaf::{BuildPlatform, ParsedLeaf, SourceSpan};

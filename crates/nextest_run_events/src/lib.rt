@@ -8,14 +8,13 @@
 
 pub mod laws;
 
-pub use nextest_config_elements_levels::{FinalStatusLevel, StatusLevel, TestOutputDisplay};
 pub use nextest_config_elements_plain::{
-    FlakyResult, LeakTimeoutResult, NextestRunMode, SlowTimeoutResult,
+    FinalStatusLevel, FlakyResult, LeakTimeoutResult, NextestRunMode, SlowTimeoutResult,
+    StatusLevel, TestOutputDisplay,
 };
 pub use nextest_run_events_counters::{
     FinalRunStats, RunFailureStep, RunStats, RunStatsFailureKind,
 };
-pub use nextest_run_events_instances::{OwnedTestInstanceId, TestInstanceId};
 pub use nextest_run_events_json::{JsonError, JsonForm};
 pub use nextest_run_events_outcomes::{
     NonZeroDuration, RunFinishedStats, RunOutcome, StressCondition, StressCount,
@@ -23,7 +22,8 @@ pub use nextest_run_events_outcomes::{
 };
 pub use nextest_run_events_results::{
     AbortDescription, AbortStatus, CancelReason, ExecutionResult, ExecutionResultDescription,
-    ExitStatus, FailureDescription, FailureStatus, SIGTERM, signal_name,
+    ExitStatus, FailureDescription, FailureStatus, OwnedTestInstanceId, SIGTERM, TestInstanceId,
+    signal_name,
 };
 pub use nextest_run_events_statuses::{
     ChildError, ChildErrorDescription, ChildExecutionOutput, ChildExecutionOutputDescription,

@@ -7,8 +7,6 @@
 mod counting;
 mod run_stats;
 mod summary;
-#[cfg(test)]
-mod tests;
 
 pub use run_stats::RunStats;
 pub use summary::{FinalRunStats, RunFailureStep, RunStatsFailureKind};

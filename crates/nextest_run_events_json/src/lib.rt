@@ -8,8 +8,6 @@ pub mod laws;
 mod leaves;
 mod lists;
 mod results;
-#[cfg(test)]
-mod tests;
 
 pub use form::JsonForm;
 pub use json_error::JsonError;

@@ -11,8 +11,6 @@ mod outcome;
 mod stress_count;
 mod stress_progress;
 mod stress_stats;
-#[cfg(test)]
-mod tests;
 
 pub use finished_stats::RunFinishedStats;
 pub use nonzero_duration::NonZeroDuration;

@@ -1,10 +1,10 @@
 -- What the attempts of a test come to.
 use Rattle.std.specs.Prelude.{List, [], ◌∷◌, length, take, Bool, true, false, IsTrue, Option, None, if◌then◌else◌}
 use Rattle.std.specs.Option.{option_map}
-use Rattle.nextest_config_elements_levels.specs.declared.status_level.StatusLevel.{StatusLevel}
-use Rattle.nextest_config_elements_levels.specs.declared.status_level.StatusLevel.TheVariants as level
-use Rattle.nextest_config_elements_levels.specs.declared.status_level.FinalStatusLevel.{FinalStatusLevel}
-use Rattle.nextest_config_elements_levels.specs.declared.status_level.FinalStatusLevel.TheVariants as final_level
+use Rattle.nextest_config_elements_plain.specs.declared.status_level.StatusLevel.{StatusLevel}
+use Rattle.nextest_config_elements_plain.specs.declared.status_level.StatusLevel.TheVariants as level
+use Rattle.nextest_config_elements_plain.specs.declared.status_level.FinalStatusLevel.{FinalStatusLevel}
+use Rattle.nextest_config_elements_plain.specs.declared.status_level.FinalStatusLevel.TheVariants as final_level
 use Rattle.nextest_config_elements_plain.specs.declared.timeouts.FlakyResult.{FlakyResult}
 use Rattle.nextest_config_elements_plain.specs.declared.timeouts.FlakyResult.TheVariants as flaky
 use Rattle.nextest_config_elements_plain.specs.declared.timeouts.LeakTimeoutResult.TheVariants as leak

@@ -4,8 +4,9 @@ ghost use Rattle.nextest_run_events_statuses.specs.Description.{told_by, HoldsSu
 
 use super::execute_status::ExecuteStatus;
 use super::output::OutputSpec;
-use nextest_config_elements_levels::{FinalStatusLevel, StatusLevel};
-use nextest_config_elements_plain::{FlakyResult, LeakTimeoutResult, SlowTimeoutResult};
+use nextest_config_elements_plain::{
+    FinalStatusLevel, FlakyResult, LeakTimeoutResult, SlowTimeoutResult, StatusLevel,
+};
 use nextest_run_events_results::ExecutionResultDescription;
 
 /// What the attempts of a test come to.

@@ -11,8 +11,6 @@ mod live_output;
 mod output;
 mod retry_data;
 mod serializable_error;
-#[cfg(test)]
-mod tests;
 
 pub use child_error::{ChildErrorDescription, ChildStartErrorDescription};
 pub use error_list::ErrorList;

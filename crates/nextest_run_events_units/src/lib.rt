@@ -5,8 +5,6 @@
 mod terminate;
 mod test_info;
 mod test_list;
-#[cfg(test)]
-mod tests;
 mod unit_kind;
 mod unit_state;
 

@@ -1,8 +1,8 @@
 // What is told of a test that runs, on request.
 
 use super::unit_state::UnitState;
-use nextest_run_events_instances::TestInstanceId;
 use nextest_run_events_outcomes::StressIndex;
+use nextest_run_events_results::TestInstanceId;
 use nextest_run_events_statuses::{ChildExecutionOutputDescription, LiveSpec, RetryData};
 
 /// What is told of a test that runs, on request.

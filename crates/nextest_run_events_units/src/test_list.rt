@@ -1,6 +1,6 @@
 // Tests by their names.
 
-use nextest_run_events_instances::OwnedTestInstanceId;
+use nextest_run_events_results::OwnedTestInstanceId;
 use nextest_text::Listing;
 
 /// The tests of a run.

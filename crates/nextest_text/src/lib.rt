@@ -7,8 +7,6 @@
 
 mod decimal;
 mod listing;
-#[cfg(test)]
-mod tests;
 mod text;
 
 pub use decimal::{i32_of_decimal, u64_of_decimal};

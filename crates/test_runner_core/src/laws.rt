@@ -1,3 +1,13 @@
-//! What holds of every run that `judge` and `judge_stream` judge. Each function does nothing, and its contract is the law.
+//! What holds of every run that a log tells. Each function does nothing, and its contract is the law.
+ghost use Rattle.test_runner_core.specs.Laws.{EndsWithDueStatus, OneOutcome};
 
-pub use test_runner_core_judging::laws::{due_status, one_outcome};
+/// Whatever the lister answers, inputs and a log come to one judgement.
+pub fn one_outcome()
+    ensures { OneOutcome }
+{}
+
+/// Whatever the inputs: where no line of a log is refused, the log agrees with an assignment and tells no stop, and the
+/// run is complete, the exit status of what they come to is that assignment's due status.
+pub fn due_status()
+    ensures { EndsWithDueStatus }
+{}

@@ -6,16 +6,26 @@
 //! without memory, and `first_refused` checks a log without a plan.
 #![tactic(auto)]
 
+mod check;
+mod entry;
+mod judge_fault;
+mod judgement;
+mod judging;
 pub mod laws;
+mod refused_line;
+mod run_end;
 
-pub use nextest_run_events_instances::{OwnedTestInstanceId, TestInstanceId};
+pub use check::first_refused;
+pub use entry::{judge, judge_stream};
+pub use judge_fault::JudgeFault;
+pub use judgement::Judgement;
+pub use judging::judge_lines;
+pub use nextest_run_events_results::{OwnedTestInstanceId, Record, RecordOutput, TestInstanceId};
+pub use refused_line::{LineRefusal, RefusedLine};
+pub use run_end::RunEnd;
 pub use test_runner_core_inputs::{
     ConfigSource, ConfigSourceKind, ConfigSourceOutcome, CurrentVersion, FactRecord, Inputs,
     InputsError, PlatformRecord,
-};
-pub use test_runner_core_judging::{
-    JudgeFault, Judgement, LineRefusal, RefusedLine, RunEnd, first_refused, judge, judge_lines,
-    judge_stream,
 };
 pub use test_runner_core_lines::{
     FIRST_LINE_LIMIT, LINE_LIMIT, LOG_LIMIT, LineFault, LogFault, LogLines, Next,
@@ -26,7 +36,6 @@ pub use test_runner_core_log::{
 };
 pub use test_runner_core_plan::{LoadFault, Plan, PlanFault, PlanSettings, PlanTest};
 pub use test_runner_core_progress::StartFault;
-pub use test_runner_core_records::{Record, RecordOutput};
 pub use test_runner_core_runs::{Mark, StepRefusal, exit_status};
 pub use test_runner_core_session::{Fate, Session};
 pub use test_runner_core_streams::{

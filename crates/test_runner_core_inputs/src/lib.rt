@@ -13,8 +13,6 @@ mod platform;
 mod source;
 mod source_word;
 mod steps;
-#[cfg(test)]
-mod tests;
 mod workspace;
 
 pub use current_version::CurrentVersion;

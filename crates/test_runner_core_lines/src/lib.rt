@@ -10,8 +10,6 @@ mod fault;
 mod limits;
 mod log_lines;
 mod next;
-#[cfg(test)]
-mod tests;
 
 pub use fault::{LineFault, LogFault};
 pub use limits::{FIRST_LINE_LIMIT, LINE_LIMIT, LOG_LIMIT};

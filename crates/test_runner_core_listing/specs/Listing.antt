@@ -4,7 +4,7 @@ use Rattle.std.specs.Ordering.{nat_cmp, ordering_then}
 use Rattle.std.specs.declared.cmp.Ordering.{Ordering}
 use Rattle.std.specs.Cmp.Lexicographic.{slice_cmp}
 use Rattle.std.specs.List.Sorted.{IsSorted, IsPermutation}
-use Rattle.nextest_run_events_instances.specs.declared.instance.OwnedTestInstanceId.{OwnedTestInstanceId}
+use Rattle.nextest_run_events_results.specs.declared.instance.OwnedTestInstanceId.{OwnedTestInstanceId}
 use Rattle.test_runner_core_workspace.specs.Lister.{Answer}
 use Rattle.test_runner_core_workspace.specs.Workspace.{is_among, has_separator}
 use Rattle.test_runner_core_workspace.specs.declared.record.Binary.{Binary}

@@ -6,8 +6,6 @@ mod listing;
 mod listing_fault;
 mod names;
 mod selection;
-#[cfg(test)]
-mod tests;
 
 pub use filter::Filter;
 pub use listing::select;

@@ -8,7 +8,7 @@ use crate::filter::Filter;
 use crate::listing_fault::ListingFault;
 use crate::names::refusal;
 use crate::selection::Selection;
-use nextest_run_events_instances::OwnedTestInstanceId;
+use nextest_run_events_results::OwnedTestInstanceId;
 use nextest_text::{Listing, Text};
 use std::alloc::{AllocError, Global};
 use test_runner_core_workspace::{Binary, ListFault, Lister};

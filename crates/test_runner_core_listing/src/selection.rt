@@ -1,5 +1,5 @@
 // The selected tests, and those that are left out.
-use nextest_run_events_instances::OwnedTestInstanceId;
+use nextest_run_events_results::OwnedTestInstanceId;
 use nextest_text::Listing;
 
 /// The selected tests, and those that are left out.

@@ -19,7 +19,7 @@ use Rattle.nextest_run_events_results.specs.declared.result.FailureDescription.{
 use Rattle.nextest_run_events_results.specs.declared.result.ExecutionResultDescription.{ExecutionResultDescription}
 use Rattle.nextest_run_events_results.specs.declared.result.ExecutionResultDescription.TheVariants as ended
 use Rattle.nextest_run_events_results.specs.declared.result.FailureDescription.TheVariants as failed_by
-use Rattle.test_runner_core_records.specs.declared.record.Record.{Record}
+use Rattle.nextest_run_events_results.specs.declared.record.Record.{Record}
 use Rattle.test_runner_core_log.specs.declared.log_line.LogLine.{LogLine}
 use Rattle.test_runner_core_log.specs.declared.log_line.LogLine.TheVariants as line
 use Rattle.test_runner_core_log.proofs.Apart.{apart, word_of}

@@ -24,9 +24,9 @@ use Rattle.nextest_run_events_results.specs.declared.result.FailureDescription.{
 use Rattle.nextest_run_events_results.specs.declared.result.ExecutionResultDescription.{ExecutionResultDescription}
 use Rattle.nextest_run_events_results.specs.declared.result.ExecutionResultDescription.TheVariants as ended
 use Rattle.nextest_run_events_results.specs.declared.result.FailureDescription.TheVariants as failed_by
-use Rattle.test_runner_core_records.specs.declared.record.Record.{Record}
-use Rattle.test_runner_core_records.specs.declared.record.RecordOutput.{RecordOutput}
-use Rattle.test_runner_core_records.specs.declared.record.RecordOutput.TheVariants as wrote
+use Rattle.nextest_run_events_results.specs.declared.record.Record.{Record}
+use Rattle.nextest_run_events_results.specs.declared.record.RecordOutput.{RecordOutput}
+use Rattle.nextest_run_events_results.specs.declared.record.RecordOutput.TheVariants as wrote
 use Rattle.test_runner_core_log.specs.declared.log_line.LogLine.{LogLine}
 use Rattle.test_runner_core_log.specs.declared.log_line.LogLine.TheVariants as line
 use Rattle.test_runner_core_log.specs.Spelling.{leak_word, timeout_word, leaked_suffix, IsSignal, SpellsFailure, SpellsResult, reason_word, SpellsSlow, SpellsStream, SpellsOutput, SpellsRecord, SpellsFields, Spells, IsField, joined, HasSpelling}

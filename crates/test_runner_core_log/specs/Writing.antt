@@ -1,7 +1,7 @@
 -- What writing a part of a line adds to it.
 use Rattle.std.specs.Prelude.{◌≡◌, ℕ, List, ◌∷◌, ◌++◌}
-use Rattle.test_runner_core_records.specs.declared.record.Record.{Record}
-use Rattle.test_runner_core_records.specs.declared.record.RecordOutput.{RecordOutput}
+use Rattle.nextest_run_events_results.specs.declared.record.Record.{Record}
+use Rattle.nextest_run_events_results.specs.declared.record.RecordOutput.{RecordOutput}
 use Rattle.test_runner_core_log.specs.Spelling.{SpellsOutput, SpellsRecord, joined}
 
 -- the new line is the old one with a tab and what is spelled so behind it

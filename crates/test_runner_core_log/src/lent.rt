@@ -9,11 +9,11 @@ use super::signals::own_name;
 use super::spelling_error::SpellingError;
 use nextest_config_elements_plain::{LeakTimeoutResult, SlowTimeoutResult};
 use nextest_run_events_results::{
-    AbortDescription, CancelReason, ExecutionResultDescription, FailureDescription,
+    AbortDescription, CancelReason, ExecutionResultDescription, FailureDescription, Record,
+    RecordOutput,
 };
 use nextest_text::{Listing, Text};
 use std::alloc::{AllocError, Global};
-use test_runner_core_records::{Record, RecordOutput};
 
 /// Why an attempt failed.
 #[derive(Clone, Copy)]

@@ -9,8 +9,6 @@ mod reading;
 mod reasons;
 mod signals;
 mod spelling_error;
-#[cfg(test)]
-mod tests;
 mod writing;
 
 pub use lent::{LentFailure, LentLine, LentRecord, LentResult, LentStream};

@@ -9,10 +9,9 @@ use super::reasons::reason_word;
 use super::writing::{
     are_fields, is_field, is_outer, push_field, push_record, record_is_spellable,
 };
-use nextest_run_events_results::CancelReason;
+use nextest_run_events_results::{CancelReason, Record};
 use nextest_text::Text;
 use std::alloc::{AllocError, Global};
-use test_runner_core_records::Record;
 
 /// What a line of a log says.
 #[derive(Clone, Debug, PartialEq, Eq, Drop)]

@@ -9,11 +9,11 @@ use super::signals::{is_name_of, is_signal};
 use itoa::Buffer;
 use nextest_config_elements_plain::{LeakTimeoutResult, SlowTimeoutResult};
 use nextest_run_events_results::{
-    AbortDescription, CancelReason, ExecutionResultDescription, FailureDescription,
+    AbortDescription, CancelReason, ExecutionResultDescription, FailureDescription, Record,
+    RecordOutput,
 };
 use nextest_text::Listing;
 use std::alloc::AllocError;
-use test_runner_core_records::{Record, RecordOutput};
 
 /// Whether the text can be a field: it has neither a tab nor a line feed in it.
 pub fn is_field(text: &str) -> bool

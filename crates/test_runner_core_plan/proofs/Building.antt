@@ -3,7 +3,7 @@ use Rattle.std.proofs.Common.{◌≡◌, ◌<◌, ◌^◌, ◌+◌, ◌==◌, �
 use Rattle.std.proofs.lemmas.Bool.{eqb-false, le-leb}
 use Rattle.std.proofs.lemmas.List.{append-nil}
 use Rattle.std.proofs.lemmas.List.Sorted.{length_permutation}
-use Rattle.nextest_run_events_instances.specs.declared.instance.OwnedTestInstanceId.{OwnedTestInstanceId}
+use Rattle.nextest_run_events_results.specs.declared.instance.OwnedTestInstanceId.{OwnedTestInstanceId}
 use Rattle.test_runner_core_inputs.specs.declared.inputs.Inputs.{Inputs}
 use Rattle.test_runner_core_listing.specs.Listing.{Selects, listing, listed_of}
 use Rattle.test_runner_core_listing.specs.declared.selection.Selection.{Selection}

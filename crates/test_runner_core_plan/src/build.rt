@@ -8,7 +8,7 @@ use crate::asked::{Asked, asked_in};
 use crate::plan::{Plan, PlanSettings, PlanTest};
 use crate::plan_fault::PlanFault;
 use nextest_config_elements_plain::FlakyResult;
-use nextest_run_events_instances::OwnedTestInstanceId;
+use nextest_run_events_results::OwnedTestInstanceId;
 use nextest_text::{Listing, Text};
 use std::alloc::{AllocError, Global};
 use test_runner_core_inputs::Inputs;

@@ -5,8 +5,6 @@ mod asked;
 mod build;
 mod plan;
 mod plan_fault;
-#[cfg(test)]
-mod tests;
 
 pub use plan::{Plan, PlanSettings, PlanTest};
 pub use plan_fault::{LoadFault, PlanFault};

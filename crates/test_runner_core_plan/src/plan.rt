@@ -1,6 +1,6 @@
 // The plan of a run.
 use nextest_config_elements_plain::{FlakyResult, MaxFail};
-use nextest_run_events_instances::OwnedTestInstanceId;
+use nextest_run_events_results::OwnedTestInstanceId;
 use nextest_text::{Listing, Text};
 
 /// The settings of a selected test.

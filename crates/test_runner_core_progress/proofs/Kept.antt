@@ -23,9 +23,9 @@ use Rattle.test_runner_core_progress.specs.declared.planned_test.PlannedTest.{Pl
 use Rattle.test_runner_core_progress.specs.Counted.{with_finished}
 use Rattle.test_runner_core_progress.proofs.Tallies.{finished_adds}
 use Rattle.nextest_run_events_results.specs.declared.result.ExecutionResultDescription.{ExecutionResultDescription}
-use Rattle.test_runner_core_records.specs.declared.record.Record.{Record}
-use Rattle.test_runner_core_records.specs.declared.record.RecordOutput.{RecordOutput}
-use Rattle.test_runner_core_records.specs.declared.record.RecordOutput.TheVariants as wrote
+use Rattle.nextest_run_events_results.specs.declared.record.Record.{Record}
+use Rattle.nextest_run_events_results.specs.declared.record.RecordOutput.{RecordOutput}
+use Rattle.nextest_run_events_results.specs.declared.record.RecordOutput.TheVariants as wrote
 use Rattle.test_runner_core_progress.specs.Statuses.{Status, ScriptStatus, IsStatusOf, IsScriptStatusOf, AreStatusesFrom, AreScriptStatuses, output_of, told_of, record_of, script_record_of}
 
 told_back : (told : RecordOutput) → told_of (output_of told) ≡ told

@@ -9,7 +9,7 @@ use Rattle.nextest_run_events_results.specs.Cancel.{graver_reason}
 use Rattle.nextest_run_events_results.specs.Result.{is_success}
 use Rattle.nextest_run_events_results.specs.declared.cancel_reason.CancelReason.{CancelReason}
 use Rattle.nextest_run_events_results.specs.declared.cancel_reason.CancelReason.TheVariants as why
-use Rattle.test_runner_core_records.specs.declared.record.Record.{Record}
+use Rattle.nextest_run_events_results.specs.declared.record.Record.{Record}
 use Rattle.test_runner_core_runs.specs.State.{TestState, State, failed_weight, is_finished, is_running, is_finished_mark, is_running_mark}
 use Rattle.test_runner_core_runs.specs.Step.{start_of, start_from, started, end_from, attempt_ended, after_attempt, finishes, limit_reason, limited, with_test, script_ended, after_script, stopped, stopped_by}
 use Rattle.nextest_run_events_results.specs.Cancel.{is_inner}

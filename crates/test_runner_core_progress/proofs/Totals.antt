@@ -18,7 +18,7 @@ use Rattle.nextest_run_events_counters.specs.declared.run_stats.RunStats.{RunSta
 use Rattle.nextest_run_events_results.specs.declared.cancel_reason.CancelReason.{CancelReason}
 use Rattle.nextest_run_events_results.specs.declared.result.ExecutionResultDescription.{ExecutionResultDescription}
 use Rattle.nextest_run_events_results.specs.declared.result.ExecutionResultDescription.TheVariants as ended
-use Rattle.test_runner_core_records.specs.declared.record.Record.{Record}
+use Rattle.nextest_run_events_results.specs.declared.record.Record.{Record}
 use Rattle.test_runner_core_runs.specs.Counters.{counters}
 use Rattle.test_runner_core_runs.specs.State.{TestState, State, waiting, counts, is_finished, last_record, finished_as, failed_weight}
 use Rattle.test_runner_core_progress.specs.Counted.{with_finished, recounted}

@@ -1,6 +1,6 @@
 -- What an event's call answers, and what it leaves.
 use Rattle.std.specs.Prelude.{◌≡◌, ℕ, Bool, Some, Result, Ok, Err, slice_get}
-use Rattle.test_runner_core_records.specs.declared.record.Record.{Record}
+use Rattle.nextest_run_events_results.specs.declared.record.Record.{Record}
 use Rattle.test_runner_core_runs.specs.State.{TestState, State}
 use Rattle.test_runner_core_runs.specs.Step.{after_attempt, finishes, step}
 use Rattle.test_runner_core_progress.specs.Parts.{ChangesAt}

@@ -12,9 +12,9 @@ use Rattle.nextest_run_events_statuses.specs.declared.output.ChildOutputDescript
 use Rattle.nextest_run_events_statuses.specs.declared.output.ChildExecutionOutputDescription.{ChildExecutionOutputDescription}
 use Rattle.nextest_run_events_statuses.specs.declared.output.ChildExecutionOutputDescription.TheVariants as came
 use Rattle.nextest_run_events_statuses.specs.declared.output.LiveSpec.{LiveSpec}
-use Rattle.test_runner_core_records.specs.declared.record.Record.{Record}
-use Rattle.test_runner_core_records.specs.declared.record.RecordOutput.{RecordOutput}
-use Rattle.test_runner_core_records.specs.declared.record.RecordOutput.TheVariants as wrote
+use Rattle.nextest_run_events_results.specs.declared.record.Record.{Record}
+use Rattle.nextest_run_events_results.specs.declared.record.RecordOutput.{RecordOutput}
+use Rattle.nextest_run_events_results.specs.declared.record.RecordOutput.TheVariants as wrote
 use Rattle.test_runner_core_runs.specs.State.{TestState}
 
 abbrev pub Output : Type 0

@@ -15,11 +15,10 @@ ghost use Rattle.test_runner_core_progress.specs.Statuses.{IsAttempts};
 use crate::planned_test::PlannedTest;
 use crate::test_progress::TestProgress;
 use nextest_run_events_counters::RunStats;
-use nextest_run_events_results::CancelReason;
+use nextest_run_events_results::{CancelReason, Record};
 use nextest_run_events_statuses::{ExecutionStatuses, LiveSpec};
 use std::alloc::{AllocError, Global};
 use std::marker::Model;
-use test_runner_core_records::Record;
 use test_runner_core_runs::Mark;
 
 // How far the tests of a run are, and how many run. In a clause they are the states of the tests, by their places.

@@ -10,8 +10,6 @@ mod scripts;
 mod slot;
 mod start_fault;
 mod test_progress;
-#[cfg(test)]
-mod tests;
 
 pub use planned_test::PlannedTest;
 pub use progress::Progress;

@@ -23,11 +23,10 @@ use crate::scripts::Scripts;
 use crate::start_fault::StartFault;
 use nextest_config_elements_plain::{MaxFail, TerminateMode};
 use nextest_run_events_counters::{FinalRunStats, RunStats};
-use nextest_run_events_results::CancelReason;
+use nextest_run_events_results::{CancelReason, Record};
 use nextest_run_events_statuses::{ExecutionStatuses, LiveSpec};
 use std::alloc::{AllocError, Global};
 use std::marker::Model;
-use test_runner_core_records::Record;
 use test_runner_core_runs::{
     Mark, StepRefusal, end_refusal, exit_status, script_refusal, start_refusal, stop_refusal,
 };

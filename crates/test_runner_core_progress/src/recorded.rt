@@ -2,6 +2,7 @@
 ghost use Rattle.std.specs.Prelude.{◌≡◌};
 ghost use Rattle.test_runner_core_progress.specs.Statuses.{output_of, IsStatusOf, IsScriptStatusOf};
 
+use nextest_run_events_results::{Record, RecordOutput};
 use nextest_run_events_statuses::{
     ChildExecutionOutputDescription, ChildOutputDescription, ChildSingleOutput,
     ChildStartErrorDescription, ExecuteStatus, LiveSpec, RetryData, SerializableError,
@@ -10,7 +11,6 @@ use nextest_run_events_statuses::{
 use nextest_text::Listing;
 use std::alloc::Global;
 use std::time::Duration;
-use test_runner_core_records::{Record, RecordOutput};
 
 // The status of an attempt.
 pub(crate) fn execute_status(

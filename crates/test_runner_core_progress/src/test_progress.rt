@@ -13,11 +13,10 @@ use crate::planned_test::PlannedTest;
 use crate::recorded::execute_status;
 use crate::slot::Slot;
 use nextest_run_events_counters::RunStats;
-use nextest_run_events_results::CancelReason;
+use nextest_run_events_results::{CancelReason, Record};
 use nextest_run_events_statuses::{ExecutionStatuses, LiveSpec, RetryData};
 use std::alloc::{AllocError, Global};
 use std::marker::Model;
-use test_runner_core_records::Record;
 use test_runner_core_runs::Mark;
 
 // How far a test is. In a clause it is the state of the test.

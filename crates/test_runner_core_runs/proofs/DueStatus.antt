@@ -18,7 +18,7 @@ use Rattle.nextest_run_events_counters.specs.declared.run_stats.RunStats.{RunSta
 use Rattle.nextest_run_events_counters.specs.declared.summary.FinalRunStats.TheVariants as summed
 use Rattle.nextest_run_events_counters.specs.declared.summary.RunStatsFailureKind.{RunStatsFailureKind}
 use Rattle.nextest_run_events_counters.specs.declared.summary.RunStatsFailureKind.TheVariants as at
-use Rattle.test_runner_core_records.specs.declared.record.Record.{Record}
+use Rattle.nextest_run_events_results.specs.declared.record.Record.{Record}
 use Rattle.test_runner_core_runs.specs.Plan.{TestPlan, Plan, IsPlan}
 use Rattle.test_runner_core_runs.specs.Assignment.{Assignment, some_script, some_test_fails, due_status}
 use Rattle.test_runner_core_runs.specs.State.{TestState, State, initial, counts, is_finished, last_record, finished_as}

@@ -10,7 +10,7 @@ use Rattle.nextest_run_events_results.specs.declared.result.ExecutionResultDescr
 use Rattle.nextest_run_events_results.specs.declared.result.ExecutionResultDescription.TheVariants as ended
 use Rattle.nextest_run_events_results.specs.Result.{is_success}
 use Rattle.nextest_run_events_counters.specs.Rows.{Finished, fails_test, forbids_late}
-use Rattle.test_runner_core_records.specs.declared.record.Record.{Record}
+use Rattle.nextest_run_events_results.specs.declared.record.Record.{Record}
 use Rattle.test_runner_core_runs.specs.Plan.{TestPlan}
 use Rattle.test_runner_core_runs.specs.Assignment.{first_success, found_or, fails, is_failing_fate}
 use Rattle.test_runner_core_runs.specs.State.{TestState, counts, is_finished, is_finished_mark, last_record, finished_as}

@@ -4,7 +4,7 @@ use Rattle.std.specs.List.{list_any}
 use Rattle.std.specs.Option.{option_map_or}
 use Rattle.std.proofs.lemmas.Bool.{cases_lt}
 use Rattle.std.proofs.lemmas.List.Folds.{list_any-append}
-use Rattle.test_runner_core_records.specs.declared.record.Record.{Record}
+use Rattle.nextest_run_events_results.specs.declared.record.Record.{Record}
 use Rattle.test_runner_core_runs.specs.Assignment.{some_script}
 
 -- the records of the first scripts

@@ -4,7 +4,7 @@ use Rattle.std.specs.Prelude.{is_some}
 use Rattle.std.specs.Option.{option_map_or}
 use Rattle.std.proofs.lemmas.Bool.Decides.{nat_tests}
 use Rattle.nextest_run_events_results.specs.declared.cancel_reason.CancelReason.{CancelReason}
-use Rattle.test_runner_core_records.specs.declared.record.Record.{Record}
+use Rattle.nextest_run_events_results.specs.declared.record.Record.{Record}
 use Rattle.test_runner_core_runs.specs.State.{TestState, State}
 use Rattle.test_runner_core_runs.specs.Step.{start_of, start_from, end_from, after_script}
 use Rattle.nextest_run_events_results.specs.Cancel.{is_inner}

@@ -7,7 +7,7 @@ use Rattle.std.proofs.lemmas.Bool.Decides.{nat_tests}
 use Rattle.nextest_run_events_results.specs.declared.cancel_reason.CancelReason.{CancelReason}
 use Rattle.nextest_run_events_results.specs.Result.{is_success}
 use Rattle.nextest_run_events_counters.specs.Rows.{Finished, fails_test}
-use Rattle.test_runner_core_records.specs.declared.record.Record.{Record}
+use Rattle.nextest_run_events_results.specs.declared.record.Record.{Record}
 use Rattle.test_runner_core_runs.specs.Plan.{TestPlan}
 use Rattle.test_runner_core_runs.specs.Assignment.{first_success, found_or, fails, some_test_fails}
 use Rattle.test_runner_core_runs.specs.State.{TestState, State, waiting, counts, is_finished, is_finished_mark}

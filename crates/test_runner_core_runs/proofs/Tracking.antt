@@ -13,7 +13,7 @@ use Rattle.nextest_run_events_results.specs.declared.cancel_reason.CancelReason.
 use Rattle.nextest_run_events_results.specs.declared.cancel_reason.CancelReason.TheVariants as why
 use Rattle.nextest_run_events_results.specs.Result.{is_success}
 use Rattle.nextest_run_events_counters.specs.Rows.{fails_test}
-use Rattle.test_runner_core_records.specs.declared.record.Record.{Record}
+use Rattle.nextest_run_events_results.specs.declared.record.Record.{Record}
 use Rattle.test_runner_core_runs.specs.Plan.{TestPlan, Plan, IsPlan, IsLimit, weight}
 use Rattle.test_runner_core_runs.specs.Assignment.{Assignment, some_test_fails}
 use Rattle.test_runner_core_runs.specs.State.{TestState, State, initial, waiting, counts, is_finished, is_finished_mark, failed_weight}

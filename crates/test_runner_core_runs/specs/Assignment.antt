@@ -4,7 +4,7 @@ use Rattle.nextest_config_elements_plain.specs.MaxFail.{mode_at}
 use Rattle.nextest_config_elements_plain.specs.declared.timeouts.FlakyResult.{FlakyResult}
 use Rattle.nextest_run_events_results.specs.Result.{is_success}
 use Rattle.nextest_run_events_counters.specs.Rows.{fails_script, forbids_late}
-use Rattle.test_runner_core_records.specs.declared.record.Record.{Record}
+use Rattle.nextest_run_events_results.specs.declared.record.Record.{Record}
 use Rattle.test_runner_core_runs.specs.Plan.{TestPlan, Plan, weight}
 
 -- how each script ends, by its place, and each attempt of each test, by the test's place and the number of the try,

@@ -14,8 +14,8 @@ use Rattle.nextest_run_events_results.specs.declared.result.ExecutionResultDescr
 use Rattle.nextest_run_events_counters.specs.declared.summary.FinalRunStats.{FinalRunStats}
 use Rattle.nextest_run_events_counters.specs.declared.summary.FinalRunStats.TheVariants as summed
 use Rattle.nextest_run_events_counters.specs.declared.summary.RunStatsFailureKind.TheVariants as at
-use Rattle.test_runner_core_records.specs.declared.record.Record.{Record}
-use Rattle.test_runner_core_records.specs.declared.record.RecordOutput.TheVariants as wrote
+use Rattle.nextest_run_events_results.specs.declared.record.Record.{Record}
+use Rattle.nextest_run_events_results.specs.declared.record.RecordOutput.TheVariants as wrote
 use Rattle.test_runner_core_runs.specs.Plan.{Plan}
 use Rattle.test_runner_core_runs.specs.State.{State, initial}
 use Rattle.test_runner_core_runs.specs.Counters.{summary, status}

@@ -1,6 +1,5 @@
 // What happens in a run.
-use nextest_run_events_results::CancelReason;
-use test_runner_core_records::Record;
+use nextest_run_events_results::{CancelReason, Record};
 
 /// What happens in a run. Scripts and tests are named by their places in the plan, from 0; a place past its end
 /// stands for one that the plan doesn't have.

@@ -12,8 +12,6 @@ mod mark;
 mod script_order;
 mod status;
 mod step_refusal;
-#[cfg(test)]
-mod tests;
 
 pub use decisions::{end_refusal, start_refusal, stop_refusal};
 pub use event::Event;

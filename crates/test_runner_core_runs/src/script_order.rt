@@ -2,7 +2,7 @@
 ghost use Rattle.test_runner_core_runs.specs.State.{State};
 ghost use Rattle.test_runner_core_runs.specs.Decisions.{Decides, ShowsScripts};
 ghost use Rattle.test_runner_core_runs.specs.declared.event.Event.TheVariants as events;
-ghost use Rattle.test_runner_core_records.specs.declared.record.Record.{Record};
+ghost use Rattle.nextest_run_events_results.specs.declared.record.Record.{Record};
 
 use super::step_refusal::StepRefusal;
 

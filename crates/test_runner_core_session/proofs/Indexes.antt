@@ -4,8 +4,8 @@ use Rattle.std.specs.List.{position_from}
 use Rattle.std.specs.Str.{bytes_eq}
 use Rattle.std.specs.Cmp.Lexicographic.{nat_list_eq_equiv}
 use Rattle.indexmap.specs.IndexMap.{IndexMap, IsEmpty, Updates, get_by}
-use Rattle.nextest_run_events_instances.specs.declared.instance.OwnedTestInstanceId.{OwnedTestInstanceId}
-use Rattle.nextest_run_events_instances.specs.declared.instance.TestInstanceId.{TestInstanceId}
+use Rattle.nextest_run_events_results.specs.declared.instance.OwnedTestInstanceId.{OwnedTestInstanceId}
+use Rattle.nextest_run_events_results.specs.declared.instance.TestInstanceId.{TestInstanceId}
 use Rattle.test_runner_core_plan.specs.declared.plan.PlanTest.{PlanTest}
 use Rattle.test_runner_core_session.specs.Names.{is_named, same_name}
 

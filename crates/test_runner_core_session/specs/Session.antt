@@ -1,6 +1,6 @@
 -- A run of a plan, by names.
 use Rattle.std.specs.Prelude.{◌≡◌, ℕ, List, map, length, Option, None, Some, slice_get, ⊤}
-use Rattle.nextest_run_events_instances.specs.declared.instance.OwnedTestInstanceId.{OwnedTestInstanceId}
+use Rattle.nextest_run_events_results.specs.declared.instance.OwnedTestInstanceId.{OwnedTestInstanceId}
 use Rattle.test_runner_core_plan.specs.declared.plan.Plan.{Plan}
 use Rattle.test_runner_core_plan.specs.declared.plan.PlanTest.{PlanTest}
 use Rattle.test_runner_core_runs.specs.Plan as runs

@@ -3,7 +3,5 @@
 
 mod places;
 mod session;
-#[cfg(test)]
-mod tests;
 
 pub use session::{Fate, Session};

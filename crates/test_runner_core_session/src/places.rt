@@ -3,7 +3,7 @@ ghost use Rattle.std.specs.Prelude.{◌≡◌, IfOk, map};
 ghost use Rattle.test_runner_core_session.specs.Names.{IsIndex, place_of};
 
 use indexmap::IndexMap;
-use nextest_run_events_instances::TestInstanceId;
+use nextest_run_events_results::TestInstanceId;
 use std::alloc::{AllocError, Global};
 use std::marker::Model;
 use test_runner_core_plan::PlanTest;
@@ -17,7 +17,7 @@ pub(crate) struct Places<'a> {
 
 impl<'a> Model for Places<'a> {
     ghost use Rattle.std.specs.Prelude.{List, map};
-    ghost use Rattle.nextest_run_events_instances.specs.declared.instance.OwnedTestInstanceId.{OwnedTestInstanceId};
+    ghost use Rattle.nextest_run_events_results.specs.declared.instance.OwnedTestInstanceId.{OwnedTestInstanceId};
     ghost use Rattle.test_runner_core_session.specs.Names.{IsIndex};
 
     ghost Value = { List OwnedTestInstanceId };

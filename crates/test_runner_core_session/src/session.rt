@@ -10,15 +10,13 @@ ghost use Rattle.test_runner_core_session.specs.Session.{session_of, run_test, t
 
 use crate::places::Places;
 use nextest_run_events_counters::{FinalRunStats, RunStats};
-use nextest_run_events_instances::TestInstanceId;
-use nextest_run_events_results::CancelReason;
+use nextest_run_events_results::{CancelReason, Record, TestInstanceId};
 use nextest_run_events_statuses::{ExecutionStatuses, LiveSpec};
 use nextest_text::Text;
 use std::alloc::{AllocError, Global};
 use std::marker::Model;
 use test_runner_core_plan::{Plan, PlanTest};
 use test_runner_core_progress::{PlannedTest, Progress, StartFault};
-use test_runner_core_records::Record;
 use test_runner_core_runs::{Mark, StepRefusal};
 
 /// How far a test is.

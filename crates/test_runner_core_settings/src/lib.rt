@@ -6,8 +6,6 @@ mod places;
 mod refusals;
 mod settings;
 mod settings_fault;
-#[cfg(test)]
-mod tests;
 mod values;
 
 pub use settings::Settings;

@@ -9,8 +9,6 @@
 mod memory_reader;
 mod memory_writer;
 mod std_streams;
-#[cfg(test)]
-mod tests;
 mod traits;
 mod whole_write;
 

@@ -6,8 +6,6 @@ mod list_fault;
 mod lister;
 mod record;
 mod table_lister;
-#[cfg(test)]
-mod tests;
 mod workspace;
 mod workspace_error;
 

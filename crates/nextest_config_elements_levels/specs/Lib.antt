@@ -1,3 +1,0 @@
-pub mod Display
-pub mod Laws
-pub mod Levels

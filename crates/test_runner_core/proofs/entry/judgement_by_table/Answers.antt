@@ -1,0 +1,14 @@
+use Rattle.std.proofs.Common.{IfOk, IfSome, subst}
+use Rattle.test_runner_core_lines.specs.Cursor.{items_ahead}
+use Rattle.test_runner_core_workspace.specs.Lister.{table_answer}
+use Rattle.test_runner_core_workspace.specs.declared.record.Binary.{Binary}
+use Rattle.test_runner_core_workspace.specs.declared.record.WorkspaceRecord.{WorkspaceRecord}
+use Rattle.test_runner_core.specs.Outcome.{Outcome}
+use Rattle.test_runner_core.proofs.entry.judgement_by_table.Goals as goal
+
+pub returns-clause-outcome : goal.returns-clause-outcome
+returns-clause-outcome g c =
+    let left = g.R.LogReader.left c.args.log.now in
+    let inputs = c.args.inputs.now in
+    subst (λ (w : WorkspaceRecord). IfOk c.of.result (λ it. IfSome left (λ l. Outcome (λ (binary : Binary). table_answer w binary.id) inputs (items_ahead c.args.lines.now l) it)))
+    c.in_ok-lister.ensures.answers c.of.ensures.outcome

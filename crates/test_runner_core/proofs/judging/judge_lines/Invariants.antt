@@ -1,0 +1,12 @@
+use Rattle.std.proofs.Common.{◌+◌, ◌-◌}
+use Rattle.test_runner_core_lines.specs.declared.limits.TheConstants.{LOG_LIMIT}
+use Rattle.test_runner_core.proofs.Walk.{Judging}
+use Rattle.test_runner_core.proofs.judging.judge_lines.Given as goal
+
+abbrev pub invariant-loop-fault : goal.invariant-loop-fault
+invariant-loop-fault g l =
+    Judging l.fn.session l.fn.lines (g.R.LogReader.left l.fn.reader) (g.R.LogReader.calls l.fn.reader) (g.R.LogReader.failures l.fn.reader)
+    l.number l.session l.lines (g.R.LogReader.left l.reader) (g.R.LogReader.calls l.reader) (g.R.LogReader.failures l.reader)
+
+abbrev pub decreases-loop-fault : goal.decreases-loop-fault
+decreases-loop-fault g l = LOG_LIMIT + 2 - l.lines.handed

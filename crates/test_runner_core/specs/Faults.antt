@@ -1,0 +1,25 @@
+-- What a fault of judging tells of reader, writer and report.
+use Rattle.std.specs.Prelude.{◌≡◌, ℕ, ◌+◌, Bool, true, false, Result, Err}
+use Rattle.test_runner_core_lines.specs.declared.fault.LogFault.{LogFault}
+use Rattle.test_runner_core_lines.specs.declared.fault.LogFault.TheVariants as read
+use Rattle.test_runner_core.specs.declared.judge_fault.JudgeFault.{JudgeFault}
+use Rattle.test_runner_core.specs.declared.judge_fault.JudgeFault.TheVariants as fault
+
+abbrev pub fault_of : LogFault → JudgeFault
+fault_of read.Memory = fault.Memory
+fault_of (read.Read cause) = fault.Read cause
+
+-- the reader's failed calls rose by one exactly where its failure is answered, and then its last call failed
+abbrev pub TellsRead : {A : Type 0} → Result A JudgeFault → ℕ → ℕ → Bool → Type 0
+TellsRead (Err (fault.Read cause)) before after last = (after ≡ before + 1) × (last ≡ true)
+TellsRead result before after last = after ≡ before
+
+-- the same of the writer
+abbrev pub TellsWrite : {A : Type 0} → Result A JudgeFault → ℕ → ℕ → Bool → Type 0
+TellsWrite (Err (fault.Write cause)) before after last = (after ≡ before + 1) × (last ≡ true)
+TellsWrite result before after last = after ≡ before
+
+-- whether memory was wanting
+abbrev pub lacks_memory : {A : Type 0} → Result A JudgeFault → Bool
+lacks_memory (Err fault.Memory) = true
+lacks_memory result = false

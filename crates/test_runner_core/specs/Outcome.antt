@@ -1,0 +1,84 @@
+-- What a run of inputs and a log comes to.
+use Rattle.std.specs.Prelude.{◌≡◌, ℕ, Bool, true, false, List, [], ◌∷◌, Option, None, Some, Result, Ok, Err, ⊤}
+use Rattle.test_runner_core_inputs.specs.declared.inputs.Inputs.{Inputs}
+use Rattle.test_runner_core_inputs.specs.Reading.{read_inputs}
+use Rattle.test_runner_core_inputs.specs.declared.inputs_error.InputsError.{InputsError}
+use Rattle.test_runner_core_lines.specs.Feeds.{before_feed, behind_feed}
+use Rattle.test_runner_core_lines.specs.Items.{Item, Line, Refused, items}
+use Rattle.test_runner_core_lines.specs.declared.fault.LogFault.{LogFault}
+use Rattle.test_runner_core_lines.specs.declared.fault.LogFault.TheVariants as unread
+use Rattle.test_runner_core_log.specs.Spelling.{Spells}
+use Rattle.test_runner_core_log.specs.declared.log_line.LogLine.{LogLine}
+use Rattle.test_runner_core_plan.specs.Plan.{Builds, planned}
+use Rattle.test_runner_core_plan.specs.declared.plan.Plan.{Plan}
+use Rattle.test_runner_core_runs.specs.Assignment.{Assignment, due_status}
+use Rattle.test_runner_core_runs.specs.Counters.{counters, summary}
+use Rattle.test_runner_core_runs.specs.Runs.{EventAgrees, IsNoStop, is_complete}
+use Rattle.test_runner_core_runs.specs.State.{State}
+use Rattle.test_runner_core_session.specs.Session.{SessionState, run_plan, session_of}
+use Rattle.test_runner_core_workspace.specs.Lister.{Answer, table_answer}
+use Rattle.test_runner_core_workspace.specs.declared.record.Binary.{Binary}
+use Rattle.test_runner_core.specs.Judging.{Follows, Judges, event_of}
+use Rattle.test_runner_core.specs.declared.judgement.Judgement.{Judgement}
+use Rattle.test_runner_core.specs.declared.judgement.Judgement.TheVariants as it
+use Rattle.test_runner_core.specs.declared.refused_line.RefusedLine.{RefusedLine}
+use Rattle.test_runner_core.specs.declared.run_end.RunEnd.{RunEnd}
+
+-- the lines of a log lead the run of a plan of these inputs to a state, up to the first that is refused
+pub record Ran (answer : Binary → Answer) (inputs : Inputs) (log : List Item) (found : Option RefusedLine)
+    (last : SessionState) : Type 0 where
+  pub plan : Plan
+  pub built : Builds answer inputs (Ok plan)
+  pub judged : Judges 1 (session_of plan) log found last
+
+-- where a run ended: its counters, and what they come to
+abbrev pub end_of : State → RunEnd
+end_of state = record { outcome = summary state; stats = counters state }
+
+-- what inputs and a log come to: the inputs have no plan, or the first refused line, or where the run ended after the last
+abbrev pub Outcome : (Binary → Answer) → Inputs → List Item → Judgement → Type 0
+Outcome answer inputs log (it.NoInputs refusal) = ⊥
+Outcome answer inputs log (it.NoPlan refusal) = planned answer inputs ≡ Err refusal
+Outcome answer inputs log (it.RefusedLine found) = (last : SessionState) × Ran answer inputs log (Some found) last
+Outcome answer inputs log (it.Ended end) = (last : SessionState) × Ran answer inputs log None last × (end ≡ end_of last.run)
+
+-- a log agrees with an assignment, and nobody tells the run to stop: so does the event of each line, where it comes
+abbrev pub LogAgrees : Assignment → SessionState → List Item → Type 0
+LogAgrees assigned state [] = ⊤
+LogAgrees assigned state (Line bytes ∷ more) =
+    (bytes ≡ [] → LogAgrees assigned state more)
+    × ((line : LogLine) → Spells line bytes
+    → EventAgrees assigned state.run (event_of state line) × IsNoStop (event_of state line)
+    × ((mid : SessionState) → Follows state mid line → LogAgrees assigned mid more))
+LogAgrees assigned state (Refused fault ∷ more) = ⊤
+
+-- an exit status is due: wherever no line of the log is refused, the log agrees with an assignment and the run is
+-- complete, it is the status that is due to that assignment
+abbrev pub IsDue : (Binary → Answer) → Inputs → List Item → ℕ → Type 0
+IsDue answer inputs log code =
+    (assigned : Assignment) (last : SessionState) (ran : Ran answer inputs log None last) → LogAgrees assigned (session_of ran.plan) log
+    → is_complete last.run ≡ true → code ≡ due_status (run_plan ran.plan) assigned
+
+-- what a binary answers by the inputs' own table
+abbrev pub table_of : Inputs → Binary → Answer
+table_of inputs binary = table_answer inputs.workspace binary.id
+
+-- what a first line, as inputs, and a log come to
+abbrev pub LineOutcome : Result Inputs InputsError → List Item → Judgement → Type 0
+LineOutcome (Ok inputs) log came = Outcome (table_of inputs) inputs log came
+LineOutcome (Err refusal) log came = came ≡ it.NoInputs refusal
+
+-- what a stream comes to: the bytes before its first line feed are the inputs, those behind it the log
+abbrev pub StreamOutcome : List ℕ → Judgement → Type 0
+StreamOutcome bytes = LineOutcome (read_inputs (before_feed bytes)) (items 0 (behind_feed bytes))
+
+-- the exit status of a stream is due, where its first line is inputs
+abbrev pub IsStreamDue : List ℕ → ℕ → Type 0
+IsStreamDue bytes code =
+    (inputs : Inputs) → read_inputs (before_feed bytes) ≡ Ok inputs → IsDue (table_of inputs) inputs (items 0 (behind_feed bytes)) code
+
+-- whether memory was wanting
+abbrev pub wants_memory : {A : Type 0} → Result A LogFault → Bool
+wants_memory (Ok value) = false
+wants_memory (Err (unread.Read cause)) = false
+wants_memory (Err unread.Memory) = true
