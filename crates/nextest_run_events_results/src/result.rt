@@ -10,7 +10,7 @@ use nextest_text::Text;
 use std::fmt;
 
 /// How a process was ended that did not end by itself, whatever the platform.
-#[derive(Clone, Debug, PartialEq, Eq, Drop)]
+#[derive(Clone, Debug, PartialEq, Eq)]
 pub enum AbortDescription {
     /// By a signal of Unix.
     UnixSignal {
@@ -30,8 +30,22 @@ pub enum AbortDescription {
     WindowsJobObject,
 }
 
+// One call drops it, whoever holds it.
+impl Drop for AbortDescription {
+    fn drop(self) {
+        match self {
+            Self::UnixSignal { signal: _, name: _ } => {}
+            Self::WindowsNtStatus {
+                code: _,
+                message: _,
+            } => {}
+            Self::WindowsJobObject => {}
+        }
+    }
+}
+
 /// Why an attempt failed.
-#[derive(Clone, Debug, PartialEq, Eq, Drop)]
+#[derive(Clone, Debug, PartialEq, Eq)]
 pub enum FailureDescription {
     /// It ended with a code other than 0.
     ExitCode {
@@ -45,8 +59,18 @@ pub enum FailureDescription {
     },
 }
 
+// One call drops it, whoever holds it.
+impl Drop for FailureDescription {
+    fn drop(self) {
+        match self {
+            Self::ExitCode { code: _ } => {}
+            Self::Abort { abort: _ } => {}
+        }
+    }
+}
+
 /// How an attempt of a test, or a setup script, ended, whatever the platform.
-#[derive(Clone, Debug, PartialEq, Eq, Drop)]
+#[derive(Clone, Debug, PartialEq, Eq)]
 pub enum ExecutionResultDescription {
     /// It passed.
     Pass,
@@ -69,6 +93,22 @@ pub enum ExecutionResultDescription {
         /// How that is judged.
         result: SlowTimeoutResult,
     },
+}
+
+// One call drops it, whoever holds it.
+impl Drop for ExecutionResultDescription {
+    fn drop(self) {
+        match self {
+            Self::Pass => {}
+            Self::Leak { result: _ } => {}
+            Self::Fail {
+                failure: _,
+                leaked: _,
+            } => {}
+            Self::ExecFail => {}
+            Self::Timeout { result: _ } => {}
+        }
+    }
 }
 
 impl ExecutionResultDescription {

@@ -7,7 +7,7 @@ use std::error::Error;
 use std::fmt;
 
 /// Why a child process could not be started.
-#[derive(Clone, Debug, PartialEq, Eq, Drop)]
+#[derive(Clone, Debug, PartialEq, Eq)]
 pub enum ChildStartErrorDescription {
     /// A setup script got no temporary path.
     TempPath {
@@ -19,6 +19,16 @@ pub enum ChildStartErrorDescription {
         /// Why.
         source: SerializableError,
     },
+}
+
+// One call drops it, whoever holds it.
+impl Drop for ChildStartErrorDescription {
+    fn drop(self) {
+        match self {
+            Self::TempPath { source: _ } => {}
+            Self::Spawn { source: _ } => {}
+        }
+    }
 }
 
 impl ChildStartErrorDescription {
@@ -52,7 +62,7 @@ impl fmt::Display for ChildStartErrorDescription {
 impl Error for ChildStartErrorDescription {}
 
 /// What went wrong while a child process ran, or with what it left.
-#[derive(Clone, Debug, PartialEq, Eq, Drop)]
+#[derive(Clone, Debug, PartialEq, Eq)]
 pub enum ChildErrorDescription {
     /// Its standard output could not be read.
     ReadStdout {
@@ -79,6 +89,19 @@ pub enum ChildErrorDescription {
         /// Why.
         source: SerializableError,
     },
+}
+
+// One call drops it, whoever holds it.
+impl Drop for ChildErrorDescription {
+    fn drop(self) {
+        match self {
+            Self::ReadStdout { source: _ } => {}
+            Self::ReadStderr { source: _ } => {}
+            Self::ReadCombined { source: _ } => {}
+            Self::Wait { source: _ } => {}
+            Self::SetupScriptOutput { source: _ } => {}
+        }
+    }
 }
 
 impl ChildErrorDescription {

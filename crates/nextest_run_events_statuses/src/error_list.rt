@@ -4,12 +4,22 @@ ghost use Rattle.std.specs.Prelude.{◌≡◌, length};
 use nextest_text::{Listing, Text};
 
 /// Errors under one description.
-#[derive(Clone, Debug, PartialEq, Eq, Drop)]
+#[derive(Clone, Debug, PartialEq, Eq)]
 pub struct ErrorList<T> {
     /// What they have in common.
     pub description: Text,
     /// The errors, in the order in which they came.
     pub items: Listing<T>,
+}
+
+// One call drops it, whoever holds it.
+impl<T: Drop> Drop for ErrorList<T> {
+    fn drop(self) {
+        let Self {
+            description: _,
+            items: _,
+        } = self;
+    }
 }
 
 impl<T> ErrorList<T> {

@@ -7,7 +7,7 @@ use std::collections::BTreeMap;
 use std::time::Duration;
 
 /// An error, told twice.
-#[derive(Clone, Debug, PartialEq, Eq, Drop)]
+#[derive(Clone, Debug, PartialEq, Eq)]
 pub struct ErrorSummary {
     /// In one line.
     pub short_message: Text,
@@ -15,13 +15,30 @@ pub struct ErrorSummary {
     pub description: Text,
 }
 
+// One call drops it, whoever holds it.
+impl Drop for ErrorSummary {
+    fn drop(self) {
+        let Self {
+            short_message: _,
+            description: _,
+        } = self;
+    }
+}
+
 /// A part of an output that tells of an error.
-#[derive(Clone, Debug, PartialEq, Eq, Drop)]
+#[derive(Clone, Debug, PartialEq, Eq)]
 pub struct OutputErrorSlice {
     /// The part.
     pub slice: Text,
     /// At which byte of the output it starts.
     pub start: usize,
+}
+
+// One call drops it, whoever holds it.
+impl Drop for OutputErrorSlice {
+    fn drop(self) {
+        let Self { slice: _, start: _ } = self;
+    }
 }
 
 /// A moment, and how the clock on the wall was set.
@@ -78,8 +95,15 @@ pub struct SetupScriptExecuteStatus<S: OutputSpec> {
 }
 
 /// Variables of the environment that a setup script sets.
-#[derive(Clone, Debug, PartialEq, Eq, Drop)]
+#[derive(Clone, Debug, PartialEq, Eq)]
 pub struct SetupScriptEnvMap {
     /// Their values by their names.
     pub env_map: BTreeMap<Text, Text>,
+}
+
+// One call drops it, whoever holds it.
+impl Drop for SetupScriptEnvMap {
+    fn drop(self) {
+        let Self { env_map: _ } = self;
+    }
 }

@@ -23,9 +23,16 @@ impl OutputSpec for LiveSpec {
 }
 
 /// The bytes of one stream. In a clause it is their list.
-#[derive(Clone, Debug, Drop)]
+#[derive(Clone, Debug)]
 pub struct ChildSingleOutput {
     buf: Listing<u8>,
+}
+
+// One call drops it, whoever holds it.
+impl Drop for ChildSingleOutput {
+    fn drop(self) {
+        let Self { buf: _ } = self;
+    }
 }
 
 impl Model for ChildSingleOutput {
@@ -54,7 +61,7 @@ impl From<Listing<u8>> for ChildSingleOutput {
 }
 
 /// What a child process wrote. A stream that wasn't captured is `None`, one that was and stayed empty isn't.
-#[derive(Clone, Debug, Drop)]
+#[derive(Clone, Debug)]
 pub enum ChildOutputDescription {
     /// Two streams, each on its own.
     Split {
@@ -70,6 +77,20 @@ pub enum ChildOutputDescription {
     },
     /// There is output, and it wasn't loaded.
     NotLoaded,
+}
+
+// One call drops it, whoever holds it.
+impl Drop for ChildOutputDescription {
+    fn drop(self) {
+        match self {
+            Self::Split {
+                stdout: _,
+                stderr: _,
+            } => {}
+            Self::Combined { output: _ } => {}
+            Self::NotLoaded => {}
+        }
+    }
 }
 
 impl ChildOutputDescription {
@@ -98,7 +119,6 @@ fn len_of(stream: &Option<ChildSingleOutput>) -> Option<u64>
 }
 
 /// What came of running a child process.
-#[derive(Drop)]
 #[derive_where(Clone, Debug, PartialEq, Eq; S::ChildOutputDesc)]
 pub enum ChildExecutionOutputDescription<S: OutputSpec> {
     /// It was started.
@@ -112,6 +132,20 @@ pub enum ChildExecutionOutputDescription<S: OutputSpec> {
     },
     /// It could not be started.
     StartError(ChildStartErrorDescription),
+}
+
+// One call drops it, whoever holds it.
+impl<S: OutputSpec> Drop for ChildExecutionOutputDescription<S> {
+    fn drop(self) {
+        match self {
+            Self::Output {
+                result: _,
+                output: _,
+                errors: _,
+            } => {}
+            Self::StartError(_) => {}
+        }
+    }
 }
 
 impl<S: OutputSpec> ChildExecutionOutputDescription<S> {

@@ -11,7 +11,7 @@ use std::fmt;
 use std::marker::Model;
 
 /// An error and what it came from, as texts.
-#[derive(Clone, Debug, PartialEq, Eq, Drop)]
+#[derive(Clone, Debug, PartialEq, Eq)]
 pub struct ErrorChain {
     /// What the error says.
     pub message: Text,
@@ -19,11 +19,31 @@ pub struct ErrorChain {
     pub causes: Listing<Text>,
 }
 
+// One call drops it, whoever holds it.
+impl Drop for ErrorChain {
+    fn drop(self) {
+        let Self {
+            message: _,
+            causes: _,
+        } = self;
+    }
+}
+
 /// An error that can be kept and sent: what it says, and what its causes say. In a clause it is that chain.
-#[derive(Clone, Debug, PartialEq, Eq, Drop)]
+#[derive(Clone, Debug, PartialEq, Eq)]
 pub struct SerializableError {
     message: Text,
     causes: Listing<Text>,
+}
+
+// One call drops it, whoever holds it.
+impl Drop for SerializableError {
+    fn drop(self) {
+        let Self {
+            message: _,
+            causes: _,
+        } = self;
+    }
 }
 
 impl Model for SerializableError {
