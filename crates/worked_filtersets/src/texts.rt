@@ -41,7 +41,7 @@ impl Table for Escapes {
     }
 }
 
-// How a text prints, and what that is read as, where it is another text.
+// How a text prints, and what that is read as.
 pub struct Printed;
 
 impl Table for Printed {
@@ -53,15 +53,11 @@ impl Table for Printed {
         let shown = escaped_text(input);
         let printed = format!(in alloc; "{shown}")?;
         let read = unescape(alloc, printed.as_str())?;
-        if read.bad.is_empty() && read.text.as_str() == input {
-            Ok(format!(in alloc; "‹{printed}›")?)
-        } else {
-            Ok(format!(in alloc; "‹{printed}› is read as {read:?}")?)
-        }
+        Ok(format!(in alloc; "‹{printed}› is ‹{}›", read.text)?)
     }
 }
 
-// The regular expression up to a bare slash, what follows that, what it stands for, and how that prints, where otherwise.
+// What the regular expression up to a bare slash stands for, behind how that prints and what follows the slash.
 pub struct Regexes;
 
 impl Table for Regexes {
@@ -75,12 +71,7 @@ impl Table for Regexes {
         };
         let text = unslash(alloc, raw)?;
         let shown = slashed_text(text.as_str());
-        let printed = format!(in alloc; "{shown}")?;
-        if printed.as_str() == raw {
-            Ok(format!(in alloc; "‹{raw}› ‹{rest}› is ‹{text}›")?)
-        } else {
-            Ok(format!(in alloc; "‹{raw}› ‹{rest}› is ‹{text}› and prints ‹{printed}›")?)
-        }
+        Ok(format!(in alloc; "‹{shown}› ‹{rest}› is ‹{text}›")?)
     }
 }
 
