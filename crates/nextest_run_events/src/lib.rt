@@ -13,25 +13,25 @@ pub use nextest_config_elements_plain::{
     StatusLevel, TestOutputDisplay,
 };
 pub use nextest_run_events_counters::{
-    FinalRunStats, RunFailureStep, RunStats, RunStatsFailureKind,
+    EmptyStatuses, ExecutionDescription, ExecutionStatuses, FinalRunStats, RunFailureStep,
+    RunStats, RunStatsFailureKind,
 };
 pub use nextest_run_events_json::{JsonError, JsonForm};
 pub use nextest_run_events_outcomes::{
     NonZeroDuration, RunFinishedStats, RunOutcome, StressCondition, StressCount,
     StressFinalRunStats, StressIndex, StressProgress, StressRemaining, StressRunStats,
 };
+pub use nextest_run_events_outputs::{
+    ChildError, ChildErrorDescription, ChildExecutionOutput, ChildExecutionOutputDescription,
+    ChildFdError, ChildOutput, ChildOutputDescription, ChildSingleOutput, ChildSplitOutput,
+    ChildStartError, ChildStartErrorDescription, ErrorChain, ErrorList, ErrorSummary, EventTime,
+    ExecuteStatus, LiveSpec, OutputErrorSlice, OutputSpec, RetryData, SerializableError,
+    SerializableErrorSources, SetupScriptEnvMap, SetupScriptExecuteStatus,
+};
 pub use nextest_run_events_results::{
     AbortDescription, AbortStatus, CancelReason, ExecutionResult, ExecutionResultDescription,
     ExitStatus, FailureDescription, FailureStatus, OwnedTestInstanceId, SIGTERM, TestInstanceId,
     signal_name,
-};
-pub use nextest_run_events_statuses::{
-    ChildError, ChildErrorDescription, ChildExecutionOutput, ChildExecutionOutputDescription,
-    ChildFdError, ChildOutput, ChildOutputDescription, ChildSingleOutput, ChildSplitOutput,
-    ChildStartError, ChildStartErrorDescription, EmptyStatuses, ErrorChain, ErrorList,
-    ErrorSummary, EventTime, ExecuteStatus, ExecutionDescription, ExecutionStatuses, LiveSpec,
-    OutputErrorSlice, OutputSpec, RetryData, SerializableError, SerializableErrorSources,
-    SetupScriptEnvMap, SetupScriptExecuteStatus,
 };
 pub use nextest_run_events_units::{
     TestInfoResponse, TestList, TestsNotSeen, UnitKind, UnitState, UnitTerminateMethod,

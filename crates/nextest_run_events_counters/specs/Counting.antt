@@ -3,8 +3,8 @@ use Rattle.std.specs.Prelude.{◌+◌, ◌^◌, ◌<◌, Bool, length, nat_lt, i
 use Rattle.std.specs.Option.{option_map_or}
 use Rattle.std.specs.Int.{from_bool}
 use Rattle.nextest_run_events_results.specs.declared.result.ExecutionResultDescription.{ExecutionResultDescription}
-use Rattle.nextest_run_events_statuses.specs.Attempts.{Attempts, last}
-use Rattle.nextest_run_events_statuses.specs.declared.execute_status.ExecuteStatus.{ExecuteStatus}
+use Rattle.nextest_run_events_counters.specs.Attempts.{Attempts, last}
+use Rattle.nextest_run_events_outputs.specs.declared.execute_status.ExecuteStatus.{ExecuteStatus}
 use Rattle.nextest_run_events_counters.specs.Rows as rows
 use Rattle.nextest_run_events_counters.specs.declared.run_stats.RunStats.{RunStats}
 

@@ -1,3 +1,5 @@
-pub mod Rows
+pub mod Attempts
 pub mod Counting
+pub mod Description
+pub mod Rows
 pub mod Summary

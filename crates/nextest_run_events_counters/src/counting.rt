@@ -2,10 +2,11 @@
 ghost use Rattle.std.specs.Prelude.{◌≡◌, ◌+◌, ◌^◌, ◌<◌};
 ghost use Rattle.nextest_run_events_counters.specs.Counting.{CanCountScript, CanCountTest, with_script, with_attempts, with_success, with_passing_timeout, with_failure};
 
+use super::execution_statuses::ExecutionStatuses;
 use super::run_stats::RunStats;
 use nextest_config_elements_plain::{FlakyResult, LeakTimeoutResult, SlowTimeoutResult};
+use nextest_run_events_outputs::{OutputSpec, SetupScriptExecuteStatus};
 use nextest_run_events_results::ExecutionResultDescription;
-use nextest_run_events_statuses::{ExecutionStatuses, OutputSpec, SetupScriptExecuteStatus};
 
 impl RunStats {
     /// Counts a setup script that finished. One that took too long counts as that, however it is judged.

@@ -11,7 +11,7 @@ use Rattle.nextest_run_events_results.specs.declared.result.FailureDescription.{
 use Rattle.nextest_run_events_results.specs.declared.result.FailureDescription.TheVariants as failed
 use Rattle.nextest_run_events_results.specs.declared.result.ExecutionResultDescription.{ExecutionResultDescription}
 use Rattle.nextest_run_events_results.specs.declared.result.ExecutionResultDescription.TheVariants as ended
-use Rattle.nextest_run_events_statuses.specs.declared.serializable_error.ErrorChain.{ErrorChain}
+use Rattle.nextest_run_events_outputs.specs.declared.serializable_error.ErrorChain.{ErrorChain}
 
 abbrev pub whole : ℤ → Data
 whole z = number (of_integer z)

@@ -8,7 +8,7 @@ ghost use Rattle.nextest_run_events_json.specs.Reading as read;
 use crate::form::{JsonForm, required};
 use crate::json_error::JsonError;
 use crate::lists::listed_member;
-use nextest_run_events_statuses::SerializableError;
+use nextest_run_events_outputs::SerializableError;
 use serde_json::{Value, json};
 use std::alloc::{AllocError, Global};
 

@@ -2,8 +2,8 @@
 
 use super::unit_state::UnitState;
 use nextest_run_events_outcomes::StressIndex;
+use nextest_run_events_outputs::{ChildExecutionOutputDescription, LiveSpec, RetryData};
 use nextest_run_events_results::TestInstanceId;
-use nextest_run_events_statuses::{ChildExecutionOutputDescription, LiveSpec, RetryData};
 
 /// What is told of a test that runs, on request.
 #[derive(Clone, Debug, Drop)]

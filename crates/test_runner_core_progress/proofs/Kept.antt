@@ -4,7 +4,7 @@ use Rattle.std.specs.Prelude.{◌<◌, ◌-◌, zero, slice_get, is_some, nat_lt
 use Rattle.std.specs.Option.{option_map, option_map_or}
 use Rattle.std.specs.Duration.{as_nanos}
 use Rattle.nextest_config_elements_plain.specs.declared.timeouts.FlakyResult.{FlakyResult}
-use Rattle.nextest_run_events_statuses.specs.Attempts.{Attempts, last}
+use Rattle.nextest_run_events_counters.specs.Attempts.{Attempts, last}
 use Rattle.nextest_run_events_counters.specs.Counting.{with_test, with_attempts, finished_as}
 use Rattle.nextest_run_events_counters.specs.declared.run_stats.RunStats.{RunStats}
 use Rattle.test_runner_core_runs.specs.Plan.{TestPlan}

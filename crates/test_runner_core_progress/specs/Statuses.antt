@@ -3,15 +3,15 @@ use Rattle.std.specs.Prelude.{◌≡◌, ℕ, ◌+◌, List, [], ◌∷◌, Opti
 use denote.Ref.{Bor}
 use Rattle.std.specs.Duration.{as_nanos}
 use Rattle.nextest_config_elements_plain.specs.declared.timeouts.FlakyResult.{FlakyResult}
-use Rattle.nextest_run_events_statuses.specs.Attempts.{Attempts}
-use Rattle.nextest_run_events_statuses.specs.declared.child_error.ChildStartErrorDescription.TheVariants as start
-use Rattle.nextest_run_events_statuses.specs.declared.execute_status.ExecuteStatus.{ExecuteStatus}
-use Rattle.nextest_run_events_statuses.specs.declared.execute_status.SetupScriptExecuteStatus.{SetupScriptExecuteStatus}
-use Rattle.nextest_run_events_statuses.specs.declared.output.ChildOutputDescription.{ChildOutputDescription}
-use Rattle.nextest_run_events_statuses.specs.declared.output.ChildOutputDescription.TheVariants as written
-use Rattle.nextest_run_events_statuses.specs.declared.output.ChildExecutionOutputDescription.{ChildExecutionOutputDescription}
-use Rattle.nextest_run_events_statuses.specs.declared.output.ChildExecutionOutputDescription.TheVariants as came
-use Rattle.nextest_run_events_statuses.specs.declared.output.LiveSpec.{LiveSpec}
+use Rattle.nextest_run_events_counters.specs.Attempts.{Attempts}
+use Rattle.nextest_run_events_outputs.specs.declared.child_error.ChildStartErrorDescription.TheVariants as start
+use Rattle.nextest_run_events_outputs.specs.declared.execute_status.ExecuteStatus.{ExecuteStatus}
+use Rattle.nextest_run_events_outputs.specs.declared.execute_status.SetupScriptExecuteStatus.{SetupScriptExecuteStatus}
+use Rattle.nextest_run_events_outputs.specs.declared.output.ChildOutputDescription.{ChildOutputDescription}
+use Rattle.nextest_run_events_outputs.specs.declared.output.ChildOutputDescription.TheVariants as written
+use Rattle.nextest_run_events_outputs.specs.declared.output.ChildExecutionOutputDescription.{ChildExecutionOutputDescription}
+use Rattle.nextest_run_events_outputs.specs.declared.output.ChildExecutionOutputDescription.TheVariants as came
+use Rattle.nextest_run_events_outputs.specs.declared.output.LiveSpec.{LiveSpec}
 use Rattle.nextest_run_events_results.specs.declared.record.Record.{Record}
 use Rattle.nextest_run_events_results.specs.declared.record.RecordOutput.{RecordOutput}
 use Rattle.nextest_run_events_results.specs.declared.record.RecordOutput.TheVariants as wrote

@@ -14,9 +14,9 @@ ghost use Rattle.test_runner_core_progress.specs.Statuses.{IsAttempts};
 
 use crate::planned_test::PlannedTest;
 use crate::test_progress::TestProgress;
-use nextest_run_events_counters::RunStats;
+use nextest_run_events_counters::{ExecutionStatuses, RunStats};
+use nextest_run_events_outputs::LiveSpec;
 use nextest_run_events_results::{CancelReason, Record};
-use nextest_run_events_statuses::{ExecutionStatuses, LiveSpec};
 use std::alloc::{AllocError, Global};
 use std::marker::Model;
 use test_runner_core_runs::Mark;

@@ -22,9 +22,9 @@ use crate::recorded::script_status;
 use crate::scripts::Scripts;
 use crate::start_fault::StartFault;
 use nextest_config_elements_plain::{MaxFail, TerminateMode};
-use nextest_run_events_counters::{FinalRunStats, RunStats};
+use nextest_run_events_counters::{ExecutionStatuses, FinalRunStats, RunStats};
+use nextest_run_events_outputs::LiveSpec;
 use nextest_run_events_results::{CancelReason, Record};
-use nextest_run_events_statuses::{ExecutionStatuses, LiveSpec};
 use std::alloc::{AllocError, Global};
 use std::marker::Model;
 use test_runner_core_runs::{

@@ -2,12 +2,12 @@
 ghost use Rattle.std.specs.Prelude.{◌≡◌};
 ghost use Rattle.test_runner_core_progress.specs.Statuses.{output_of, IsStatusOf, IsScriptStatusOf};
 
-use nextest_run_events_results::{Record, RecordOutput};
-use nextest_run_events_statuses::{
+use nextest_run_events_outputs::{
     ChildExecutionOutputDescription, ChildOutputDescription, ChildSingleOutput,
     ChildStartErrorDescription, ExecuteStatus, LiveSpec, RetryData, SerializableError,
     SetupScriptExecuteStatus,
 };
+use nextest_run_events_results::{Record, RecordOutput};
 use nextest_text::Listing;
 use std::alloc::Global;
 use std::time::Duration;

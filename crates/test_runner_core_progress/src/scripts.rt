@@ -2,7 +2,7 @@
 ghost use Rattle.std.specs.Prelude.{◌≡◌, ◌^◌, ◌<◌, [], ◌∷◌, ◌++◌, IfOk, length};
 ghost use Rattle.test_runner_core_progress.specs.Statuses.{IsScriptStatusOf, script_record_of};
 
-use nextest_run_events_statuses::{LiveSpec, SetupScriptExecuteStatus};
+use nextest_run_events_outputs::{LiveSpec, SetupScriptExecuteStatus};
 use std::alloc::{AllocError, Global};
 use std::marker::Model;
 

@@ -3,7 +3,8 @@ ghost use Rattle.std.specs.Prelude.{◌≡◌, ◌<◌, ◌≤◌, [], ◌∷◌
 ghost use Rattle.test_runner_core_progress.specs.Slots.{statuses_in, room_in, rule_in, KeepsAttempts, KeepsRule};
 
 use nextest_config_elements_plain::FlakyResult;
-use nextest_run_events_statuses::{ExecuteStatus, ExecutionStatuses, LiveSpec};
+use nextest_run_events_counters::ExecutionStatuses;
+use nextest_run_events_outputs::{ExecuteStatus, LiveSpec};
 use nextest_text::Listing;
 use std::alloc::{AllocError, Global};
 use std::marker::Model;

@@ -9,9 +9,9 @@ ghost use Rattle.test_runner_core_session.specs.Names.{place_of, script_place};
 ghost use Rattle.test_runner_core_session.specs.Session.{session_of, run_test, test_of, IsFate};
 
 use crate::places::Places;
-use nextest_run_events_counters::{FinalRunStats, RunStats};
+use nextest_run_events_counters::{ExecutionStatuses, FinalRunStats, RunStats};
+use nextest_run_events_outputs::LiveSpec;
 use nextest_run_events_results::{CancelReason, Record, TestInstanceId};
-use nextest_run_events_statuses::{ExecutionStatuses, LiveSpec};
 use nextest_text::Text;
 use std::alloc::{AllocError, Global};
 use std::marker::Model;

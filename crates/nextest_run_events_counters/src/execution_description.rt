@@ -1,0 +1,114 @@
+// What the attempts of a test come to.
+ghost use Rattle.std.specs.Prelude.{◌≡◌};
+ghost use Rattle.nextest_run_events_counters.specs.Description.{told_by, HoldsSuccess, ends_in_success, last_described, level_of, final_level_of};
+
+use nextest_config_elements_plain::{
+    FinalStatusLevel, FlakyResult, LeakTimeoutResult, SlowTimeoutResult, StatusLevel,
+};
+use nextest_run_events_outputs::{ExecuteStatus, OutputSpec};
+use nextest_run_events_results::ExecutionResultDescription;
+
+/// What the attempts of a test come to.
+#[derive_where(Clone, Copy)]
+#[derive_where(Debug; S::ChildOutputDesc)]
+pub enum ExecutionDescription<'a, S: OutputSpec> {
+    /// The only attempt was a success.
+    Success {
+        /// The attempt.
+        single_status: &'a ExecuteStatus<S>,
+    },
+    /// There were several attempts, and the last was a success.
+    Flaky {
+        /// The last attempt.
+        last_status: &'a ExecuteStatus<S>,
+        /// The attempts before it.
+        prior_statuses: &'a [ExecuteStatus<S>],
+        /// What becomes of such a test.
+        result: FlakyResult,
+    },
+    /// The last attempt was no success.
+    Failure {
+        /// The first attempt.
+        first_status: &'a ExecuteStatus<S>,
+        /// The last attempt, the same as the first where there was only one.
+        last_status: &'a ExecuteStatus<S>,
+        /// The attempts after the first.
+        retries: &'a [ExecuteStatus<S>],
+    },
+}
+
+impl<'a, S: OutputSpec> ExecutionDescription<'a, S> {
+    /// The level of its line while tests run.
+    pub fn status_level(&self) -> StatusLevel
+        requires { HoldsSuccess (told_by self.now) }
+        ensures { result ≡ level_of (told_by self.now) }
+    {
+        match self {
+            ExecutionDescription::Success { single_status } => match &single_status.result {
+                ExecutionResultDescription::Pass => StatusLevel::Pass,
+                ExecutionResultDescription::Leak {
+                    result: LeakTimeoutResult::Pass,
+                } => StatusLevel::Leak,
+                ExecutionResultDescription::Timeout {
+                    result: SlowTimeoutResult::Pass,
+                } => StatusLevel::Slow,
+                _ => unreachable!(),
+            },
+            ExecutionDescription::Flaky { result, .. } => match result {
+                FlakyResult::Pass => StatusLevel::Retry,
+                FlakyResult::Fail => StatusLevel::Fail,
+            },
+            ExecutionDescription::Failure { .. } => StatusLevel::Fail,
+        }
+    }
+
+    /// The level of its line in the summary of a run.
+    pub fn final_status_level(&self) -> FinalStatusLevel
+        requires { HoldsSuccess (told_by self.now) }
+        ensures { result ≡ final_level_of (told_by self.now) }
+    {
+        match self {
+            ExecutionDescription::Success { single_status } => {
+                if single_status.is_slow {
+                    return FinalStatusLevel::Slow;
+                }
+                match &single_status.result {
+                    ExecutionResultDescription::Pass => FinalStatusLevel::Pass,
+                    ExecutionResultDescription::Leak {
+                        result: LeakTimeoutResult::Pass,
+                    } => FinalStatusLevel::Leak,
+                    ExecutionResultDescription::Timeout {
+                        result: SlowTimeoutResult::Pass,
+                    } => FinalStatusLevel::Slow,
+                    _ => unreachable!(),
+                }
+            }
+            ExecutionDescription::Flaky { result, .. } => match result {
+                FlakyResult::Pass => FinalStatusLevel::Flaky,
+                FlakyResult::Fail => FinalStatusLevel::Fail,
+            },
+            ExecutionDescription::Failure { .. } => FinalStatusLevel::Fail,
+        }
+    }
+
+    /// Whether the last attempt's output is that of a success, also where the test fails since it passed late.
+    pub fn is_success_for_output(&self) -> bool
+        ensures { result ≡ ends_in_success (told_by self.now) }
+    {
+        match self {
+            ExecutionDescription::Success { .. } | ExecutionDescription::Flaky { .. } => true,
+            ExecutionDescription::Failure { .. } => false,
+        }
+    }
+
+    /// The last attempt.
+    pub fn last_status(&self) -> &'a ExecuteStatus<S>
+        ensures { result.now ≡ last_described (told_by self.now) }
+    {
+        match self {
+            ExecutionDescription::Success { single_status } => single_status,
+            ExecutionDescription::Flaky { last_status, .. } => last_status,
+            ExecutionDescription::Failure { last_status, .. } => last_status,
+        }
+    }
+}

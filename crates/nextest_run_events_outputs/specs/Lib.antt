@@ -1,0 +1,4 @@
+pub mod Chain
+pub mod ChildError
+pub mod Live
+pub mod Output

@@ -1,6 +1,0 @@
-pub mod Attempts
-pub mod Chain
-pub mod ChildError
-pub mod Description
-pub mod Live
-pub mod Output
