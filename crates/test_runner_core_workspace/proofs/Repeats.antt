@@ -1,5 +1,5 @@
 -- Lists of ids that grow by one, and the set of the ids so far.
-use Rattle.std.proofs.Common.{◌≡◌, ℕ, ◌+◌, ◌<◌, List, [], ◌∷◌, ◌++◌, length, get_or, take, drop, Bool, true, false, cond, ◌||◌, ◌&&◌, if◌then◌else◌, Some, None, refl, ap, sym, ◌∙◌}
+use Rattle.std.proofs.Common.{◌≡◌, ℕ, ◌+◌, ◌<◌, List, [], ◌∷◌, ◌++◌, length, get_or, take, drop, Bool, true, false, cond, ◌||◌, ◌&&◌, refl, ap, sym, ◌∙◌}
 use Rattle.std.specs.List.{list_any, list_all}
 use Rattle.std.specs.Str.{bytes_eq}
 use Rattle.std.specs.Ordering.{nat_cmp, is_eq}
@@ -10,11 +10,10 @@ use Rattle.std.proofs.lemmas.List.Folds.{list_any-append}
 use Rattle.std.proofs.lemmas.Map.Text.{is_eq-slice_cmp}
 use denote.Ref.{Bor}
 use Rattle.test_runner_core_workspace.specs.Ids.{lent, has_text}
-use Rattle.test_runner_core_workspace.specs.Workspace.{is_among, has_repeat, is_known_link, is_bad_id, package_ids, binary_ids, refusal_of}
+use Rattle.test_runner_core_workspace.specs.Workspace.{is_among, has_repeat, is_known_link, is_bad_id, package_ids, behind_repeats, refusal_of}
 use Rattle.test_runner_core_workspace.specs.declared.record.Link.{Link}
 use Rattle.test_runner_core_workspace.specs.declared.record.Binary.{Binary}
 use Rattle.test_runner_core_workspace.specs.declared.record.WorkspaceRecord.{WorkspaceRecord}
-use Rattle.test_runner_core_workspace.specs.declared.workspace_error.WorkspaceError.TheVariants.{BadId}
 
 -- one more id is lent
 pub lent_more : (ids : List (Bor (List ℕ))) (i : ℕ) (d : Bor (List ℕ)) → i < length ids → lent (take (i + 1) ids) ≡ lent (take i ids) ++ (get_or ids i d).now ∷ []
@@ -118,22 +117,19 @@ stands_once set ids i d within same found before =
     ap has_repeat (lent_more ids i d within) ∙ has_repeat-push (lent (take i ids)) (get_or ids i d).now
     ∙ ap (λ (b : Bool). b || has_repeat (lent (take i ids))) (sym (same (get_or ids i d).now) ∙ found) ∙ before
 
--- what is left to say once the other reasons were looked for
-pub last_reason : (workspace : WorkspaceRecord) (packages binaries : List (Bor (List ℕ))) (set : BTreeSet (Bor (List ℕ)))
+-- whether some binary's id is bad
+pub bad_among : (ids : List (Bor (List ℕ))) (texts : List (List ℕ)) → lent ids ≡ texts → list_any (λ id. is_bad_id id.now) ids ≡ list_any is_bad_id texts
+bad_among ids texts e = any_lent is_bad_id ids ∙ ap (list_any is_bad_id) e
+
+-- a record whose packages have ids of their own is refused by what is looked for behind them
+pub behind_no_repeat : (workspace : WorkspaceRecord) (packages : List (Bor (List ℕ))) (set : BTreeSet (Bor (List ℕ)))
     → lent packages ≡ package_ids workspace → has_repeat (lent packages) ≡ false
     → ((text : List ℕ) → has_text set text ≡ is_among (lent packages) text)
-    → list_all (λ link. has_text set link.from && has_text set link.to) workspace.links ≡ true
-    → lent binaries ≡ binary_ids workspace → has_repeat (lent binaries) ≡ false
-    → list_all (λ it. has_text set it.package) workspace.binaries ≡ true
-    → (bad : Bool) → list_any (λ id. is_bad_id id.now) binaries ≡ bad
-    → refusal_of workspace ≡ (if bad then Some BadId else None)
-last_reason workspace packages binaries set of_packages once same links of_binaries single known bad is_bad =
+    → behind_repeats (has_text set) workspace ≡ refusal_of workspace
+behind_no_repeat workspace packages set of_packages once same =
     let a : has_repeat (package_ids workspace) ≡ false = ap has_repeat (sym of_packages) ∙ once in
-    let b : list_all (is_known_link (package_ids workspace)) workspace.links ≡ true
-    = ap (λ (ids : List (List ℕ)). list_all (is_known_link ids) workspace.links) (sym of_packages) ∙ sym (links_known set (lent packages) same workspace.links) ∙ links in
-    let c : has_repeat (binary_ids workspace) ≡ false = ap has_repeat (sym of_binaries) ∙ single in
-    let d : list_all (λ it. is_among (package_ids workspace) it.package) workspace.binaries ≡ true
-    = ap (λ (ids : List (List ℕ)). list_all (λ it. is_among ids it.package) workspace.binaries) (sym of_packages) ∙ sym (packages_known set (lent packages) same workspace.binaries) ∙ known in
-    let e : list_any is_bad_id (binary_ids workspace) ≡ bad
-    = ap (list_any is_bad_id) (sym of_binaries) ∙ sym (any_lent is_bad_id binaries) ∙ is_bad in
-    rw (a, b, c, d, e)
+    let b : list_all (λ link. has_text set link.from && has_text set link.to) workspace.links ≡ list_all (is_known_link (package_ids workspace)) workspace.links
+    = links_known set (lent packages) same workspace.links ∙ ap (λ (ids : List (List ℕ)). list_all (is_known_link ids) workspace.links) of_packages in
+    let c : list_all (λ it. has_text set it.package) workspace.binaries ≡ list_all (λ it. is_among (package_ids workspace) it.package) workspace.binaries
+    = packages_known set (lent packages) same workspace.binaries ∙ ap (λ (ids : List (List ℕ)). list_all (λ it. is_among ids it.package) workspace.binaries) of_packages in
+    rw (a, b, c) refl

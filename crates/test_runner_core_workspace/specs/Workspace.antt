@@ -44,6 +44,15 @@ refusal_of workspace =
     else if list_any is_bad_id (binary_ids workspace) then Some refused.BadId
     else None
 
+-- the same of a record whose packages have ids of their own, which are those that are known
+abbrev pub behind_repeats : (List ℕ → Bool) → WorkspaceRecord → Option WorkspaceError
+behind_repeats is_known workspace =
+    if not (list_all (λ link. is_known link.from && is_known link.to) workspace.links) then Some refused.UnknownLink
+    else if has_repeat (binary_ids workspace) then Some refused.RepeatedBinary
+    else if not (list_all (λ binary. is_known binary.package) workspace.binaries) then Some refused.UnknownPackage
+    else if list_any is_bad_id (binary_ids workspace) then Some refused.BadId
+    else None
+
 -- a check passes where nothing refuses the record, and else tells the reason; want of memory says nothing
 abbrev pub Checks : {T : Type 0} → WorkspaceRecord → Result T WorkspaceError → Type 0
 Checks given (Ok done) = refusal_of given ≡ None

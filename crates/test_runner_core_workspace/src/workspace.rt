@@ -1,6 +1,7 @@
 // A workspace whose record was checked.
 ghost use Rattle.std.specs.Prelude.{◌≡◌, IfOk, None};
-ghost use Rattle.test_runner_core_workspace.specs.Workspace.{refusal_of, Checks, Reads};
+ghost use Rattle.test_runner_core_workspace.specs.Ids.{has_text};
+ghost use Rattle.test_runner_core_workspace.specs.Workspace.{behind_repeats, refusal_of, Checks, Reads};
 
 use crate::ids::{
     has_bad, has_repeated, ids_of_binaries, ids_of_packages, links_are_known, packages_are_known,
@@ -9,6 +10,7 @@ use crate::ids::{
 use crate::record::WorkspaceRecord;
 use crate::workspace_error::WorkspaceError;
 use std::alloc::{AllocError, Global};
+use std::collections::BTreeSet;
 use std::marker::Model;
 
 /// A workspace: a record that nothing refuses. In a clause it is the record.
@@ -79,14 +81,26 @@ fn refusal(alloc: Global, record: &WorkspaceRecord) -> Result<Option<WorkspaceEr
         return Ok(Some(WorkspaceError::RepeatedPackage));
     }
     let known = set_of(alloc, packages.as_slice())?;
-    if !links_are_known(&known, record.links.as_slice()) {
+    refusal_behind(alloc, &known, record)
+}
+
+// Why a record is no workspace whose packages have these ids, each its own.
+#[tactic(auto, using(crate::proofs::Repeats::bad_among))]
+fn refusal_behind(
+    alloc: Global,
+    known: &BTreeSet<&str>,
+    record: &WorkspaceRecord,
+) -> Result<Option<WorkspaceError>, AllocError>
+    ensures { IfOk result (λ refused. refused ≡ behind_repeats (has_text known.now) «record».now) }
+{
+    if !links_are_known(known, record.links.as_slice()) {
         return Ok(Some(WorkspaceError::UnknownLink));
     }
     let binaries = ids_of_binaries(alloc, record.binaries.as_slice())?;
     if has_repeated(alloc, binaries.as_slice())? {
         return Ok(Some(WorkspaceError::RepeatedBinary));
     }
-    if !packages_are_known(&known, record.binaries.as_slice()) {
+    if !packages_are_known(known, record.binaries.as_slice()) {
         return Ok(Some(WorkspaceError::UnknownPackage));
     }
     if has_bad(binaries.as_slice()) {
