@@ -4,7 +4,6 @@
 ghost use Rattle.std.specs.Prelude.{◌≡◌, ◌↔◌, true, codes};
 ghost use Rattle.std.specs.Str.Iter.{HasSubslice};
 
-
 pub use nextest_filtering_arguments::ParseSingleError;
 pub use nextest_filtering_globs::{ClassRange, GenericGlob, GlobConstructError, GlobToken};
 pub use nextest_filtering_syntax::{ParseError, Reading, parse, read};

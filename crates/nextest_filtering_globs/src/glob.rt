@@ -17,7 +17,7 @@ use std::alloc::{AllocError, Global};
 use std::marker::Model;
 
 /// A glob pattern. In a clause it is its text and the plain tree of its tokens.
-#[derive(Debug, Drop)]
+#[derive(Debug)]
 pub struct GenericGlob {
     text: Text,
     tokens: Vec<GlobToken>,
@@ -35,6 +35,13 @@ impl Model for GenericGlob {
     ghost view = { λ it. glob it.text (plain_all it.tokens.items) };
 
     ghost invariant = { λ it. IsGlob it.text (plain_all it.tokens.items) };
+}
+
+// Code that drops one calls this, and doesn't look into it.
+impl Drop for GenericGlob {
+    fn drop(self) {
+        let GenericGlob { text: _, tokens: _ } = self;
+    }
 }
 
 impl GenericGlob {

@@ -20,7 +20,7 @@ pub enum BuildPlatform {
 }
 
 /// A predicate with its argument, and where it stands.
-#[derive(Debug, Drop)]
+#[derive(Debug)]
 pub enum ParsedLeaf {
     /// `package(..)`: the package's name.
     Package(NameMatcher, SourceSpan),
@@ -46,4 +46,24 @@ pub enum ParsedLeaf {
     All,
     /// `none()`: nothing.
     None,
+}
+
+// Code that drops one calls this, and doesn't look into it.
+impl Drop for ParsedLeaf {
+    fn drop(self) {
+        match self {
+            ParsedLeaf::Package(_, _) => {}
+            ParsedLeaf::Deps(_, _) => {}
+            ParsedLeaf::Rdeps(_, _) => {}
+            ParsedLeaf::Kind(_, _) => {}
+            ParsedLeaf::Binary(_, _) => {}
+            ParsedLeaf::BinaryId(_, _) => {}
+            ParsedLeaf::Platform(_, _) => {}
+            ParsedLeaf::Test(_, _) => {}
+            ParsedLeaf::Group(_, _) => {}
+            ParsedLeaf::Default(_) => {}
+            ParsedLeaf::All => {}
+            ParsedLeaf::None => {}
+        }
+    }
 }

@@ -10,7 +10,6 @@ use std::marker::Model;
 
 /// A regular expression that `regex` reads. In a clause it is the list of its text's bytes. It stands behind a pointer, so
 /// that trees are small.
-#[derive(Drop)]
 pub struct Pattern {
     regex: Box<Regex>,
     alloc: Global,
@@ -26,6 +25,13 @@ impl Model for Pattern {
     ghost view = { λ p. regex_source p.regex.value };
 
     ghost invariant = { λ p. (regex_config p.regex.value ≡ default_config) × IsReadFromSource p.regex.value };
+}
+
+// Code that drops one calls this, and doesn't look into it.
+impl Drop for Pattern {
+    fn drop(self) {
+        let Pattern { regex: _, alloc: _ } = self;
+    }
 }
 
 /// Why a text is no regular expression.

@@ -16,9 +16,14 @@ use std::marker::Model;
 
 /// The version that a configuration's demands are judged by. In a clause it is its parts: three numbers, the text of
 /// the pre-release and that of the build. Two are equal where all parts are, that of the build too.
-#[derive(Drop)]
 pub struct CurrentVersion {
     version: Version,
+}
+
+impl Drop for CurrentVersion {
+    fn drop(self) {
+        let Self { version: _ } = self;
+    }
 }
 
 impl Model for CurrentVersion {

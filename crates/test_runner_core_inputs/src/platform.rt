@@ -11,7 +11,7 @@ use serde_json::Value;
 use std::alloc::Global;
 
 /// What is known of a platform.
-#[derive(Clone, Debug, PartialEq, Eq, Drop)]
+#[derive(Clone, Debug, PartialEq, Eq)]
 pub struct FactRecord {
     /// Its name.
     pub name: Text,
@@ -21,13 +21,32 @@ pub struct FactRecord {
     pub holds: bool,
 }
 
+impl Drop for FactRecord {
+    fn drop(self) {
+        let Self {
+            name: _,
+            value: _,
+            holds: _,
+        } = self;
+    }
+}
+
 /// A platform, not yet checked.
-#[derive(Clone, Debug, PartialEq, Eq, Drop)]
+#[derive(Clone, Debug, PartialEq, Eq)]
 pub struct PlatformRecord {
     /// Its triple.
     pub triple: Text,
     /// What is known of it.
     pub facts: Listing<FactRecord>,
+}
+
+impl Drop for PlatformRecord {
+    fn drop(self) {
+        let Self {
+            triple: _,
+            facts: _,
+        } = self;
+    }
 }
 
 impl PlatformRecord {

@@ -14,7 +14,7 @@ use serde_json::Value;
 use std::alloc::Global;
 
 /// Where a source of the configuration comes from.
-#[derive(Clone, Debug, PartialEq, Eq, Drop)]
+#[derive(Clone, Debug, PartialEq, Eq)]
 pub enum ConfigSourceKind {
     /// A tool brings it.
     Tool(ToolName),
@@ -24,8 +24,18 @@ pub enum ConfigSourceKind {
     DiscoveredRepository,
 }
 
+impl Drop for ConfigSourceKind {
+    fn drop(self) {
+        match self {
+            ConfigSourceKind::Tool(_) => {}
+            ConfigSourceKind::ExplicitRepository => {}
+            ConfigSourceKind::DiscoveredRepository => {}
+        }
+    }
+}
+
 /// What came of reading a source.
-#[derive(Clone, Debug, PartialEq, Eq, Drop)]
+#[derive(Clone, Debug, PartialEq, Eq)]
 pub enum ConfigSourceOutcome {
     /// Its text.
     Text(Text),
@@ -35,8 +45,18 @@ pub enum ConfigSourceOutcome {
     Failed(Text),
 }
 
+impl Drop for ConfigSourceOutcome {
+    fn drop(self) {
+        match self {
+            ConfigSourceOutcome::Text(_) => {}
+            ConfigSourceOutcome::NotFound => {}
+            ConfigSourceOutcome::Failed(_) => {}
+        }
+    }
+}
+
 /// A source of the configuration.
-#[derive(Clone, Debug, PartialEq, Eq, Drop)]
+#[derive(Clone, Debug, PartialEq, Eq)]
 pub struct ConfigSource {
     /// Where it comes from.
     pub kind: ConfigSourceKind,
@@ -44,6 +64,16 @@ pub struct ConfigSource {
     pub path: Text,
     /// What came of reading it.
     pub outcome: ConfigSourceOutcome,
+}
+
+impl Drop for ConfigSource {
+    fn drop(self) {
+        let Self {
+            kind: _,
+            path: _,
+            outcome: _,
+        } = self;
+    }
 }
 
 // The kind of a source.

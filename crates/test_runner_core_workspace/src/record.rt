@@ -2,7 +2,7 @@
 use nextest_text::{Listing, Text};
 
 /// A package.
-#[derive(Clone, Debug, PartialEq, Eq, Drop)]
+#[derive(Clone, Debug, PartialEq, Eq)]
 pub struct Package {
     /// Its id.
     pub id: Text,
@@ -10,13 +10,25 @@ pub struct Package {
     pub name: Text,
 }
 
+impl Drop for Package {
+    fn drop(self) {
+        let Self { id: _, name: _ } = self;
+    }
+}
+
 /// A dependency of a package on another.
-#[derive(Clone, Debug, PartialEq, Eq, Drop)]
+#[derive(Clone, Debug, PartialEq, Eq)]
 pub struct Link {
     /// The id of the package that depends.
     pub from: Text,
     /// The id of the package that it depends on.
     pub to: Text,
+}
+
+impl Drop for Link {
+    fn drop(self) {
+        let Self { from: _, to: _ } = self;
+    }
 }
 
 /// What a test binary is made of.
@@ -46,7 +58,7 @@ pub enum BuildPlatform {
 }
 
 /// What a binary lists.
-#[derive(Clone, Debug, PartialEq, Eq, Drop)]
+#[derive(Clone, Debug, PartialEq, Eq)]
 pub enum BinaryTests {
     /// The names of its tests, in its order.
     Names(Listing<Text>),
@@ -54,8 +66,17 @@ pub enum BinaryTests {
     Fault(Text),
 }
 
+impl Drop for BinaryTests {
+    fn drop(self) {
+        match self {
+            BinaryTests::Names(_) => {}
+            BinaryTests::Fault(_) => {}
+        }
+    }
+}
+
 /// A test binary.
-#[derive(Clone, Debug, PartialEq, Eq, Drop)]
+#[derive(Clone, Debug, PartialEq, Eq)]
 pub struct Binary {
     /// Its id.
     pub id: Text,
@@ -71,8 +92,21 @@ pub struct Binary {
     pub tests: BinaryTests,
 }
 
+impl Drop for Binary {
+    fn drop(self) {
+        let Self {
+            id: _,
+            name: _,
+            package: _,
+            kind: _,
+            platform: _,
+            tests: _,
+        } = self;
+    }
+}
+
 /// A workspace, not yet checked.
-#[derive(Clone, Debug, PartialEq, Eq, Drop)]
+#[derive(Clone, Debug, PartialEq, Eq)]
 pub struct WorkspaceRecord {
     /// Its packages.
     pub packages: Listing<Package>,
@@ -80,4 +114,14 @@ pub struct WorkspaceRecord {
     pub links: Listing<Link>,
     /// Its test binaries, in its order.
     pub binaries: Listing<Binary>,
+}
+
+impl Drop for WorkspaceRecord {
+    fn drop(self) {
+        let Self {
+            packages: _,
+            links: _,
+            binaries: _,
+        } = self;
+    }
 }

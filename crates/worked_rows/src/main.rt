@@ -1,0 +1,45 @@
+//! The program `worked_rows`: it answers the input of each row of the core's tables, and says which answers differ.
+#![tactic(auto)]
+
+mod changes;
+mod filters;
+mod inputs;
+mod log_lines;
+mod plans;
+mod refused_lines;
+mod runs;
+mod settings;
+
+use anyhow::Result;
+use changes::Changed;
+use filters::Filters;
+use inputs::{ChangedInputs, OtherInputs, WholeInputs};
+use log_lines::LogLines;
+use plans::Plans;
+use refused_lines::RefusedLines;
+use runs::Runs;
+use settings::SettingsTexts;
+use std::fs;
+use std::process::ExitCode;
+use worked_tables::{cases_hold, rows_hold};
+
+fn main(rt: HostRuntime) -> Result<ExitCode> {
+    let full = fs::read_to_string(&rt, "inputs/full.in")?;
+    let workspace = fs::read_to_string(&rt, "plan.json")?;
+    let all = [
+        rows_hold(&rt, &ChangedInputs(Changed::of(full)))?,
+        rows_hold(&rt, &OtherInputs)?,
+        cases_hold(&rt, &WholeInputs)?,
+        rows_hold(&rt, &LogLines)?,
+        rows_hold(&rt, &RefusedLines)?,
+        rows_hold(&rt, &SettingsTexts)?,
+        rows_hold(&rt, &Filters)?,
+        rows_hold(&rt, &Plans(Changed::of(workspace)))?,
+        cases_hold(&rt, &Runs)?,
+    ];
+    Ok(if all.iter().all(|holds| *holds) {
+        ExitCode::SUCCESS
+    } else {
+        ExitCode::FAILURE
+    })
+}

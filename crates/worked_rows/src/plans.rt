@@ -1,0 +1,73 @@
+// Inputs, and their plan.
+use crate::changes::Changed;
+use anyhow::Result;
+use nextest_text::Text;
+use std::alloc::Global;
+use test_runner_core::{Inputs, OwnedTestInstanceId, Plan, PlanTest, TableLister};
+use worked_tables::Table;
+
+/// Changes of inputs, each with the plan's tests and how often they may be tried, the limit, the skipped tests, or the name
+/// under which the inputs are refused; and the binaries that were asked for their tests.
+#[derive(Drop)]
+pub struct Plans(pub Changed);
+
+impl Table for Plans {
+    fn name(&self) -> &'static str {
+        "plans"
+    }
+
+    fn answer(&self, alloc: Global, input: &str) -> Result<String> {
+        let text = self.0.by(alloc, input)?;
+        let inputs = Inputs::from_json(alloc, text.as_bytes())?;
+        let mut lister = TableLister::new(alloc, &inputs.workspace)?;
+        let mut told = match Plan::build(alloc, &inputs, &mut lister) {
+            Ok(plan) => shown(alloc, &plan)?,
+            Err(fault) => String::from_str(alloc, fault.name())?,
+        };
+        told.push_str("; asked")?;
+        push_all(&mut told, lister.asked())?;
+        Ok(told)
+    }
+}
+
+fn push_all(told: &mut String, ids: &[Text]) -> Result<()> {
+    for id in ids {
+        told.push(' ')?;
+        told.push_str(id.as_str())?;
+    }
+    Ok(())
+}
+
+fn shown(alloc: Global, plan: &Plan) -> Result<String> {
+    let mut told = String::from_str(alloc, "run")?;
+    push_planned(alloc, &mut told, plan.tests.as_slice())?;
+    told.push_str("; skip")?;
+    push_skipped(alloc, &mut told, plan.skipped.as_slice())?;
+    let limit = format!(in alloc; "; limit {:?}; listed", plan.limit)?;
+    told.push_str(limit.as_str())?;
+    push_all(&mut told, plan.listed.as_slice())?;
+    Ok(told)
+}
+
+fn push_planned(alloc: Global, told: &mut String, tests: &[PlanTest]) -> Result<()> {
+    for test in tests {
+        let OwnedTestInstanceId {
+            binary_id,
+            test_name,
+        } = &test.instance;
+        let shown = format!(in alloc; " [{binary_id} {test_name} x{}]", test.tries)?;
+        told.push_str(shown.as_str())?;
+    }
+    Ok(())
+}
+
+fn push_skipped(alloc: Global, told: &mut String, tests: &[OwnedTestInstanceId]) -> Result<()> {
+    for OwnedTestInstanceId {
+        binary_id,
+        test_name,
+    } in tests {
+        let shown = format!(in alloc; " [{binary_id} {test_name}]")?;
+        told.push_str(shown.as_str())?;
+    }
+    Ok(())
+}
