@@ -11,6 +11,8 @@ use Rattle.test_runner_core_log.specs.Spelling.{Spells}
 use Rattle.test_runner_core_log.specs.declared.log_line.LogLine.{LogLine}
 use Rattle.test_runner_core_plan.specs.Plan.{Builds, planned}
 use Rattle.test_runner_core_plan.specs.declared.plan.Plan.{Plan}
+use Rattle.test_runner_core_plan.specs.declared.plan_fault.PlanFault.{PlanFault}
+use Rattle.test_runner_core_plan.specs.declared.plan_fault.PlanFault.TheVariants as none
 use Rattle.test_runner_core_runs.specs.Assignment.{Assignment, due_status}
 use Rattle.test_runner_core_runs.specs.Counters.{counters, summary}
 use Rattle.test_runner_core_runs.specs.Runs.{EventAgrees, IsNoStop, is_complete}
@@ -41,6 +43,19 @@ Outcome answer inputs log (it.NoInputs refusal) = ⊥
 Outcome answer inputs log (it.NoPlan refusal) = planned answer inputs ≡ Err refusal
 Outcome answer inputs log (it.RefusedLine found) = (last : SessionState) × Ran answer inputs log (Some found) last
 Outcome answer inputs log (it.Ended end) = (last : SessionState) × Ran answer inputs log None last × (end ≡ end_of last.run)
+
+-- what a plan and a log come to: the first refused line, or where the run ended after the last
+abbrev pub PlanOutcome : Plan → List Item → Judgement → Type 0
+PlanOutcome plan log (it.NoInputs refusal) = ⊥
+PlanOutcome plan log (it.NoPlan refusal) = ⊥
+PlanOutcome plan log (it.RefusedLine found) = (last : SessionState) × Judges 1 (session_of plan) log (Some found) last
+PlanOutcome plan log (it.Ended end) =
+    (last : SessionState) × Judges 1 (session_of plan) log None last × (end ≡ end_of last.run)
+
+-- what a refusal of inputs comes to, but for want of memory
+abbrev pub IsWithoutPlan : PlanFault → Result Judgement LogFault → Type 0
+IsWithoutPlan none.OutOfMemory came = came ≡ Err unread.Memory
+IsWithoutPlan refusal came = came ≡ Ok (it.NoPlan refusal)
 
 -- a log agrees with an assignment, and nobody tells the run to stop: so does the event of each line, where it comes
 abbrev pub LogAgrees : Assignment → SessionState → List Item → Type 0

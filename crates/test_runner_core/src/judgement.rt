@@ -2,7 +2,7 @@
 ghost use Rattle.std.specs.Prelude.{◌≡◌, ◌+◌, ◌^◌, ◌<◌, ◌≤◌, IfOk, IfSome, Err};
 ghost use Rattle.test_runner_core_lines.specs.Calls.{TellsFailure};
 ghost use Rattle.test_runner_core_lines.specs.Cursor.{items_ahead};
-ghost use Rattle.test_runner_core.specs.Outcome.{Outcome, wants_memory};
+ghost use Rattle.test_runner_core.specs.Outcome.{IsWithoutPlan, Outcome, PlanOutcome, wants_memory};
 ghost use Rattle.test_runner_core.specs.Report as report;
 ghost use Rattle.test_runner_core_listing.specs.Listing.{AsksFor};
 ghost use Rattle.test_runner_core_plan.specs.Plan.{asked_for, asked_in, planned};
@@ -60,18 +60,9 @@ impl Judgement {
         ensures reads { R.calls log.new ≤ R.calls log.old + 1073741825 }
         ensures failures { TellsFailure result (R.failures log.old) (R.failures log.new) (R.last_failed log.new) }
     {
-        let plan = match Plan::build(alloc, inputs, lister) {
-            Ok(plan) => plan,
-            Err(PlanFault::OutOfMemory) => return Err(LogFault::Memory),
-            Err(refusal) => return Ok(Judgement::NoPlan(refusal)),
-        };
-        let mut session = Session::new(alloc, &plan)?;
-        match judge_lines(alloc, &mut session, lines, log)? {
-            Some(refused) => Ok(Judgement::RefusedLine(refused)),
-            None => Ok(Judgement::Ended(RunEnd {
-                outcome: session.summary(),
-                stats: session.stats(),
-            })),
+        match Plan::build(alloc, inputs, lister) {
+            Ok(plan) => judgement_by_plan(alloc, &plan, lines, log),
+            Err(refusal) => without_plan(refusal),
         }
     }
 
@@ -83,6 +74,39 @@ impl Judgement {
             Judgement::NoInputs(_) | Judgement::NoPlan(_) | Judgement::RefusedLine(_) => REFUSED,
             Judgement::Ended(end) => exit_status(end.outcome),
         }
+    }
+}
+
+// What inputs that have no plan come to; want of memory says nothing of them.
+fn without_plan(refusal: PlanFault) -> Result<Judgement, LogFault>
+    ensures { IsWithoutPlan refusal result }
+{
+    match &refusal {
+        PlanFault::OutOfMemory => Err(LogFault::Memory),
+        _ => Ok(Judgement::NoPlan(refusal)),
+    }
+}
+
+// What the run of a plan comes to by the lines of a log.
+fn judgement_by_plan<R: LogReader>(
+    alloc: Global,
+    plan: &Plan,
+    lines: &mut LogLines,
+    log: &mut R,
+) -> Result<Judgement, LogFault>
+    requires calls_fit { R.calls log.old + 2 ^ 32 ≤ 2 ^ 63 }
+    requires failures_fit { R.failures log.old < 2 ^ 62 }
+    ensures outcome { IfOk result (λ it. IfSome (R.left log.old) (λ left. PlanOutcome plan.now (items_ahead lines.old left) it)) }
+    ensures reads { R.calls log.new ≤ R.calls log.old + 1073741825 }
+    ensures failures { TellsFailure result (R.failures log.old) (R.failures log.new) (R.last_failed log.new) }
+{
+    let mut session = Session::new(alloc, plan)?;
+    match judge_lines(alloc, &mut session, lines, log)? {
+        Some(refused) => Ok(Judgement::RefusedLine(refused)),
+        None => Ok(Judgement::Ended(RunEnd {
+            outcome: session.summary(),
+            stats: session.stats(),
+        })),
     }
 }
 

@@ -23,7 +23,7 @@ use test_runner_core_workspace::WorkspaceRecord;
 const MAX_LEN: usize = 1 << 24;
 
 /// The inputs of a run.
-#[derive(Clone, Debug, PartialEq, Eq, Drop)]
+#[derive(Clone, Debug, PartialEq, Eq)]
 pub struct Inputs {
     /// The packages and test binaries, not yet checked.
     pub workspace: WorkspaceRecord,
@@ -49,6 +49,25 @@ pub struct Inputs {
     pub processors: u64,
     /// The root of the workspace.
     pub root: Text,
+}
+
+impl Drop for Inputs {
+    fn drop(self) {
+        let Self {
+            workspace: _,
+            sources: _,
+            current_version: _,
+            profile: _,
+            mode: _,
+            host: _,
+            target: _,
+            filterset: _,
+            ignore_default_filter: _,
+            override_version_check: _,
+            processors: _,
+            root: _,
+        } = self;
+    }
 }
 
 impl Form for Inputs {

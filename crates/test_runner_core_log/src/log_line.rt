@@ -14,7 +14,7 @@ use nextest_text::Text;
 use std::alloc::{AllocError, Global};
 
 /// What a line of a log says.
-#[derive(Clone, Debug, PartialEq, Eq, Drop)]
+#[derive(Clone, Debug, PartialEq, Eq)]
 pub enum LogLine {
     /// A setup script ended.
     Script {
@@ -44,6 +44,22 @@ pub enum LogLine {
         /// Why.
         reason: CancelReason,
     },
+}
+
+// One call drops it, whoever holds it.
+impl Drop for LogLine {
+    fn drop(self) {
+        match self {
+            Self::Script { id: _, record: _ } => {}
+            Self::Start { binary: _, name: _ } => {}
+            Self::End {
+                binary: _,
+                name: _,
+                record: _,
+            } => {}
+            Self::Stop { reason: _ } => {}
+        }
+    }
 }
 
 impl LogLine {

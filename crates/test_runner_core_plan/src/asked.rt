@@ -10,10 +10,19 @@ use test_runner_core_listing::Filter;
 use test_runner_core_settings::Settings;
 
 // What inputs ask for.
-#[derive(Drop)]
 pub(crate) struct Asked {
     pub(crate) settings: Settings,
     pub(crate) filter: Filter,
+}
+
+// One call drops it, whoever holds it.
+impl Drop for Asked {
+    fn drop(self) {
+        let Self {
+            settings: _,
+            filter: _,
+        } = self;
+    }
 }
 
 // What the sources set.

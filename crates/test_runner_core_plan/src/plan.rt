@@ -11,7 +11,7 @@ pub struct PlanSettings {
 }
 
 /// A selected test.
-#[derive(Clone, Debug, PartialEq, Eq, Drop)]
+#[derive(Clone, Debug, PartialEq, Eq)]
 pub struct PlanTest {
     /// Which test of which binary.
     pub instance: OwnedTestInstanceId,
@@ -21,8 +21,19 @@ pub struct PlanTest {
     pub tries: u32,
 }
 
+// One call drops it, whoever holds it.
+impl Drop for PlanTest {
+    fn drop(self) {
+        let Self {
+            instance: _,
+            settings: _,
+            tries: _,
+        } = self;
+    }
+}
+
 /// The plan of a run.
-#[derive(Clone, Debug, PartialEq, Eq, Drop)]
+#[derive(Clone, Debug, PartialEq, Eq)]
 pub struct Plan {
     /// The ids of the setup scripts that are to run, in their order.
     pub scripts: Listing<Text>,
@@ -34,4 +45,17 @@ pub struct Plan {
     pub skipped: Listing<OwnedTestInstanceId>,
     /// How many failing tests stop the run.
     pub limit: MaxFail,
+}
+
+// One call drops it, whoever holds it.
+impl Drop for Plan {
+    fn drop(self) {
+        let Self {
+            scripts: _,
+            tests: _,
+            listed: _,
+            skipped: _,
+            limit: _,
+        } = self;
+    }
 }

@@ -15,7 +15,7 @@ pub enum LoadFault {
 }
 
 /// Why inputs have no plan, in the order in which the reasons are looked for.
-#[derive(Debug, PartialEq, Eq, Drop)]
+#[derive(Debug, PartialEq, Eq)]
 pub enum PlanFault {
     /// Two packages have one id.
     RepeatedPackage,
@@ -45,6 +45,28 @@ pub enum PlanFault {
     RetriesTooMany,
     /// There was no memory, which says nothing of the inputs.
     OutOfMemory,
+}
+
+// One call drops it, whoever holds it.
+impl Drop for PlanFault {
+    fn drop(self) {
+        match self {
+            Self::RepeatedPackage => {}
+            Self::UnknownLink => {}
+            Self::RepeatedBinary => {}
+            Self::UnknownPackage => {}
+            Self::BadId => {}
+            Self::VersionSource => {}
+            Self::Load(_) => {}
+            Self::NotYet => {}
+            Self::ListFault(_) => {}
+            Self::EmptyTestName => {}
+            Self::BadTestName => {}
+            Self::RepeatedTest => {}
+            Self::RetriesTooMany => {}
+            Self::OutOfMemory => {}
+        }
+    }
 }
 
 impl PlanFault {

@@ -34,7 +34,6 @@ use test_runner_core_runs::{
 /// How far a run is. In a clause it is the state of the run.
 ///
 /// Each event takes constant time, but the one that stops the run goes over all tests.
-#[derive(Drop)]
 pub struct Progress {
     alloc: Global,
     scripts: Scripts,
@@ -42,6 +41,19 @@ pub struct Progress {
     // The counters, with the reason why the run is stopped.
     stats: RunStats,
     limit: MaxFail,
+}
+
+// One call drops it, whoever holds it.
+impl Drop for Progress {
+    fn drop(self) {
+        let Self {
+            alloc: _,
+            scripts: _,
+            tests: _,
+            stats: _,
+            limit: _,
+        } = self;
+    }
 }
 
 impl Model for Progress {

@@ -3,7 +3,7 @@ use nextest_run_events_results::{CancelReason, Record};
 
 /// What happens in a run. Scripts and tests are named by their places in the plan, from 0; a place past its end
 /// stands for one that the plan doesn't have.
-#[derive(Clone, Debug, PartialEq, Eq, Drop)]
+#[derive(Clone, Debug, PartialEq, Eq)]
 pub enum Event {
     /// A setup script ended.
     ScriptEnded {
@@ -29,4 +29,19 @@ pub enum Event {
         /// Why.
         reason: CancelReason,
     },
+}
+
+// One call drops it, whoever holds it.
+impl Drop for Event {
+    fn drop(self) {
+        match self {
+            Self::ScriptEnded {
+                script: _,
+                record: _,
+            } => {}
+            Self::Started { test: _ } => {}
+            Self::Ended { test: _, record: _ } => {}
+            Self::Stopped { reason: _ } => {}
+        }
+    }
 }

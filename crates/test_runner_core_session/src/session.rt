@@ -30,11 +30,21 @@ pub struct Fate<'s> {
 
 /// A run of a plan, which is lent. In a clause it is the names of the plan's scripts and tests by their places, and the
 /// state of the run.
-#[derive(Drop)]
 pub struct Session<'a> {
     scripts: &'a [Text],
     places: Places<'a>,
     progress: Progress,
+}
+
+// One call drops it, whoever holds it.
+impl Drop for Session<'_> {
+    fn drop(self) {
+        let Self {
+            scripts: _,
+            places: _,
+            progress: _,
+        } = self;
+    }
 }
 
 impl<'a> Model for Session<'a> {
