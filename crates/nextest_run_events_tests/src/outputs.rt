@@ -1,10 +1,11 @@
 // What a process left, the attempts of a test, and how a test is named.
 use nextest_run_events::{
-    ChildError, ChildExecutionOutput, ChildExecutionOutputDescription, ChildFdError, ChildOutput,
-    ChildOutputDescription, ChildSingleOutput, ChildSplitOutput, ChildStartError,
-    ChildStartErrorDescription, ErrorChain, ErrorList, ExecuteStatus, ExecutionResult,
-    ExecutionResultDescription, ExecutionStatuses, FlakyResult, JsonError, LiveSpec, RetryData,
-    SerializableError, TestInstanceId,
+    AbortDescription, ChildError, ChildErrorDescription, ChildExecutionOutput,
+    ChildExecutionOutputDescription, ChildFdError, ChildOutput, ChildOutputDescription,
+    ChildSingleOutput, ChildSplitOutput, ChildStartError, ChildStartErrorDescription, ErrorChain,
+    ErrorList, ExecuteStatus, ExecutionResult, ExecutionResultDescription, ExecutionStatuses,
+    FailureDescription, FlakyResult, JsonError, LiveSpec, RetryData, SerializableError,
+    TestInstanceId,
 };
 use nextest_text::{Listing, Text};
 use std::alloc::{AllocError, Global};
@@ -120,7 +121,7 @@ fn an_output_is_described(rt: HostRuntime) -> Result<(), Fail> {
 
 fn ended_has_errors(
     ended: Option<ExecutionResultDescription>,
-    errors: Option<ErrorList<nextest_run_events::ChildErrorDescription>>,
+    errors: Option<ErrorList<ChildErrorDescription>>,
 ) -> bool {
     let output: ChildExecutionOutputDescription<LiveSpec> =
         ChildExecutionOutputDescription::Output {
@@ -206,6 +207,21 @@ fn attempts_come_back_in_their_order(rt: HostRuntime) -> Result<(), Fail> {
     assert!(rt; !made.last_status().is_slow && !made.describe().last_status().is_slow);
     assert!(rt; slowness(made.clone()?) == (true, false, true));
     assert!(rt; slowness(made) == (true, false, true));
+    Ok(())
+}
+
+#[test]
+fn a_result_is_copied_with_its_texts(rt: HostRuntime) -> Result<(), Fail> {
+    let result = ExecutionResultDescription::Fail {
+        failure: FailureDescription::Abort {
+            abort: AbortDescription::UnixSignal {
+                signal: 15,
+                name: Some(Text::from_str(rt.alloc(), "TERM")?),
+            },
+        },
+        leaked: true,
+    };
+    assert!(rt; result.clone()? == result && !result.is_success());
     Ok(())
 }
 
