@@ -5,6 +5,8 @@
 #[cfg(test)]
 mod configuration;
 #[cfg(test)]
+mod orders;
+#[cfg(test)]
 mod outputs;
 #[cfg(test)]
 mod stress;
