@@ -1,12 +1,9 @@
 //! The filterset language: texts, trees and matchers, as they are parsed and printed.
 #![tactic(auto)]
 
-ghost use Rattle.std.specs.Prelude.{◌≡◌, ◌↔◌, true, codes};
-ghost use Rattle.std.specs.Str.Iter.{HasSubslice};
-
 pub use nextest_filtering_arguments::ParseSingleError;
 pub use nextest_filtering_globs::{ClassRange, GenericGlob, GlobConstructError, GlobToken};
-pub use nextest_filtering_syntax::{ParseError, Reading, parse, read};
+pub use nextest_filtering_syntax::{ParseError, Reading, needs_deps, parse, read};
 pub use nextest_filtering_trees::{
     AndOperator, BuildPlatform, DifferenceOperator, NameMatcher, NotOperator, OrOperator,
     ParsedExpr, ParsedLeaf, Pattern, PatternError, SourceSpan,
@@ -22,10 +19,3 @@ pub mod laws {
 /// The names of the predicates, one a line.
 pub const FILTERSET_REFERENCE_MD: &str =
     "package\ndeps\nrdeps\nkind\nbinary\nbinary_id\nplatform\ntest\ngroup\ndefault\nall\nnone\n";
-
-/// Whether a filterset may ask what depends on what: whether its text has `deps` in it. No memory is taken.
-pub fn needs_deps(text: &str) -> bool
-    ensures { (result ≡ true) ↔ HasSubslice text.now (codes "deps") }
-{
-    text.contains("deps")
-}

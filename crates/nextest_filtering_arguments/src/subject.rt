@@ -22,7 +22,7 @@ pub enum Subject {
 }
 
 /// How a text that isn't a regular expression is compared with.
-#[derive(Clone, Copy, Debug, PartialEq, Eq)]
+#[derive(Clone, Copy)]
 pub(crate) enum Comparing {
     /// The name is this text.
     Equal,

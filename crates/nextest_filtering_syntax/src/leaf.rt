@@ -127,11 +127,14 @@ fn argument<'i>(
             let span = faults.span(start, start.len() - rest.len());
             Ok((ParsedExpr::Set(ParsedLeaf::Default(span)), rest))
         }
-        Name::All => Ok((ParsedExpr::Set(ParsedLeaf::All), no_argument(faults, text)?)),
-        Name::None => Ok((
-            ParsedExpr::Set(ParsedLeaf::None),
-            no_argument(faults, text)?,
-        )),
+        Name::All => {
+            let rest = no_argument(faults, text)?;
+            Ok((ParsedExpr::Set(ParsedLeaf::All), rest))
+        }
+        Name::None => {
+            let rest = no_argument(faults, text)?;
+            Ok((ParsedExpr::Set(ParsedLeaf::None), rest))
+        }
     }
 }
 

@@ -2,6 +2,7 @@
 #![tactic(auto)]
 
 mod closing;
+mod deps;
 mod leaf;
 mod name;
 mod operators;
@@ -9,6 +10,7 @@ mod parser;
 mod reading;
 mod whole;
 
+pub use deps::needs_deps;
 pub use nextest_filtering_arguments::ParseSingleError;
 pub use reading::{ParseError, Reading};
 pub use whole::{parse, read};

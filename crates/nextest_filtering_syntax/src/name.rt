@@ -8,7 +8,7 @@ ghost use Rattle.nextest_filtering_syntax.specs.Names.{goes_on, ReadsName};
 use nextest_filtering_arguments::{Subject, behind};
 
 /// The name of a predicate.
-#[derive(Clone, Copy, Debug, PartialEq, Eq)]
+#[derive(Clone, Copy)]
 pub(crate) enum Name {
     /// Of one with a matcher.
     About(Subject),

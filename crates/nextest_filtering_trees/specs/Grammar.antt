@@ -6,15 +6,11 @@ use Rattle.nextest_filtering_trees.specs.declared.operators.NotOperator.{NotOper
 use Rattle.nextest_filtering_trees.specs.declared.operators.NotOperator.TheVariants.{LiteralNot, Exclamation}
 use Rattle.nextest_filtering_trees.specs.declared.operators.OrOperator.{OrOperator}
 use Rattle.nextest_filtering_trees.specs.declared.operators.OrOperator.TheVariants.{LiteralOr, Pipe, Plus}
-use Rattle.nextest_filtering_trees.specs.declared.operators.AndOperator.{AndOperator}
 use Rattle.nextest_filtering_trees.specs.declared.operators.AndOperator.TheVariants.{LiteralAnd, Ampersand}
-use Rattle.nextest_filtering_trees.specs.declared.operators.DifferenceOperator.{DifferenceOperator}
 use Rattle.nextest_filtering_trees.specs.declared.operators.DifferenceOperator.TheVariants.{Minus}
 use Rattle.nextest_filtering_trees.specs.declared.operators.Joint.{Joint}
 use Rattle.nextest_filtering_trees.specs.declared.operators.Joint.TheVariants.{And}
 use Rattle.nextest_filtering_trees.specs.declared.operators.Joint.TheVariants as joint
-use Rattle.nextest_filtering_trees.specs.declared.leaf.BuildPlatform.{BuildPlatform}
-use Rattle.nextest_filtering_trees.specs.declared.leaf.BuildPlatform.TheVariants.{Host, Target}
 use Rattle.nextest_filtering_trees.specs.Tree.{Comparison, equal, contains, glob, regex, Matcher, Subject, package_name, dependencies, dependents, kind, binary_name, binary_id, test_name, group, Leaf, matching, built_for, default_filter, everything, nothing, Tree, negation, union, intersection, difference, parens, set, IsRegex, IsGlobText}
 use Rattle.nextest_filtering_trees.specs.Words.{platform_word, subject_word}
 

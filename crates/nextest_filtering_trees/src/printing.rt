@@ -1,5 +1,7 @@
 // How filtersets print.
 ghost use Rattle.std.specs.Prelude.{◌≡◌};
+ghost use Rattle.nextest_filtering_trees.specs.Tree.{leaf_of};
+ghost use Rattle.nextest_filtering_trees.specs.Grammar.{leaf_word};
 ghost use Rattle.nextest_filtering_trees.specs.Printing.{written_sign};
 
 use crate::leaf::{BuildPlatform, ParsedLeaf};
@@ -56,6 +58,26 @@ impl fmt::Display for BuildPlatform {
     }
 }
 
+/// The name of a predicate.
+fn leaf_word(leaf: &ParsedLeaf) -> &'static str
+    ensures { result.now ≡ leaf_word (leaf_of leaf.now) }
+{
+    match leaf {
+        ParsedLeaf::Package(_, _) => "package",
+        ParsedLeaf::Deps(_, _) => "deps",
+        ParsedLeaf::Rdeps(_, _) => "rdeps",
+        ParsedLeaf::Kind(_, _) => "kind",
+        ParsedLeaf::Binary(_, _) => "binary",
+        ParsedLeaf::BinaryId(_, _) => "binary_id",
+        ParsedLeaf::Platform(_, _) => "platform",
+        ParsedLeaf::Test(_, _) => "test",
+        ParsedLeaf::Group(_, _) => "group",
+        ParsedLeaf::Default(_) => "default",
+        ParsedLeaf::All => "all",
+        ParsedLeaf::None => "none",
+    }
+}
+
 impl fmt::Display for ParsedLeaf {
     ghost use Rattle.std.specs.Prelude.{Some};
     ghost use Rattle.nextest_filtering_trees.specs.Tree.{leaf_of};
@@ -64,19 +86,18 @@ impl fmt::Display for ParsedLeaf {
     ghost output = { λ it. Some (printed_leaf (leaf_of it)) };
 
     fn fmt<W: fmt::Write>(&self, f: &mut fmt::Formatter<W>) -> fmt::Result {
+        let word = leaf_word(self);
         match self {
-            ParsedLeaf::Package(matcher, _) => write!(f, "package({matcher})"),
-            ParsedLeaf::Deps(matcher, _) => write!(f, "deps({matcher})"),
-            ParsedLeaf::Rdeps(matcher, _) => write!(f, "rdeps({matcher})"),
-            ParsedLeaf::Kind(matcher, _) => write!(f, "kind({matcher})"),
-            ParsedLeaf::Binary(matcher, _) => write!(f, "binary({matcher})"),
-            ParsedLeaf::BinaryId(matcher, _) => write!(f, "binary_id({matcher})"),
-            ParsedLeaf::Platform(platform, _) => write!(f, "platform({platform})"),
-            ParsedLeaf::Test(matcher, _) => write!(f, "test({matcher})"),
-            ParsedLeaf::Group(matcher, _) => write!(f, "group({matcher})"),
-            ParsedLeaf::Default(_) => f.write_str("default()"),
-            ParsedLeaf::All => f.write_str("all()"),
-            ParsedLeaf::None => f.write_str("none()"),
+            ParsedLeaf::Package(matcher, _)
+            | ParsedLeaf::Deps(matcher, _)
+            | ParsedLeaf::Rdeps(matcher, _)
+            | ParsedLeaf::Kind(matcher, _)
+            | ParsedLeaf::Binary(matcher, _)
+            | ParsedLeaf::BinaryId(matcher, _)
+            | ParsedLeaf::Test(matcher, _)
+            | ParsedLeaf::Group(matcher, _) => write!(f, "{word}({matcher})"),
+            ParsedLeaf::Platform(platform, _) => write!(f, "{word}({platform})"),
+            ParsedLeaf::Default(_) | ParsedLeaf::All | ParsedLeaf::None => write!(f, "{word}()"),
         }
     }
 }

@@ -35,17 +35,10 @@ fn collect<'t>(tree: &'t ParsedExpr, found: &mut Vec<&'t ParsedLeaf>) -> Result<
     ensures { OnOk result (map leaf_behind found.new.items ≡ map leaf_behind found.old.items ++ runtime_leaves (tree_of tree.now)) }
 {
     match tree {
-        ParsedExpr::Not(_, inside) => collect(inside, found),
-        ParsedExpr::Parens(inside) => collect(inside, found),
-        ParsedExpr::Union(_, left, right) => {
-            collect(left, found)?;
-            collect(right, found)
-        }
-        ParsedExpr::Intersection(_, left, right) => {
-            collect(left, found)?;
-            collect(right, found)
-        }
-        ParsedExpr::Difference(_, left, right) => {
+        ParsedExpr::Not(_, inside) | ParsedExpr::Parens(inside) => collect(inside, found),
+        ParsedExpr::Union(_, left, right)
+        | ParsedExpr::Intersection(_, left, right)
+        | ParsedExpr::Difference(_, left, right) => {
             collect(left, found)?;
             collect(right, found)
         }

@@ -13,6 +13,8 @@ mod lister;
 #[cfg(test)]
 mod one_run;
 #[cfg(test)]
+mod refusals;
+#[cfg(test)]
 mod spelling;
 #[cfg(test)]
 mod walks;

@@ -1,6 +1,6 @@
 // The tables of whole filtersets.
 use crate::faults::tell_faults;
-use anyhow::{Context, Result};
+use anyhow::Result;
 use nextest_filtering::{ParseError, needs_deps, parse, read};
 use std::alloc::{AllocError, Global};
 use worked_tables::Table;
@@ -64,7 +64,7 @@ impl Table for Trees {
     }
 }
 
-// How many predicates of a text only a test answers, and these.
+// How many predicates of a text only a test answers, and these; `-` where it has no tree.
 pub struct Leaves;
 
 impl Table for Leaves {
@@ -73,11 +73,12 @@ impl Table for Leaves {
     }
 
     fn answer(&self, alloc: Global, input: &str) -> Result<String> {
-        let reading = read(alloc, input)?;
-        let tree = reading.tree.as_ref().context("no tree")?;
+        let Ok(tree) = parse(alloc, input) else {
+            return Ok(String::from_str(alloc, "-")?);
+        };
         let leaves = tree.runtime_only_leaves(alloc)?;
         let mut answer = format!(in alloc; "{}", leaves.len())?;
-        for leaf in leaves {
+        for leaf in leaves.iter() {
             answer.push_str(format!(in alloc; " {leaf}")?.as_str())?;
         }
         Ok(answer)

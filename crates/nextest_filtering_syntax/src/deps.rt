@@ -1,0 +1,10 @@
+// Whether dependencies are asked for.
+ghost use Rattle.std.specs.Prelude.{◌≡◌, ◌↔◌, true, codes};
+ghost use Rattle.std.specs.Str.Iter.{HasSubslice};
+
+/// Whether a filterset may ask what depends on what: whether its text has `deps` in it. No memory is taken.
+pub fn needs_deps(text: &str) -> bool
+    ensures { (result ≡ true) ↔ HasSubslice text.now (codes "deps") }
+{
+    text.contains("deps")
+}

@@ -1,0 +1,94 @@
+// What refusals print, and versions that differ in one part.
+use nextest_text::Text;
+use semver::Version;
+use std::alloc::{AllocError, Global};
+use std::fmt::Display;
+use std::test::Fail;
+use test_runner_core::{CurrentVersion, InputsError};
+use test_runner_core_listing::ListingFault;
+use test_runner_core_settings::SettingsFault;
+
+fn push<T: Display>(alloc: Global, told: &mut String, refusal: &T) -> Result<(), AllocError> {
+    told.push_str(format!(in alloc; "{refusal}\n")?.as_str())
+}
+
+// The texts of refusals, each on a line.
+fn told_of<T: Display>(alloc: Global, refusals: &[T]) -> Result<String, AllocError> {
+    let mut told = String::new(alloc);
+    for refusal in refusals {
+        push(alloc, &mut told, refusal)?;
+    }
+    Ok(told)
+}
+
+const OF_SETTINGS: &str = "\
+the configuration is no TOML
+the configuration demands a version or names features, which isn't read yet
+a value of the configuration has a type or range that it can't have
+the configuration has a key or form that isn't read yet
+out of memory
+";
+
+const OF_INPUTS: &str = "\
+the inputs are no JSON, or too long
+the inputs have at workspace.links.0.1 what is missing, ill-typed or not allowed
+out of memory
+";
+
+const OF_LISTING: &str = "\
+a binary can't list its tests: gone
+a test has no name
+a test's name has a tab or a line end in it
+two tests of a binary have one name
+";
+
+#[test]
+fn refusals_of_settings_print(rt: HostRuntime) -> Result<(), Fail> {
+    let of_settings = [
+        SettingsFault::Syntax,
+        SettingsFault::VersionNotYet,
+        SettingsFault::BadValue,
+        SettingsFault::NotYet,
+        SettingsFault::OutOfMemory,
+    ];
+    assert_eq!(rt; told_of(rt.alloc(), &of_settings)?.as_str(), OF_SETTINGS);
+    Ok(())
+}
+
+#[test]
+fn refusals_with_a_text_print(rt: HostRuntime) -> Result<(), Fail> {
+    let alloc = rt.alloc();
+    let of_inputs = [
+        InputsError::Syntax,
+        InputsError::Field(Text::from_str(alloc, "workspace.links.0.1")?),
+        InputsError::OutOfMemory,
+    ];
+    assert_eq!(rt; told_of(alloc, &of_inputs)?.as_str(), OF_INPUTS);
+    let of_listing = [
+        ListingFault::ListFault(Text::from_str(alloc, "gone")?),
+        ListingFault::EmptyTestName,
+        ListingFault::BadTestName,
+        ListingFault::RepeatedTest,
+    ];
+    assert_eq!(rt; told_of(alloc, &of_listing)?.as_str(), OF_LISTING);
+    Ok(())
+}
+
+#[test]
+fn versions_are_compared_with_all_their_parts(rt: HostRuntime) -> Result<(), Fail> {
+    let alloc = rt.alloc();
+    let current = CurrentVersion::from(Version::parse(alloc, "1.2.3-a+b")?);
+    assert!(rt; *current.version() == Version::parse(alloc, "1.2.3-a+b")?);
+    for other in [
+        "2.2.3-a+b",
+        "1.3.3-a+b",
+        "1.2.4-a+b",
+        "1.2.3-b+b",
+        "1.2.3-a",
+        "1.2.3-a+c",
+    ] {
+        let other = CurrentVersion::from(Version::parse(alloc, other)?);
+        assert!(rt; other != current && other.clone()? == other);
+    }
+    Ok(())
+}
