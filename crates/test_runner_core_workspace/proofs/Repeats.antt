@@ -10,7 +10,7 @@ use Rattle.std.proofs.lemmas.List.Folds.{list_any-append}
 use Rattle.std.proofs.lemmas.Map.Text.{is_eq-slice_cmp}
 use denote.Ref.{Bor}
 use Rattle.test_runner_core_workspace.specs.Ids.{lent, has_text}
-use Rattle.test_runner_core_workspace.specs.Workspace.{is_among, has_repeat, is_known_link, is_bad_id, package_ids, behind_repeats, refusal_of}
+use Rattle.test_runner_core_workspace.specs.Workspace.{is_among, has_repeat, is_known_link, is_bad_id, package_ids, refusal_by, refusal_of}
 use Rattle.test_runner_core_workspace.specs.declared.record.Link.{Link}
 use Rattle.test_runner_core_workspace.specs.declared.record.Binary.{Binary}
 use Rattle.test_runner_core_workspace.specs.declared.record.WorkspaceRecord.{WorkspaceRecord}
@@ -73,12 +73,12 @@ is_among_more set new key texts update before text =
 
 -- links are known to a set as they are to its ids
 pub links_known : (set : BTreeSet (Bor (List ℕ))) (ids : List (List ℕ)) → ((text : List ℕ) → has_text set text ≡ is_among ids text)
-    → (links : List Link) → list_all (λ link. has_text set link.from && has_text set link.to) links ≡ list_all (is_known_link ids) links
+    → (links : List Link) → list_all (λ link. has_text set link.from && has_text set link.to) links ≡ list_all (is_known_link (is_among ids)) links
 links_known set ids same [] = refl
 links_known set ids same (link ∷ links) =
     ap (λ (b : Bool). (b && has_text set link.to) && list_all (λ l. has_text set l.from && has_text set l.to) links) (same link.from)
     ∙ ap (λ (b : Bool). (is_among ids link.from && b) && list_all (λ l. has_text set l.from && has_text set l.to) links) (same link.to)
-    ∙ ap (λ (b : Bool). is_known_link ids link && b) (links_known set ids same links)
+    ∙ ap (λ (b : Bool). is_known_link (is_among ids) link && b) (links_known set ids same links)
 
 -- binaries' packages are known to a set as they are to its ids
 pub packages_known : (set : BTreeSet (Bor (List ℕ))) (ids : List (List ℕ)) → ((text : List ℕ) → has_text set text ≡ is_among ids text)
@@ -125,11 +125,11 @@ bad_among ids texts e = any_lent is_bad_id ids ∙ ap (list_any is_bad_id) e
 pub behind_no_repeat : (workspace : WorkspaceRecord) (packages : List (Bor (List ℕ))) (set : BTreeSet (Bor (List ℕ)))
     → lent packages ≡ package_ids workspace → has_repeat (lent packages) ≡ false
     → ((text : List ℕ) → has_text set text ≡ is_among (lent packages) text)
-    → behind_repeats (has_text set) workspace ≡ refusal_of workspace
+    → refusal_by (has_text set) workspace ≡ refusal_of workspace
 behind_no_repeat workspace packages set of_packages once same =
     let a : has_repeat (package_ids workspace) ≡ false = ap has_repeat (sym of_packages) ∙ once in
-    let b : list_all (λ link. has_text set link.from && has_text set link.to) workspace.links ≡ list_all (is_known_link (package_ids workspace)) workspace.links
-    = links_known set (lent packages) same workspace.links ∙ ap (λ (ids : List (List ℕ)). list_all (is_known_link ids) workspace.links) of_packages in
+    let b : list_all (λ link. has_text set link.from && has_text set link.to) workspace.links ≡ list_all (is_known_link (is_among (package_ids workspace))) workspace.links
+    = links_known set (lent packages) same workspace.links ∙ ap (λ (ids : List (List ℕ)). list_all (is_known_link (is_among ids)) workspace.links) of_packages in
     let c : list_all (λ it. has_text set it.package) workspace.binaries ≡ list_all (λ it. is_among (package_ids workspace) it.package) workspace.binaries
     = packages_known set (lent packages) same workspace.binaries ∙ ap (λ (ids : List (List ℕ)). list_all (λ it. is_among ids it.package) workspace.binaries) of_packages in
     rw (a, b, c) refl

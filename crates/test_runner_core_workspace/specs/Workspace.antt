@@ -23,8 +23,8 @@ abbrev pub binary_ids : WorkspaceRecord → List (List ℕ)
 binary_ids workspace = map (λ it. it.id) workspace.binaries
 
 -- both ends of a link are packages
-abbrev pub is_known_link : List (List ℕ) → Link → Bool
-is_known_link ids link = is_among ids link.from && is_among ids link.to
+abbrev pub is_known_link : (List ℕ → Bool) → Link → Bool
+is_known_link is_known link = is_known link.from && is_known link.to
 
 -- a text has a tab, a line feed or a carriage return in it
 abbrev pub has_separator : List ℕ → Bool
@@ -34,24 +34,20 @@ has_separator text = list_any (λ byte. byte == 9 || byte == 10 || byte == 13) t
 abbrev pub is_bad_id : List ℕ → Bool
 is_bad_id id = length id == 0 || has_separator id
 
--- why a record is refused, if it is: each reason is looked for in the whole record before the next
-abbrev pub refusal_of : WorkspaceRecord → Option WorkspaceError
-refusal_of workspace =
-    if has_repeat (package_ids workspace) then Some refused.RepeatedPackage
-    else if not (list_all (is_known_link (package_ids workspace)) workspace.links) then Some refused.UnknownLink
-    else if has_repeat (binary_ids workspace) then Some refused.RepeatedBinary
-    else if not (list_all (λ binary. is_among (package_ids workspace) binary.package) workspace.binaries) then Some refused.UnknownPackage
-    else if list_any is_bad_id (binary_ids workspace) then Some refused.BadId
-    else None
-
--- the same of a record whose packages have ids of their own, which are those that are known
-abbrev pub behind_repeats : (List ℕ → Bool) → WorkspaceRecord → Option WorkspaceError
-behind_repeats is_known workspace =
-    if not (list_all (λ link. is_known link.from && is_known link.to) workspace.links) then Some refused.UnknownLink
+-- why a record whose packages have ids of their own is refused, if it is, by which ids are known
+abbrev pub refusal_by : (List ℕ → Bool) → WorkspaceRecord → Option WorkspaceError
+refusal_by is_known workspace =
+    if not (list_all (is_known_link is_known) workspace.links) then Some refused.UnknownLink
     else if has_repeat (binary_ids workspace) then Some refused.RepeatedBinary
     else if not (list_all (λ binary. is_known binary.package) workspace.binaries) then Some refused.UnknownPackage
     else if list_any is_bad_id (binary_ids workspace) then Some refused.BadId
     else None
+
+-- why a record is refused, if it is: each reason is looked for in the whole record before the next
+abbrev pub refusal_of : WorkspaceRecord → Option WorkspaceError
+refusal_of workspace =
+    if has_repeat (package_ids workspace) then Some refused.RepeatedPackage
+    else refusal_by (is_among (package_ids workspace)) workspace
 
 -- a check passes where nothing refuses the record, and else tells the reason; want of memory says nothing
 abbrev pub Checks : {T : Type 0} → WorkspaceRecord → Result T WorkspaceError → Type 0

@@ -1,7 +1,7 @@
 // A workspace whose record was checked.
 ghost use Rattle.std.specs.Prelude.{◌≡◌, IfOk, None};
 ghost use Rattle.test_runner_core_workspace.specs.Ids.{has_text};
-ghost use Rattle.test_runner_core_workspace.specs.Workspace.{behind_repeats, refusal_of, Checks, Reads};
+ghost use Rattle.test_runner_core_workspace.specs.Workspace.{refusal_by, refusal_of, Checks, Reads};
 
 use crate::ids::{
     has_bad, has_repeated, ids_of_binaries, ids_of_packages, links_are_known, packages_are_known,
@@ -91,7 +91,7 @@ fn refusal_behind(
     known: &BTreeSet<&str>,
     record: &WorkspaceRecord,
 ) -> Result<Option<WorkspaceError>, AllocError>
-    ensures { IfOk result (λ refused. refused ≡ behind_repeats (has_text known.now) «record».now) }
+    ensures { IfOk result (λ refused. refused ≡ refusal_by (has_text known.now) «record».now) }
 {
     if !links_are_known(known, record.links.as_slice()) {
         return Ok(Some(WorkspaceError::UnknownLink));

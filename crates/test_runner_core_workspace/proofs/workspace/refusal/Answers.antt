@@ -1,7 +1,7 @@
 use Rattle.std.proofs.Common.{◌≡◌, ℕ, List, Option, IfOk, false, subst}
 use denote.Ref.{Bor}
 use Rattle.test_runner_core_workspace.specs.Ids.{lent, has_text}
-use Rattle.test_runner_core_workspace.specs.Workspace.{is_among, has_repeat, package_ids, refusal_of, behind_repeats}
+use Rattle.test_runner_core_workspace.specs.Workspace.{is_among, has_repeat, package_ids, refusal_of, refusal_by}
 use Rattle.test_runner_core_workspace.specs.declared.record.WorkspaceRecord.{WorkspaceRecord}
 use Rattle.test_runner_core_workspace.specs.declared.workspace_error.WorkspaceError.{WorkspaceError}
 use Rattle.test_runner_core_workspace.proofs.Repeats.{behind_no_repeat}
@@ -15,6 +15,6 @@ returns c =
     let once : has_repeat (lent packages) ≡ false = cc (c.in_ok-has_repeated.ensures) in
     let same : (text : List ℕ) → has_text c.in_ok-known.known text ≡ is_among (lent packages) text
     = λ text. rw (← c.as_slice-3.ensures.value) (c.in_ok-known.ensures text) in
-    let reason : behind_repeats (has_text c.in_ok-known.known) workspace ≡ refusal_of workspace
+    let reason : refusal_by (has_text c.in_ok-known.known) workspace ≡ refusal_of workspace
     = behind_no_repeat workspace packages c.in_ok-known.known of_packages once same in
     subst (λ (o : Option WorkspaceError). IfOk c.refusal_behind.result (λ refused. refused ≡ o)) reason c.refusal_behind.ensures
