@@ -5,6 +5,8 @@
 #[cfg(test)]
 mod bytes;
 #[cfg(test)]
+mod decisions;
+#[cfg(test)]
 mod failing_streams;
 #[cfg(test)]
 mod lines;
