@@ -6,11 +6,15 @@ before it took for so many times the bytes (1.0 is in proportion).
 
   binaries N   N binaries with one test each, and no log
   tests N      one binary with N tests, which all pass: 2 N lines of log
+  shuffled N   the same, where the log has the tests in another order
+  places N     inputs of N bytes that are made to take much memory, and no log
+  ordinary N, given N   tests of the names in a file that is given as an argument, one a line, beside as many others of their
+               length: so names that are made to collide can be tried
 """
 import json
 import os
 import pathlib
-import resource
+import random
 import sys
 import tempfile
 import time
@@ -31,10 +35,23 @@ def binaries(count):
     return inputs([binary(f"b{i:06}", ["t"]) for i in range(count)]), ""
 
 
+def run_of(names, order):
+    log = "".join(f"start\tp\t{name}\nend\tp\t{name}\tpass\t-\t1\t-\t-\n" for name in order)
+    return inputs([binary("p", names)]), log
+
+
 def tests(count):
     names = [f"module::case_{i:07}" for i in range(count)]
-    log = "".join(f"start\tp\t{name}\nend\tp\t{name}\tpass\t-\t1\t-\t-\n" for name in names)
-    return inputs([binary("p", names)]), log
+    return run_of(names, names)
+
+
+def shuffled(count):
+    names = [f"module::case_{i:07}" for i in range(count)]
+    return run_of(names, random.Random(1).sample(names, count))
+
+
+def places(count):
+    return '{"x":[' + ",".join(['{"":0}'] * (count // 8)) + "]}", ""
 
 
 def run(text):
@@ -54,7 +71,19 @@ def run(text):
 
 def main():
     print("load               bytes  seconds  MB peak  MB/s  ratio  status")
-    for name, make, counts in (("binaries", binaries, (1_000, 10_000, 100_000)), ("tests", tests, (1_000, 10_000, 100_000, 300_000))):
+    loads = [
+        ("binaries", binaries, (1_000, 10_000, 100_000)),
+        ("tests", tests, (1_000, 10_000, 100_000, 300_000)),
+        ("shuffled", shuffled, (300_000,)),
+        ("places", places, (1_000_000, 16_000_000)),
+    ]
+    for file in sys.argv[1:]:
+        names = pathlib.Path(file).read_text().split()
+        others = [f"{i:0{len(names[0])}}" for i in range(len(names))]
+        random.Random(1).shuffle(others)
+        loads.append(("ordinary", lambda _, names=others: run_of(names, names), (len(names),)))
+        loads.append(("given", lambda _, names=names: run_of(names, names), (len(names),)))
+    for name, make, counts in loads:
         before = None
         for count in counts:
             head, log = make(count)

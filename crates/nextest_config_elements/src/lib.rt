@@ -8,3 +8,4 @@ pub use nextest_config_elements_plain::{
     FinalStatusLevel, FlakyResult, LeakTimeoutResult, MaxFail, NextestRunMode, SlowTimeoutResult,
     StatusLevel, TerminateMode, TestOutputDisplay,
 };
+pub use nextest_text::{Listing, Text};

@@ -34,7 +34,7 @@ tool_name text = name_of (nfc (chars text))
 abbrev pub IsToolName : List ℕ → Type 0
 IsToolName text = tool_name text ≡ Ok text
 
--- a read gives what the text is as the name of a tool; want of memory says nothing
+-- a read gives what the text is as the name of a tool; running out of memory says nothing
 abbrev pub ReadsToolName : List ℕ → Result (List ℕ) InvalidIdentifier → Type 0
 ReadsToolName given (Ok name) = tool_name given ≡ Ok name
 ReadsToolName given (Err refused.OutOfMemory) = Unit {0}

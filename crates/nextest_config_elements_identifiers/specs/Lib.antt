@@ -1,2 +1,1 @@
 pub mod Identifier
-pub mod Texts

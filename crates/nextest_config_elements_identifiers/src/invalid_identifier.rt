@@ -1,36 +1,21 @@
 // Why a text is no identifier.
 use nextest_text::Text;
 use std::alloc::{AllocError, AllocFailed};
-use std::error::Error;
-use std::fmt;
+use thiserror::Error;
 
 /// Why a text is no identifier.
-#[derive(Debug, PartialEq, Eq, Drop)]
+#[derive(Debug, PartialEq, Eq, Drop, Error)]
 pub enum InvalidIdentifier {
     /// It is empty.
+    #[error("identifier is empty")]
     Empty,
     /// It isn't empty and isn't a plain identifier: the text, in its NFC.
+    #[error("invalid identifier `{0}`")]
     InvalidXid(Text),
     /// There was no memory for it, which says nothing of the text.
+    #[error("out of memory")]
     OutOfMemory,
 }
-
-impl fmt::Display for InvalidIdentifier {
-    ghost use Rattle.std.specs.Prelude.{Some};
-    ghost use Rattle.nextest_config_elements_identifiers.specs.Texts.{text_of};
-
-    ghost output = { λ refusal. Some (text_of refusal) };
-
-    fn fmt<W: fmt::Write>(&self, f: &mut fmt::Formatter<W>) -> fmt::Result {
-        match self {
-            InvalidIdentifier::Empty => write!(f, "identifier is empty"),
-            InvalidIdentifier::InvalidXid(text) => write!(f, "invalid identifier `{text}`"),
-            InvalidIdentifier::OutOfMemory => write!(f, "out of memory"),
-        }
-    }
-}
-
-impl Error for InvalidIdentifier {}
 
 impl From<AllocError> for InvalidIdentifier {
     ghost use Rattle.std.specs.Prelude.{◌≡◌};

@@ -2,3 +2,4 @@ pub mod Display
 pub mod Laws
 pub mod Levels
 pub mod MaxFail
+pub mod RunMode

@@ -2,7 +2,7 @@
 ghost use Rattle.std.specs.Prelude.{◌≡◌};
 ghost use Rattle.nextest_config_elements_plain.specs.MaxFail.{mode_at};
 
-/// How a run that its failing tests stop ends.
+/// How a run ends that is stopped by failing tests.
 #[derive(Clone, Copy, Debug, PartialEq, Eq, Hash)]
 pub enum TerminateMode {
     /// What runs may end by itself.

@@ -1,4 +1,8 @@
 // What is run.
+ghost use Rattle.std.specs.Prelude.{◌≡◌};
+ghost use Rattle.nextest_config_elements_plain.specs.RunMode.{runs_benchmarks};
+
+use std::fmt;
 
 /// What is run.
 #[derive(Clone, Copy, Debug, Default, PartialEq, Eq, Hash)]
@@ -8,4 +12,30 @@ pub enum NextestRunMode {
     Test,
     /// Benchmarks.
     Benchmark,
+}
+
+impl NextestRunMode {
+    /// Whether benchmarks are run.
+    pub fn is_benchmark(self) -> bool
+        ensures { result ≡ runs_benchmarks self }
+    {
+        match self {
+            NextestRunMode::Test => false,
+            NextestRunMode::Benchmark => true,
+        }
+    }
+}
+
+impl fmt::Display for NextestRunMode {
+    ghost use Rattle.std.specs.Prelude.{Some};
+    ghost use Rattle.nextest_config_elements_plain.specs.RunMode.{text_of};
+
+    ghost output = { λ mode. Some (text_of mode) };
+
+    fn fmt<W: fmt::Write>(&self, f: &mut fmt::Formatter<W>) -> fmt::Result {
+        match self {
+            NextestRunMode::Test => f.write_str("test"),
+            NextestRunMode::Benchmark => f.write_str("benchmark"),
+        }
+    }
 }

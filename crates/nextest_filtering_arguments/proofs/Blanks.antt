@@ -1,4 +1,4 @@
--- Blanks at the front of a text.
+-- Blanks at the start of a text.
 use Rattle.std.specs.Prelude.{◌≡◌, refl, ℕ, ◌<◌, true, false, List, [], ◌∷◌, drop, IsCharBoundary}
 use Rattle.std.specs.Str.{IsUtf8}
 use Rattle.std.proofs.Common.{arith, rules}

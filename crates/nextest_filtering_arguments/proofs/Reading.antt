@@ -14,7 +14,7 @@ use Rattle.nextest_filtering_arguments.proofs.Spans.{suffix_trans, suffix_unblan
 use Rattle.nextest_filtering_arguments.proofs.Trimming.{trimmed_once}
 use Rattle.nextest_filtering_arguments.proofs.Cutting.{blanks_before, unblanked_past, unblanked_bare, unblanked_stops, text_cut}
 
--- a front of bytes with no end of a text has none
+-- a prefix of bytes with no end of a text has none
 unended_part : (escaped : Bool) (a b : List ℕ) → unended escaped (a ++ b) ≡ true → unended escaped a ≡ true
 unended_part true [] b is = refl
 unended_part false [] b is = refl

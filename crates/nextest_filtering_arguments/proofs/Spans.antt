@@ -7,7 +7,8 @@ use Rattle.std.proofs.lemmas.List.{append_assoc}
 use Rattle.nextest_filtering_texts.specs.Text.{is_blank}
 use Rattle.nextest_filtering_trees.specs.Grammar.{unblanked}
 use Rattle.nextest_filtering_trees.specs.declared.leaf.SourceSpan.{SourceSpan}
-use Rattle.nextest_filtering_arguments.specs.Faults.{IsSuffix, here, Lies, spanned, past}
+use Rattle.nextest_filtering_arguments.specs.Blanks.{has_blank_front}
+use Rattle.nextest_filtering_arguments.specs.Faults.{IsSuffix, here, Lies, IsPlace, RunsOut, BeginsBare, spanned, past}
 
 -- a rest of a rest is one
 pub suffix_trans : (a b c : List ℕ) → IsSuffix a b → IsSuffix b c → IsSuffix a c
@@ -39,9 +40,13 @@ here_lies input rest n (front, e) short = Prim.omega (arith, ap length e, length
 starts : (input rest front : List ℕ) → input ≡ front ++ rest → length input - length rest ≡ length front
 starts input rest front e = Prim.omega (arith, ap length e, length-append front rest)
 
+-- what stands from there on is the rest
+from_here : (input rest : List ℕ) → IsSuffix rest input → drop (length input - length rest) input ≡ rest
+from_here input rest (front, e) = ap (λ k. drop k input) (starts input rest front e) ∙ (ap (drop (length front)) e ∙ drop-append_seam front rest)
+
 -- it holds the first bytes of the rest
 pub here_spans : (input rest : List ℕ) (n : ℕ) → IsSuffix rest input → spanned input (here input rest n) ≡ take n rest
-here_spans input rest n (front, e) = ap (take n) (ap (λ k. drop k input) (starts input rest front e) ∙ (ap (drop (length front)) e ∙ drop-append_seam front rest))
+here_spans input rest n within = ap (take n) (from_here input rest within)
 
 -- what follows a word or a sign is a rest
 pub suffix_token : (front rest text : List ℕ) → unblanked text ≡ front ++ rest → IsSuffix rest text
@@ -83,3 +88,35 @@ suffix_in rest text input now same within known = subst (IsSuffix rest) (sym sam
 -- all of the input is a rest of it
 pub suffix_all : (text input : List ℕ) → input ≡ text → IsSuffix text input
 suffix_all text input is = ([], is)
+
+-- what is left without blanks at the front begins with none
+bare_by : (byte : ℕ) (rest : List ℕ) (b : Bool) → is_blank byte ≡ b → has_blank_front (unblanked rest) ≡ false → has_blank_front (if b then unblanked rest else byte ∷ rest) ≡ false
+bare_by byte rest true is known = known
+bare_by byte rest false is known = is
+
+unblanked_bare : (text : List ℕ) → has_blank_front (unblanked text) ≡ false
+unblanked_bare [] = refl
+unblanked_bare (byte ∷ rest) = bare_by byte rest (is_blank byte) refl (unblanked_bare rest)
+
+-- nor does a span that begins there
+begins_bare : (input text : List ℕ) → IsSuffix (unblanked text) input → has_blank_front (drop (length input - length (unblanked text)) input) ≡ false
+begins_bare input text within = ap has_blank_front (from_here input (unblanked text) within) ∙ unblanked_bare text
+
+-- an empty span there
+place_here : (input text : List ℕ) → IsSuffix (unblanked text) input → IsPlace input (here input (unblanked text) 0) × BeginsBare input (here input (unblanked text) 0)
+place_here input text within = ((here_lies input (unblanked text) 0 within (Prim.omega arith), refl), begins_bare input text within)
+
+pub place_at : (input ahead text : List ℕ) (span : SourceSpan) → span ≡ here input ahead 0 → IsSuffix text input → ahead ≡ unblanked text → IsPlace input span × BeginsBare input span
+place_at input ahead text span is within skipped =
+    subst (λ (s : SourceSpan). IsPlace input s × BeginsBare input s) (sym (is ∙ ap (λ (l : List ℕ). here input l 0) skipped))
+    (place_here input text (suffix_within text input within))
+
+-- a span of all that stands there
+runs_out_here : (input text : List ℕ) → IsSuffix (unblanked text) input
+    → RunsOut input (here input (unblanked text) (length (unblanked text))) × BeginsBare input (here input (unblanked text) (length (unblanked text)))
+runs_out_here input text within = (Prim.omega (arith, suffix_len (unblanked text) input within), begins_bare input text within)
+
+pub runs_out_at : (input ahead text : List ℕ) (span : SourceSpan) → span ≡ here input ahead (length ahead) → IsSuffix text input → ahead ≡ unblanked text → RunsOut input span × BeginsBare input span
+runs_out_at input ahead text span is within skipped =
+    subst (λ (s : SourceSpan). RunsOut input s × BeginsBare input s) (sym (is ∙ ap (λ (l : List ℕ). here input l (length l)) skipped))
+    (runs_out_here input text (suffix_within text input within))

@@ -1,10 +1,10 @@
 -- Blanks at the end of a text.
-use Rattle.std.proofs.Common.{◌≡◌, ◌≢◌, refl, ℕ, true, List, [], ◌∷◌, ◌++◌, drop, Option, Some, None, sym, ap, subst, ◌∙◌, inl, inr, append_assoc}
+use Rattle.std.proofs.Common.{◌≡◌, ◌≢◌, refl, ℕ, true, List, [], ◌∷◌, ◌++◌, drop, Option, Some, None, sym, ap, subst, ◌∙◌, inl, inr}
 use Rattle.std.specs.Prelude.{MatchOption, IfNone}
 use Rattle.std.specs.Borrow.{Bor}
 use Rattle.std.proofs.lemmas.Bool.{eqb-true, or_cases, false≢true, cases_Bool}
 use Rattle.nextest_filtering_texts.specs.Text.{is_blank}
-use Rattle.nextest_filtering_arguments.specs.Blanks.{AreBlanks, HasBareEnd, EndsBlank}
+use Rattle.nextest_filtering_arguments.specs.Blanks.{AreBlanks, HasBareEnd}
 
 -- each kind of blank
 pub blank_cases : (byte : ℕ) (P : ℕ → Type 0) → is_blank byte ≡ true → P 32 → P 9 → P 10 → P 13 → P byte
@@ -31,12 +31,6 @@ bare_end text None space tab feed return = λ front byte is.
     ]
 bare_end text (Some x) space tab feed return = tt
 
--- one blank more was cut off
-pub blank_more : (text rest front blanks : List ℕ) → AreBlanks blanks → text ≡ rest ++ blanks → EndsBlank rest front
-    → (more : List ℕ) × AreBlanks more × (text ≡ front ++ more)
-blank_more text rest front blanks all whole (byte, blank, ends) =
-    (byte ∷ blanks, (blank, all), whole ∙ ap (λ (x : List ℕ). x ++ blanks) ends ∙ append_assoc front (byte ∷ []) blanks)
-
 -- what follows the first byte ends as the whole does
 pub bare_tail : (byte : ℕ) (text : List ℕ) → HasBareEnd (byte ∷ text) → HasBareEnd text
 bare_tail byte text bare front last is = bare (byte ∷ front) last (ap (λ (x : List ℕ). byte ∷ x) is)
@@ -50,7 +44,7 @@ pub blanks_front : (a b : List ℕ) → AreBlanks (a ++ b) → AreBlanks a
 blanks_front [] b all = tt
 blanks_front (byte ∷ a) b all = (all.0, blanks_front a b all.1)
 
--- the part with a bare end at the front of a text that blanks end
+-- the part with a bare end at the start of a text that blanks end
 pub part_of : (s x raw blanks : List ℕ) → HasBareEnd s → AreBlanks blanks → raw ++ blanks ≡ s ++ x → (rest : List ℕ) × (raw ≡ s ++ rest) × (rest ++ blanks ≡ x)
 part_of [] x raw blanks bare all is = (raw, refl, is)
 part_of (c ∷ s) x [] blanks bare all is = absurd (not_blanks c s (blanks_front (c ∷ s) x (subst AreBlanks is all)) bare)

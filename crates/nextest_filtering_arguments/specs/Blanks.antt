@@ -1,4 +1,4 @@
--- Blanks at the front of a text and at its end.
+-- Blanks at the start of a text and at its end.
 use Rattle.std.specs.Prelude.{◌≡◌, ℕ, Bool, true, false, List, [], ◌∷◌, ◌++◌}
 use Rattle.std.specs.List.{AllByRecursion}
 use Rattle.nextest_filtering_texts.specs.Text.{is_blank}

@@ -1,8 +1,9 @@
 -- Where faults stand.
-use Rattle.std.specs.Prelude.{◌≡◌, ◌⊎◌, ℕ, Bool, ◌+◌, ◌-◌, ◌≤◌, List, ◌++◌, length, take, drop, codes}
+use Rattle.std.specs.Prelude.{◌≡◌, ◌⊎◌, ℕ, Bool, ◌+◌, ◌-◌, ◌≤◌, false, List, ◌++◌, length, take, drop, codes}
 use Rattle.std.specs.List.{AllByRecursion}
 use Rattle.nextest_filtering_texts.specs.Spans.{IsBadEscape}
 use Rattle.nextest_filtering_trees.specs.declared.leaf.SourceSpan.{SourceSpan}
+use Rattle.nextest_filtering_arguments.specs.Blanks.{has_blank_front}
 use Rattle.nextest_filtering_arguments.specs.declared.error.ParseSingleError.{ParseSingleError}
 use Rattle.nextest_filtering_arguments.specs.declared.error.ParseSingleError.TheVariants as fault
 
@@ -48,8 +49,12 @@ IsPlace input span = Lies input span × (span.length ≡ 0)
 abbrev pub RunsOut : List ℕ → SourceSpan → Type 0
 RunsOut input span = span.offset + span.length ≡ length input
 
+-- no blank stands where the span begins: it begins behind blanks, or at the input's end
+abbrev pub BeginsBare : List ℕ → SourceSpan → Type 0
+BeginsBare input span = has_blank_front (drop span.offset input) ≡ false
+
 -- where a fault may stand: an operator's span is the operator, a comma's the comma, an escape's a backslash with
--- the whole character behind it, or the one that is the input's last byte
+-- the whole character behind it, or the one that is the input's last byte; what is missing is missing behind blanks
 abbrev pub IsFaultOf : List ℕ → ParseSingleError → Type 0
 IsFaultOf input (fault.InvalidGlob span) = Lies input span
 IsFaultOf input (fault.InvalidRegexWithoutMessage span) = Lies input span
@@ -59,11 +64,11 @@ IsFaultOf input (fault.InvalidAndOperator span) = Lies input span × ((spanned i
 IsFaultOf input (fault.UnexpectedArgument span) = Lies input span
 IsFaultOf input (fault.UnexpectedComma span) = Lies input span × (spanned input span ≡ codes ",")
 IsFaultOf input (fault.InvalidString span) = IsPlace input span
-IsFaultOf input (fault.ExpectedOpenParenthesis span) = IsPlace input span
-IsFaultOf input (fault.ExpectedCloseParenthesis span) = IsPlace input span
+IsFaultOf input (fault.ExpectedOpenParenthesis span) = IsPlace input span × BeginsBare input span
+IsFaultOf input (fault.ExpectedCloseParenthesis span) = IsPlace input span × BeginsBare input span
 IsFaultOf input (fault.InvalidEscapeCharacter span) = Lies input span × IsBadEscape (spanned input span) (past input span)
-IsFaultOf input (fault.ExpectedExpr span) = RunsOut input span
-IsFaultOf input (fault.ExpectedEndOfExpression span) = RunsOut input span
+IsFaultOf input (fault.ExpectedExpr span) = RunsOut input span × BeginsBare input span
+IsFaultOf input (fault.ExpectedEndOfExpression span) = RunsOut input span × BeginsBare input span
 IsFaultOf input (fault.InvalidPlatformArgument span) = Lies input span
 
 -- each of them is one of the input's

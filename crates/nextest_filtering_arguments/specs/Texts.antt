@@ -11,7 +11,7 @@ use Rattle.nextest_filtering_arguments.specs.Faults.{IsSuffix, here}
 abbrev pub IsFront : List ℕ → List ℕ → Type 0
 IsFront front text = (rest : List ℕ) × (text ≡ front ++ rest) × IsUnended front × IsEnded front rest
 
--- the span holds what comes next in a rest of the input up to where the text goes on, blanks around it aside
+-- the span holds what comes next in a rest of the input up to where the text goes on, without the blanks around it
 abbrev pub IsPlaced : List ℕ → List ℕ → List ℕ → SourceSpan → Type 0
 IsPlaced input text rest span = (raw blanks : List ℕ) × (unblanked text ≡ raw ++ (blanks ++ rest)) × HasBareEnd raw × AreBlanks blanks
     × (span ≡ here input (unblanked text) (length raw))

@@ -1,4 +1,4 @@
-// What stands at the front of a text.
+// What stands at the start of a text.
 ghost use Rattle.std.specs.Prelude.{◌≡◌, ◌++◌, ℕ, List, IfSome, IfNone, drop, true};
 ghost use Rattle.nextest_filtering_texts.specs.Text.{is_blank};
 ghost use Rattle.nextest_filtering_trees.specs.Grammar.{unblanked};

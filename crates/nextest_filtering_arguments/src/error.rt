@@ -1,12 +1,12 @@
-// What a text is refused for.
+// Why a text is refused.
 use nextest_filtering_trees::SourceSpan;
 
 /// A fault of a filterset's text, and where it stands.
 #[derive(Clone, Copy, Debug, PartialEq, Eq)]
 pub enum ParseSingleError {
-    /// The glob is none.
+    /// The text is no glob.
     InvalidGlob(SourceSpan),
-    /// The regular expression is none.
+    /// The text is no regular expression.
     InvalidRegexWithoutMessage(SourceSpan),
     /// The `/` behind a regular expression is missing.
     ExpectedCloseRegex(SourceSpan),

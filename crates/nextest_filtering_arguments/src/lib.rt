@@ -1,4 +1,4 @@
-//! The arguments of predicates: texts, matchers, platforms, as they are read, and what they are refused for.
+//! The arguments of predicates: texts, matchers, platforms, as they are read, and why they are refused.
 #![tactic(auto)]
 
 mod cursor;

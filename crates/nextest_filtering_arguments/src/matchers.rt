@@ -17,7 +17,7 @@ use nextest_filtering_texts::{split_regex, unslash};
 use nextest_filtering_trees::{NameMatcher, Pattern, PatternError};
 use std::alloc::{AllocError, Global};
 
-// The sign at the front of `text`, and what follows it.
+// The sign at the start of `text`, and what follows it.
 fn sign(text: &str) -> Option<(Comparing, &str)>
     ensures some { IfSome result (λ it. text.now ≡ sign_of it.0 ∷ it.1.now) }
     ensures none { IfNone result ((comparing : Comparing) (rest : List ℕ) → text.now ≡ sign_of comparing ∷ rest → ⊥) }
@@ -119,8 +119,8 @@ fn pattern<'i>(
 
 /// The matcher that comes next, of a predicate on that subject, and what follows it: a sign and a text, a regular
 /// expression between two `/`, or a text alone, which is compared with as the subject's default says. A text that
-/// should be a glob or a regular expression and is none is told of, and `None` stands for the matcher then. A missing
-/// second `/` is told of too, and gives `Err(NoTree)`; `Err(Memory)` says that there was no memory.
+/// should be a glob or a regular expression and is none is reported, and `None` stands for the matcher then. A missing
+/// second `/` is reported too, and gives `Err(NoTree)`; `Err(Memory)` says that there was no memory.
 pub fn matcher<'i>(
     alloc: Global,
     faults: &mut Faults<'_>,

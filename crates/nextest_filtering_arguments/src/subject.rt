@@ -26,7 +26,7 @@ pub enum Subject {
 pub(crate) enum Comparing {
     /// The name is this text.
     Equal,
-    /// The name has this text in it.
+    /// The name contains this text.
     Contains,
     /// The whole name matches this glob.
     Glob,

@@ -17,9 +17,9 @@ use std::alloc::{AllocError, Global};
 pub struct TextArgument<'i> {
     /// What it stands for.
     pub text: Text,
-    /// Where it stands, blanks around it aside.
+    /// Where it stands, without the blanks around it.
     pub span: SourceSpan,
-    /// What follows it, blanks aside.
+    /// What follows it behind blanks.
     pub rest: &'i str,
 }
 
@@ -72,8 +72,8 @@ fn meaning_of(
 }
 
 /// The text that comes next, behind blanks: it runs to the first `)` or `,` that isn't escaped, blanks before that
-/// aside. An empty text is told of as `InvalidString`, each bad escape as `InvalidEscapeCharacter`; the text is then
-/// what is left. An `Err` says that there was no memory.
+/// aside. An empty text is reported as `InvalidString`, each bad escape as `InvalidEscapeCharacter`; the text is then
+/// what is left. It fails only on allocation.
 pub fn text_argument<'i>(
     alloc: Global,
     faults: &mut Faults<'_>,

@@ -1,7 +1,7 @@
 -- A class is read in one way.
-use Rattle.std.proofs.Common.{◌≡◌, ◌≢◌, ℕ, ◌+◌, ◌<◌, ◌≤◌, Bool, true, false, List, [], ◌∷◌, ◌++◌, length, take, drop, get_or, arith, add-one, subst, sym, ◌∙◌, refl, ap, IsTrue}
+use Rattle.std.proofs.Common.{◌≡◌, ℕ, ◌+◌, ◌<◌, ◌≤◌, Bool, true, false, List, [], ◌∷◌, ◌++◌, length, take, drop, get_or, arith, add-one, subst, sym, ◌∙◌, refl, ap, IsTrue}
 use Rattle.std.proofs.lemmas.Bool.{both_ways}
-use Rattle.std.proofs.lemmas.List.{take_more, take-append-drop}
+use Rattle.std.proofs.lemmas.List.{take-append-drop}
 use Rattle.std.proofs.Math.Seq.{drop-cons}
 use Rattle.nextest_filtering_globs.specs.declared.token.ClassRange.{ClassRange}
 use Rattle.nextest_filtering_globs.specs.Signs.{is_complement_sign}
@@ -52,16 +52,6 @@ one_class false true a b text r s h k = absurd (both_ways (begins_complement tex
 one_class false false a b text r s h k =
     let both = one_ranges a b text r s h.1 k.1 in
     (refl, both.0, both.1)
-
--- one more character that is no closing bracket
-unclosed_append : (xs : List ℕ) (x : ℕ) → IsUnclosed xs → x ≢ 93 → IsUnclosed (xs ++ x ∷ [])
-unclosed_append [] x h other = (other, tt)
-unclosed_append (y ∷ ys) x h other = (h.0, unclosed_append ys x h.1 other)
-
-pub unclosed_more : (xs : List ℕ) (i : ℕ) → i < length xs → IsUnclosed (take i xs) → get_or xs i 0 ≢ 93
-    → IsUnclosed (take (i + 1) xs)
-unclosed_more xs i below h other = subst IsUnclosed (sym (take_more xs i 0 below))
-    (unclosed_append (take i xs) (get_or xs i 0) h other)
 
 -- a class up to its first closing bracket
 pub split_there : (text behind : List ℕ) (first place : ℕ) → text ≡ first ∷ behind → IsFirstBracket behind place

@@ -4,6 +4,5 @@ pub mod Syntax
 pub mod Plain
 pub mod Reading
 pub mod Laws
-pub mod Message
 pub mod Glob
 pub mod Code

@@ -1,32 +1,17 @@
 // Why a text is no glob.
 use std::alloc::{AllocError, AllocFailed};
-use std::error::Error;
-use std::fmt;
+use thiserror::Error;
 
 /// Why a glob can't be made of a text.
-#[derive(Clone, Copy, Debug, PartialEq, Eq, Hash)]
+#[derive(Clone, Copy, Debug, PartialEq, Eq, Hash, Error)]
 pub enum GlobConstructError {
     /// The text is no glob.
+    #[error("the text is no glob")]
     InvalidGlob,
     /// There was no memory for its tokens.
+    #[error("out of memory")]
     OutOfMemory,
 }
-
-impl fmt::Display for GlobConstructError {
-    ghost use Rattle.std.specs.Prelude.{Some};
-    ghost use Rattle.nextest_filtering_globs.specs.Message.{message_of};
-
-    ghost output = { λ error. Some (message_of error) };
-
-    fn fmt<W: fmt::Write>(&self, f: &mut fmt::Formatter<W>) -> fmt::Result {
-        match self {
-            GlobConstructError::InvalidGlob => write!(f, "the text is no glob"),
-            GlobConstructError::OutOfMemory => write!(f, "out of memory"),
-        }
-    }
-}
-
-impl Error for GlobConstructError {}
 
 impl From<AllocError> for GlobConstructError {
     ghost use Rattle.std.specs.Prelude.{◌≡◌};

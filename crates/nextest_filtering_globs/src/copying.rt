@@ -5,7 +5,7 @@ ghost use Rattle.nextest_filtering_globs.specs.Plain.{plain, plain_all, plain_al
 use super::token::GlobToken;
 use std::alloc::AllocError;
 
-/// A copy of a token. Only want of memory refuses it.
+/// A copy of a token. It fails only on allocation.
 #[cycle(copy)]
 pub fn copy_token(token: &GlobToken) -> Result<GlobToken, AllocError>
     ensures { IfOk result (λ copy. plain copy ≡ plain token.now) }
@@ -22,7 +22,7 @@ pub fn copy_token(token: &GlobToken) -> Result<GlobToken, AllocError>
     }
 }
 
-// A copy of alternatives. Only want of memory refuses it.
+// A copy of alternatives. It fails only on allocation.
 #[cycle(copy)]
 fn copy_alternatives(all: &Vec<Vec<GlobToken>>) -> Result<Vec<Vec<GlobToken>>, AllocError>
     ensures { IfOk result (λ copy. plain_alternatives copy.items ≡ plain_alternatives all.now.items) }
@@ -34,7 +34,7 @@ fn copy_alternatives(all: &Vec<Vec<GlobToken>>) -> Result<Vec<Vec<GlobToken>>, A
     Ok(copies)
 }
 
-/// A copy of tokens. Only want of memory refuses it.
+/// A copy of tokens. It fails only on allocation.
 #[cycle(copy)]
 pub fn copy_tokens(tokens: &Vec<GlobToken>) -> Result<Vec<GlobToken>, AllocError>
     ensures { IfOk result (λ copy. plain_all copy.items ≡ plain_all tokens.now.items) }

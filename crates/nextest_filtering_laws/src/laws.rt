@@ -13,7 +13,7 @@ pub fn reads_back_exactly()
     ensures { ReadsBackExactly }
 {}
 
-/// Nothing is two filtersets.
+/// A text is at most one filterset.
 pub fn one_tree()
     ensures { OneTree }
 {}

@@ -7,12 +7,12 @@ use Rattle.std.proofs.Math.Path.{ap, sym, subst, ◌∙◌}
 use Rattle.std.proofs.lemmas.Result.{err_from_is_err_and}
 use Rattle.nextest_filtering_texts.specs.Text.{is_blank}
 use Rattle.nextest_filtering_trees.specs.declared.tree.ParsedExpr.{ParsedExpr}
-use Rattle.nextest_filtering_trees.specs.Tree.{Leaf, matching, built_for, default_filter, everything, nothing, Tree, set, tree_of, matcher_of}
+use Rattle.nextest_filtering_trees.specs.Tree.{Leaf, matching, built_for, Tree, set, tree_of, matcher_of}
 use Rattle.nextest_filtering_trees.specs.Grammar.{unblanked, leaf_word, ReadsLeaf, ReadsArgument, ReadsMatcher}
 use Rattle.nextest_filtering_arguments.specs.declared.stop.Stop.{Stop}
 use Rattle.nextest_filtering_arguments.specs.declared.stop.Stop.TheVariants.{NoTree, Memory}
 use Rattle.nextest_filtering_trees.specs.declared.leaf.SourceSpan.{SourceSpan}
-use Rattle.nextest_filtering_arguments.specs.Faults.{IsSuffix, here, Lies, RunsOut}
+use Rattle.nextest_filtering_arguments.specs.Faults.{IsSuffix, here, Lies}
 use Rattle.nextest_filtering_arguments.specs.Matchers.{subject_of}
 use Rattle.nextest_filtering_arguments.specs.Matchers.{IsArgument, IsNoArgument, FindsMatcher, ReadsPlatform, platform_itself}
 use Rattle.nextest_filtering_arguments.specs.declared.subject.Subject as code
@@ -95,13 +95,6 @@ argued_not named text behind rest old now new tree sort part closed = record {
       absurd (none_is_not one.1.0 one.1.1);
 }
 
--- where there is no matcher, a fault was added
-pub told_none : {V A : Type 0} {view : V → A} {Reads : A → List ℕ → List ℕ → Type 0} (text behind : List ℕ) (old now : ℕ)
-    → IsArgument view Reads text old now None behind → old < now
-told_none text behind old now part = by_cases where
-  by_cases : old < now
-  by_cases = Prim.grind (arith, part.more, λ (same : now ≡ old). none_is_not (part.reads same).0 (part.reads same).1)
-
 pub no_matcher : (s : code.Subject) (text : List ℕ) (old new : ℕ) → IsNoArgument (ReadsMatcher (subject_of s)) text old new → IsNotArgued (name.About s) text old new
 no_matcher s text old new none = record {
   more = none.more;
@@ -118,28 +111,6 @@ pub matcher_passes : (s : code.Subject) (text : List ℕ) (old new : ℕ) (e : S
 matcher_passes s text old new e r found is =
     let p = err_from_is_err_and r is in
     subst (FindsArgument (name.About s) text old new) (sym p.1) (subst (λ y. FindsArgument (name.About s) text old new (Err y)) (sym p.2) (stops_so s text old new e found))
-
--- a predicate without an argument
-pub plainly : (named : Name) (it : Leaf) (text rest : List ℕ) (old new : ℕ) → HasName named it → ((other : Leaf) → HasName named other → other ≡ it)
-    → ((read : List ℕ) → ReadsArgument it text read → text ≡ read) → ReadsArgument it text text → IsClosed text old new rest → IsArgued named text old new (set it) rest
-plainly named it text rest old new has only_one nothing_read reads_nothing closed = record {
-  more = closed.more;
-  behind = closed.behind;
-  reads = λ same. (it, refl, has, text, reads_nothing, closed.reads same);
-  only = λ other read end other_has reads closes.
-      let one = only_one other other_has in
-      let ends = closed.only end (ap unblanked (nothing_read read (subst (λ l. ReadsArgument l text read) one reads)) ∙ closes) in
-      (ends.0, ap set one, ends.1);
-}
-
-pub default_argued : (text rest : List ℕ) (old new : ℕ) → IsClosed text old new rest → IsArgued name.Default text old new (set default_filter) rest
-default_argued text rest old new closed = plainly name.Default default_filter text rest old new refl (λ other e. e) (λ read e. e) refl closed
-
-pub all_argued : (text rest : List ℕ) (old new : ℕ) → IsClosed text old new rest → IsArgued name.All text old new (set everything) rest
-all_argued text rest old new closed = plainly name.All everything text rest old new refl (λ other e. e) (λ read e. e) refl closed
-
-pub none_argued : (text rest : List ℕ) (old new : ℕ) → IsClosed text old new rest → IsArgued name.None text old new (set nothing) rest
-none_argued text rest old new closed = plainly name.None nothing text rest old new refl (λ other e. e) (λ read e. e) refl closed
 
 -- what stands where no argument belongs isn't followed by the predicate's `)`
 pub unexpected : (text ahead part rest : List ℕ) (old now new : ℕ) → ahead ≡ unblanked text → ((end : List ℕ) → ahead ≡ 41 ∷ end → ⊥) → IsSuffix part ahead → now ≡ old + 1
@@ -296,18 +267,9 @@ argued_not_from {view = view} {Reads = Reads} named text behind rest old now new
     subst (λ n. IsArgued named text old n tree rest) (sym same_count)
     (argued_not named text behind rest old now new tree sort (subst (λ o. IsArgument view Reads text old now o behind) none part) closed)
 
-pub told_none_from : {V A : Type 0} {view : V → A} {Reads : A → List ℕ → List ℕ → Type 0} (text behind rest : List ℕ) (old now new : ℕ) (r : Option V)
-    → r ≡ None → IsArgument view Reads text old now r behind → IsClosed behind now new rest → 0 < new
-told_none_from {view = view} {Reads = Reads} text behind rest old now new r none part closed =
-    Prim.omega (arith, told_none text behind old now (subst (λ o. IsArgument view Reads text old now o behind) none part), closed.more)
-
 -- a span of so many bytes of a rest lies in the input
 pub lies_at : (input rest : List ℕ) (n : ℕ) (span : SourceSpan) → span ≡ here input rest n → IsSuffix rest input → n ≤ length rest → Lies input span
 lies_at input rest n span is within short = subst (Lies input) (sym is) (here_lies input rest n within short)
-
--- a span of all bytes of a rest runs to the input's end
-pub runs_out_at : (input rest : List ℕ) (span : SourceSpan) → span ≡ here input rest (length rest) → IsSuffix rest input → RunsOut input span
-runs_out_at input rest span is within = subst (RunsOut input) (sym is) (Prim.omega (arith, suffix_len rest input within))
 
 -- what follows a name is a rest
 pub name_rest : (it : Name) (start named : List ℕ) → ReadsName it start named → IsSuffix named start

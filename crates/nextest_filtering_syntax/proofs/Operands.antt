@@ -106,15 +106,6 @@ negated op text behind old new inside rest reads part = record {
       (is.0, n.1 ∙ ap (negation op) is.1, is.2);
 }
 
-pub negated_not : (op : NotOperator) (text behind : List ℕ) (old new : ℕ) → ReadsNot op text behind
-    → IsNoPart Unary Anywhere behind old new → IsNoPart Unary Anywhere text old new
-negated_not op text behind old new reads none = record {
-  more = none.more;
-  never = λ other end found anywhere.
-      let n = is_negation op text behind other end reads found in
-      none.never n.0 end n.2 tt;
-}
-
 pub grouped : (text inside middle rest : List ℕ) (old now new : ℕ) (found : Tree) → unblanked text ≡ 40 ∷ inside
     → IsPart Expression Closes inside old now found middle → IsClosed middle now new rest → IsPart Unary Anywhere text old new (parens found) rest
 grouped text inside middle rest old now new found opens part closes = record {
@@ -129,15 +120,6 @@ grouped text inside middle rest old now new found opens part closes = record {
       let is = part.only g.0 g.1 g.3 (inr (end, g.4)) in
       let ends = closes.only end (ap unblanked (sym is.2) ∙ g.4) in
       (Prim.omega (arith, is.0, ends.0), g.2 ∙ ap parens is.1, ends.1);
-}
-
-pub grouped_not : (text inside : List ℕ) (old new : ℕ) → unblanked text ≡ 40 ∷ inside
-    → IsNoPart Expression Closes inside old new → IsNoPart Unary Anywhere text old new
-grouped_not text inside old new opens none = record {
-  more = none.more;
-  never = λ other end reads anywhere.
-      let g = is_group text inside other end opens reads in
-      none.never g.0 g.1 g.3 (inr (end, g.4));
 }
 
 pub predicate_finds : (text : List ℕ) (old new : ℕ) (r : Result (ParsedExpr × Bor (List ℕ)) Stop)

@@ -18,9 +18,6 @@ no_length : (list : List ParseSingleError) → length list ≡ 0 → list ≡ []
 no_length [] e = refl
 no_length (x ∷ xs) e = absurd (Prim.omega (arith, e))
 
-no_items : (list : List ParseSingleError) → list ≡ [] → length list ≡ 0
-no_items list e = ap length e
-
 -- a tree that was made
 pub reading_tree : (text input : List ℕ) (tree : ParsedExpr) (r : Reading) (list : List ParseSingleError) → r.tree ≡ Some tree → r.faults.items ≡ list → input ≡ text
     → AreFaultsOf input r.faults.items → ReadsWhole text (length list) (Ok tree) → ArePlaced text tree → IsReadingOf text r

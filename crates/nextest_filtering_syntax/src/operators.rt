@@ -23,7 +23,7 @@ fn ends_word(text: &str) -> bool
     }
 }
 
-// What follows `front` at the front of `text`, where the word ends behind it.
+// What follows `front` at the start of `text`, where the word ends behind it.
 fn behind_word<'i>(text: &'i str, front: &str) -> Option<&'i str>
     ensures some { IfSome result (λ rest. text.now ≡ front.now ++ rest.now) }
     ensures ends { IfSome result (λ rest. ends_word rest.now ≡ true) }
@@ -66,7 +66,7 @@ fn right_or(text: &str) -> Option<(OrOperator, &str)>
     }
 }
 
-// What follows `||` or `OR` at the front of `text`.
+// What follows `||` or `OR` at the start of `text`.
 fn wrong_or(text: &str) -> Option<&str>
     ensures some { IfSome result (λ rest. (text.now ≡ 124 ∷ 124 ∷ rest.now) ⊎ (text.now ≡ 79 ∷ 82 ∷ rest.now)) }
 {
@@ -115,7 +115,7 @@ fn right_joint(text: &str) -> Option<(Joint, &str)>
     }
 }
 
-// How long `&&` or `AND` at the front of `text` is, and what follows it.
+// How long `&&` or `AND` at the start of `text` is, and what follows it.
 fn wrong_and(text: &str) -> Option<(usize, &str)>
     ensures some { IfSome result (λ it. ((text.now ≡ 38 ∷ 38 ∷ it.1.now) × (it.0 ≡ 2)) ⊎ ((text.now ≡ 65 ∷ 78 ∷ 68 ∷ it.1.now) × (it.0 ≡ 3))) }
 {

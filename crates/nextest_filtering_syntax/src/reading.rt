@@ -2,6 +2,7 @@
 use nextest_filtering_arguments::ParseSingleError;
 use nextest_filtering_trees::ParsedExpr;
 use std::alloc::AllocError;
+use thiserror::Error;
 
 /// What a text was read as: the tree, where one was made, and its faults, in the order in which they were found. A text
 /// without faults is its tree; with faults the tree is what was made of the text all the same.
@@ -14,11 +15,13 @@ pub struct Reading {
 }
 
 /// Why a text gets no tree.
-#[derive(Drop)]
+#[derive(Debug, Drop, Error)]
 pub enum ParseError {
     /// For these faults, in the order in which they were found.
+    #[error("the text is no filterset")]
     Faults(Vec<ParseSingleError>),
     /// There is no memory.
+    #[error("out of memory")]
     OutOfMemory,
 }
 

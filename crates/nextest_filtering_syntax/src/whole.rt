@@ -29,7 +29,7 @@ fn whole(alloc: Global, faults: &mut Faults<'_>, text: &str) -> Result<ParsedExp
 
 /// Reads a filterset, with recovery: its tree, where one could be made, and all faults. The text is a filterset exactly
 /// where there is no fault. Each predicate of the tree has a span of the text that begins with its name, but for `all`
-/// and `none`, which have none. Only want of memory refuses it.
+/// and `none`, which have none. It fails only on allocation.
 pub fn read(alloc: Global, text: &str) -> Result<Reading, AllocError>
     ensures { IfOk result (λ it. IsReadingOf text.now it) }
 {

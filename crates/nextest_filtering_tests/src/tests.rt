@@ -1,14 +1,14 @@
-// Many levels, trees that no text is read as, copies, the page of names, and the laws called.
+// Many levels, trees that no text is read as, copies, the page of names, what refusals print, and the laws called.
 use nextest_filtering::{
-    FILTERSET_REFERENCE_MD, GenericGlob, NameMatcher, NotOperator, OrOperator, ParsedExpr,
-    ParsedLeaf, Pattern, SourceSpan, laws, parse, read,
+    FILTERSET_REFERENCE_MD, GenericGlob, GlobConstructError, NameMatcher, NotOperator, OrOperator,
+    ParseError, ParsedExpr, ParsedLeaf, Pattern, PatternError, SourceSpan, laws, parse, read,
 };
 use nextest_filtering_texts::laws as text_laws;
 use nextest_text::Text;
 use std::alloc::{AllocError, Global};
 use std::test::Fail;
 
-// The front so many times, the middle, and the end as many times.
+// The prefix so many times, the middle, and the end as many times.
 fn nested(alloc: Global, front: &str, middle: &str, end: &str) -> Result<String, Fail> {
     let mut text = String::new(alloc);
     for _ in 0..1000 {
@@ -140,6 +140,54 @@ fn each_line_of_the_page_is_a_name(rt: HostRuntime) -> Result<(), Fail> {
         }
     }
     assert!(rt; found.as_str() == "ExpectedOpenParenthesis ".repeat(rt.alloc(), 12)?.as_str());
+    Ok(())
+}
+
+// The page is the names of all predicates, as they print, each on a line.
+#[test]
+fn the_page_has_each_predicate(rt: HostRuntime) -> Result<(), Fail> {
+    let alloc = rt.alloc();
+    let mut page = String::new(alloc);
+    for text in [
+        "package(a)",
+        "deps(a)",
+        "rdeps(a)",
+        "kind(a)",
+        "binary(a)",
+        "binary_id(a)",
+        "platform(host)",
+        "test(a)",
+        "group(a)",
+        "default()",
+        "all()",
+        "none()",
+    ] {
+        let printed = format!(in alloc; "{}", parse(alloc, text)?)?;
+        for name in printed.as_str().split('(').take(1) {
+            page.push_str(format!(in alloc; "{name}\n")?.as_str())?;
+        }
+    }
+    assert_eq!(rt; page.as_str(), FILTERSET_REFERENCE_MD);
+    Ok(())
+}
+
+#[test]
+fn refusals_print(rt: HostRuntime) -> Result<(), Fail> {
+    let alloc = rt.alloc();
+    let of_globs = [
+        GlobConstructError::InvalidGlob,
+        GlobConstructError::OutOfMemory,
+    ];
+    let of_patterns = [PatternError::Syntax, PatternError::OutOfMemory];
+    let of_texts = [ParseError::Faults(Vec::new(alloc)), ParseError::OutOfMemory];
+    let told = format!(in alloc;
+        "{}; {}; {}; {}; {}; {}",
+        of_globs[0], of_globs[1], of_patterns[0], of_patterns[1], of_texts[0], of_texts[1]
+    )?;
+    assert_eq!(rt;
+        told.as_str(),
+        "the text is no glob; out of memory; the text is no regular expression; out of memory; the text is no filterset; out of memory"
+    );
     Ok(())
 }
 

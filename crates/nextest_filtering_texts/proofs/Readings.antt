@@ -1,6 +1,6 @@
 -- What a reading of a text with escapes knows, escape by escape.
 use Rattle.std.proofs.lemmas.Str.{encode_same, len_utf8_bounds, length-encode}
-use Rattle.std.proofs.Common.{◌≡◌, ◌≢◌, ℕ, ◌+◌, ◌-◌, ◌<◌, ◌≤◌, Bool, true, false, not, eqb, List, [], ◌∷◌, ◌++◌, length, get_or, Option, Some, None, refl, sym, ap, ◌∙◌, subst, arith, inl, inr, suc}
+use Rattle.std.proofs.Common.{◌≡◌, ◌≢◌, ℕ, ◌+◌, ◌-◌, ◌<◌, ◌≤◌, Bool, true, false, not, eqb, List, [], ◌∷◌, ◌++◌, length, get_or, Some, None, refl, sym, ap, ◌∙◌, subst, arith, inl, inr, suc}
 use Rattle.std.specs.Prelude.{encode_utf8}
 use Rattle.std.specs.List.{AllByRecursion, flat_map}
 use Rattle.std.specs.Str.Parse.{AllDigits}
@@ -200,17 +200,6 @@ pub record Readable (raw rest text : List ℕ) (bad : List EscapeSpan) : Type 0 
   pub rise : Rise 0 bad (length front)
   pub read : Continues raw front rest text bad
 
-pub readable_start : (raw : List ℕ) → Readable raw raw [] []
-readable_start raw = record {
-  front = [];
-  whole = refl;
-  loose = λ none more has. has;
-  only = λ meant has. (refl, (meant, has));
-  spans = tt;
-  rise = omega arith;
-  read = λ parts are spelled. record { parts = parts; each = are; whole = spelled; meant = refl; told = refl };
-}
-
 -- an escape was read
 pub readable_good : (raw rest text : List ℕ) (bad : List EscapeSpan) (plain behind ahead after : List ℕ) (character : ℕ)
     → Readable raw rest text bad → rest ≡ plain ++ 92 ∷ behind → IsBare plain → ReadsEscape behind (Some character) ahead
@@ -288,32 +277,6 @@ readable_bad raw rest text bad plain behind ahead after span known parted bare (
           ∙ ap (λ (n : ℕ). span ∷ spans_of n parts) next)
           ∙ sym (append_assoc bad (span ∷ []) (spans_of (length (before ++ bytes)) parts)));
     }
-
--- how far a backslash is behind the start, and what follows it behind that
-pub readable_bounds : (raw rest text : List ℕ) (bad : List EscapeSpan) (plain behind : List ℕ)
-    → Readable raw rest text bad → rest ≡ plain ++ 92 ∷ behind → length behind + 1 ≤ length raw
-readable_bounds raw rest text bad plain behind known parted =
-    let counted = ap length known.whole in
-    let first = length-append known.front rest in
-    let parts = ap length parted in
-    let second = length-append plain (92 ∷ behind) in
-    omega arith
-
-pub escape_shorter : (behind : List ℕ) (read : Option ℕ) (ahead : List ℕ) → ReadsEscape behind read ahead → length ahead ≤ length behind
-escape_shorter behind None ahead (none, (bytes, spelled, is_bad)) =
-    let counted = ap length spelled in
-    let parts = length-append bytes ahead in
-    let some = bad_long bytes ahead is_bad in
-    omega arith
-escape_shorter behind (Some character) ahead (piece, is, spelled, means) =
-    let counted = ap length spelled in
-    let parts = length-append (spelling piece) ahead in
-    let some = spelled_long piece in
-    omega arith where
-      spelled_long : (p : Piece) → 0 < length (spelling p)
-      spelled_long (Plain byte) = omega arith
-      spelled_long (Escaped letter meant) = omega arith
-      spelled_long (Unicode digits scalar) = omega arith
 
 -- the end
 pub readable_text : (raw rest text after : List ℕ) (bad : List EscapeSpan) → Readable raw rest text bad → IsBare rest → after ≡ text ++ rest

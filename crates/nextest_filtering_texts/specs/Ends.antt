@@ -7,7 +7,7 @@ abbrev pub Stops : List ℕ → Type 0
 Stops [] = ⊤
 Stops (byte ∷ rest) = is_end byte ≡ true
 
--- a reading from the left comes to no `)` or `,` that isn't escaped; the first byte is escaped where a `\` came before it
+-- a reading from the left reaches no `)` or `,` that isn't escaped; the first byte is escaped where a `\` came before it
 abbrev pub unended : Bool → List ℕ → Bool
 unended escaped [] = true
 unended true (byte ∷ rest) = unended false rest

@@ -11,7 +11,7 @@ fn is_end(byte: u8) -> bool
     byte == b')' || byte == b','
 }
 
-/// The text at the front of `input`, blanks included, and what follows: it runs to the first `)` or `,` that isn't
+/// The text at the start of `input`, blanks included, and what follows: it runs to the first `)` or `,` that isn't
 /// escaped, or to the end. A backslash escapes the character behind it, whatever it is.
 pub fn split_text(input: &str) -> (&str, &str)
     ensures whole { input.now ≡ result.0.now ++ result.1.now }

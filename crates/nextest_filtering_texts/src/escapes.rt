@@ -54,7 +54,7 @@ fn split_first(text: &str) -> Option<(char, &str)>
 }
 
 /// What stands behind a backslash: the character that the escape stands for, and what follows it. `None` for a bad
-/// escape, of one character more at most.
+/// escape, of at most one more character.
 fn read_escape(behind: &str) -> (Option<char>, &str)
     ensures { ReadsEscape behind.now result.0 result.1.now }
 {
@@ -70,7 +70,7 @@ fn read_escape(behind: &str) -> (Option<char>, &str)
     }
 }
 
-/// What `raw` stands for, as `split_text` gives it, and its bad escapes. Only want of memory refuses it.
+/// What `raw` stands for, as `split_text` gives it, and its bad escapes. It fails only on allocation.
 pub fn unescape(alloc: Global, raw: &str) -> Result<Unescaped, AllocError>
     ensures text { IfOk result (λ read. read.bad ≡ [] → IsUnended raw.now → IsText raw.now read.text) }
     ensures bad { IfOk result (λ read. read.bad ≢ [] → (text : List ℕ) → IsText raw.now text → ⊥) }

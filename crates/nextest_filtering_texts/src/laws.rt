@@ -1,12 +1,12 @@
 //! What holds of every text, and of how it prints. Each function does nothing, and its contract is the law.
 ghost use Rattle.nextest_filtering_texts.specs.Laws.{OneText, OneReading, OneRegex, BadEscapesStay, EscapedReadsBack, EscapedHasNoBlankEnds, PlainAround};
 
-/// Nothing stands for two texts.
+/// Bytes stand for at most one text.
 pub fn one_text()
     ensures { OneText }
 {}
 
-/// Nothing is read in two ways, bad escapes included.
+/// Bytes are read in at most one way, bad escapes included.
 pub fn one_reading()
     ensures { OneReading }
 {}
@@ -17,7 +17,7 @@ pub fn bad_escapes_stay()
     ensures { BadEscapesStay }
 {}
 
-/// Nothing stands for two regular expressions.
+/// Bytes stand for at most one regular expression.
 pub fn one_regex()
     ensures { OneRegex }
 {}

@@ -63,7 +63,7 @@ impl fmt::Display for Middle<'_> {
     }
 }
 
-/// How a space at the front of a text prints, and what follows it.
+/// How a space at the start of a text prints, and what follows it.
 fn opening_of(text: &str) -> (&str, &str)
     ensures { escaped text.now ≡ result.0.now ++ escaped_behind result.1.now }
 {

@@ -1,4 +1,4 @@
--- What a filterset is, spans aside.
+-- What a filterset is, without spans.
 use Rattle.std.specs.Prelude.{ℕ, Bool, false, List}
 use Rattle.regex.specs.Failures.{IsPattern}
 use Rattle.regex.specs.Patterns.{default_config}

@@ -13,7 +13,7 @@ pub enum NameMatcher {
         /// Whether it was written without its sign `=`.
         implicit: bool,
     },
-    /// The name has this text in it.
+    /// The name contains this text.
     Contains {
         /// The text.
         value: Text,

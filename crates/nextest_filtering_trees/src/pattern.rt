@@ -3,10 +3,11 @@ ghost use Rattle.std.specs.Prelude.{◌≡◌, IfOk, Err};
 ghost use Rattle.nextest_filtering_trees.specs.declared.pattern.PatternError.TheVariants.{Syntax};
 ghost use Rattle.nextest_filtering_trees.specs.Tree.{IsRegex};
 
-use regex::{Error, Regex};
+use regex::{Error as RegexError, Regex};
 use std::alloc::{AllocError, AllocFailed, Global};
 use std::fmt;
 use std::marker::Model;
+use thiserror::Error;
 
 /// A regular expression that `regex` reads. In a clause it is the list of its text's bytes. It stands behind a pointer, so
 /// that trees are small.
@@ -35,11 +36,13 @@ impl Drop for Pattern {
 }
 
 /// Why a text is no regular expression.
-#[derive(Clone, Copy, Debug, PartialEq, Eq)]
+#[derive(Clone, Copy, Debug, PartialEq, Eq, Error)]
 pub enum PatternError {
     /// It isn't in the grammar of `regex`, or nests too deep for it.
+    #[error("the text is no regular expression")]
     Syntax,
     /// There is no memory for it, which takes in that it is too large for `regex`.
+    #[error("out of memory")]
     OutOfMemory,
 }
 
@@ -65,7 +68,7 @@ impl Pattern {
                 regex: Box::new(alloc, regex)?,
                 alloc,
             }),
-            Err(Error::Syntax(_)) => Err(PatternError::Syntax),
+            Err(RegexError::Syntax(_)) => Err(PatternError::Syntax),
             Err(_) => Err(PatternError::OutOfMemory),
         }
     }
@@ -84,7 +87,7 @@ impl fmt::Debug for Pattern {
     }
 }
 
-// The copy is read anew from the text, which only want of memory refuses.
+// The copy is read anew from the text, which fails only on allocation.
 impl Clone for Pattern {
     ghost is_clone = { λ original copy. copy ≡ original };
 

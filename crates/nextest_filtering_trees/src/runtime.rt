@@ -20,7 +20,7 @@ impl ParsedLeaf {
 }
 
 impl ParsedExpr {
-    /// The predicates that only a test answers, from left to right. Only want of memory refuses it.
+    /// The predicates that only a test answers, from left to right. It fails only on allocation.
     pub fn runtime_only_leaves(&self, alloc: Global) -> Result<Vec<&ParsedLeaf>, AllocError>
         ensures { IfOk result (λ found. map leaf_behind found.items ≡ runtime_leaves (tree_of self.now)) }
     {

@@ -22,11 +22,12 @@ pub use nextest_run_events_outcomes::{
     StressFinalRunStats, StressIndex, StressProgress, StressRemaining, StressRunStats,
 };
 pub use nextest_run_events_outputs::{
-    ChildError, ChildErrorDescription, ChildExecutionOutput, ChildExecutionOutputDescription,
-    ChildFdError, ChildOutput, ChildOutputDescription, ChildSingleOutput, ChildSplitOutput,
-    ChildStartError, ChildStartErrorDescription, ErrorChain, ErrorList, ErrorSummary, EventTime,
-    ExecuteStatus, LiveSpec, OutputErrorSlice, OutputSpec, RetryData, SerializableError,
-    SerializableErrorSources, SetupScriptEnvMap, SetupScriptExecuteStatus,
+    Boxed, ChildError, ChildErrorDescription, ChildExecutionOutput,
+    ChildExecutionOutputDescription, ChildFdError, ChildOutput, ChildOutputDescription,
+    ChildSingleOutput, ChildSplitOutput, ChildStartError, ChildStartErrorDescription, ErrorChain,
+    ErrorList, ErrorSummary, EventTime, ExecuteStatus, LiveSpec, OutputErrorSlice, OutputSpec,
+    RetryData, SerializableError, SerializableErrorSource, SerializableErrorSources,
+    SetupScriptEnvMap, SetupScriptExecuteStatus,
 };
 pub use nextest_run_events_results::{
     AbortDescription, AbortStatus, CancelReason, ExecutionResult, ExecutionResultDescription,
@@ -37,3 +38,4 @@ pub use nextest_run_events_units::{
     TestInfoResponse, TestList, TestsNotSeen, UnitKind, UnitState, UnitTerminateMethod,
     UnitTerminateReason, UnitTerminateSignal, UnitTerminatingState,
 };
+pub use nextest_text::{Listing, Text};

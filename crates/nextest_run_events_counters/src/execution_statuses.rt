@@ -5,50 +5,41 @@ ghost use Rattle.nextest_run_events_counters.specs.Attempts.{last};
 ghost use Rattle.nextest_run_events_counters.specs.Description.{description_of, told_by, HoldsSuccess};
 
 use super::execution_description::ExecutionDescription;
+use super::roomy_list::RoomyList;
 use nextest_config_elements_plain::FlakyResult;
 use nextest_run_events_outputs::{ExecuteStatus, OutputSpec};
 use nextest_text::Listing;
 use std::alloc::AllocError;
-use std::error::Error;
-use std::fmt;
 use std::marker::Model;
+use thiserror::Error;
 
 /// The attempts of a test in their order, at least one, and what becomes of the test if it passes late. In a clause
 /// it is those, and for how many more attempts there is room.
 #[derive(Drop)]
-#[derive_where(Clone, Debug; S::ChildOutputDesc)]
+#[derive_where(Clone, Debug, PartialEq, Eq; S::ChildOutputDesc)]
 pub struct ExecutionStatuses<S: OutputSpec> {
-    statuses: Vec<ExecuteStatus<S>>,
+    statuses: RoomyList<ExecuteStatus<S>>,
     flaky_result: FlakyResult,
 }
 
 impl<S: OutputSpec> Model for ExecutionStatuses<S> {
-    ghost use Rattle.std.specs.Prelude.{◌-◌, ◌<◌, vec_len, vec_capacity};
+    ghost use Rattle.std.specs.Prelude.{◌<◌, length};
     ghost use Rattle.nextest_run_events_counters.specs.Attempts.{Attempts};
     ghost use Rattle.nextest_run_events_outputs.specs.declared.execute_status.ExecuteStatus.{ExecuteStatus};
 
     ghost Value = { Attempts (ExecuteStatus S S.ChildOutputDesc) };
 
-    ghost view = { λ it. record { statuses = it.statuses.items; flaky_result = it.flaky_result; room = vec_capacity it.statuses - vec_len it.statuses } };
+    ghost view = { λ it. record { statuses = it.statuses.items; flaky_result = it.flaky_result; room = it.statuses.room } };
 
-    ghost invariant = { λ it. 0 < vec_len it.statuses };
+    ghost inverse = { λ a. record { statuses = record { items = a.statuses; room = a.room }; flaky_result = a.flaky_result } };
+
+    ghost invariant = { λ it. 0 < length it.statuses.items };
 }
 
 /// There are no attempts.
-#[derive(Clone, Copy, Debug, PartialEq, Eq)]
+#[derive(Clone, Copy, Debug, PartialEq, Eq, Error)]
+#[error("expected non-empty statuses")]
 pub struct EmptyStatuses;
-
-impl fmt::Display for EmptyStatuses {
-    ghost use Rattle.std.specs.Prelude.{Some, codes};
-
-    ghost output = { λ _. Some (codes "expected non-empty statuses") };
-
-    fn fmt<W: fmt::Write>(&self, f: &mut fmt::Formatter<W>) -> fmt::Result {
-        f.write_str("expected non-empty statuses")
-    }
-}
-
-impl Error for EmptyStatuses {}
 
 impl<S: OutputSpec> ExecutionStatuses<S> {
     /// These attempts, of which there is one at least.
@@ -58,7 +49,7 @@ impl<S: OutputSpec> ExecutionStatuses<S> {
         ensures flaky_result { result.flaky_result ≡ flaky_result }
     {
         ExecutionStatuses {
-            statuses: Vec::from(statuses),
+            statuses: RoomyList::from(statuses),
             flaky_result,
         }
     }
@@ -78,7 +69,7 @@ impl<S: OutputSpec> ExecutionStatuses<S> {
         Ok(ExecutionStatuses::new(statuses, flaky_result))
     }
 
-    /// Makes room for one more attempt. Only want of memory refuses it, and nothing else changes.
+    /// Makes room for one more attempt. It fails only on allocation, and then nothing changes.
     pub fn reserve_one(&mut self) -> Result<(), AllocError>
         ensures ok { OnOk result (0 < self.new.room) }
         ensures statuses { self.new.statuses ≡ self.old.statuses }
@@ -87,7 +78,7 @@ impl<S: OutputSpec> ExecutionStatuses<S> {
         ensures enough { 0 < self.old.room → IsOk result }
         ensures err { OnErr result (self.new ≡ self.old) }
     {
-        self.statuses.reserve(1)
+        self.statuses.reserve_one()
     }
 
     /// Adds an attempt at the end, for which there is room. It takes no memory.
@@ -97,7 +88,7 @@ impl<S: OutputSpec> ExecutionStatuses<S> {
         ensures flaky_result { self.new.flaky_result ≡ self.old.flaky_result }
         ensures room { self.old.room ≤ self.new.room + 1 }
     {
-        self.statuses.push(status).unwrap();
+        self.statuses.push_reserved(status);
     }
 
     /// What becomes of the test if it passes late.
@@ -111,7 +102,8 @@ impl<S: OutputSpec> ExecutionStatuses<S> {
     pub fn last_status(&self) -> &ExecuteStatus<S>
         ensures { last self.now.statuses ≡ Some result.now }
     {
-        &self.statuses[self.statuses.len() - 1]
+        let statuses = self.as_slice();
+        &statuses[statuses.len() - 1]
     }
 
     /// The attempts, lent.
@@ -126,7 +118,7 @@ impl<S: OutputSpec> ExecutionStatuses<S> {
     pub fn iter(&self) -> std::slice::Iter<'_, ExecuteStatus<S>>
         ensures { iter_rest result ≡ self.now.statuses }
     {
-        self.statuses.iter()
+        self.as_slice().iter()
     }
 
     /// How many attempts there are.
@@ -134,7 +126,7 @@ impl<S: OutputSpec> ExecutionStatuses<S> {
         ensures count { result ≡ length self.now.statuses }
         ensures not_empty { 0 < result }
     {
-        self.statuses.len()
+        self.as_slice().len()
     }
 
     /// What the attempts come to. The last one decides.
@@ -143,12 +135,13 @@ impl<S: OutputSpec> ExecutionStatuses<S> {
         ensures success { HoldsSuccess (told_by result) }
     {
         let last_status = self.last_status();
-        let retry_count = self.statuses.len() - 1;
+        let statuses = self.as_slice();
+        let retry_count = statuses.len() - 1;
         if !last_status.result.is_success() {
             ExecutionDescription::Failure {
-                first_status: &self.statuses[0],
+                first_status: &statuses[0],
                 last_status,
-                retries: &self.statuses[1..],
+                retries: &statuses[1..],
             }
         } else if retry_count == 0 {
             ExecutionDescription::Success {
@@ -157,7 +150,7 @@ impl<S: OutputSpec> ExecutionStatuses<S> {
         } else {
             ExecutionDescription::Flaky {
                 last_status,
-                prior_statuses: &self.statuses[..retry_count],
+                prior_statuses: &statuses[..retry_count],
                 result: self.flaky_result,
             }
         }
@@ -175,6 +168,6 @@ impl<S: OutputSpec> IntoIterator for ExecutionStatuses<S> {
     ghost into_iter_gives = { λ attempts items. into_iter_items items ≡ attempts.statuses };
 
     fn into_iter(self) -> std::vec::IntoIter<ExecuteStatus<S>> {
-        self.statuses.into_iter()
+        Vec::from(self.statuses).into_iter()
     }
 }

@@ -7,6 +7,7 @@
 mod counting;
 mod execution_description;
 mod execution_statuses;
+mod roomy_list;
 mod run_stats;
 mod summary;
 

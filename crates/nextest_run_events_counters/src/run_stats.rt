@@ -113,23 +113,17 @@ impl RunStats {
     fn summarize_failure(&self, kind: RunStatsFailureKind) -> FinalRunStats
         ensures { result ≡ failure_at self.now kind }
     {
-        match self.cancel_reason {
-            None
-            | Some(
-                CancelReason::SetupScriptFailure
-                | CancelReason::TestFailure
-                | CancelReason::TestFailureImmediate,
-            ) => FinalRunStats::Failed { kind },
-            Some(
-                CancelReason::ReportError
-                | CancelReason::GlobalTimeout
-                | CancelReason::Signal
-                | CancelReason::Interrupt
-                | CancelReason::SecondSignal,
-            ) => FinalRunStats::Cancelled {
+        let is_own = match self.cancel_reason {
+            Some(reason) => reason.is_inner(),
+            None => true,
+        };
+        if is_own {
+            FinalRunStats::Failed { kind }
+        } else {
+            FinalRunStats::Cancelled {
                 reason: self.cancel_reason,
                 kind,
-            },
+            }
         }
     }
 }

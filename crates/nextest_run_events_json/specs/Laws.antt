@@ -1,5 +1,5 @@
 -- What holds of all values that are written and read.
-use Rattle.std.specs.Prelude.{◌≡◌, Some, FitsSigned}
+use Rattle.std.specs.Prelude.{◌≡◌, Ok, FitsSigned}
 use Rattle.std.specs.Int.{w32}
 use Rattle.nextest_run_events_results.specs.declared.result.AbortDescription.{AbortDescription}
 use Rattle.nextest_run_events_results.specs.declared.result.AbortDescription.TheVariants as aborted
@@ -30,13 +30,13 @@ FitsResult (ended.Timeout judged) = Unit {0}
 
 -- what is written reads as what it was
 abbrev pub AbortReadBack : Type 0
-AbortReadBack = (abort : AbortDescription) → FitsAbort abort → read.abort (form.abort abort) ≡ Some abort
+AbortReadBack = (abort : AbortDescription) → FitsAbort abort → read.abort (form.abort abort) ≡ Ok abort
 
 abbrev pub FailureReadBack : Type 0
-FailureReadBack = (failure : FailureDescription) → FitsFailure failure → read.failure (form.failure failure) ≡ Some failure
+FailureReadBack = (failure : FailureDescription) → FitsFailure failure → read.failure (form.failure failure) ≡ Ok failure
 
 abbrev pub ResultReadBack : Type 0
-ResultReadBack = (result : ExecutionResultDescription) → FitsResult result → read.result (form.result result) ≡ Some result
+ResultReadBack = (result : ExecutionResultDescription) → FitsResult result → read.result (form.result result) ≡ Ok result
 
 abbrev pub ErrorReadBack : Type 0
-ErrorReadBack = (error : ErrorChain) → read.error (form.error error) ≡ Some error
+ErrorReadBack = (error : ErrorChain) → read.error (form.error error) ≡ Ok error

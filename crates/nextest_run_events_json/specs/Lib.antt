@@ -2,4 +2,4 @@ pub mod Calls
 pub mod Forms
 pub mod Laws
 pub mod Reading
-pub mod Texts
+pub mod ReadBack

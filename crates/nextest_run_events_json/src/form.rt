@@ -1,23 +1,26 @@
-// What has a form in JSON, and how the members of an object are read.
-ghost use Rattle.std.specs.Prelude.{◌≡◌, Option, IfOk, option_map};
+// What has a form in the JSON of run events.
+ghost use Rattle.std.specs.Prelude.{◌≡◌, Ok, IfOk};
 ghost use Rattle.serde_json.specs.Data.{Data};
-ghost use Rattle.serde_json.specs.Find.{as_str};
 ghost use Rattle.serde_json.specs.View.{view};
 ghost use Rattle.nextest_run_events_json.specs.Calls.{Gives};
 ghost use Rattle.nextest_run_events_json.specs.Forms as form_of;
-ghost use Rattle.nextest_run_events_json.specs.Reading as read;
+ghost use Rattle.nextest_run_events_json.specs.Reading.{kept};
 
 use crate::json_error::JsonError;
+use nextest_json::{Fault, Form, JsonValue};
 use serde_json::Value;
 use std::alloc::{AllocError, Global};
 
-/// What has a form in JSON.
-pub trait JsonForm: Drop {
+/// The JSON of run events, whose parts have the forms that are read and written here.
+pub enum RunEvents {}
+
+/// What has a form in the JSON of run events, which is written and read back.
+pub trait JsonForm: Form<RunEvents> {
     // The data that a value is written as.
     ghost form: { Self → Data };
 
-    // What is read from data.
-    ghost reading: { Data → Option Self };
+    // What is known of each value that a program has: a number has as many bits as its type.
+    ghost fits: { Self → Type 0 };
 
     /// The value as JSON. Only want of memory refuses it.
     fn to_json(&self, alloc: Global) -> Result<Value, AllocError>
@@ -25,46 +28,17 @@ pub trait JsonForm: Drop {
 
     /// The value that JSON has the form of.
     fn from_json(alloc: Global, value: &Value) -> Result<Self, JsonError>
-        ensures { Gives result (reading (view value.now)) };
-}
-
-// A member that must stand.
-pub(crate) fn required<T: JsonForm>(
-    alloc: Global,
-    object: &Value,
-    name: &'static str,
-) -> Result<T, JsonError>
-    ensures { Gives result (read.required name.now T.reading (view object.now)) }
-{
-    match object.get(name) {
-        None => Err(JsonError::BadJson),
-        Some(value) => T::from_json(alloc, value),
+        ensures { Gives result (kept (Self.reading (view value.now))) }
+    {
+        match Self::from_value(alloc, &JsonValue::of_tree(value)) {
+            Ok(found) => Ok(found),
+            Err(Fault::At(_)) => Err(JsonError::BadJson),
+            Err(Fault::OutOfMemory) => Err(JsonError::OutOfMemory),
+        }
     }
-}
 
-// A member that may be absent or null.
-pub(crate) fn optional<T: JsonForm>(
-    alloc: Global,
-    object: &Value,
-    name: &'static str,
-) -> Result<Option<T>, JsonError>
-    ensures { Gives result (read.optional name.now T.reading (view object.now)) }
-{
-    match object.get(name) {
-        None => Ok(None),
-        Some(Value::Null) => Ok(None),
-        Some(value) => Ok(Some(T::from_json(alloc, value)?)),
-    }
-}
-
-// The word of a member, by which it is told what stands beside it.
-pub(crate) fn word_at<'v>(object: &'v Value, name: &'static str) -> Option<&'v str>
-    ensures { option_map (λ word. word.now) result ≡ read.required name.now as_str (view object.now) }
-{
-    match object.get(name) {
-        None => None,
-        Some(value) => value.as_str(),
-    }
+    // What is written is read as what it was.
+    ghost read_back: { (value : Self) → fits value → Self.reading (form value) ≡ Ok value };
 }
 
 // The form of what may be absent.

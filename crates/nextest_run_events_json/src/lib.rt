@@ -6,8 +6,7 @@ mod form;
 mod json_error;
 pub mod laws;
 mod leaves;
-mod lists;
 mod results;
 
-pub use form::JsonForm;
+pub use form::{JsonForm, RunEvents};
 pub use json_error::JsonError;

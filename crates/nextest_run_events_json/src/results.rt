@@ -1,20 +1,30 @@
 // The forms of how an attempt ended.
-ghost use Rattle.serde_json.specs.View.{view};
-ghost use Rattle.nextest_run_events_json.specs.Calls.{Gives};
+ghost use Rattle.std.specs.Prelude.{[]};
+ghost use Rattle.nextest_json.specs.Calls.{Gives, IsBelow};
+ghost use Rattle.nextest_json.specs.Seen.{seen};
 ghost use Rattle.nextest_run_events_json.specs.Forms as form_of;
+ghost use Rattle.nextest_run_events_json.specs.Laws as law;
+ghost use Rattle.nextest_run_events_json.specs.ReadBack as back;
 ghost use Rattle.nextest_run_events_json.specs.Reading as read;
 
-use crate::form::{JsonForm, optional, required, unless_absent, word_at};
-use crate::json_error::JsonError;
+use crate::form::{JsonForm, RunEvents, unless_absent};
+use nextest_json::{Fault, Form, JsonValue, Step, optional, required, word};
 use nextest_run_events_results::{
     AbortDescription, ExecutionResultDescription, FailureDescription,
 };
 use serde_json::{Value, json};
 use std::alloc::{AllocError, Global};
 
+// What the word of a member tells isn't known.
+fn unknown(alloc: Global, name: &'static str) -> Fault
+    ensures { IsBelow (Fault.At []) name.now result }
+{
+    Fault::here(alloc).below(Step::Name(name))
+}
+
 // An abort by a signal.
-fn signal_abort(alloc: Global, value: &Value) -> Result<AbortDescription, JsonError>
-    ensures { Gives result (read.signal_abort (view value.now)) }
+fn signal_abort(alloc: Global, value: &JsonValue<'_, '_>) -> Result<AbortDescription, Fault>
+    ensures { Gives result (read.signal_abort (seen value.now)) }
 {
     Ok(AbortDescription::UnixSignal {
         signal: required(alloc, value, "signal")?,
@@ -23,8 +33,8 @@ fn signal_abort(alloc: Global, value: &Value) -> Result<AbortDescription, JsonEr
 }
 
 // An abort by a status.
-fn status_abort(alloc: Global, value: &Value) -> Result<AbortDescription, JsonError>
-    ensures { Gives result (read.status_abort (view value.now)) }
+fn status_abort(alloc: Global, value: &JsonValue<'_, '_>) -> Result<AbortDescription, Fault>
+    ensures { Gives result (read.status_abort (seen value.now)) }
 {
     Ok(AbortDescription::WindowsNtStatus {
         code: required(alloc, value, "code")?,
@@ -32,10 +42,28 @@ fn status_abort(alloc: Global, value: &Value) -> Result<AbortDescription, JsonEr
     })
 }
 
+impl Form<RunEvents> for AbortDescription {
+    ghost reading = { read.abort };
+
+    fn from_value(alloc: Global, value: &JsonValue<'_, '_>) -> Result<AbortDescription, Fault> {
+        let Some(kind) = word(value, "kind") else {
+            return Err(unknown(alloc, "kind"));
+        };
+        match kind {
+            "unix-signal" => signal_abort(alloc, value),
+            "windows-nt-status" => status_abort(alloc, value),
+            "windows-job-object" => Ok(AbortDescription::WindowsJobObject),
+            _ => Err(unknown(alloc, "kind")),
+        }
+    }
+}
+
 impl JsonForm for AbortDescription {
     ghost form = { form_of.abort };
 
-    ghost reading = { read.abort };
+    ghost fits = { law.FitsAbort };
+
+    ghost read_back = { back.abort_back };
 
     fn to_json(&self, alloc: Global) -> Result<Value, AllocError> {
         match self {
@@ -50,16 +78,23 @@ impl JsonForm for AbortDescription {
             AbortDescription::WindowsJobObject => json!(in alloc; {"kind": "windows-job-object"}),
         }
     }
+}
 
-    fn from_json(alloc: Global, value: &Value) -> Result<AbortDescription, JsonError> {
-        let Some(kind) = word_at(value, "kind") else {
-            return Err(JsonError::BadJson);
+impl Form<RunEvents> for FailureDescription {
+    ghost reading = { read.failure };
+
+    fn from_value(alloc: Global, value: &JsonValue<'_, '_>) -> Result<FailureDescription, Fault> {
+        let Some(kind) = word(value, "kind") else {
+            return Err(unknown(alloc, "kind"));
         };
         match kind {
-            "unix-signal" => signal_abort(alloc, value),
-            "windows-nt-status" => status_abort(alloc, value),
-            "windows-job-object" => Ok(AbortDescription::WindowsJobObject),
-            _ => Err(JsonError::BadJson),
+            "exit-code" => Ok(FailureDescription::ExitCode {
+                code: required(alloc, value, "code")?,
+            }),
+            "abort" => Ok(FailureDescription::Abort {
+                abort: required(alloc, value, "abort")?,
+            }),
+            _ => Err(unknown(alloc, "kind")),
         }
     }
 }
@@ -67,7 +102,9 @@ impl JsonForm for AbortDescription {
 impl JsonForm for FailureDescription {
     ghost form = { form_of.failure };
 
-    ghost reading = { read.failure };
+    ghost fits = { law.FitsFailure };
+
+    ghost read_back = { back.failure_back };
 
     fn to_json(&self, alloc: Global) -> Result<Value, AllocError> {
         match self {
@@ -80,26 +117,14 @@ impl JsonForm for FailureDescription {
             }
         }
     }
-
-    fn from_json(alloc: Global, value: &Value) -> Result<FailureDescription, JsonError> {
-        let Some(kind) = word_at(value, "kind") else {
-            return Err(JsonError::BadJson);
-        };
-        match kind {
-            "exit-code" => Ok(FailureDescription::ExitCode {
-                code: required(alloc, value, "code")?,
-            }),
-            "abort" => Ok(FailureDescription::Abort {
-                abort: required(alloc, value, "abort")?,
-            }),
-            _ => Err(JsonError::BadJson),
-        }
-    }
 }
 
 // A failed result.
-fn fail_result(alloc: Global, value: &Value) -> Result<ExecutionResultDescription, JsonError>
-    ensures { Gives result (read.fail_result (view value.now)) }
+fn fail_result(
+    alloc: Global,
+    value: &JsonValue<'_, '_>,
+) -> Result<ExecutionResultDescription, Fault>
+    ensures { Gives result (read.fail_result (seen value.now)) }
 {
     Ok(ExecutionResultDescription::Fail {
         failure: required(alloc, value, "failure")?,
@@ -107,10 +132,37 @@ fn fail_result(alloc: Global, value: &Value) -> Result<ExecutionResultDescriptio
     })
 }
 
+impl Form<RunEvents> for ExecutionResultDescription {
+    ghost reading = { read.result };
+
+    fn from_value(
+        alloc: Global,
+        value: &JsonValue<'_, '_>,
+    ) -> Result<ExecutionResultDescription, Fault> {
+        let Some(status) = word(value, "status") else {
+            return Err(unknown(alloc, "status"));
+        };
+        match status {
+            "pass" => Ok(ExecutionResultDescription::Pass),
+            "leak" => Ok(ExecutionResultDescription::Leak {
+                result: required(alloc, value, "result")?,
+            }),
+            "fail" => fail_result(alloc, value),
+            "exec-fail" => Ok(ExecutionResultDescription::ExecFail),
+            "timeout" => Ok(ExecutionResultDescription::Timeout {
+                result: required(alloc, value, "result")?,
+            }),
+            _ => Err(unknown(alloc, "status")),
+        }
+    }
+}
+
 impl JsonForm for ExecutionResultDescription {
     ghost form = { form_of.result };
 
-    ghost reading = { read.result };
+    ghost fits = { law.FitsResult };
+
+    ghost read_back = { back.result_back };
 
     fn to_json(&self, alloc: Global) -> Result<Value, AllocError> {
         match self {
@@ -128,24 +180,6 @@ impl JsonForm for ExecutionResultDescription {
                 let judged = result.to_json(alloc)?;
                 json!(in alloc; {"result": judged, "status": "timeout"})
             }
-        }
-    }
-
-    fn from_json(alloc: Global, value: &Value) -> Result<ExecutionResultDescription, JsonError> {
-        let Some(status) = word_at(value, "status") else {
-            return Err(JsonError::BadJson);
-        };
-        match status {
-            "pass" => Ok(ExecutionResultDescription::Pass),
-            "leak" => Ok(ExecutionResultDescription::Leak {
-                result: required(alloc, value, "result")?,
-            }),
-            "fail" => fail_result(alloc, value),
-            "exec-fail" => Ok(ExecutionResultDescription::ExecFail),
-            "timeout" => Ok(ExecutionResultDescription::Timeout {
-                result: required(alloc, value, "result")?,
-            }),
-            _ => Err(JsonError::BadJson),
         }
     }
 }

@@ -1,4 +1,5 @@
 pub mod Chain
 pub mod ChildError
 pub mod Live
+pub mod Moment
 pub mod Output

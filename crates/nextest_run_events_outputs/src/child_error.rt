@@ -3,18 +3,19 @@ ghost use Rattle.std.specs.Prelude.{◌≡◌};
 ghost use Rattle.nextest_run_events_outputs.specs.ChildError.{start_source_of, source_of};
 
 use super::serializable_error::SerializableError;
-use std::error::Error;
-use std::fmt;
+use thiserror::Error;
 
 /// Why a child process could not be started.
-#[derive(Clone, Debug, PartialEq, Eq)]
+#[derive(Clone, Debug, PartialEq, Eq, Error)]
 pub enum ChildStartErrorDescription {
     /// A setup script got no temporary path.
+    #[error("error creating temporary path for setup script")]
     TempPath {
         /// Why.
         source: SerializableError,
     },
     /// The process could not be spawned.
+    #[error("error spawning child process")]
     Spawn {
         /// Why.
         source: SerializableError,
@@ -43,48 +44,35 @@ impl ChildStartErrorDescription {
     }
 }
 
-impl fmt::Display for ChildStartErrorDescription {
-    ghost use Rattle.std.specs.Prelude.{Some};
-    ghost use Rattle.nextest_run_events_outputs.specs.ChildError.{start_text_of};
-
-    ghost output = { λ e. Some (start_text_of e) };
-
-    fn fmt<W: fmt::Write>(&self, f: &mut fmt::Formatter<W>) -> fmt::Result {
-        match self {
-            ChildStartErrorDescription::TempPath { .. } => {
-                f.write_str("error creating temporary path for setup script")
-            }
-            ChildStartErrorDescription::Spawn { .. } => f.write_str("error spawning child process"),
-        }
-    }
-}
-
-impl Error for ChildStartErrorDescription {}
-
 /// What went wrong while a child process ran, or with what it left.
-#[derive(Clone, Debug, PartialEq, Eq)]
+#[derive(Clone, Debug, PartialEq, Eq, Error)]
 pub enum ChildErrorDescription {
     /// Its standard output could not be read.
+    #[error("error reading standard output")]
     ReadStdout {
         /// Why.
         source: SerializableError,
     },
     /// Its standard error could not be read.
+    #[error("error reading standard error")]
     ReadStderr {
         /// Why.
         source: SerializableError,
     },
     /// Its output, both streams in one, could not be read.
+    #[error("error reading combined stream")]
     ReadCombined {
         /// Why.
         source: SerializableError,
     },
     /// Its end could not be waited for.
+    #[error("error waiting for child process to exit")]
     Wait {
         /// Why.
         source: SerializableError,
     },
     /// What a setup script left could not be read.
+    #[error("error reading setup script output")]
     SetupScriptOutput {
         /// Why.
         source: SerializableError,
@@ -118,22 +106,3 @@ impl ChildErrorDescription {
         }
     }
 }
-
-impl fmt::Display for ChildErrorDescription {
-    ghost use Rattle.std.specs.Prelude.{Some};
-    ghost use Rattle.nextest_run_events_outputs.specs.ChildError.{text_of};
-
-    ghost output = { λ e. Some (text_of e) };
-
-    fn fmt<W: fmt::Write>(&self, f: &mut fmt::Formatter<W>) -> fmt::Result {
-        f.write_str(match self {
-            ChildErrorDescription::ReadStdout { .. } => "error reading standard output",
-            ChildErrorDescription::ReadStderr { .. } => "error reading standard error",
-            ChildErrorDescription::ReadCombined { .. } => "error reading combined stream",
-            ChildErrorDescription::Wait { .. } => "error waiting for child process to exit",
-            ChildErrorDescription::SetupScriptOutput { .. } => "error reading setup script output",
-        })
-    }
-}
-
-impl Error for ChildErrorDescription {}

@@ -1,4 +1,6 @@
 // One attempt of a test, and one run of a setup script.
+use super::boxed::Boxed;
+use super::event_time::EventTime;
 use super::output::{ChildExecutionOutputDescription, OutputSpec};
 use super::retry_data::RetryData;
 use nextest_run_events_results::ExecutionResultDescription;
@@ -41,15 +43,6 @@ impl Drop for OutputErrorSlice {
     }
 }
 
-/// A moment, and how the clock on the wall was set.
-#[derive(Clone, Copy, Debug, PartialEq, Eq)]
-pub struct EventTime {
-    /// Nanoseconds since the start of 1970 in UTC.
-    pub unix_nanos: i128,
-    /// How many minutes local time is ahead of UTC.
-    pub offset_minutes: i32,
-}
-
 /// One attempt of a test.
 #[derive_where(Clone, Debug, PartialEq, Eq; S::ChildOutputDesc)]
 pub struct ExecuteStatus<S: OutputSpec> {
@@ -68,9 +61,9 @@ pub struct ExecuteStatus<S: OutputSpec> {
     /// How long was waited before it.
     pub delay_before_start: Duration,
     /// What its error says, if that was summed up.
-    pub error_summary: Option<ErrorSummary>,
+    pub error_summary: Option<Boxed<ErrorSummary>>,
     /// What its output says of the error, if a part of it was picked.
-    pub output_error_slice: Option<OutputErrorSlice>,
+    pub output_error_slice: Option<Boxed<OutputErrorSlice>>,
 }
 
 // One call drops it, whoever holds it.
@@ -106,7 +99,7 @@ pub struct SetupScriptExecuteStatus<S: OutputSpec> {
     /// Which variables it sets, if they could be read.
     pub env_map: Option<SetupScriptEnvMap>,
     /// What its error says, if that was summed up.
-    pub error_summary: Option<ErrorSummary>,
+    pub error_summary: Option<Boxed<ErrorSummary>>,
 }
 
 // One call drops it, whoever holds it.

@@ -7,7 +7,7 @@ use super::serializable_error::{ErrorChain, SerializableError};
 use std::alloc::{AllocError, Global};
 
 /// Why a child process could not be started.
-#[derive(Clone, Debug, Drop)]
+#[derive(Clone, Debug, Drop, PartialEq, Eq)]
 pub enum ChildStartError {
     /// A setup script got no temporary path, for this reason.
     TempPath(ErrorChain),
@@ -16,7 +16,7 @@ pub enum ChildStartError {
 }
 
 /// What went wrong with the streams of a child process, or with the wait for its end.
-#[derive(Clone, Debug, Drop)]
+#[derive(Clone, Debug, Drop, PartialEq, Eq)]
 pub enum ChildFdError {
     /// Its standard output could not be read, for this reason.
     ReadStdout(ErrorChain),
@@ -29,7 +29,7 @@ pub enum ChildFdError {
 }
 
 /// What went wrong while a child process ran, or with what it left.
-#[derive(Clone, Debug, Drop)]
+#[derive(Clone, Debug, Drop, PartialEq, Eq)]
 pub enum ChildError {
     /// With its streams, or with the wait for its end.
     Fd(ChildFdError),
@@ -38,7 +38,7 @@ pub enum ChildError {
 }
 
 impl ChildStartErrorDescription {
-    /// The same error, its texts copied. Only want of memory refuses it.
+    /// The same error, its texts copied. It fails only on allocation.
     pub fn from_error(alloc: Global, error: &ChildStartError) -> Result<Self, AllocError>
         ensures { IfOk result (λ told. told ≡ described_start error.now) }
     {
@@ -54,7 +54,7 @@ impl ChildStartErrorDescription {
 }
 
 impl ChildErrorDescription {
-    /// The same error, its texts copied. Only want of memory refuses it.
+    /// The same error, its texts copied. It fails only on allocation.
     pub fn from_error(alloc: Global, error: &ChildError) -> Result<Self, AllocError>
         ensures { IfOk result (λ told. told ≡ described_error error.now) }
     {

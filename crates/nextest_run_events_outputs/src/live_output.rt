@@ -3,6 +3,7 @@ ghost use Rattle.std.specs.Prelude.{◌≡◌, IfOk, option_map};
 ghost use Rattle.nextest_run_events_results.specs.Described.{described};
 ghost use Rattle.nextest_run_events_outputs.specs.Live.{described_errors, described_output, described_run};
 
+use super::boxed::Boxed;
 use super::child_error::{ChildErrorDescription, ChildStartErrorDescription};
 use super::error_list::ErrorList;
 use super::live_error::{ChildError, ChildStartError};
@@ -14,7 +15,7 @@ use nextest_text::Listing;
 use std::alloc::{AllocError, Global};
 
 /// What a child process wrote to two streams, each on its own. A stream that wasn't captured is `None`.
-#[derive(Clone, Debug, Drop)]
+#[derive(Clone, Debug, Drop, PartialEq, Eq)]
 pub struct ChildSplitOutput {
     /// Standard output.
     pub stdout: Option<ChildSingleOutput>,
@@ -23,7 +24,7 @@ pub struct ChildSplitOutput {
 }
 
 /// What a child process wrote.
-#[derive(Clone, Debug, Drop)]
+#[derive(Clone, Debug, Drop, PartialEq, Eq)]
 pub enum ChildOutput {
     /// Two streams, each on its own.
     Split(ChildSplitOutput),
@@ -35,7 +36,7 @@ pub enum ChildOutput {
 }
 
 /// What came of running a child process.
-#[derive(Clone, Debug, Drop)]
+#[derive(Clone, Debug, Drop, PartialEq, Eq)]
 pub enum ChildExecutionOutput {
     /// It was started.
     Output {
@@ -70,11 +71,14 @@ impl From<ChildOutput> for ChildOutputDescription {
 fn told_end(
     alloc: Global,
     ended: Option<ExecutionResult>,
-) -> Result<Option<ExecutionResultDescription>, AllocError>
+) -> Result<Option<Boxed<ExecutionResultDescription>>, AllocError>
     ensures { IfOk result (λ told. told ≡ option_map described ended) }
 {
     match ended {
-        Some(ended) => Ok(Some(ExecutionResultDescription::from_result(alloc, ended)?)),
+        Some(ended) => Ok(Some(Boxed::new(
+            alloc,
+            ExecutionResultDescription::from_result(alloc, ended)?,
+        )?)),
         None => Ok(None),
     }
 }
@@ -100,18 +104,18 @@ fn told_errors(
 fn told_errors_if_any(
     alloc: Global,
     errors: &Option<ErrorList<ChildError>>,
-) -> Result<Option<ErrorList<ChildErrorDescription>>, AllocError>
+) -> Result<Option<Boxed<ErrorList<ChildErrorDescription>>>, AllocError>
     ensures { IfOk result (λ told. told ≡ option_map described_errors errors.now) }
 {
     match errors {
-        Some(errors) => Ok(Some(told_errors(alloc, errors)?)),
+        Some(errors) => Ok(Some(Boxed::new(alloc, told_errors(alloc, errors)?)?)),
         None => Ok(None),
     }
 }
 
 impl ChildExecutionOutputDescription<LiveSpec> {
-    /// The same, told by texts: what was written is moved, and the texts of errors are copied. Only want of memory
-    /// refuses it, and then what was passed is lost.
+    /// The same, told by texts: what was written is moved, and the texts of errors are copied. It fails only
+    /// on allocation, and then what was passed is lost.
     pub fn from_output(alloc: Global, output: ChildExecutionOutput) -> Result<Self, AllocError>
         ensures { IfOk result (λ told. told ≡ described_run output) }
     {

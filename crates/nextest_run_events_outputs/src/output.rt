@@ -2,6 +2,7 @@
 ghost use Rattle.std.specs.Prelude.{◌≡◌, ◌≢◌};
 ghost use Rattle.nextest_run_events_outputs.specs.Output.{stream_length, stream_lengths, has_errors};
 
+use super::boxed::Boxed;
 use super::child_error::{ChildErrorDescription, ChildStartErrorDescription};
 use super::error_list::ErrorList;
 use nextest_run_events_results::ExecutionResultDescription;
@@ -23,7 +24,7 @@ impl OutputSpec for LiveSpec {
 }
 
 /// The bytes of one stream. In a clause it is their list.
-#[derive(Clone, Debug)]
+#[derive(Clone, Debug, PartialEq, Eq)]
 pub struct ChildSingleOutput {
     buf: Listing<u8>,
 }
@@ -41,6 +42,8 @@ impl Model for ChildSingleOutput {
     ghost Value = { List ℕ };
 
     ghost view = { λ o. o.buf };
+
+    ghost inverse = { λ bytes. record { buf = bytes } };
 }
 
 impl ChildSingleOutput {
@@ -124,11 +127,11 @@ pub enum ChildExecutionOutputDescription<S: OutputSpec> {
     /// It was started.
     Output {
         /// How it ended, if it did.
-        result: Option<ExecutionResultDescription>,
+        result: Option<Boxed<ExecutionResultDescription>>,
         /// What it wrote.
         output: S::ChildOutputDesc,
         /// What went wrong while it ran or was read, if anything did.
-        errors: Option<ErrorList<ChildErrorDescription>>,
+        errors: Option<Boxed<ErrorList<ChildErrorDescription>>>,
     },
     /// It could not be started.
     StartError(ChildStartErrorDescription),
@@ -155,7 +158,10 @@ impl<S: OutputSpec> ChildExecutionOutputDescription<S> {
     {
         match self {
             ChildExecutionOutputDescription::Output { result, errors, .. } => {
-                errors.is_some() || result.as_ref().is_some_and(|ended| !ended.is_success())
+                errors.is_some()
+                    || result
+                        .as_ref()
+                        .is_some_and(|ended| !ended.get().is_success())
             }
             ChildExecutionOutputDescription::StartError(_) => true,
         }

@@ -1,8 +1,7 @@
 // An error and its causes, as texts.
 ghost use Rattle.std.specs.Prelude.{◌≡◌, Some, IfOk};
-ghost use Rattle.std.specs.Iterator.{YieldsFirstRef, item_count};
-ghost use Rattle.std.specs.Option.{option_copied};
-ghost use Rattle.nextest_run_events_outputs.specs.Chain.{causes_of, nearest_cause};
+ghost use Rattle.std.specs.Iterator.{YieldsFirst, item_count};
+ghost use Rattle.nextest_run_events_outputs.specs.Chain.{sources_of, nearest_source};
 
 use nextest_text::{Listing, Text};
 use std::alloc::{AllocError, Global};
@@ -57,7 +56,7 @@ impl Model for SerializableError {
 }
 
 impl SerializableError {
-    /// The error of a chain, whose texts are copied. Only want of memory refuses it.
+    /// The error of a chain, whose texts are copied. It fails only on allocation.
     pub fn new(alloc: Global, chain: &ErrorChain) -> Result<Self, AllocError>
         ensures { IfOk result (λ error. error ≡ chain.now) }
     {
@@ -82,19 +81,26 @@ impl SerializableError {
     }
 
     /// What its causes say, the nearest first.
+    pub fn causes(&self) -> &[Text]
+        ensures { result.now ≡ self.now.causes }
+    {
+        self.causes.as_slice()
+    }
+
+    /// Its causes, the nearest first: each an error with the causes behind it.
     pub fn sources(&self) -> SerializableErrorSources<'_>
-        ensures { result ≡ causes_of self.now }
+        ensures { result ≡ sources_of self.now }
     {
         SerializableErrorSources {
             left: self.causes.as_slice(),
         }
     }
 
-    /// What its nearest cause says; `None` where it has no cause.
-    pub fn source(&self) -> Option<&Text>
-        ensures { option_copied result ≡ nearest_cause self.now }
+    /// Its nearest cause, an error with the causes behind it; `None` where it has no cause.
+    pub fn source(&self) -> Option<SerializableErrorSource<'_>>
+        ensures { result ≡ nearest_source self.now }
     {
-        self.causes.as_slice().first()
+        self.sources().next()
     }
 }
 
@@ -108,30 +114,91 @@ impl fmt::Display for SerializableError {
 
 impl Error for SerializableError {}
 
-/// What the causes of an error say, the nearest first. In a clause it is the list of those that are left.
+/// A cause of an error, lent: an error itself. In a clause it is the chain that begins with it.
+#[derive(Debug, Drop)]
+pub struct SerializableErrorSource<'a> {
+    message: &'a Text,
+    causes: &'a [Text],
+}
+
+impl<'a> Model for SerializableErrorSource<'a> {
+    ghost use Rattle.nextest_run_events_outputs.specs.declared.serializable_error.ErrorChain.{ErrorChain};
+
+    ghost Value = { ErrorChain };
+
+    ghost view = { λ source. record { message = source.message.now; causes = source.causes.now } };
+}
+
+impl<'a> SerializableErrorSource<'a> {
+    /// What the cause says.
+    pub fn message(&self) -> &'a str
+        ensures { result.now ≡ self.now.message }
+    {
+        self.message.as_str()
+    }
+
+    /// The causes behind it, the nearest first.
+    pub fn sources(&self) -> SerializableErrorSources<'a>
+        ensures { result ≡ sources_of self.now }
+    {
+        SerializableErrorSources { left: self.causes }
+    }
+
+    /// What it came from; `None` where it is the last cause.
+    pub fn source(&self) -> Option<SerializableErrorSource<'a>>
+        ensures { result ≡ nearest_source self.now }
+    {
+        self.sources().next()
+    }
+}
+
+impl Clone for SerializableErrorSource<'_> {
+    ghost is_clone = { λ original copy. copy ≡ original };
+
+    fn clone(&self) -> Result<Self, AllocError> {
+        Ok(SerializableErrorSource {
+            message: self.message,
+            causes: self.causes,
+        })
+    }
+}
+
+impl fmt::Display for SerializableErrorSource<'_> {
+    ghost output = { λ source. Some source.message };
+
+    fn fmt<W: fmt::Write>(&self, f: &mut fmt::Formatter<W>) -> fmt::Result {
+        f.write_str(self.message.as_str())
+    }
+}
+
+impl Error for SerializableErrorSource<'_> {}
+
+/// The causes of an error, the nearest first. In a clause it is the list of those that are left.
 #[derive(Debug, Drop)]
 pub struct SerializableErrorSources<'a> {
     left: &'a [Text],
 }
 
 impl<'a> Model for SerializableErrorSources<'a> {
-    ghost use Rattle.std.specs.Prelude.{List, ℕ};
+    ghost use Rattle.std.specs.Prelude.{List};
+    ghost use Rattle.nextest_run_events_outputs.specs.Chain.{chains_of};
+    ghost use Rattle.nextest_run_events_outputs.specs.declared.serializable_error.ErrorChain.{ErrorChain};
 
-    ghost Value = { List (List ℕ) };
+    ghost Value = { List ErrorChain };
 
-    ghost view = { λ sources. sources.left.now };
+    ghost view = { λ sources. chains_of sources.left.now };
 }
 
 impl<'a> Iterator for SerializableErrorSources<'a> {
-    type Item = &'a Text;
+    type Item = SerializableErrorSource<'a>;
 
-    ghost next_gives = { YieldsFirstRef (λ left. left) };
+    ghost next_gives = { YieldsFirst (λ left. left) };
 
     ghost remaining = { item_count (λ left. left) };
 
-    fn next(&mut self) -> Option<&'a Text> {
-        let (nearest, others) = self.left.split_first()?;
-        self.left = others;
-        Some(nearest)
+    fn next(&mut self) -> Option<SerializableErrorSource<'a>> {
+        let (message, causes) = self.left.split_first()?;
+        self.left = causes;
+        Some(SerializableErrorSource { message, causes })
     }
 }

@@ -1,5 +1,6 @@
 // Why a run was cancelled.
 ghost use Rattle.std.specs.Prelude.{◌≡◌};
+ghost use Rattle.nextest_run_events_results.specs.Cancel.{is_inner};
 ghost use Rattle.nextest_run_events_results.specs.Texts.{reason_name};
 
 /// Why a run was cancelled. The order of the variants is that of their gravity: a graver reason takes the place
@@ -25,6 +26,22 @@ pub enum CancelReason {
 }
 
 impl CancelReason {
+    /// Whether only a run itself gives the reason, so that neither a log nor a user can.
+    pub fn is_inner(self) -> bool
+        ensures { result ≡ is_inner self }
+    {
+        match self {
+            CancelReason::SetupScriptFailure
+            | CancelReason::TestFailure
+            | CancelReason::TestFailureImmediate => true,
+            CancelReason::ReportError
+            | CancelReason::GlobalTimeout
+            | CancelReason::Signal
+            | CancelReason::Interrupt
+            | CancelReason::SecondSignal => false,
+        }
+    }
+
     /// The reason in words. Both reasons of failed tests have the same.
     pub fn to_static_str(self) -> &'static str
         ensures { result.now ≡ reason_name self }

@@ -28,7 +28,7 @@ pub enum AbortStatus {
 }
 
 impl AbortStatus {
-    /// By what a process that ended so was ended; `None` where it ended by itself.
+    /// What ended a process with this exit status; `None` where it ended by itself.
     pub fn extract(exit_status: ExitStatus) -> Option<AbortStatus>
         ensures { result ≡ abort_of exit_status }
     {
@@ -49,7 +49,7 @@ pub enum FailureStatus {
 }
 
 impl FailureStatus {
-    /// The failure of a process that ended so: by what it was ended, or its code where it ended by itself.
+    /// The failure of a process with this exit status: what ended it, or its code where it ended by itself.
     pub fn extract(exit_status: ExitStatus) -> FailureStatus
         ensures { result ≡ failure_of exit_status }
     {
@@ -124,7 +124,7 @@ fn name_of(alloc: Global, signal: i32) -> Result<Option<Text>, AllocError>
 }
 
 impl AbortDescription {
-    /// An abort, with the name of its signal where that has one. Only want of memory refuses it.
+    /// An abort, with the name of its signal where that has one. It fails only on allocation.
     pub fn from_status(alloc: Global, status: AbortStatus) -> Result<Self, AllocError>
         ensures { IfOk result (λ abort. abort ≡ described_abort status) }
     {
@@ -137,7 +137,7 @@ impl AbortDescription {
 }
 
 impl FailureDescription {
-    /// A failure, with the name of its signal where one ended it. Only want of memory refuses it.
+    /// A failure, with the name of its signal where one ended it. It fails only on allocation.
     pub fn from_status(alloc: Global, status: FailureStatus) -> Result<Self, AllocError>
         ensures { IfOk result (λ failure. failure ≡ described_failure status) }
     {
@@ -151,7 +151,7 @@ impl FailureDescription {
 }
 
 impl ExecutionResultDescription {
-    /// The same end of an attempt, with the name of its signal where one ended it. Only want of memory refuses it.
+    /// The same end of an attempt, with the name of its signal where one ended it. It fails only on allocation.
     pub fn from_result(alloc: Global, ended: ExecutionResult) -> Result<Self, AllocError>
         ensures { IfOk result (λ description. description ≡ described ended) }
     {

@@ -1,11 +1,11 @@
 // What a process left, the attempts of a test, and how a test is named.
 use nextest_run_events::{
-    AbortDescription, ChildError, ChildErrorDescription, ChildExecutionOutput,
+    AbortDescription, Boxed, ChildError, ChildErrorDescription, ChildExecutionOutput,
     ChildExecutionOutputDescription, ChildFdError, ChildOutput, ChildOutputDescription,
     ChildSingleOutput, ChildSplitOutput, ChildStartError, ChildStartErrorDescription, ErrorChain,
-    ErrorList, ExecuteStatus, ExecutionResult, ExecutionResultDescription, ExecutionStatuses,
-    FailureDescription, FlakyResult, JsonError, LiveSpec, RetryData, SerializableError,
-    TestInstanceId,
+    ErrorList, EventTime, ExecuteStatus, ExecutionResult, ExecutionResultDescription,
+    ExecutionStatuses, FailureDescription, FlakyResult, JsonError, LiveSpec, OutputSpec, RetryData,
+    SerializableError, TestInstanceId,
 };
 use nextest_text::{Listing, Text};
 use std::alloc::{AllocError, Global};
@@ -49,21 +49,34 @@ fn an_error_keeps_its_causes_in_order(rt: HostRuntime) -> Result<(), Fail> {
     let kept = SerializableError::new(alloc, &chain(alloc, "no file", &["no folder", "no disk"])?)?;
     let mut sources = Text::new(alloc);
     for source in kept.sources() {
-        sources = Text::from(format!(in alloc; "{sources}{source};")?);
+        let has_source = source.source().is_some();
+        sources = Text::from(format!(in alloc; "{sources}{source} {has_source};")?);
     }
     let bare = SerializableError::new(alloc, &chain(alloc, "no file", &[])?)?;
+    let nearest = kept.source();
+    let next = kept.source().and_then(|source| source.source());
     let told = format!(in alloc;
-        "{}|{sources}|{:?}|{:?}|{}|{}",
-        kept.message(),
-        kept.source(),
-        bare.source(),
+        "{kept}|{}|{sources}|{:?}|{:?}|{}|{}|{}",
+        kept.causes().len(),
+        nearest.map(|source| source.message()),
+        next.map(|source| source.message()),
+        bare.source().is_none(),
         kept.clone()? == kept,
         JsonError::OutOfMemory
     )?;
     assert_eq!(rt;
         told.as_str(),
-        "no file|no folder;no disk;|Some(\"no folder\")|None|true|out of memory"
+        "no file|2|no folder true;no disk false;|Some(\"no folder\")|Some(\"no disk\")|true|true|\
+        out of memory"
     );
+    Ok(())
+}
+
+#[test]
+fn what_a_process_left_compares(rt: HostRuntime) -> Result<(), Fail> {
+    let alloc = rt.alloc();
+    let left = unwaited(alloc, "closed")?;
+    assert!(rt; left.clone()? == left && left != unwaited(alloc, "open")?);
     Ok(())
 }
 
@@ -120,8 +133,8 @@ fn an_output_is_described(rt: HostRuntime) -> Result<(), Fail> {
 }
 
 fn ended_has_errors(
-    ended: Option<ExecutionResultDescription>,
-    errors: Option<ErrorList<ChildErrorDescription>>,
+    ended: Option<Boxed<ExecutionResultDescription>>,
+    errors: Option<Boxed<ErrorList<ChildErrorDescription>>>,
 ) -> bool {
     let output: ChildExecutionOutputDescription<LiveSpec> =
         ChildExecutionOutputDescription::Output {
@@ -140,11 +153,13 @@ fn errors_of_a_process_are_seen(rt: HostRuntime) -> Result<(), Fail> {
         items: Listing::new(alloc),
     };
     assert!(rt; none_listed.len() == 0);
+    let passed = Boxed::new(alloc, ExecutionResultDescription::Pass)?;
+    let unstarted = Boxed::new(alloc, ExecutionResultDescription::ExecFail)?;
     let started = [
         ended_has_errors(None, None),
-        ended_has_errors(Some(ExecutionResultDescription::Pass), None),
-        ended_has_errors(Some(ExecutionResultDescription::ExecFail), None),
-        ended_has_errors(None, Some(none_listed)),
+        ended_has_errors(Some(passed), None),
+        ended_has_errors(Some(unstarted), None),
+        ended_has_errors(None, Some(Boxed::new(alloc, none_listed)?)),
     ];
     assert!(rt; started == [false, false, true, true]);
     let no_path = ChildStartError::TempPath(chain(alloc, "full", &["no disk"])?);
@@ -157,6 +172,35 @@ fn errors_of_a_process_are_seen(rt: HostRuntime) -> Result<(), Fail> {
         ChildExecutionOutputDescription::StartError(error);
     assert!(rt; unstarted.has_errors());
     Ok(())
+}
+
+#[test]
+fn a_boxed_value_is_the_value(rt: HostRuntime) -> Result<(), Fail> {
+    let boxed = Boxed::new(rt.alloc(), Text::from_str(rt.alloc(), "a")?)?;
+    assert!(rt; boxed.clone()? == boxed && boxed.get().as_str() == "a");
+    assert_eq!(rt; boxed.into_inner().as_str(), "a");
+    Ok(())
+}
+
+#[test]
+fn a_moment_is_kept_to_the_nanosecond(rt: HostRuntime) {
+    for (unix_nanos, seconds, nanos) in [
+        (0, 0, 0),
+        (1_700_000_000_123_456_789, 1_700_000_000, 123_456_789),
+        (-1, -1, 999_999_999),
+        (-1_000_000_000, -1, 0),
+        (-1_000_000_001, -2, 999_999_999),
+        (253_402_300_799_999_999_999, 253_402_300_799, 999_999_999),
+    ] {
+        let moment = EventTime::from_unix_nanos(unix_nanos, -90);
+        let told = moment.map(|it| (it.unix_seconds, it.subsec_nanos, it.offset_minutes));
+        assert!(rt; told == Some((seconds, nanos, -90)), "{unix_nanos}");
+        assert!(rt;
+            moment.map(|it| it.unix_nanos()) == Some(unix_nanos),
+            "{unix_nanos}"
+        );
+    }
+    assert!(rt; EventTime::from_unix_nanos(i128::MAX, 0).is_none());
 }
 
 fn attempt(ended: ExecutionResultDescription, is_slow: bool) -> ExecuteStatus<LiveSpec> {
@@ -207,6 +251,56 @@ fn attempts_come_back_in_their_order(rt: HostRuntime) -> Result<(), Fail> {
     assert!(rt; !made.last_status().is_slow && !made.describe().last_status().is_slow);
     assert!(rt; slowness(made.clone()?) == (true, false, true));
     assert!(rt; slowness(made) == (true, false, true));
+    Ok(())
+}
+
+// Of an output its length alone.
+struct LengthSpec;
+
+impl OutputSpec for LengthSpec {
+    type ChildOutputDesc = u64;
+}
+
+// A passed attempt for each of these lengths of output.
+fn passed(
+    alloc: Global,
+    lengths: &[u64],
+    rule: FlakyResult,
+) -> Result<ExecutionStatuses<LengthSpec>, Fail> {
+    let mut statuses = Listing::new(alloc);
+    for length in lengths {
+        statuses.push(ExecuteStatus {
+            retry_data: RetryData {
+                attempt: 1,
+                total_attempts: 1,
+            },
+            output: ChildExecutionOutputDescription::Output {
+                result: None,
+                output: *length,
+                errors: None,
+            },
+            result: ExecutionResultDescription::Pass,
+            start_time: None,
+            time_taken: Duration::ZERO,
+            is_slow: false,
+            delay_before_start: Duration::ZERO,
+            error_summary: None,
+            output_error_slice: None,
+        })?;
+    }
+    Ok(ExecutionStatuses::from_parts(statuses, rule)?)
+}
+
+#[test]
+fn attempts_compare_whatever_room_they_have(rt: HostRuntime) -> Result<(), Fail> {
+    let alloc = rt.alloc();
+    let one = passed(alloc, &[1, 2], FlakyResult::Pass)?;
+    let mut roomy = one.clone()?;
+    roomy.reserve_one()?;
+    assert!(rt; roomy == one);
+    assert!(rt; one != passed(alloc, &[1, 3], FlakyResult::Pass)?);
+    assert!(rt; one != passed(alloc, &[1], FlakyResult::Pass)?);
+    assert!(rt; one != passed(alloc, &[1, 2], FlakyResult::Fail)?);
     Ok(())
 }
 

@@ -36,7 +36,7 @@ impl Text {
         }
     }
 
-    /// A copy of `text`. Only want of memory refuses it.
+    /// A copy of `text`. It fails only on allocation.
     pub fn from_str(alloc: Global, text: &str) -> Result<Self, AllocError>
         ensures { IfOk result (λ copy. copy ≡ text.now) }
     {

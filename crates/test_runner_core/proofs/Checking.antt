@@ -1,19 +1,17 @@
 -- What stays true while the lines of a log are checked.
-use Rattle.std.proofs.Common.{◌≡◌, ℕ, ◌+◌, ◌≤◌, List, [], Option, Some, None, IfSome, Ok, refl, sym, subst, inl, inr}
-use Rattle.test_runner_core_lines.specs.declared.limits.TheConstants.{LOG_LIMIT}
-use Rattle.test_runner_core_lines.specs.declared.fault.LineFault.{LineFault}
-use Rattle.test_runner_core_lines.specs.declared.next.Next.TheVariants as found_is
-use Rattle.test_runner_core_lines.specs.Items.{Item, items}
-use Rattle.test_runner_core_lines.specs.Cursor.{Cursor, received, items_ahead}
-use Rattle.test_runner_core_lines.specs.Calls.{Hands}
+use Rattle.std.proofs.Common.{◌≡◌, ℕ, ◌+◌, ◌≤◌, List, Option, Some, None, IfSome, Ok, refl, sym, subst, inr}
+use Rattle.test_runner_core_log_reader.specs.declared.limits.TheConstants.{LOG_LIMIT}
+use Rattle.test_runner_core_log_reader.specs.declared.next.Next.TheVariants as found_is
+use Rattle.test_runner_core_log_reader.specs.Items.{Item, items}
+use Rattle.test_runner_core_log_reader.specs.Cursor.{Cursor, received, items_ahead}
+use Rattle.test_runner_core_log_reader.specs.Calls.{Hands}
 use Rattle.test_runner_core.specs.Check.{FirstRefused, IsReading}
-use Rattle.test_runner_core.specs.Judging.{refusal_of}
 use Rattle.test_runner_core.specs.declared.refused_line.LineRefusal.{LineRefusal}
 use Rattle.test_runner_core.specs.declared.refused_line.RefusedLine.{RefusedLine}
-use Rattle.test_runner_core_log.specs.Lent.{line_meant}
-use Rattle.test_runner_core_log.specs.Reading.{LendsLine, ReadsLine}
-use Rattle.test_runner_core_log.specs.declared.lent.LentLine.{LentLine}
-use Rattle.test_runner_core_log.specs.declared.log_line.LogLine.{LogLine}
+use Rattle.test_runner_core_line_syntax.specs.Lent.{line_meant}
+use Rattle.test_runner_core_line_syntax.specs.Reading.{LendsLine, ReadsLine}
+use Rattle.test_runner_core_line_syntax.specs.declared.lent.LentLine.{LentLine}
+use Rattle.test_runner_core_line_syntax.specs.declared.log_line.LogLine.{LogLine}
 
 -- what is read where its texts still stand in the line is read
 pub lent_reads : (bytes : List ℕ) (found : Option LentLine) → LendsLine bytes (Ok found) → (line : Option LogLine) × ReadsLine bytes (Ok line)
@@ -33,23 +31,10 @@ pub record Checking (log : Option (List ℕ)) (first_calls first_failures number
   pub unfailed : failures ≡ first_failures
   pub counted : number ≤ cursor.handed + 1
 
-pub finds_first : (log : Option (List ℕ)) → FindsAll log 1 (record { line = []; waiting = []; handed = 0 }) log
-finds_first None = tt
-finds_first (Some log) = λ found h. h
-
 -- what a whole log has, where its bytes are known
 abbrev pub Finds : Option (List ℕ) → Option RefusedLine → Type 0
 Finds None found = Unit {0}
 Finds (Some log) found = FirstRefused 1 (items 0 log) found
-
--- behind an accepted line
-pub finds_next : (log left rest : Option (List ℕ)) (number : ℕ) (old new : Cursor) → FindsAll log number old left → Hands old left new rest (Ok found_is.Line)
-    → IsReading new.line None → FindsAll log (number + 1) new rest
-finds_next None left rest number old new all hands accepted = tt
-finds_next (Some log) None rest number old new all hands accepted = absurd all
-finds_next (Some log) (Some left) None number old new all hands accepted = absurd hands
-finds_next (Some log) (Some left) (Some rest) number old new all hands accepted =
-    λ found h. all found (subst (λ (xs : List Item). FirstRefused number xs found) (sym hands) (inl (accepted, h)))
 
 -- at a refused line
 pub finds_line : (log left rest : Option (List ℕ)) (number : ℕ) (old new : Cursor) (refusal : LineRefusal) → FindsAll log number old left → Hands old left new rest (Ok found_is.Line)
@@ -59,22 +44,6 @@ finds_line (Some log) None rest number old new refusal all hands refused = absur
 finds_line (Some log) (Some left) None number old new refusal all hands refused = absurd hands
 finds_line (Some log) (Some left) (Some rest) number old new refusal all hands refused =
     all _ (subst (λ (xs : List Item). FirstRefused number xs (Some (record { line = number; refusal = refusal }))) (sym hands) (inr (refusal, refused, refl)))
-
--- at a fault of the log
-pub finds_fault : (log left rest : Option (List ℕ)) (number : ℕ) (old new : Cursor) (fault : LineFault) → FindsAll log number old left → Hands old left new rest (Ok (found_is.Refused fault))
-    → Finds log (Some (record { line = number; refusal = refusal_of fault }))
-finds_fault None left rest number old new fault all hands = tt
-finds_fault (Some log) None rest number old new fault all hands = absurd all
-finds_fault (Some log) (Some left) None number old new fault all hands = absurd hands
-finds_fault (Some log) (Some left) (Some rest) number old new fault all hands =
-    all _ (subst (λ (xs : List Item). FirstRefused number xs (Some (record { line = number; refusal = refusal_of fault }))) (sym hands.0) refl)
-
--- at the log's end
-pub finds_none : (log left rest : Option (List ℕ)) (number : ℕ) (old new : Cursor) → FindsAll log number old left → Hands old left new rest (Ok found_is.End) → Finds log None
-finds_none None left rest number old new all hands = tt
-finds_none (Some log) None rest number old new all hands = absurd all
-finds_none (Some log) (Some left) None number old new all hands = absurd hands
-finds_none (Some log) (Some left) (Some rest) number old new all hands = all None (subst (λ (xs : List Item). FirstRefused number xs None) (sym hands.0) tt)
 
 pub finds_if : (log : Option (List ℕ)) (found : Option RefusedLine) → Finds log found → IfSome log (λ bytes. FirstRefused 1 (items 0 bytes) found)
 finds_if None found h = tt

@@ -1,5 +1,5 @@
 -- The events of a log, and that a plan that was built is one.
-use Rattle.std.proofs.Common.{◌≡◌, ℕ, ◌+◌, ◌<◌, List, [], ◌∷◌, Option, Some, None, Result, Ok, Err, Bool, true, false, map, length, ap, sym, subst, inl, inr, arith}
+use Rattle.std.proofs.Common.{◌≡◌, ℕ, ◌+◌, ◌<◌, List, [], ◌∷◌, Option, Some, None, Result, Ok, Err, Bool, true, false, map, length, refl, ap, sym, subst, inl, inr, arith}
 use Rattle.std.specs.Prelude.{⊤, if◌then◌else◌}
 use Rattle.std.specs.List.{AllByRecursion}
 use Rattle.std.specs.Option.{option_map_or}
@@ -11,16 +11,23 @@ use Rattle.test_runner_core_inputs.specs.declared.source.ConfigSourceKind.{Confi
 use Rattle.test_runner_core_inputs.specs.declared.source.ConfigSourceKind.TheVariants as kinds
 use Rattle.test_runner_core_inputs.specs.declared.source.ConfigSourceOutcome.{ConfigSourceOutcome}
 use Rattle.test_runner_core_inputs.specs.declared.source.ConfigSourceOutcome.TheVariants as outcomes
-use Rattle.test_runner_core_lines.specs.Items.{Item, Line, Refused}
+use Rattle.test_runner_core_log_reader.specs.Items.{Item, Line, Refused}
+use Rattle.test_runner_core_line_syntax.specs.Spelling.{Spells}
+use Rattle.test_runner_core_line_syntax.specs.declared.log_line.LogLine.{LogLine}
+use Rattle.test_runner_core_line_syntax.specs.declared.log_line.LogLine.TheVariants as lines
 use Rattle.test_runner_core_listing.specs.Listing.{listing}
+use Rattle.test_runner_core_listing.specs.declared.listing_fault.ListingFault.{ListingFault}
+use Rattle.test_runner_core_listing.specs.declared.selection.Selection.{Selection}
+use Rattle.nextest_run_events_results.specs.declared.cancel_reason.CancelReason.{CancelReason}
 use Rattle.nextest_run_events_results.specs.declared.instance.OwnedTestInstanceId.{OwnedTestInstanceId}
-use Rattle.test_runner_core_plan.specs.Plan.{planned, Planned, IsPlanOf, plan_test, settings_in, settings_by, set_by, asked_in, asks_for_more, filter_in, listed_in, found_by, has_too_many, workspace_of, ◌>>=◌}
+use Rattle.test_runner_core_plan.specs.Plan.{planned, Planned, IsPlanOf, plan_test, settings_in, settings_by, set_by, wanted_in, asks_for_more, filter_in, listed_in, found_by, has_too_many, workspace_of, ◌>>=◌}
 use Rattle.test_runner_core_plan.specs.declared.plan.Plan.{Plan}
 use Rattle.test_runner_core_plan.specs.declared.plan.PlanTest.{PlanTest}
 use Rattle.test_runner_core_plan.specs.declared.plan_fault.PlanFault.{PlanFault}
 use Rattle.test_runner_core_plan.specs.declared.plan_fault.PlanFault.TheVariants as refused
 use Rattle.test_runner_core_runs.specs.Assignment.{Assignment}
-use Rattle.test_runner_core_runs.specs.Plan.{IsPlan, IsLimit, TestPlan}
+use Rattle.test_runner_core_runs.specs.RunPlan.{IsPlan, IsLimit}
+use Rattle.test_runner_core_runs.specs.declared.run_test.RunTest.{RunTest}
 use Rattle.test_runner_core_runs.specs.Runs.{Run, Agrees, IsNoStop}
 use Rattle.test_runner_core_runs.specs.State.{State}
 use Rattle.test_runner_core_runs.specs.Step.{step}
@@ -35,7 +42,7 @@ use Rattle.test_runner_core_workspace.specs.Lister.{Answer}
 use Rattle.test_runner_core_workspace.specs.Workspace.{refusal_of}
 use Rattle.test_runner_core_workspace.specs.declared.record.Binary.{Binary}
 use Rattle.test_runner_core.specs.Judging.{event_of, Judges}
-use Rattle.test_runner_core.specs.Outcome.{LogAgrees}
+use Rattle.test_runner_core.specs.Outcome.{LogAgrees, TellsNoStop}
 
 -- events that lead from one state to another, agree with an assignment and are no stops
 pub record Told (assigned : Assignment) (old new : State) : Type 0 where
@@ -44,16 +51,24 @@ pub record Told (assigned : Assignment) (old new : State) : Type 0 where
   pub agrees : Agrees assigned old events
   pub unstopped : AllByRecursion IsNoStop events
 
+-- a line that spells no stop has an event that is none
+no_stop : (state : SessionState) (line : LogLine) (bytes : List ℕ) → Spells line bytes → ((reason : CancelReason) → Spells (lines.Stop reason) bytes → ⊥)
+    → IsNoStop (event_of state line)
+no_stop state (lines.Script id told) bytes spells quiet = tt
+no_stop state (lines.Start binary name) bytes spells quiet = tt
+no_stop state (lines.End binary name told) bytes spells quiet = tt
+no_stop state (lines.Stop reason) bytes spells quiet = quiet reason spells
+
 pub events_told : (assigned : Assignment) (number : ℕ) (old new : SessionState) (log : List Item)
-    → Judges number old log None new → LogAgrees assigned old log → Told assigned old.run new.run
-events_told assigned number old new [] judged agrees =
+    → Judges number old log None new → LogAgrees assigned old log → TellsNoStop log → Told assigned old.run new.run
+events_told assigned number old new [] judged agrees quiet =
     record { events = []; run = ap (λ (s : SessionState). s.run) judged; agrees = tt; unstopped = tt }
-events_told assigned number old new (Line bytes ∷ more) (inl (mid, inl (empty, same), judged)) agrees =
+events_told assigned number old new (Line bytes ∷ more) (inl (mid, inl (empty, same), judged)) agrees quiet =
     events_told assigned (number + 1) old new more
-    (subst (λ (s : SessionState). Judges (number + 1) s more None new) same judged) (agrees.0 empty)
-events_told assigned number old new (Line bytes ∷ more) (inl (mid, inr (line, spells, follows), judged)) agrees =
+    (subst (λ (s : SessionState). Judges (number + 1) s more None new) same judged) (agrees.0 empty) quiet.1
+events_told assigned number old new (Line bytes ∷ more) (inl (mid, inr (line, spells, follows), judged)) agrees quiet =
     let here = agrees.1 line spells in
-    let rest = events_told assigned (number + 1) mid new more judged (here.2 mid follows) in
+    let rest = events_told assigned (number + 1) mid new more judged (here.1 mid follows) quiet.1 in
     record {
       events = event_of old line ∷ rest.events;
       run = (mid.run, follows.taken, rest.run);
@@ -62,10 +77,10 @@ events_told assigned number old new (Line bytes ∷ more) (inl (mid, inr (line, 
         λ (s : State) (e : step old.run (event_of old line) ≡ Ok s).
             subst (λ (t : State). Agrees assigned t rest.events) (let taken = follows.taken in cc) rest.agrees,
       );
-      unstopped = (here.1, rest.unstopped);
+      unstopped = (no_stop old line bytes spells quiet.0, rest.unstopped);
     }
-events_told assigned number old new (Line bytes ∷ more) (inr (refusal, refuses, found, same)) agrees = absurd (cc)
-events_told assigned number old new (Refused fault ∷ more) judged agrees = absurd (let e = judged.0 in cc)
+events_told assigned number old new (Line bytes ∷ more) (inr (refusal, refuses, found, same)) agrees quiet = absurd (cc)
+events_told assigned number old new (Refused fault ∷ more) judged agrees quiet = absurd (let e = judged.0 in cc)
 
 -- what holds of each value that is given
 abbrev Holds : {A : Type 0} → Result A PlanFault → (A → Type 0) → Type 0
@@ -142,14 +157,14 @@ sources_set_one (source ∷ other ∷ more) = tt
 
 -- the settings of what is planned have a limit
 planned_is_sound : (answer : Binary → Answer) (inputs : Inputs)
-    → Holds (planned answer inputs) (λ it. IsSound it.asked.settings)
+    → Holds (planned answer inputs) (λ it. IsSound it.wanted.settings)
 planned_is_sound answer inputs =
-    next_holds (asked_in inputs) _ (λ asked. IsSound asked.settings) _ asked_is_sound
+    next_holds (wanted_in inputs) _ (λ asked. IsSound asked.settings) _ asked_is_sound
     (λ asked sound. next_holds (found_by (listing answer asked.filter (listed_in inputs asked)))
     _ (λ found. ⊤) _ (anything _)
     (λ found _. unless_refused _ (has_too_many asked found) _ _ sound))
   where
-    asked_is_sound : Holds (asked_in inputs) (λ asked. IsSound asked.settings)
+    asked_is_sound : Holds (wanted_in inputs) (λ asked. IsSound asked.settings)
     asked_is_sound =
         next_holds (workspace_of inputs.workspace (refusal_of inputs.workspace)) _ (λ workspace. ⊤) _ (anything _)
         (λ workspace _. next_holds (settings_in inputs.sources) _ IsSound _ (sources_set_one inputs.sources)
@@ -157,8 +172,27 @@ planned_is_sound answer inputs =
         _ (λ whole. ⊤) _ (anything _)
         (λ whole _. next_holds (filter_in inputs.filterset) _ (λ chosen. ⊤) _ (anything _) (λ chosen _. sound))))
 
+-- what is planned is listed
+itself : {A : Type 0} (given : Result A PlanFault) → Holds given (λ x. given ≡ Ok x)
+itself (Ok x) = refl
+itself (Err refusal) = tt
+
+listed_ok : (found : Result Selection ListingFault) (it : Selection) → found_by found ≡ Ok it → found ≡ Ok it
+listed_ok (Ok found) it e = ap Ok (let f = e in cc)
+listed_ok (Err refusal) it e = absurd (let f = e in cc)
+
+pub planned_lists : (answer : Binary → Answer) (inputs : Inputs) (it : Planned) → planned answer inputs ≡ Ok it
+    → listing answer it.wanted.filter (listed_in inputs it.wanted) ≡ Ok it.found
+planned_lists answer inputs it planned_it =
+    listed_ok (listing answer it.wanted.filter (listed_in inputs it.wanted)) it.found
+    (subst (λ (result : Result Planned PlanFault). Holds result (λ it. found_by (listing answer it.wanted.filter (listed_in inputs it.wanted)) ≡ Ok it.found)) planned_it
+    (next_holds (wanted_in inputs) _ (λ wanted. ⊤) _ (anything _)
+    (λ wanted _. next_holds (found_by (listing answer wanted.filter (listed_in inputs wanted)))
+    _ (λ found. found_by (listing answer wanted.filter (listed_in inputs wanted)) ≡ Ok found) _ (itself _)
+    (λ found listed. unless_refused _ (has_too_many wanted found) _ _ listed))))
+
 each_has_a_try : (settings : Settings) (tests : List OwnedTestInstanceId)
-    → AllByRecursion (λ (test : TestPlan). 0 < test.tries) (map run_test (map (plan_test settings) tests))
+    → AllByRecursion (λ (test : RunTest). 0 < test.tries) (map run_test (map (plan_test settings) tests))
 each_has_a_try settings [] = tt
 each_has_a_try settings (test ∷ tests) = (grind (arith), each_has_a_try settings tests)
 
@@ -168,10 +202,10 @@ pub built_is_plan : (answer : Binary → Answer) (inputs : Inputs) (it : Planned
 built_is_plan answer inputs it plan found built = record {
   no_lone_script = λ none. ap length built.scripts;
   tries =
-      subst (λ (tests : List PlanTest). AllByRecursion (λ (test : TestPlan). 0 < test.tries) (map run_test tests)) (sym built.tests)
-      (each_has_a_try it.asked.settings built.selection.tests);
+      subst (λ (tests : List PlanTest). AllByRecursion (λ (test : RunTest). 0 < test.tries) (map run_test tests)) (sym built.tests)
+      (each_has_a_try it.wanted.settings built.selection.tests);
   limit =
       subst (λ (limit : MaxFail). IsLimit limit) (sym built.limit)
-      (subst (λ (result : Result Planned PlanFault). Holds result (λ it. IsSound it.asked.settings)) found
+      (subst (λ (result : Result Planned PlanFault). Holds result (λ it. IsSound it.wanted.settings)) found
       (planned_is_sound answer inputs));
 }

@@ -5,3 +5,4 @@ mod OneOrder
 mod OneRun
 pub mod OneOutcome
 pub mod Telling
+pub mod Selected

@@ -1,7 +1,7 @@
 -- A run comes to one judgement, and an unrefused one to the status that is due.
 use Rattle.std.proofs.Common.{◌≡◌, List, Option, Some, None, Err, true, refl, sym, ap, ◌∙◌, subst}
 use Rattle.test_runner_core_inputs.specs.declared.inputs.Inputs.{Inputs}
-use Rattle.test_runner_core_lines.specs.Items.{Item}
+use Rattle.test_runner_core_log_reader.specs.Items.{Item}
 use Rattle.test_runner_core_plan.specs.Plan.{planned}
 use Rattle.test_runner_core_plan.specs.declared.plan.Plan.{Plan}
 use Rattle.test_runner_core_plan.specs.declared.plan_fault.PlanFault.{PlanFault}
@@ -14,7 +14,7 @@ use Rattle.test_runner_core_workspace.specs.Lister.{Answer}
 use Rattle.test_runner_core_workspace.specs.declared.record.Binary.{Binary}
 use Rattle.test_runner_core.specs.Judging.{Judges}
 use Rattle.test_runner_core.specs.Laws.{EndsWithDueStatus, OneOutcome}
-use Rattle.test_runner_core.specs.Outcome.{LogAgrees, Ran, end_of}
+use Rattle.test_runner_core.specs.Outcome.{LogAgrees, TellsNoStop, Ran, end_of}
 use Rattle.test_runner_core.specs.Report.{exit_status}
 use Rattle.test_runner_core.specs.declared.judgement.Judgement.TheVariants as it
 use Rattle.test_runner_core.specs.declared.refused_line.RefusedLine.{RefusedLine}
@@ -23,10 +23,10 @@ use Rattle.test_runner_core.proofs.OneRun.{one_plan, judges_once, err_once, neve
 
 -- an unrefused run ends with the status that is due
 run_is_due : (answer : Binary → Answer) (inputs : Inputs) (assigned : Assignment) (log : List Item) (last : SessionState)
-    (ran : Ran answer inputs log None last) → LogAgrees assigned (session_of ran.plan) log → is_complete last.run ≡ true
+    (ran : Ran answer inputs log None last) → LogAgrees assigned (session_of ran.plan) log → TellsNoStop log → is_complete last.run ≡ true
     → status last.run ≡ due_status (run_plan ran.plan) assigned
-run_is_due answer inputs assigned log last ran agrees complete =
-    let told = events_told assigned 1 (session_of ran.plan) last log ran.judged agrees in
+run_is_due answer inputs assigned log last ran agrees quiet complete =
+    let told = events_told assigned 1 (session_of ran.plan) last log ran.judged agrees quiet in
     let is_plan = built_is_plan answer inputs ran.built.0 ran.plan ran.built.1 ran.built.2 in
     ends_with_due_status (run_plan ran.plan) assigned told.events last.run is_plan told.run told.agrees told.unstopped complete
 
@@ -64,6 +64,6 @@ one_outcome answer inputs log (it.Ended code) (it.Ended other) of_one of_other =
     ap it.Ended (of_one.2 ∙ ap (λ (s : SessionState). end_of s.run) same ∙ sym of_other.2)
 
 pub outcome_is_due : EndsWithDueStatus
-outcome_is_due answer inputs log judgement comes assigned last ran agrees complete =
+outcome_is_due answer inputs log judgement comes assigned last ran agrees quiet complete =
     ap exit_status (one_outcome answer inputs log judgement (it.Ended (end_of last.run)) comes (last, ran, refl))
-    ∙ run_is_due answer inputs assigned log last ran agrees complete
+    ∙ run_is_due answer inputs assigned log last ran agrees quiet complete

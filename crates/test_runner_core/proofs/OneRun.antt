@@ -3,11 +3,11 @@ use Rattle.std.proofs.Common.{◌≡◌, ℕ, ◌+◌, List, [], ◌∷◌, Opti
 use Rattle.nextest_config_elements_plain.specs.declared.max_fail.MaxFail.{MaxFail}
 use Rattle.nextest_run_events_results.specs.declared.instance.OwnedTestInstanceId.{OwnedTestInstanceId}
 use Rattle.test_runner_core_inputs.specs.declared.inputs.Inputs.{Inputs}
-use Rattle.test_runner_core_lines.specs.Items.{Item, Line, Refused}
-use Rattle.test_runner_core_log.proofs.Lines.{one_event, one_reading}
-use Rattle.test_runner_core_log.specs.Reading.{ReadsLine}
-use Rattle.test_runner_core_log.specs.declared.log_line.LogLine.{LogLine}
-use Rattle.test_runner_core_log.specs.declared.parse_line_error.ParseLineError.TheVariants as unread
+use Rattle.test_runner_core_log_reader.specs.Items.{Item, Line, Refused}
+use Rattle.test_runner_core_line_syntax.proofs.Lines.{one_event, one_reading}
+use Rattle.test_runner_core_line_syntax.specs.Reading.{ReadsLine}
+use Rattle.test_runner_core_line_syntax.specs.declared.log_line.LogLine.{LogLine}
+use Rattle.test_runner_core_line_syntax.specs.declared.parse_line_error.ParseLineError.TheVariants as unread
 use Rattle.test_runner_core_plan.specs.Plan.{Builds, IsPlanOf, Planned, plan_test}
 use Rattle.test_runner_core_plan.specs.declared.plan.Plan.{Plan}
 use Rattle.test_runner_core_plan.specs.declared.plan.PlanTest.{PlanTest}
@@ -46,7 +46,7 @@ plans_of_one inputs it a b of_a of_b =
     let tests : of_a.selection.tests ≡ of_b.selection.tests =
     one_rising it.found.tests of_a.selection.tests of_b.selection.tests of_a.selected.tests of_b.selected.tests of_a.selected.order of_b.selected.order in
     plans_same a b (of_a.scripts ∙ sym of_b.scripts)
-    (of_a.tests ∙ ap (λ (xs : List OwnedTestInstanceId). map (plan_test it.asked.settings) xs) tests ∙ sym of_b.tests)
+    (of_a.tests ∙ ap (λ (xs : List OwnedTestInstanceId). map (plan_test it.wanted.settings) xs) tests ∙ sym of_b.tests)
     (of_a.listed ∙ sym of_b.listed) (of_a.skipped ∙ sym of_b.skipped) (of_a.limit ∙ sym of_b.limit)
 
 pub one_plan : (answer : Binary → Answer) (inputs : Inputs) (a b : Plan) → Builds answer inputs (Ok a) → Builds answer inputs (Ok b) → a ≡ b

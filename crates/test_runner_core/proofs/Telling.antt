@@ -1,18 +1,20 @@
 -- From what a run comes to, to what a call of `judge` tells.
-use Rattle.std.proofs.Common.{◌≡◌, ℕ, List, [], ◌++◌, Option, Some, None, IfSome, IfOk, Result, Ok, Err, refl, sym, ap, ◌∙◌, subst, append-nil}
+use Rattle.std.proofs.Common.{◌≡◌, ℕ, ◌≤◌, List, [], ◌++◌, Option, Some, None, IfSome, IfOk, Result, Ok, Err, refl, sym, ap, ◌∙◌, subst, append-nil}
 use Rattle.test_runner_core_inputs.specs.Reading.{read_inputs}
 use Rattle.test_runner_core_inputs.specs.declared.inputs.Inputs.{Inputs}
-use Rattle.test_runner_core_inputs.specs.declared.inputs_error.InputsError.{InputsError}
-use Rattle.test_runner_core_lines.specs.Calls.{PartsAtFirst}
-use Rattle.test_runner_core_lines.specs.Cursor.{Cursor, items_ahead}
-use Rattle.test_runner_core_lines.specs.Feeds.{before_feed, behind_feed}
-use Rattle.test_runner_core_lines.specs.Items.{Item, items}
-use Rattle.test_runner_core_lines.specs.declared.fault.LogFault.{LogFault}
+use Rattle.test_runner_core_inputs.specs.declared.inputs_error.InputsRefusal.{InputsRefusal}
+use Rattle.test_runner_core_log_reader.specs.Calls.{PartsAtFirst}
+use Rattle.test_runner_core_log_reader.specs.Cursor.{Cursor, items_ahead}
+use Rattle.test_runner_core_log_reader.specs.Feeds.{before_feed, behind_feed}
+use Rattle.test_runner_core_log_reader.specs.Items.{Item, items}
+use Rattle.test_runner_core_log_reader.specs.declared.fault.LogFault.{LogFault}
 use Rattle.test_runner_core_listing.specs.Listing.{AsksFor}
+use Rattle.test_runner_core_plan.specs.Plan.{planned}
+use Rattle.test_runner_core_plan.specs.declared.plan_fault.PlanFault.{PlanFault}
 use Rattle.test_runner_core_workspace.specs.Lister.{Answer}
 use Rattle.test_runner_core_workspace.specs.declared.record.Binary.{Binary}
 use Rattle.test_runner_core.specs.Faults.{lacks_memory}
-use Rattle.test_runner_core.specs.Outcome.{IsDue, IsStreamDue, LineOutcome, Outcome, StreamOutcome, table_of}
+use Rattle.test_runner_core.specs.Outcome.{HasNoPlan, IsDue, IsStreamDue, LineOutcome, Outcome, StreamOutcome, table_of}
 use Rattle.test_runner_core.specs.Report.{Reports, Writes}
 use Rattle.test_runner_core.specs.declared.judge_fault.JudgeFault.{JudgeFault}
 use Rattle.test_runner_core.specs.declared.judge_fault.JudgeFault.TheVariants as fault
@@ -59,7 +61,7 @@ stream_status_is_due judgement None (Ok code) before after comes writes = tt
 stream_status_is_due judgement (Some bytes) (Ok code) before after comes writes =
     λ inputs read.
     let log = items 0 (behind_feed bytes) in
-    let outcome : Outcome (table_of inputs) inputs log judgement = subst (λ (r : Result Inputs InputsError). LineOutcome r log judgement) read comes in
+    let outcome : Outcome (table_of inputs) inputs log judgement = subst (λ (r : Result Inputs InputsRefusal). LineOutcome r log judgement) read comes in
     subst (λ (n : ℕ). IsDue (table_of inputs) inputs log n) (sym writes.0) (outcome_is_due (table_of inputs) inputs log judgement outcome)
 stream_status_is_due judgement left (Err e) before after comes writes = tt
 
@@ -75,13 +77,13 @@ parts_come_to judgement (Some bytes) (Some behind) lines parts fresh comes =
     (subst (λ (line : List ℕ). LineOutcome (read_inputs line) (items_ahead lines behind) judgement) parts.0 comes)
 
 -- a first line that is no inputs
-pub refused_parts : (refusal : InputsError) (left rest : Option (List ℕ)) (lines : Cursor) → IfSome left (λ bytes. PartsAtFirst bytes (Some lines) rest)
+pub refused_parts : (refusal : InputsRefusal) (left rest : Option (List ℕ)) (lines : Cursor) → IfSome left (λ bytes. PartsAtFirst bytes (Some lines) rest)
     → lines.handed ≡ 0 → read_inputs lines.line ≡ Err refusal → IfSome left (λ bytes. StreamOutcome bytes (it.NoInputs refusal))
 refused_parts refusal left rest lines parts fresh read = parts_come_to (it.NoInputs refusal) left rest lines parts fresh (comes rest)
   where
     comes : (behind : Option (List ℕ)) → IfSome behind (λ more. LineOutcome (read_inputs lines.line) (items_ahead lines more) (it.NoInputs refusal))
     comes None = tt
-    comes (Some more) = subst (λ (r : Result Inputs InputsError). LineOutcome r (items_ahead lines more) (it.NoInputs refusal)) (sym read) refl
+    comes (Some more) = subst (λ (r : Result Inputs InputsRefusal). LineOutcome r (items_ahead lines more) (it.NoInputs refusal)) (sym read) refl
 
 -- a first line that is
 read_parts : (inputs : Inputs) (judgement : Judgement) (left rest : Option (List ℕ)) (lines : Cursor)
@@ -93,7 +95,7 @@ read_parts inputs judgement left rest lines parts fresh read comes = parts_come_
     by_rest : (behind : Option (List ℕ)) → IfSome behind (λ more. Outcome (table_of inputs) inputs (items_ahead lines more) judgement)
         → IfSome behind (λ more. LineOutcome (read_inputs lines.line) (items_ahead lines more) judgement)
     by_rest None h = tt
-    by_rest (Some more) h = subst (λ (r : Result Inputs InputsError). LineOutcome r (items_ahead lines more) judgement) (sym read) h
+    by_rest (Some more) h = subst (λ (r : Result Inputs InputsRefusal). LineOutcome r (items_ahead lines more) judgement) (sym read) h
 
 -- the same of a call that may fail
 pub read_parts_come_to : (inputs : Inputs) (result : Result Judgement LogFault) (left rest : Option (List ℕ)) (lines : Cursor)
@@ -102,3 +104,15 @@ pub read_parts_come_to : (inputs : Inputs) (result : Result Judgement LogFault) 
     → IfOk result (λ judgement. IfSome left (λ bytes. StreamOutcome bytes judgement))
 read_parts_come_to inputs (Ok judgement) left rest lines parts fresh read comes = read_parts inputs judgement left rest lines parts fresh read comes
 read_parts_come_to inputs (Err e) left rest lines parts fresh read comes = tt
+
+-- a stream whose inputs have no plan is read for its first line alone
+pub first_line_alone : (inputs : Inputs) (left rest : Option (List ℕ)) (lines : Cursor) (first last most : ℕ)
+    → IfSome left (λ bytes. PartsAtFirst bytes (Some lines) rest) → read_inputs lines.line ≡ Ok inputs → first ≤ most
+    → ((refusal : PlanFault) → planned (table_of inputs) inputs ≡ Err refusal → last ≡ first)
+    → IfSome left (λ bytes. HasNoPlan (read_inputs (before_feed bytes)) → last ≤ most)
+first_line_alone inputs None rest lines first last most parts read few unread = tt
+first_line_alone inputs (Some bytes) None lines first last most parts read few unread = absurd parts
+first_line_alone inputs (Some bytes) (Some behind) lines first last most parts read few unread = λ none.
+    let known : read_inputs (before_feed bytes) ≡ Ok inputs = ap read_inputs (sym parts.0) ∙ read in
+    let refused = subst (λ (r : Result Inputs InputsRefusal). HasNoPlan r) known none in
+    subst (λ (n : ℕ). n ≤ most) (sym (unread refused.0 refused.1)) few

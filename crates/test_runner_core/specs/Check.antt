@@ -1,9 +1,9 @@
 -- The first line of a log that is refused whatever the plan.
 use Rattle.std.specs.Prelude.{◌≡◌, ℕ, ◌+◌, List, [], ◌∷◌, Option, None, Some, Ok, Err, ⊤, ◌⊎◌}
-use Rattle.test_runner_core_lines.specs.Items.{Item, Line, Refused}
-use Rattle.test_runner_core_log.specs.Reading.{ReadsLine}
-use Rattle.test_runner_core_log.specs.declared.log_line.LogLine.{LogLine}
-use Rattle.test_runner_core_log.specs.declared.parse_line_error.ParseLineError.TheVariants as unread
+use Rattle.test_runner_core_log_reader.specs.Items.{Item, Line, Refused}
+use Rattle.test_runner_core_line_syntax.specs.Reading.{ReadsLine}
+use Rattle.test_runner_core_line_syntax.specs.declared.log_line.LogLine.{LogLine}
+use Rattle.test_runner_core_line_syntax.specs.declared.parse_line_error.ParseLineError.TheVariants as unread
 use Rattle.test_runner_core.specs.Judging.{refusal_of}
 use Rattle.test_runner_core.specs.declared.refused_line.LineRefusal.{LineRefusal}
 use Rattle.test_runner_core.specs.declared.refused_line.LineRefusal.TheVariants as refused

@@ -1,7 +1,7 @@
 -- What a fault of judging tells of reader, writer and report.
 use Rattle.std.specs.Prelude.{◌≡◌, ℕ, ◌+◌, Bool, true, false, Result, Err}
-use Rattle.test_runner_core_lines.specs.declared.fault.LogFault.{LogFault}
-use Rattle.test_runner_core_lines.specs.declared.fault.LogFault.TheVariants as read
+use Rattle.test_runner_core_log_reader.specs.declared.fault.LogFault.{LogFault}
+use Rattle.test_runner_core_log_reader.specs.declared.fault.LogFault.TheVariants as read
 use Rattle.test_runner_core.specs.declared.judge_fault.JudgeFault.{JudgeFault}
 use Rattle.test_runner_core.specs.declared.judge_fault.JudgeFault.TheVariants as fault
 

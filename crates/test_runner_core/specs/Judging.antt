@@ -1,13 +1,13 @@
 -- How a run goes by the lines of a log.
-use Rattle.std.specs.Prelude.{◌≡◌, ◌⊎◌, ℕ, ◌+◌, List, [], ◌∷◌, Option, None, Some, Ok, Err}
-use Rattle.test_runner_core_lines.specs.Items.{Item, Line, Refused}
-use Rattle.test_runner_core_lines.specs.declared.fault.LineFault.{LineFault}
-use Rattle.test_runner_core_lines.specs.declared.fault.LineFault.TheVariants as faults
-use Rattle.test_runner_core_log.specs.Reading.{ReadsLine}
-use Rattle.test_runner_core_log.specs.Spelling.{Spells}
-use Rattle.test_runner_core_log.specs.declared.log_line.LogLine.{LogLine}
-use Rattle.test_runner_core_log.specs.declared.log_line.LogLine.TheVariants as lines
-use Rattle.test_runner_core_log.specs.declared.parse_line_error.ParseLineError.TheVariants as unread
+use Rattle.std.specs.Prelude.{◌≡◌, ◌⊎◌, ℕ, ◌+◌, List, [], ◌∷◌, ◌++◌, Option, None, Some, Ok, Err}
+use Rattle.test_runner_core_log_reader.specs.Items.{Item, Line, Refused}
+use Rattle.test_runner_core_log_reader.specs.declared.fault.LineFault.{LineFault}
+use Rattle.test_runner_core_log_reader.specs.declared.fault.LineFault.TheVariants as faults
+use Rattle.test_runner_core_line_syntax.specs.Reading.{ReadsLine}
+use Rattle.test_runner_core_line_syntax.specs.Spelling.{Spells}
+use Rattle.test_runner_core_line_syntax.specs.declared.log_line.LogLine.{LogLine}
+use Rattle.test_runner_core_line_syntax.specs.declared.log_line.LogLine.TheVariants as lines
+use Rattle.test_runner_core_line_syntax.specs.declared.parse_line_error.ParseLineError.TheVariants as unread
 use Rattle.test_runner_core_runs.specs.Step.{step}
 use Rattle.test_runner_core_runs.specs.declared.event.Event.{Event}
 use Rattle.test_runner_core_runs.specs.declared.event.Event.TheVariants as events
@@ -57,6 +57,10 @@ Judges number old (Line bytes ∷ more) found new =
     ((mid : SessionState) × Accepts old bytes mid × Judges (number + 1) mid more found new)
     ⊎ ((refusal : LineRefusal) × Refuses old bytes refusal × (found ≡ Some (record { line = number; refusal = refusal })) × (new ≡ old))
 Judges number old (Refused fault ∷ more) found new = (found ≡ Some (record { line = number; refusal = refusal_of fault })) × (new ≡ old)
+
+-- a prefix of what was ahead was judged, no line of it refused, and nothing of what is behind it was taken
+abbrev pub HasTaken : SessionState → List Item → SessionState → Type 0
+HasTaken old ahead new = (front : List Item) × ((rest : List Item) × ((ahead ≡ front ++ rest) × Judges 1 old front None new))
 
 -- what a line's judging answers and leaves
 abbrev pub JudgesLine : SessionState → List ℕ → Option LineRefusal → SessionState → Type 0

@@ -1,7 +1,16 @@
 -- What holds of every run that a log tells.
-use Rattle.std.specs.Prelude.{◌≡◌, List}
+use Rattle.std.specs.Prelude.{◌≡◌, ◌↔◌, ℕ, true, List, map, Ok}
+use Rattle.std.specs.List.{Contains}
+use Rattle.nextest_run_events_results.specs.declared.instance.OwnedTestInstanceId.{OwnedTestInstanceId}
 use Rattle.test_runner_core_inputs.specs.declared.inputs.Inputs.{Inputs}
-use Rattle.test_runner_core_lines.specs.Items.{Item}
+use Rattle.test_runner_core_log_reader.specs.Items.{Item}
+use Rattle.test_runner_core_listing.specs.Filter.{holds}
+use Rattle.test_runner_core_plan.specs.Plan.{Builds, IsPlanOf, Planned, listed_in, planned}
+use Rattle.test_runner_core_plan.specs.declared.plan.Plan.{Plan}
+use Rattle.test_runner_core_plan.specs.declared.plan.PlanTest.{PlanTest}
+use Rattle.test_runner_core_plan.specs.declared.wanted.Wanted.{Wanted}
+use Rattle.test_runner_core_runs.specs.RunPlan.{IsPlan}
+use Rattle.test_runner_core_session.specs.Session.{run_plan}
 use Rattle.test_runner_core_workspace.specs.Lister.{Answer}
 use Rattle.test_runner_core_workspace.specs.declared.record.Binary.{Binary}
 use Rattle.test_runner_core.specs.Outcome.{IsDue, Outcome}
@@ -19,3 +28,24 @@ abbrev pub EndsWithDueStatus : Type 0
 EndsWithDueStatus =
     (answer : Binary → Answer) (inputs : Inputs) (log : List Item) (it : Judgement) → Outcome answer inputs log it
     → IsDue answer inputs log (exit_status it)
+
+-- a plan that was built is one in the sense of the laws over runs: each test has a try, a limit is one at least, and no script
+-- is to run without a test
+abbrev pub BuiltIsPlan : Type 0
+BuiltIsPlan = (answer : Binary → Answer) (inputs : Inputs) (plan : Plan) → Builds answer inputs (Ok plan) → IsPlan (run_plan plan)
+
+-- a test is wanted: a binary that is listed has its binary's id and answered its name, and the filter holds on it
+pub record IsWanted (answer : Binary → Answer) (inputs : Inputs) (wanted : Wanted) (test : OwnedTestInstanceId) : Type 0 where
+  pub binary : Binary
+  pub listed : Contains (listed_in inputs wanted) binary
+  pub id : binary.id ≡ test.binary_id
+  pub names : List (List ℕ)
+  pub answered : answer binary ≡ Ok names
+  pub named : Contains names test.test_name
+  pub chosen : holds wanted.filter test.test_name ≡ true
+
+-- a plan has exactly the tests that are wanted
+abbrev pub HasExactlyTheWanted : Type 0
+HasExactlyTheWanted =
+    (answer : Binary → Answer) (inputs : Inputs) (it : Planned) (plan : Plan) → planned answer inputs ≡ Ok it → IsPlanOf inputs it plan
+    → (test : OwnedTestInstanceId) → Contains (map (λ (t : PlanTest). t.instance) plan.tests) test ↔ IsWanted answer inputs it.wanted test

@@ -1,3 +1,4 @@
+-- What the contracts of this crate, and of what it hands on, speak of.
 pub mod Judging
 pub mod Texts
 pub mod Laws
@@ -5,3 +6,102 @@ pub mod Outcome
 pub mod Report
 pub mod Faults
 pub mod Check
+-- runs: plan, assignment, state, step, whole runs
+pub use Rattle.test_runner_core_runs.specs.RunPlan
+pub use Rattle.test_runner_core_runs.specs.Assignment
+pub use Rattle.test_runner_core_runs.specs.State
+pub use Rattle.test_runner_core_runs.specs.Step
+pub use Rattle.test_runner_core_runs.specs.Counters
+pub use Rattle.test_runner_core_runs.specs.Runs
+pub use Rattle.test_runner_core_runs.specs.Decisions
+pub use Rattle.test_runner_core_runs.specs.Laws as RunLaws
+-- a session by names, and what it keeps
+pub use Rattle.test_runner_core_session.specs.Names
+pub use Rattle.test_runner_core_session.specs.Session
+pub use Rattle.test_runner_core_progress.specs.Progress
+pub use Rattle.test_runner_core_progress.specs.Statuses
+-- plans, and which tests they select
+pub use Rattle.test_runner_core_plan.specs.Plan
+pub use Rattle.test_runner_core_plan.specs.Refusals
+pub use Rattle.test_runner_core_plan.specs.Texts as PlanTexts
+pub use Rattle.test_runner_core_listing.specs.Listing
+pub use Rattle.test_runner_core_listing.specs.Filter
+pub use Rattle.test_runner_core_settings.specs.Settings
+-- inputs, workspaces and listers
+pub use Rattle.test_runner_core_inputs.specs.Reading as InputsReading
+pub use Rattle.test_runner_core_inputs.specs.Calls as InputsCalls
+pub use Rattle.test_runner_core_inputs.specs.Shape as InputsShape
+pub use Rattle.test_runner_core_inputs.specs.Faults as InputsFaults
+pub use Rattle.test_runner_core_inputs.specs.Laws as InputsLaws
+pub use Rattle.test_runner_core_workspace.specs.Workspace
+pub use Rattle.test_runner_core_workspace.specs.Lister
+-- logs, their lines and streams
+pub use Rattle.test_runner_core_line_syntax.specs.Spelling
+pub use Rattle.test_runner_core_line_syntax.specs.Reading as LineReading
+pub use Rattle.test_runner_core_line_syntax.specs.Lent
+pub use Rattle.test_runner_core_line_syntax.specs.Laws as LineLaws
+pub use Rattle.test_runner_core_log_reader.specs.Items
+pub use Rattle.test_runner_core_log_reader.specs.Cursor
+pub use Rattle.test_runner_core_log_reader.specs.Calls
+pub use Rattle.test_runner_core_log_reader.specs.Feeds
+pub use Rattle.test_runner_core_streams.specs.Streams
+-- results and counters
+pub use Rattle.nextest_run_events_results.specs.Result
+pub use Rattle.nextest_run_events_results.specs.Cancel
+pub use Rattle.nextest_run_events_counters.specs.Rows
+pub use Rattle.nextest_run_events_counters.specs.Summary
+-- limits and types
+pub use Rattle.test_runner_core_log_reader.specs.declared.limits.TheConstants as Limits
+pub use Rattle.nextest_config_elements_plain.specs.declared.timeouts.FlakyResult
+pub use Rattle.nextest_config_elements_plain.specs.declared.timeouts.LeakTimeoutResult
+pub use Rattle.nextest_config_elements_plain.specs.declared.max_fail.MaxFail
+pub use Rattle.nextest_config_elements_plain.specs.declared.run_mode.NextestRunMode
+pub use Rattle.nextest_config_elements_plain.specs.declared.timeouts.SlowTimeoutResult
+pub use Rattle.nextest_config_elements_plain.specs.declared.max_fail.TerminateMode
+pub use Rattle.nextest_run_events_counters.specs.declared.summary.FinalRunStats
+pub use Rattle.nextest_run_events_counters.specs.declared.run_stats.RunStats
+pub use Rattle.nextest_run_events_counters.specs.declared.summary.RunStatsFailureKind
+pub use Rattle.nextest_run_events_results.specs.declared.result.AbortDescription
+pub use Rattle.nextest_run_events_results.specs.declared.cancel_reason.CancelReason
+pub use Rattle.nextest_run_events_results.specs.declared.result.ExecutionResultDescription
+pub use Rattle.nextest_run_events_results.specs.declared.result.FailureDescription
+pub use Rattle.nextest_run_events_results.specs.declared.instance.OwnedTestInstanceId
+pub use Rattle.nextest_run_events_results.specs.declared.record.Record
+pub use Rattle.nextest_run_events_results.specs.declared.record.RecordOutput
+pub use Rattle.nextest_run_events_results.specs.declared.instance.TestInstanceId
+pub use Rattle.test_runner_core_inputs.specs.declared.source.ConfigSource
+pub use Rattle.test_runner_core_inputs.specs.declared.source.ConfigSourceKind
+pub use Rattle.test_runner_core_inputs.specs.declared.source.ConfigSourceOutcome
+pub use Rattle.test_runner_core_inputs.specs.declared.platform.FactRecord
+pub use Rattle.test_runner_core_inputs.specs.declared.inputs.Inputs
+pub use Rattle.test_runner_core_inputs.specs.declared.inputs_error.InputsError
+pub use Rattle.test_runner_core_inputs.specs.declared.inputs_error.InputsRefusal
+pub use Rattle.test_runner_core_inputs.specs.declared.platform.PlatformRecord
+pub use Rattle.test_runner_core_log_reader.specs.declared.fault.LineFault
+pub use Rattle.test_runner_core_log_reader.specs.declared.fault.LogFault
+pub use Rattle.test_runner_core_log_reader.specs.declared.next.Next
+pub use Rattle.test_runner_core_line_syntax.specs.declared.lent.LentLine
+pub use Rattle.test_runner_core_line_syntax.specs.declared.lent.LentRecord
+pub use Rattle.test_runner_core_line_syntax.specs.declared.lent.LentStream
+pub use Rattle.test_runner_core_line_syntax.specs.declared.log_line.LogLine
+pub use Rattle.test_runner_core_line_syntax.specs.declared.parse_line_error.ParseLineError
+pub use Rattle.test_runner_core_line_syntax.specs.declared.spelling_error.SpellingError
+pub use Rattle.test_runner_core_plan.specs.declared.plan_fault.LoadFault
+pub use Rattle.test_runner_core_plan.specs.declared.plan.Plan as PlanType
+pub use Rattle.test_runner_core_plan.specs.declared.plan_fault.PlanFault
+pub use Rattle.test_runner_core_plan.specs.declared.plan.PlanSettings
+pub use Rattle.test_runner_core_plan.specs.declared.plan.PlanTest
+pub use Rattle.test_runner_core_progress.specs.declared.start_fault.StartFault
+pub use Rattle.test_runner_core_runs.specs.declared.mark.Mark
+pub use Rattle.test_runner_core_runs.specs.declared.step_refusal.StepRefusal
+pub use Rattle.test_runner_core_session.specs.declared.session.Fate
+pub use Rattle.test_runner_core_streams.specs.declared.memory_writer.WriteFailure
+pub use Rattle.test_runner_core_workspace.specs.declared.record.Binary
+pub use Rattle.test_runner_core_workspace.specs.declared.record.BinaryKind
+pub use Rattle.test_runner_core_workspace.specs.declared.record.BinaryTests
+pub use Rattle.test_runner_core_workspace.specs.declared.record.BuildPlatform
+pub use Rattle.test_runner_core_workspace.specs.declared.record.Link
+pub use Rattle.test_runner_core_workspace.specs.declared.list_fault.ListFault
+pub use Rattle.test_runner_core_workspace.specs.declared.record.Package
+pub use Rattle.test_runner_core_workspace.specs.declared.workspace_error.WorkspaceError
+pub use Rattle.test_runner_core_workspace.specs.declared.record.WorkspaceRecord

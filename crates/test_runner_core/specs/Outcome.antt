@@ -2,20 +2,22 @@
 use Rattle.std.specs.Prelude.{◌≡◌, ℕ, Bool, true, false, List, [], ◌∷◌, Option, None, Some, Result, Ok, Err, ⊤}
 use Rattle.test_runner_core_inputs.specs.declared.inputs.Inputs.{Inputs}
 use Rattle.test_runner_core_inputs.specs.Reading.{read_inputs}
-use Rattle.test_runner_core_inputs.specs.declared.inputs_error.InputsError.{InputsError}
-use Rattle.test_runner_core_lines.specs.Feeds.{before_feed, behind_feed}
-use Rattle.test_runner_core_lines.specs.Items.{Item, Line, Refused, items}
-use Rattle.test_runner_core_lines.specs.declared.fault.LogFault.{LogFault}
-use Rattle.test_runner_core_lines.specs.declared.fault.LogFault.TheVariants as unread
-use Rattle.test_runner_core_log.specs.Spelling.{Spells}
-use Rattle.test_runner_core_log.specs.declared.log_line.LogLine.{LogLine}
+use Rattle.test_runner_core_inputs.specs.declared.inputs_error.InputsRefusal.{InputsRefusal}
+use Rattle.test_runner_core_log_reader.specs.Feeds.{before_feed, behind_feed}
+use Rattle.test_runner_core_log_reader.specs.Items.{Item, Line, Refused, items}
+use Rattle.test_runner_core_log_reader.specs.declared.fault.LogFault.{LogFault}
+use Rattle.test_runner_core_log_reader.specs.declared.fault.LogFault.TheVariants as unread
+use Rattle.nextest_run_events_results.specs.declared.cancel_reason.CancelReason.{CancelReason}
+use Rattle.test_runner_core_line_syntax.specs.Spelling.{Spells}
+use Rattle.test_runner_core_line_syntax.specs.declared.log_line.LogLine.{LogLine}
+use Rattle.test_runner_core_line_syntax.specs.declared.log_line.LogLine.TheVariants as lines
 use Rattle.test_runner_core_plan.specs.Plan.{Builds, planned}
 use Rattle.test_runner_core_plan.specs.declared.plan.Plan.{Plan}
 use Rattle.test_runner_core_plan.specs.declared.plan_fault.PlanFault.{PlanFault}
 use Rattle.test_runner_core_plan.specs.declared.plan_fault.PlanFault.TheVariants as none
 use Rattle.test_runner_core_runs.specs.Assignment.{Assignment, due_status}
 use Rattle.test_runner_core_runs.specs.Counters.{counters, summary}
-use Rattle.test_runner_core_runs.specs.Runs.{EventAgrees, IsNoStop, is_complete}
+use Rattle.test_runner_core_runs.specs.Runs.{EventAgrees, is_complete}
 use Rattle.test_runner_core_runs.specs.State.{State}
 use Rattle.test_runner_core_session.specs.Session.{SessionState, run_plan, session_of}
 use Rattle.test_runner_core_workspace.specs.Lister.{Answer, table_answer}
@@ -57,31 +59,42 @@ abbrev pub IsWithoutPlan : PlanFault → Result Judgement LogFault → Type 0
 IsWithoutPlan none.OutOfMemory came = came ≡ Err unread.Memory
 IsWithoutPlan refusal came = came ≡ Ok (it.NoPlan refusal)
 
--- a log agrees with an assignment, and nobody tells the run to stop: so does the event of each line, where it comes
+-- a log agrees with an assignment: so does the event of each line, where it comes
 abbrev pub LogAgrees : Assignment → SessionState → List Item → Type 0
 LogAgrees assigned state [] = ⊤
 LogAgrees assigned state (Line bytes ∷ more) =
     (bytes ≡ [] → LogAgrees assigned state more)
     × ((line : LogLine) → Spells line bytes
-    → EventAgrees assigned state.run (event_of state line) × IsNoStop (event_of state line)
+    → EventAgrees assigned state.run (event_of state line)
     × ((mid : SessionState) → Follows state mid line → LogAgrees assigned mid more))
 LogAgrees assigned state (Refused fault ∷ more) = ⊤
 
--- an exit status is due: wherever no line of the log is refused, the log agrees with an assignment and the run is
--- complete, it is the status that is due to that assignment
+-- no line of a log tells the run to stop
+abbrev pub TellsNoStop : List Item → Type 0
+TellsNoStop [] = ⊤
+TellsNoStop (Line bytes ∷ more) = ((reason : CancelReason) → Spells (lines.Stop reason) bytes → ⊥) × TellsNoStop more
+TellsNoStop (Refused fault ∷ more) = TellsNoStop more
+
+-- an exit status is due: wherever no line of the log is refused, the log agrees with an assignment, none of its lines tells
+-- the run to stop and the run is complete, it is the status that is due to that assignment
 abbrev pub IsDue : (Binary → Answer) → Inputs → List Item → ℕ → Type 0
 IsDue answer inputs log code =
     (assigned : Assignment) (last : SessionState) (ran : Ran answer inputs log None last) → LogAgrees assigned (session_of ran.plan) log
-    → is_complete last.run ≡ true → code ≡ due_status (run_plan ran.plan) assigned
+    → TellsNoStop log → is_complete last.run ≡ true → code ≡ due_status (run_plan ran.plan) assigned
 
 -- what a binary answers by the inputs' own table
 abbrev pub table_of : Inputs → Binary → Answer
 table_of inputs binary = table_answer inputs.workspace binary.id
 
 -- what a first line, as inputs, and a log come to
-abbrev pub LineOutcome : Result Inputs InputsError → List Item → Judgement → Type 0
+abbrev pub LineOutcome : Result Inputs InputsRefusal → List Item → Judgement → Type 0
 LineOutcome (Ok inputs) log came = Outcome (table_of inputs) inputs log came
 LineOutcome (Err refusal) log came = came ≡ it.NoInputs refusal
+
+-- a first line has no plan: it is no inputs, or they are refused
+abbrev pub HasNoPlan : Result Inputs InputsRefusal → Type 0
+HasNoPlan (Ok inputs) = (refusal : PlanFault) × (planned (table_of inputs) inputs ≡ Err refusal)
+HasNoPlan (Err refusal) = ⊤
 
 -- what a stream comes to: the bytes before its first line feed are the inputs, those behind it the log
 abbrev pub StreamOutcome : List ℕ → Judgement → Type 0

@@ -7,9 +7,9 @@ use Rattle.nextest_run_events_counters.specs.declared.summary.FinalRunStats.TheV
 use Rattle.nextest_run_events_counters.specs.declared.summary.RunStatsFailureKind.{RunStatsFailureKind}
 use Rattle.nextest_run_events_counters.specs.declared.summary.RunStatsFailureKind.TheVariants as at
 use Rattle.nextest_run_events_results.specs.declared.cancel_reason.CancelReason.{CancelReason}
-use Rattle.test_runner_core_inputs.specs.declared.inputs_error.InputsError.{InputsError}
-use Rattle.test_runner_core_inputs.specs.declared.inputs_error.InputsError.TheVariants as unread
-use Rattle.test_runner_core_log.specs.Spelling.{reason_word}
+use Rattle.test_runner_core_inputs.specs.declared.inputs_error.InputsRefusal.{InputsRefusal}
+use Rattle.test_runner_core_inputs.specs.declared.inputs_error.InputsRefusal.TheVariants as unread
+use Rattle.test_runner_core_line_syntax.specs.Spelling.{reason_word}
 use Rattle.test_runner_core_plan.specs.Texts.{name_of}
 use Rattle.test_runner_core_runs.specs.Counters.{status_of}
 use Rattle.test_runner_core.specs.Texts.{text_of}
@@ -27,10 +27,9 @@ abbrev pub LF : ℕ
 LF = 10
 
 -- why a line is no inputs
-abbrev pub input_words : InputsError → List ℕ
+abbrev pub input_words : InputsRefusal → List ℕ
 input_words (unread.Field path) = codes "Field" ++ TAB ∷ path
 input_words unread.Syntax = codes "Syntax"
-input_words unread.OutOfMemory = codes "Syntax"
 
 -- where a run failed or was cut short: at the scripts, or at the tests with how many were to run and how many did not
 abbrev pub step_words : RunStatsFailureKind → List ℕ

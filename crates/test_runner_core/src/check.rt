@@ -1,13 +1,14 @@
 // The first line of a log that is refused whatever the plan.
 ghost use Rattle.std.specs.Prelude.{◌≡◌, ◌+◌, ◌^◌, ◌<◌, ◌≤◌, IfOk, IfSome};
-ghost use Rattle.test_runner_core_lines.specs.Items.{items};
-ghost use Rattle.test_runner_core_lines.specs.Calls.{TellsFailure};
+ghost use Rattle.test_runner_core_log_reader.specs.declared.limits.TheConstants.{LOG_LIMIT};
+ghost use Rattle.test_runner_core_log_reader.specs.Items.{items};
+ghost use Rattle.test_runner_core_log_reader.specs.Calls.{TellsFailure};
 ghost use Rattle.test_runner_core.specs.Check.{FirstRefused, IsReading};
 
 use crate::refused_line::{LineRefusal, RefusedLine, refusal_for, refused_at};
 use std::alloc::Global;
-use test_runner_core_lines::{LogFault, LogLines, Next};
-use test_runner_core_log::{LentLine, SpellingError};
+use test_runner_core_line_syntax::{LentLine, SpellingError};
+use test_runner_core_log_reader::{LogFault, LogLines, Next};
 use test_runner_core_streams::LogReader;
 
 /// Finds the first line of a log that is refused whatever the plan; `None` where every line is empty or spells an
@@ -19,7 +20,7 @@ pub fn first_refused<R: LogReader>(
     requires calls_fit { R.calls reader.old < 2 ^ 62 }
     requires failures_fit { R.failures reader.old < 2 ^ 62 }
     ensures found { IfOk result (λ found. IfSome (R.left reader.old) (λ log. FirstRefused 1 (items 0 log) found)) }
-    ensures reads { R.calls reader.new ≤ R.calls reader.old + 1073741825 }
+    ensures reads { R.calls reader.new ≤ R.calls reader.old + LOG_LIMIT + 1 }
     ensures failures { TellsFailure result (R.failures reader.old) (R.failures reader.new) (R.last_failed reader.new) }
 {
     let mut lines = LogLines::new(alloc);

@@ -1,21 +1,25 @@
 // The two ways to judge a run: of inputs and a log, and of one stream that has both.
 ghost use Rattle.std.specs.Prelude.{◌≡◌, ◌+◌, ◌^◌, ◌<◌, ◌≤◌, IfOk, IfSome, Err};
-ghost use Rattle.test_runner_core_lines.specs.Calls.{TellsFailure};
-ghost use Rattle.test_runner_core_lines.specs.Cursor.{items_ahead};
-ghost use Rattle.test_runner_core_lines.specs.Items.{items};
+ghost use Rattle.test_runner_core_log_reader.specs.declared.limits.TheConstants.{FIRST_LINE_LIMIT, LOG_LIMIT};
+ghost use Rattle.test_runner_core_log_reader.specs.Limits.{first_line_reads};
+ghost use Rattle.test_runner_core_log_reader.specs.Calls.{TellsFailure};
+ghost use Rattle.test_runner_core_log_reader.specs.Cursor.{items_ahead};
+ghost use Rattle.test_runner_core_inputs.specs.Reading.{read_inputs};
+ghost use Rattle.test_runner_core_log_reader.specs.Feeds.{before_feed};
+ghost use Rattle.test_runner_core_log_reader.specs.Items.{items};
 ghost use Rattle.test_runner_core.specs.Faults.{TellsRead, TellsWrite, lacks_memory};
-ghost use Rattle.test_runner_core.specs.Outcome.{IsDue, IsStreamDue, Outcome, StreamOutcome, table_of};
+ghost use Rattle.test_runner_core.specs.Outcome.{HasNoPlan, IsDue, IsStreamDue, Outcome, StreamOutcome, table_of};
 ghost use Rattle.test_runner_core.specs.Report.{Reports, Writes};
 ghost use Rattle.test_runner_core_listing.specs.Listing.{AsksFor};
-ghost use Rattle.test_runner_core_plan.specs.Plan.{asked_for, asked_in, planned};
+ghost use Rattle.test_runner_core_plan.specs.Plan.{asked_for, wanted_in, planned};
 ghost use Rattle.test_runner_core_plan.specs.declared.plan_fault.PlanFault.{PlanFault};
 ghost use Rattle.test_runner_core_workspace.specs.declared.record.Binary.{Binary};
 
 use crate::judge_fault::JudgeFault;
 use crate::judgement::Judgement;
 use std::alloc::Global;
-use test_runner_core_inputs::{Inputs, InputsError};
-use test_runner_core_lines::{LogFault, LogLines};
+use test_runner_core_inputs::{Inputs, InputsError, InputsRefusal};
+use test_runner_core_log_reader::{LogFault, LogLines};
 use test_runner_core_streams::{LogReader, ReportWriter, write_all};
 use test_runner_core_workspace::{Lister, TableLister};
 
@@ -38,9 +42,9 @@ pub fn judge<L: Lister, R: LogReader, W: ReportWriter>(
     ensures reports { Reports result (λ it. IfSome (R.left log.old) (λ bytes. Outcome (L.answer lister.old) inputs.now (items 0 bytes) it)) (W.taken report.old) (W.taken report.new) }
     ensures due { IfOk result (λ code. IfSome (R.left log.old) (λ bytes. IsDue (L.answer lister.old) inputs.now (items 0 bytes) code)) }
     ensures stays { (other : Binary) → L.answer lister.new other ≡ L.answer lister.old other }
-    ensures asks { AsksFor (lacks_memory result) (L.asked lister.old) (asked_for (L.answer lister.old) inputs.now (asked_in inputs.now)) (L.asked lister.new) }
+    ensures asks { AsksFor (lacks_memory result) (L.asked lister.old) (asked_for (L.answer lister.old) inputs.now (wanted_in inputs.now)) (L.asked lister.new) }
     ensures unread { (refusal : PlanFault) → planned (L.answer lister.old) inputs.now ≡ Err refusal → R.calls log.new ≡ R.calls log.old }
-    ensures reads { R.calls log.new ≤ R.calls log.old + 1073741825 }
+    ensures reads { R.calls log.new ≤ R.calls log.old + LOG_LIMIT + 1 }
     ensures read_failures { TellsRead result (R.failures log.old) (R.failures log.new) (R.last_failed log.new) }
     ensures write_failures { TellsWrite result (W.failures report.old) (W.failures report.new) (W.last_failed report.new) }
 {
@@ -49,7 +53,8 @@ pub fn judge<L: Lister, R: LogReader, W: ReportWriter>(
 }
 
 /// Judges the run that one stream tells: its bytes up to the first line feed, or to its end, are the JSON inputs, with
-/// the tests of each binary, and the rest is the log. A first line of more than 16,777,216 bytes is no inputs.
+/// the tests of each binary, and the rest is the log. A first line of more than 16,777,216 bytes is no inputs. Where the
+/// first line is no inputs or they have no plan, the reader is called for that line alone.
 pub fn judge_stream<R: LogReader, W: ReportWriter>(
     alloc: Global,
     input: &mut R,
@@ -60,7 +65,8 @@ pub fn judge_stream<R: LogReader, W: ReportWriter>(
     requires writes_fit { W.failures report.old < 2 ^ 62 }
     ensures reports { Reports result (λ it. IfSome (R.left input.old) (λ bytes. StreamOutcome bytes it)) (W.taken report.old) (W.taken report.new) }
     ensures due { IfOk result (λ code. IfSome (R.left input.old) (λ bytes. IsStreamDue bytes code)) }
-    ensures reads { R.calls input.new ≤ R.calls input.old + 16777217 + 1073741825 }
+    ensures unread { IfSome (R.left input.old) (λ bytes. HasNoPlan (read_inputs (before_feed bytes)) → R.calls input.new ≤ R.calls input.old + first_line_reads) }
+    ensures reads { R.calls input.new ≤ R.calls input.old + FIRST_LINE_LIMIT + 1 + LOG_LIMIT + 1 }
     ensures read_failures { TellsRead result (R.failures input.old) (R.failures input.new) (R.last_failed input.new) }
     ensures write_failures { TellsWrite result (W.failures report.old) (W.failures report.new) (W.last_failed report.new) }
 {
@@ -73,16 +79,16 @@ fn judgement_of<R: LogReader>(alloc: Global, input: &mut R) -> Result<Judgement,
     requires calls_fit { R.calls input.old < 2 ^ 62 }
     requires failures_fit { R.failures input.old < 2 ^ 62 }
     ensures outcome { IfOk result (λ it. IfSome (R.left input.old) (λ bytes. StreamOutcome bytes it)) }
-    ensures reads { R.calls input.new ≤ R.calls input.old + 16777217 + 1073741825 }
+    ensures unread { IfSome (R.left input.old) (λ bytes. HasNoPlan (read_inputs (before_feed bytes)) → R.calls input.new ≤ R.calls input.old + first_line_reads) }
+    ensures reads { R.calls input.new ≤ R.calls input.old + FIRST_LINE_LIMIT + 1 + LOG_LIMIT + 1 }
     ensures failures { TellsFailure result (R.failures input.old) (R.failures input.new) (R.last_failed input.new) }
 {
     let Some(mut lines) = LogLines::behind_first_line(alloc, input)? else {
-        return Ok(Judgement::NoInputs(InputsError::Syntax));
+        return Ok(Judgement::NoInputs(InputsRefusal::Syntax));
     };
     match Inputs::from_json(alloc, lines.line()) {
         Ok(inputs) => judgement_by_table(alloc, &inputs, &mut lines, input),
-        Err(InputsError::Syntax) => Ok(Judgement::NoInputs(InputsError::Syntax)),
-        Err(InputsError::Field(path)) => Ok(Judgement::NoInputs(InputsError::Field(path))),
+        Err(InputsError::Refused(refusal)) => Ok(Judgement::NoInputs(refusal)),
         Err(InputsError::OutOfMemory) => Err(LogFault::Memory),
     }
 }
@@ -97,7 +103,8 @@ fn judgement_by_table<R: LogReader>(
     requires calls_fit { R.calls log.old + 2 ^ 32 ≤ 2 ^ 63 }
     requires failures_fit { R.failures log.old < 2 ^ 62 }
     ensures outcome { IfOk result (λ it. IfSome (R.left log.old) (λ left. Outcome (table_of inputs.now) inputs.now (items_ahead lines.old left) it)) }
-    ensures reads { R.calls log.new ≤ R.calls log.old + 1073741825 }
+    ensures unread { (refusal : PlanFault) → planned (table_of inputs.now) inputs.now ≡ Err refusal → R.calls log.new ≡ R.calls log.old }
+    ensures reads { R.calls log.new ≤ R.calls log.old + LOG_LIMIT + 1 }
     ensures failures { TellsFailure result (R.failures log.old) (R.failures log.new) (R.last_failed log.new) }
 {
     let mut lister = TableLister::new(alloc, &inputs.workspace)?;

@@ -2,32 +2,23 @@
 ghost use Rattle.std.specs.Prelude.{◌≡◌};
 
 use std::alloc::{AllocError, AllocFailed};
-use std::error::Error;
-use std::{fmt, io};
-use test_runner_core_lines::LogFault;
+use std::io;
+use test_runner_core_log_reader::LogFault;
+use thiserror::Error;
 
 /// Why a run can't be judged to its end. What the report took until then is a front of it.
-#[derive(Debug, Drop)]
+#[derive(Debug, Drop, Error)]
 pub enum JudgeFault {
     /// There was no memory.
+    #[error("out of memory")]
     Memory,
     /// The reader failed. It is not asked again.
+    #[error("the log can't be read: {0}")]
     Read(io::Error),
     /// The report's writer failed, or took none of some bytes. It is not asked again.
+    #[error("the report can't be written: {0}")]
     Write(io::Error),
 }
-
-impl fmt::Display for JudgeFault {
-    fn fmt<W: fmt::Write>(&self, f: &mut fmt::Formatter<W>) -> fmt::Result {
-        match self {
-            JudgeFault::Memory => write!(f, "out of memory"),
-            JudgeFault::Read(cause) => write!(f, "the log can't be read: {cause}"),
-            JudgeFault::Write(cause) => write!(f, "the report can't be written: {cause}"),
-        }
-    }
-}
-
-impl Error for JudgeFault {}
 
 impl From<LogFault> for JudgeFault {
     ghost use Rattle.std.specs.Prelude.{◌≡◌};

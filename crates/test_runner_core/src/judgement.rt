@@ -1,11 +1,12 @@
 // What a run of inputs and a log comes to.
 ghost use Rattle.std.specs.Prelude.{◌≡◌, ◌+◌, ◌^◌, ◌<◌, ◌≤◌, IfOk, IfSome, Err};
-ghost use Rattle.test_runner_core_lines.specs.Calls.{TellsFailure};
-ghost use Rattle.test_runner_core_lines.specs.Cursor.{items_ahead};
+ghost use Rattle.test_runner_core_log_reader.specs.declared.limits.TheConstants.{LOG_LIMIT};
+ghost use Rattle.test_runner_core_log_reader.specs.Calls.{TellsFailure};
+ghost use Rattle.test_runner_core_log_reader.specs.Cursor.{items_ahead};
 ghost use Rattle.test_runner_core.specs.Outcome.{IsWithoutPlan, Outcome, PlanOutcome, wants_memory};
 ghost use Rattle.test_runner_core.specs.Report as report;
 ghost use Rattle.test_runner_core_listing.specs.Listing.{AsksFor};
-ghost use Rattle.test_runner_core_plan.specs.Plan.{asked_for, asked_in, planned};
+ghost use Rattle.test_runner_core_plan.specs.Plan.{asked_for, wanted_in, planned};
 ghost use Rattle.test_runner_core_workspace.specs.declared.record.Binary.{Binary};
 
 use crate::judging::judge_lines;
@@ -13,8 +14,8 @@ use crate::refused_line::RefusedLine;
 use crate::run_end::RunEnd;
 use std::alloc::Global;
 use std::fmt;
-use test_runner_core_inputs::{Inputs, InputsError};
-use test_runner_core_lines::{LogFault, LogLines};
+use test_runner_core_inputs::{Inputs, InputsRefusal};
+use test_runner_core_log_reader::{LogFault, LogLines};
 use test_runner_core_plan::{Plan, PlanFault};
 use test_runner_core_runs::exit_status;
 use test_runner_core_session::Session;
@@ -27,9 +28,8 @@ const REFUSED: u8 = 96;
 /// What a run of inputs and a log comes to. It prints as its report.
 #[derive(Debug, PartialEq, Eq, Drop)]
 pub enum Judgement {
-    /// The first line of a stream is no inputs, for this reason, which is never want of memory; nothing of the log is
-    /// judged.
-    NoInputs(InputsError),
+    /// The first line of a stream is no inputs, for this reason; nothing of the log is judged.
+    NoInputs(InputsRefusal),
     /// The inputs have no plan, for this reason, which is never want of memory; nothing of the log is read.
     NoPlan(PlanFault),
     /// This line of the log is refused; those before it are accepted.
@@ -55,9 +55,9 @@ impl Judgement {
         requires failures_fit { R.failures log.old < 2 ^ 62 }
         ensures outcome { IfOk result (λ it. IfSome (R.left log.old) (λ left. Outcome (L.answer lister.old) inputs.now (items_ahead lines.old left) it)) }
         ensures stays { (other : Binary) → L.answer lister.new other ≡ L.answer lister.old other }
-        ensures asks { AsksFor (wants_memory result) (L.asked lister.old) (asked_for (L.answer lister.old) inputs.now (asked_in inputs.now)) (L.asked lister.new) }
+        ensures asks { AsksFor (wants_memory result) (L.asked lister.old) (asked_for (L.answer lister.old) inputs.now (wanted_in inputs.now)) (L.asked lister.new) }
         ensures unread { (refusal : PlanFault) → planned (L.answer lister.old) inputs.now ≡ Err refusal → R.calls log.new ≡ R.calls log.old }
-        ensures reads { R.calls log.new ≤ R.calls log.old + 1073741825 }
+        ensures reads { R.calls log.new ≤ R.calls log.old + LOG_LIMIT + 1 }
         ensures failures { TellsFailure result (R.failures log.old) (R.failures log.new) (R.last_failed log.new) }
     {
         match Plan::build(alloc, inputs, lister) {
@@ -97,7 +97,7 @@ fn judgement_by_plan<R: LogReader>(
     requires calls_fit { R.calls log.old + 2 ^ 32 ≤ 2 ^ 63 }
     requires failures_fit { R.failures log.old < 2 ^ 62 }
     ensures outcome { IfOk result (λ it. IfSome (R.left log.old) (λ left. PlanOutcome plan.now (items_ahead lines.old left) it)) }
-    ensures reads { R.calls log.new ≤ R.calls log.old + 1073741825 }
+    ensures reads { R.calls log.new ≤ R.calls log.old + LOG_LIMIT + 1 }
     ensures failures { TellsFailure result (R.failures log.old) (R.failures log.new) (R.last_failed log.new) }
 {
     let mut session = Session::new(alloc, plan)?;
@@ -119,8 +119,11 @@ impl fmt::Display for Judgement {
 
     fn fmt<W: fmt::Write>(&self, f: &mut fmt::Formatter<W>) -> fmt::Result {
         match self {
-            Judgement::NoInputs(InputsError::Field(path)) => write!(f, "refused\tField\t{path}\n"),
-            Judgement::NoInputs(_) => write!(f, "refused\tSyntax\n"),
+            Judgement::NoInputs(InputsRefusal::Field(path)) => write!(
+                f,
+                "refused\tField\t{path}\n"
+            ),
+            Judgement::NoInputs(InputsRefusal::Syntax) => write!(f, "refused\tSyntax\n"),
             Judgement::NoPlan(refusal) => write!(f, "refused\t{}\n", refusal.name()),
             Judgement::RefusedLine(found) => {
                 write!(f, "refused\tline\t{}\t{}\n", found.line, found.refusal)

@@ -1,15 +1,16 @@
 // How a run goes by the lines of a log.
-ghost use Rattle.std.specs.Prelude.{◌≡◌, ◌+◌, ◌^◌, ◌<◌, ◌≤◌, IfOk, IfSome};
-ghost use Rattle.test_runner_core_lines.specs.Calls.{TellsFailure};
-ghost use Rattle.test_runner_core_lines.specs.Cursor.{items_ahead};
-ghost use Rattle.test_runner_core_log.specs.Lent.{line_meant};
+ghost use Rattle.std.specs.Prelude.{◌≡◌, ◌+◌, ◌^◌, ◌<◌, ◌≤◌, IfErr, IfOk, IfSome, OnErr};
+ghost use Rattle.test_runner_core_log_reader.specs.declared.limits.TheConstants.{LOG_LIMIT};
+ghost use Rattle.test_runner_core_log_reader.specs.Calls.{TellsFailure};
+ghost use Rattle.test_runner_core_log_reader.specs.Cursor.{items_ahead};
+ghost use Rattle.test_runner_core_line_syntax.specs.Lent.{line_meant};
 ghost use Rattle.test_runner_core.specs.Judging as judging;
 
 use crate::refused_line::{LineRefusal, RefusedLine, refusal_for, refused_at};
 use nextest_run_events_results::TestInstanceId;
 use std::alloc::{AllocError, Global};
-use test_runner_core_lines::{LogFault, LogLines, Next};
-use test_runner_core_log::{LentLine, SpellingError};
+use test_runner_core_line_syntax::{LentLine, SpellingError};
+use test_runner_core_log_reader::{LogFault, LogLines, Next};
 use test_runner_core_progress::StartFault;
 use test_runner_core_session::Session;
 use test_runner_core_streams::LogReader;
@@ -17,7 +18,7 @@ use test_runner_core_streams::LogReader;
 /// Judges the lines of a log one after another, as `lines` cuts them from the reader: each is read and its event's step
 /// taken, up to the first that is refused, which changes nothing and is answered; `None` where all are accepted. The
 /// first of them has the number 1. Fails where the reader fails or there is no memory; the run has then taken the steps
-/// of the lines before.
+/// of the whole lines before, and no other.
 pub fn judge_lines<R: LogReader>(
     alloc: Global,
     session: &mut Session<'_>,
@@ -27,7 +28,8 @@ pub fn judge_lines<R: LogReader>(
     requires calls_fit { R.calls reader.old + 2 ^ 32 ≤ 2 ^ 63 }
     requires failures_fit { R.failures reader.old < 2 ^ 62 }
     ensures judged { IfOk result (λ found. IfSome (R.left reader.old) (λ left. judging.Judges 1 session.old (items_ahead lines.old left) found session.new)) }
-    ensures reads { R.calls reader.new ≤ R.calls reader.old + 1073741825 }
+    ensures taken { IfErr result (λ _. IfSome (R.left reader.old) (λ left. judging.HasTaken session.old (items_ahead lines.old left) session.new)) }
+    ensures reads { R.calls reader.new ≤ R.calls reader.old + LOG_LIMIT + 1 }
     ensures failures { TellsFailure result (R.failures reader.old) (R.failures reader.new) (R.last_failed reader.new) }
 {
     let mut number = 1;
@@ -50,7 +52,8 @@ fn judge_line(
     session: &mut Session<'_>,
     bytes: &[u8],
 ) -> Result<Option<LineRefusal>, AllocError>
-    ensures { IfOk result (λ refused. judging.JudgesLine session.old bytes.now refused session.new) }
+    ensures judged { IfOk result (λ refused. judging.JudgesLine session.old bytes.now refused session.new) }
+    ensures kept { OnErr result (session.new ≡ session.old) }
 {
     match LentLine::parse(bytes) {
         Ok(None) => Ok(None),
@@ -66,7 +69,8 @@ fn take_step(
     session: &mut Session<'_>,
     line: LentLine<'_>,
 ) -> Result<Option<LineRefusal>, AllocError>
-    ensures { IfOk result (λ refused. judging.Steps session.old (line_meant line.entry) refused session.new) }
+    ensures taken { IfOk result (λ refused. judging.Steps session.old (line_meant line.entry) refused session.new) }
+    ensures kept { OnErr result (session.new ≡ session.old) }
 {
     let taken = match line {
         LentLine::Script { id, record } => session.script_finished(id, record.own(alloc)?),

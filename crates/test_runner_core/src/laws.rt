@@ -1,5 +1,5 @@
 //! What holds of every run that a log tells. Each function does nothing, and its contract is the law.
-ghost use Rattle.test_runner_core.specs.Laws.{EndsWithDueStatus, OneOutcome};
+ghost use Rattle.test_runner_core.specs.Laws.{BuiltIsPlan, EndsWithDueStatus, HasExactlyTheWanted, OneOutcome};
 
 /// Whatever the lister answers, inputs and a log come to one judgement.
 pub fn one_outcome()
@@ -10,4 +10,14 @@ pub fn one_outcome()
 /// run is complete, the exit status of what they come to is that assignment's due status.
 pub fn due_status()
     ensures { EndsWithDueStatus }
+{}
+
+/// A plan that was built is a plan of the laws over runs, so these hold of each session of it.
+pub fn built_plan()
+    ensures { BuiltIsPlan }
+{}
+
+/// A test is selected exactly if a listed binary answers its name and the filter in force holds on it.
+pub fn selected()
+    ensures { HasExactlyTheWanted }
 {}

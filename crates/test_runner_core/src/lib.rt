@@ -20,19 +20,28 @@ pub use entry::{judge, judge_stream};
 pub use judge_fault::JudgeFault;
 pub use judgement::Judgement;
 pub use judging::judge_lines;
-pub use nextest_run_events_results::{OwnedTestInstanceId, Record, RecordOutput, TestInstanceId};
+pub use nextest_config_elements_plain::{
+    FlakyResult, LeakTimeoutResult, MaxFail, NextestRunMode, SlowTimeoutResult, TerminateMode,
+};
+pub use nextest_run_events_counters::{
+    ExecutionStatuses, FinalRunStats, RunStats, RunStatsFailureKind,
+};
+pub use nextest_run_events_results::{
+    AbortDescription, CancelReason, ExecutionResultDescription, FailureDescription,
+    OwnedTestInstanceId, Record, RecordOutput, TestInstanceId,
+};
+pub use nextest_text::{Listing, Text};
 pub use refused_line::{LineRefusal, RefusedLine};
 pub use run_end::RunEnd;
 pub use test_runner_core_inputs::{
     ConfigSource, ConfigSourceKind, ConfigSourceOutcome, CurrentVersion, FactRecord, Inputs,
-    InputsError, PlatformRecord,
+    InputsError, InputsRefusal, PlatformRecord,
 };
-pub use test_runner_core_lines::{
+pub use test_runner_core_line_syntax::{
+    LentLine, LentRecord, LentStream, LogLine, ParseLineError, SpellingError, reason_word,
+};
+pub use test_runner_core_log_reader::{
     FIRST_LINE_LIMIT, LINE_LIMIT, LOG_LIMIT, LineFault, LogFault, LogLines, Next,
-};
-pub use test_runner_core_log::{
-    LentFailure, LentLine, LentRecord, LentResult, LentStream, LogLine, ParseLineError,
-    SpellingError, reason_word,
 };
 pub use test_runner_core_plan::{LoadFault, Plan, PlanFault, PlanSettings, PlanTest};
 pub use test_runner_core_progress::StartFault;

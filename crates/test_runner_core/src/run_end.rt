@@ -2,7 +2,7 @@
 use nextest_run_events_counters::{FinalRunStats, RunStats, RunStatsFailureKind};
 use nextest_run_events_results::CancelReason;
 use std::fmt;
-use test_runner_core_log::reason_word;
+use test_runner_core_line_syntax::reason_word;
 use test_runner_core_runs::exit_status;
 
 /// Where a run ended. It prints as its part of the report: the exit status, the outcome, the counters, and why the run

@@ -8,13 +8,13 @@ use Rattle.test_runner_core_inputs.specs.Shape.{IsInputs, AreInputs}
 use Rattle.test_runner_core_inputs.specs.Faults.{Faults, inputs_faults, faults_of}
 use Rattle.test_runner_core_inputs.specs.Laws.{IsFirst}
 use Rattle.test_runner_core_inputs.specs.declared.inputs.Inputs.{Inputs}
-use Rattle.test_runner_core_inputs.specs.declared.inputs_error.InputsError.{InputsError}
-use Rattle.test_runner_core_inputs.specs.declared.inputs_error.InputsError.TheVariants as errors
+use Rattle.test_runner_core_inputs.specs.declared.inputs_error.InputsRefusal.{InputsRefusal}
+use Rattle.test_runner_core_inputs.specs.declared.inputs_error.InputsRefusal.TheVariants as errors
 use Rattle.test_runner_core_inputs.proofs.Meets.{Meets}
 use Rattle.test_runner_core_inputs.proofs.FitsInputs.{inputs_fit}
 
 -- what was read of a value that bytes are, or are not
-abbrev read_of : Option Data → Result Inputs InputsError
+abbrev read_of : Option Data → Result Inputs InputsRefusal
 read_of found = option_map_or (λ given. refused_at (inputs_of given)) found (Err errors.Syntax)
 
 read_ok : (read : Reading Inputs) (inputs : Inputs) → refused_at read ≡ Ok inputs → read ≡ Ok inputs
@@ -32,7 +32,7 @@ accepted bytes inputs = (
   λ s. ap read_of s.json ∙ ap refused_at ((inputs_fit s.given).back inputs s.shape),
 )
 
-abbrev told : Path → InputsError
+abbrev told : Path → InputsRefusal
 told path = errors.Field (dotted path)
 
 first_told : (read : Reading Inputs) (faults : Faults) (S : Inputs → Type 0) → Meets read faults S → IsFirst (refused_at read) (map told faults)

@@ -1,4 +1,3 @@
-pub mod Lists
 pub mod Meets
 pub mod Bytes
 pub mod Fits

@@ -10,8 +10,8 @@ use Rattle.test_runner_core_inputs.specs.Reading.{Path, dotted}
 use Rattle.test_runner_core_inputs.specs.Values as value
 use Rattle.test_runner_core_inputs.specs.declared.source_word.SourceWord.{SourceWord}
 use Rattle.test_runner_core_inputs.specs.declared.source_word.SourceWord.TheVariants as words
-use Rattle.test_runner_core_inputs.specs.declared.inputs_error.InputsError.{InputsError}
-use Rattle.test_runner_core_inputs.specs.declared.inputs_error.InputsError.TheVariants as errors
+use Rattle.test_runner_core_inputs.specs.declared.inputs_error.InputsRefusal.{InputsRefusal}
+use Rattle.test_runner_core_inputs.specs.declared.inputs_error.InputsRefusal.TheVariants as errors
 
 -- where the faults of something stand: the empty path is that of the whole itself
 abbrev pub Faults : Type 0
@@ -172,5 +172,5 @@ abbrev pub inputs_faults : Data → Faults
 inputs_faults given = if is_some (as_object given) then all_of (inputs_parts given) else (codes "workspace" ∷ []) ∷ []
 
 -- all that is wrong with bytes
-abbrev pub faults_of : List ℕ → List InputsError
+abbrev pub faults_of : List ℕ → List InputsRefusal
 faults_of bytes = option_map_or (λ given. map (λ path. errors.Field (dotted path)) (inputs_faults given)) (value_of bytes) (errors.Syntax ∷ [])

@@ -3,8 +3,6 @@ pub mod Values
 pub mod Versions
 pub mod Reading
 pub mod Calls
-pub mod Paths
-pub mod Texts
 pub mod Shape
 pub mod Faults
 pub mod Laws

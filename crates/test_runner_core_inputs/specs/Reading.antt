@@ -1,5 +1,5 @@
 -- How inputs are read: part by part in the written order, up to the first that is missing, ill-typed or not allowed.
-use Rattle.std.specs.Prelude.{ℕ, ◌+◌, Bool, true, false, List, [], ◌∷◌, Option, None, Some, Result, Ok, Err, codes, decimal, is_some, if◌then◌else◌}
+use Rattle.std.specs.Prelude.{ℕ, Bool, true, false, List, [], ◌∷◌, None, Some, Result, Ok, Err, codes, is_some, if◌then◌else◌}
 use Rattle.std.specs.List.{join_with_byte}
 use Rattle.std.specs.Option.{option_map_or}
 use Rattle.serde_json.specs.Data.{Data}
@@ -21,71 +21,11 @@ use Rattle.test_runner_core_inputs.specs.declared.source_word.SourceWord.TheVari
 use Rattle.test_runner_core_inputs.specs.declared.platform.FactRecord.{FactRecord}
 use Rattle.test_runner_core_inputs.specs.declared.platform.PlatformRecord.{PlatformRecord}
 use Rattle.test_runner_core_inputs.specs.declared.inputs.Inputs.{Inputs}
-use Rattle.test_runner_core_inputs.specs.declared.inputs_error.InputsError.{InputsError}
-use Rattle.test_runner_core_inputs.specs.declared.inputs_error.InputsError.TheVariants as errors
-use Rattle.test_runner_core_inputs.specs.Given.{value_of, member, has_member, items, has_items, item_at}
+use Rattle.test_runner_core_inputs.specs.declared.inputs_error.InputsRefusal.{InputsRefusal}
+use Rattle.test_runner_core_inputs.specs.declared.inputs_error.InputsRefusal.TheVariants as errors
+pub use Rattle.nextest_json.specs.Reading.{Path, Reading, ◌>>=◌, under, leaf, text, required, some, optional, defaulted, element, each, list, object}
+use Rattle.test_runner_core_inputs.specs.Given.{value_of, has_member, items, has_items}
 use Rattle.test_runner_core_inputs.specs.Values as value
-
--- where a part stands: names and list positions, the outermost first
-abbrev pub Path : Type 0
-Path = List (List ℕ)
-
--- a value, or where the first thing stands that is missing, ill-typed or not allowed
-abbrev pub Reading : Type 0 → Type 0
-Reading A = Result A Path
-
-infixl 10 ◌>>=◌
-abbrev pub ◌>>=◌ : {A B : Type 0} → Reading A → (A → Reading B) → Reading B
-Ok x >>= next = next x
-Err path >>= next = Err path
-
--- a part, read where it stands: what is wrong in it stands below its name or position
-abbrev pub under : {A : Type 0} → List ℕ → Reading A → Reading A
-under step (Ok x) = Ok x
-under step (Err path) = Err (step ∷ path)
-
--- the value of a part that has no parts
-abbrev pub leaf : {A : Type 0} → (Data → Option A) → Data → Reading A
-leaf value given = option_map_or Ok (value given) (Err [])
-
--- a member that must stand
-abbrev pub required : {A : Type 0} → List ℕ → (Data → Reading A) → Data → Reading A
-required name reads given = under name (option_map_or reads (member name given) (Err []))
-
-abbrev pub some : {A : Type 0} → Reading A → Reading (Option A)
-some (Ok x) = Ok (Some x)
-some (Err path) = Err path
-
--- a member that may be absent
-abbrev pub optional : {A : Type 0} → List ℕ → (Data → Reading A) → Data → Reading (Option A)
-optional name reads given = under name (option_map_or (λ part. some (reads part)) (member name given) (Ok None))
-
--- a member that may be absent, for which something else then stands
-abbrev pub defaulted : {A : Type 0} → List ℕ → (Data → Reading A) → A → Data → Reading A
-defaulted name reads otherwise given = under name (option_map_or reads (member name given) (Ok otherwise))
-
--- the item at a position
-abbrev pub element : {A : Type 0} → ℕ → (Data → Reading A) → Data → Reading A
-element position reads given = under (decimal position) (option_map_or reads (item_at position given) (Err []))
-
--- the items in their order, from a position on
-abbrev pub each : {A : Type 0} → (Data → Reading A) → ℕ → List Data → Reading (List A)
-each reads position [] = Ok []
-each reads position (given ∷ more) = do
-  first ← under (decimal position) (reads given)
-  rest ← each reads (position + 1) more
-  Ok (first ∷ rest)
-
--- a list of such
-abbrev pub list : {A : Type 0} → (Data → Reading A) → Data → Reading (List A)
-list reads given = option_map_or (each reads 0) (items given) (Err [])
-
--- an object, whose parts are read
-abbrev pub object : {A : Type 0} → (Data → Reading A) → Data → Reading A
-object reads given = if is_some (as_object given) then reads given else Err []
-
-abbrev pub text : Data → Reading (List ℕ)
-text = leaf value.text
 
 abbrev pub package_parts : Data → Reading Package
 package_parts given = do
@@ -245,10 +185,10 @@ abbrev pub dotted : Path → List ℕ
 dotted path = join_with_byte 46 path
 
 -- what is refused is told by its path
-abbrev pub refused_at : Reading Inputs → Result Inputs InputsError
+abbrev pub refused_at : Reading Inputs → Result Inputs InputsRefusal
 refused_at (Ok inputs) = Ok inputs
 refused_at (Err path) = Err (errors.Field (dotted path))
 
 -- what bytes are as inputs: what is no JSON is refused as that
-abbrev pub read_inputs : List ℕ → Result Inputs InputsError
+abbrev pub read_inputs : List ℕ → Result Inputs InputsRefusal
 read_inputs bytes = option_map_or (λ given. refused_at (inputs_of given)) (value_of bytes) (Err errors.Syntax)

@@ -6,10 +6,9 @@ ghost use Rattle.test_runner_core_inputs.specs.Reading as read;
 ghost use Rattle.test_runner_core_inputs.specs.Values as value_of;
 ghost use Rattle.test_runner_core_inputs.specs.Versions.{is_same, is_same_equiv};
 
-use crate::fault::Fault;
-use crate::form::Form;
+use crate::inputs::Inputs;
+use nextest_json::{Fault, Form, JsonValue};
 use semver::{Error, Version};
-use serde_json::Value;
 use std::alloc::{AllocError, Global};
 use std::fmt;
 use std::marker::Model;
@@ -52,14 +51,14 @@ impl From<Version> for CurrentVersion {
     }
 }
 
-impl Form for CurrentVersion {
+impl Form<Inputs> for CurrentVersion {
     ghost reading = { read.leaf value_of.version };
 
-    fn from_value(alloc: Global, value: &Value) -> Result<CurrentVersion, Fault> {
-        let Value::String(text) = value else {
+    fn from_value(alloc: Global, value: &JsonValue<'_, '_>) -> Result<CurrentVersion, Fault> {
+        let Some(text) = value.as_str() else {
             return Err(Fault::here(alloc));
         };
-        match Version::parse(alloc, text.as_str()) {
+        match Version::parse(alloc, text) {
             Ok(version) => Ok(CurrentVersion { version }),
             Err(error) if error == Error::from(AllocError) => Err(Fault::OutOfMemory),
             Err(_) => Err(Fault::here(alloc)),

@@ -1,26 +1,27 @@
 // The inputs of a run.
 ghost use Rattle.std.specs.Prelude.{◌≡◌, codes};
-ghost use Rattle.serde_json.specs.View.{view};
-ghost use Rattle.test_runner_core_inputs.specs.Calls.{Gives, Parses, Reads};
+ghost use Rattle.nextest_json.specs.Seen.{seen};
+ghost use Rattle.nextest_json.specs.Calls.{Gives};
+ghost use Rattle.test_runner_core_inputs.specs.Calls.{Parses, Reads};
 ghost use Rattle.test_runner_core_inputs.specs.Given as given;
 ghost use Rattle.test_runner_core_inputs.specs.Reading as read;
 
 use crate::current_version::CurrentVersion;
-use crate::fault::Fault;
-use crate::form::{Form, defaulted, optional, required};
-use crate::inputs_error::InputsError;
+use crate::inputs_error::{InputsError, InputsRefusal};
 use crate::leaves::Positive;
 use crate::platform::PlatformRecord;
 use crate::source::ConfigSource;
-use crate::steps::Step;
 use nextest_config_elements_plain::NextestRunMode;
+use nextest_json::{
+    DocumentError, Fault, Form, JsonDocument, JsonMemory, JsonValue, Step, defaulted, optional,
+    required,
+};
 use nextest_text::{Listing, Text};
-use serde_json::{Category, Value};
 use std::alloc::Global;
 use test_runner_core_workspace::WorkspaceRecord;
 
-// The most bytes that inputs may have.
-const MAX_LEN: usize = 1 << 24;
+/// The most bytes that inputs may have.
+pub const MAX_INPUTS_LEN: usize = 1 << 24;
 
 /// The inputs of a run.
 #[derive(Clone, Debug, PartialEq, Eq)]
@@ -70,10 +71,10 @@ impl Drop for Inputs {
     }
 }
 
-impl Form for Inputs {
+impl Form<Inputs> for Inputs {
     ghost reading = { read.inputs_of };
 
-    fn from_value(alloc: Global, value: &Value) -> Result<Inputs, Fault> {
+    fn from_value(alloc: Global, value: &JsonValue<'_, '_>) -> Result<Inputs, Fault> {
         if !value.is_object() {
             return Err(Fault::here(alloc).below(Step::Name("workspace")));
         }
@@ -95,8 +96,8 @@ impl Form for Inputs {
 }
 
 // The name of the chosen profile.
-fn profile_of(alloc: Global, inputs: &Value) -> Result<Text, Fault>
-    ensures { Gives result (read.defaulted (codes "profile") read.text (codes "default") (view inputs.now)) }
+fn profile_of(alloc: Global, inputs: &JsonValue<'_, '_>) -> Result<Text, Fault>
+    ensures { Gives result (read.defaulted (codes "profile") read.text (codes "default") (seen inputs.now)) }
 {
     match optional(alloc, inputs, "profile")? {
         Some(profile) => Ok(profile),
@@ -112,28 +113,35 @@ impl Inputs {
     pub fn from_json(alloc: Global, bytes: &[u8]) -> Result<Inputs, InputsError>
         ensures exact { Reads bytes.now result }
     {
-        let value = value_of(alloc, bytes)?;
-        match Inputs::from_value(alloc, &value) {
+        let mut memory = JsonMemory::new(alloc);
+        let document = document_of(alloc, bytes, &mut memory)?;
+        match Inputs::from_value(alloc, &document.root()) {
             Ok(inputs) => Ok(inputs),
-            Err(Fault::At(path)) => Err(InputsError::Field(path.dotted(alloc)?)),
+            Err(Fault::At(path)) => Err(InputsError::Refused(InputsRefusal::Field(path.dotted(
+                alloc,
+            )?))),
             Err(Fault::OutOfMemory) => Err(InputsError::OutOfMemory),
         }
     }
 }
 
-// The JSON value that bytes are.
-fn value_of(alloc: Global, bytes: &[u8]) -> Result<Value, InputsError>
+// The JSON that bytes are.
+fn document_of<'a>(
+    alloc: Global,
+    bytes: &'a [u8],
+    memory: &'a mut JsonMemory,
+) -> Result<JsonDocument<'a>, InputsError>
     ensures { Parses result (given.value_of bytes.now) }
 {
-    if bytes.len() > MAX_LEN {
-        return Err(InputsError::Syntax);
+    if bytes.len() > MAX_INPUTS_LEN {
+        return Err(InputsError::Refused(InputsRefusal::Syntax));
     }
     let Ok(text) = str::from_utf8(bytes) else {
-        return Err(InputsError::Syntax);
+        return Err(InputsError::Refused(InputsRefusal::Syntax));
     };
-    match Value::from_str(alloc, text) {
-        Ok(value) => Ok(value),
-        Err(error) if error.classify() == Category::Memory => Err(InputsError::OutOfMemory),
-        Err(_) => Err(InputsError::Syntax),
+    match JsonDocument::parse(alloc, text, memory) {
+        Ok(document) => Ok(document),
+        Err(DocumentError::Syntax) => Err(InputsError::Refused(InputsRefusal::Syntax)),
+        Err(DocumentError::OutOfMemory) => Err(InputsError::OutOfMemory),
     }
 }

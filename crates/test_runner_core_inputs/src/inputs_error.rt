@@ -1,42 +1,30 @@
 // Why bytes are no inputs.
 use nextest_text::Text;
 use std::alloc::{AllocError, AllocFailed};
-use std::error::Error;
-use std::fmt;
+use thiserror::Error;
 
-/// Why bytes are no inputs.
-#[derive(Debug, PartialEq, Eq, Drop)]
+/// Why bytes are no inputs, or why that isn't known.
+#[derive(Debug, PartialEq, Eq, Drop, Error)]
 pub enum InputsError {
-    /// They are no JSON in UTF-8, or more than 16,777,216.
-    Syntax,
-    /// The first thing, in the written order, that is missing, ill-typed or not allowed: its path, which is names and
-    /// list positions from 0, joined by dots.
-    Field(Text),
+    /// They are refused.
+    #[error(transparent)]
+    Refused(InputsRefusal),
     /// There was no memory, which says nothing of the bytes.
+    #[error("out of memory")]
     OutOfMemory,
 }
 
-impl fmt::Display for InputsError {
-    ghost use Rattle.std.specs.Prelude.{Some};
-    ghost use Rattle.test_runner_core_inputs.specs.Texts.{text_of};
-
-    ghost output = { λ error. Some (text_of error) };
-
-    fn fmt<W: fmt::Write>(&self, f: &mut fmt::Formatter<W>) -> fmt::Result {
-        match self {
-            InputsError::Syntax => write!(f, "the inputs are no JSON, or too long"),
-            InputsError::Field(path) => {
-                write!(
-                    f,
-                    "the inputs have at {path} what is missing, ill-typed or not allowed"
-                )
-            }
-            InputsError::OutOfMemory => write!(f, "out of memory"),
-        }
-    }
+/// Why bytes are no inputs.
+#[derive(Debug, PartialEq, Eq, Drop, Error)]
+pub enum InputsRefusal {
+    /// They are no JSON in UTF-8, or more than 16,777,216.
+    #[error("the inputs are no JSON, or too long")]
+    Syntax,
+    /// The first thing, in the written order, that is missing, ill-typed or not allowed: its path, which is names and
+    /// list positions from 0, joined by dots.
+    #[error("the inputs have at {0} what is missing, ill-typed or not allowed")]
+    Field(Text),
 }
-
-impl Error for InputsError {}
 
 impl From<AllocError> for InputsError {
     ghost use Rattle.std.specs.Prelude.{◌≡◌};

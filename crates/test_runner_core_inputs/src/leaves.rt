@@ -2,46 +2,39 @@
 ghost use Rattle.test_runner_core_inputs.specs.Reading as read;
 ghost use Rattle.test_runner_core_inputs.specs.Values as value_of;
 
-use crate::fault::Fault;
-use crate::form::Form;
+use crate::inputs::Inputs;
 use nextest_config_elements_identifiers::{InvalidIdentifier, ToolName};
 use nextest_config_elements_plain::NextestRunMode;
+use nextest_json::{Fault, Form, JsonValue, text, truth};
 use nextest_text::Text;
-use serde_json::Value;
 use std::alloc::Global;
 use std::marker::Model;
 use test_runner_core_workspace::{BinaryKind, BuildPlatform, has_separator};
 
-impl Form for Text {
+impl Form<Inputs> for Text {
     ghost reading = { read.text };
 
-    fn from_value(alloc: Global, value: &Value) -> Result<Text, Fault> {
-        match value {
-            Value::String(text) => Ok(Text::from_str(alloc, text.as_str())?),
-            _ => Err(Fault::here(alloc)),
-        }
+    fn from_value(alloc: Global, value: &JsonValue<'_, '_>) -> Result<Text, Fault> {
+        text(alloc, value)
     }
 }
 
-impl Form for bool {
+impl Form<Inputs> for bool {
     ghost reading = { read.leaf value_of.truth };
 
-    fn from_value(alloc: Global, value: &Value) -> Result<bool, Fault> {
-        match value {
-            Value::Bool(truth) => Ok(*truth),
-            _ => Err(Fault::here(alloc)),
-        }
+    fn from_value(alloc: Global, value: &JsonValue<'_, '_>) -> Result<bool, Fault> {
+        truth(alloc, value)
     }
 }
 
-impl Form for BinaryKind {
+impl Form<Inputs> for BinaryKind {
     ghost reading = { read.leaf value_of.kind };
 
-    fn from_value(alloc: Global, value: &Value) -> Result<BinaryKind, Fault> {
-        let Value::String(word) = value else {
+    fn from_value(alloc: Global, value: &JsonValue<'_, '_>) -> Result<BinaryKind, Fault> {
+        let Some(word) = value.as_str() else {
             return Err(Fault::here(alloc));
         };
-        match word.as_str() {
+        match word {
             "lib" => Ok(BinaryKind::Lib),
             "test" => Ok(BinaryKind::Test),
             "bench" => Ok(BinaryKind::Bench),
@@ -53,14 +46,14 @@ impl Form for BinaryKind {
     }
 }
 
-impl Form for BuildPlatform {
+impl Form<Inputs> for BuildPlatform {
     ghost reading = { read.leaf value_of.platform };
 
-    fn from_value(alloc: Global, value: &Value) -> Result<BuildPlatform, Fault> {
-        let Value::String(word) = value else {
+    fn from_value(alloc: Global, value: &JsonValue<'_, '_>) -> Result<BuildPlatform, Fault> {
+        let Some(word) = value.as_str() else {
             return Err(Fault::here(alloc));
         };
-        match word.as_str() {
+        match word {
             "host" => Ok(BuildPlatform::Host),
             "target" => Ok(BuildPlatform::Target),
             _ => Err(Fault::here(alloc)),
@@ -68,14 +61,14 @@ impl Form for BuildPlatform {
     }
 }
 
-impl Form for NextestRunMode {
+impl Form<Inputs> for NextestRunMode {
     ghost reading = { read.leaf value_of.mode };
 
-    fn from_value(alloc: Global, value: &Value) -> Result<NextestRunMode, Fault> {
-        let Value::String(word) = value else {
+    fn from_value(alloc: Global, value: &JsonValue<'_, '_>) -> Result<NextestRunMode, Fault> {
+        let Some(word) = value.as_str() else {
             return Err(Fault::here(alloc));
         };
-        match word.as_str() {
+        match word {
             "test" => Ok(NextestRunMode::Test),
             "benchmark" => Ok(NextestRunMode::Benchmark),
             _ => Err(Fault::here(alloc)),
@@ -108,18 +101,18 @@ impl UndividedText {
     }
 }
 
-impl Form for UndividedText {
+impl Form<Inputs> for UndividedText {
     ghost reading = { read.leaf value_of.undivided };
 
-    fn from_value(alloc: Global, value: &Value) -> Result<UndividedText, Fault> {
-        let Value::String(text) = value else {
+    fn from_value(alloc: Global, value: &JsonValue<'_, '_>) -> Result<UndividedText, Fault> {
+        let Some(text) = value.as_str() else {
             return Err(Fault::here(alloc));
         };
-        if has_separator(text.as_str()) {
+        if has_separator(text) {
             return Err(Fault::here(alloc));
         }
         Ok(UndividedText {
-            text: Text::from_str(alloc, text.as_str())?,
+            text: Text::from_str(alloc, text)?,
         })
     }
 }
@@ -128,12 +121,12 @@ impl Form for UndividedText {
 #[derive(Drop)]
 pub(crate) struct OnlyTrue;
 
-impl Form for OnlyTrue {
+impl Form<Inputs> for OnlyTrue {
     ghost reading = { read.leaf value_of.only_true };
 
-    fn from_value(alloc: Global, value: &Value) -> Result<OnlyTrue, Fault> {
-        match value {
-            Value::Bool(true) => Ok(OnlyTrue),
+    fn from_value(alloc: Global, value: &JsonValue<'_, '_>) -> Result<OnlyTrue, Fault> {
+        match value.as_bool() {
+            Some(true) => Ok(OnlyTrue),
             _ => Err(Fault::here(alloc)),
         }
     }
@@ -169,10 +162,10 @@ impl Positive {
     }
 }
 
-impl Form for Positive {
+impl Form<Inputs> for Positive {
     ghost reading = { read.leaf value_of.positive };
 
-    fn from_value(alloc: Global, value: &Value) -> Result<Positive, Fault> {
+    fn from_value(alloc: Global, value: &JsonValue<'_, '_>) -> Result<Positive, Fault> {
         match value.as_u64() {
             Some(count) if count > 0 => Ok(Positive { count }),
             _ => Err(Fault::here(alloc)),
@@ -180,14 +173,14 @@ impl Form for Positive {
     }
 }
 
-impl Form for ToolName {
+impl Form<Inputs> for ToolName {
     ghost reading = { read.leaf value_of.tool };
 
-    fn from_value(alloc: Global, value: &Value) -> Result<ToolName, Fault> {
-        let Value::String(name) = value else {
+    fn from_value(alloc: Global, value: &JsonValue<'_, '_>) -> Result<ToolName, Fault> {
+        let Some(name) = value.as_str() else {
             return Err(Fault::here(alloc));
         };
-        match ToolName::new(alloc, name.as_str()) {
+        match ToolName::new(alloc, name) {
             Ok(name) => Ok(name),
             Err(InvalidIdentifier::OutOfMemory) => Err(Fault::OutOfMemory),
             Err(_) => Err(Fault::here(alloc)),

@@ -3,8 +3,6 @@
 #![tactic(auto)]
 
 mod current_version;
-mod fault;
-mod form;
 mod inputs;
 mod inputs_error;
 pub mod laws;
@@ -12,11 +10,10 @@ mod leaves;
 mod platform;
 mod source;
 mod source_word;
-mod steps;
 mod workspace;
 
 pub use current_version::CurrentVersion;
-pub use inputs::Inputs;
-pub use inputs_error::InputsError;
+pub use inputs::{Inputs, MAX_INPUTS_LEN};
+pub use inputs_error::{InputsError, InputsRefusal};
 pub use platform::{FactRecord, PlatformRecord};
 pub use source::{ConfigSource, ConfigSourceKind, ConfigSourceOutcome};

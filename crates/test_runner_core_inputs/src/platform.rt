@@ -1,13 +1,12 @@
 // The platforms that are built on and for.
 ghost use Rattle.std.specs.Prelude.{◌≡◌};
-ghost use Rattle.serde_json.specs.View.{view};
-ghost use Rattle.test_runner_core_inputs.specs.Calls.{Gives};
+ghost use Rattle.nextest_json.specs.Seen.{seen};
+ghost use Rattle.nextest_json.specs.Calls.{Gives};
 ghost use Rattle.test_runner_core_inputs.specs.Reading as read;
 
-use crate::fault::Fault;
-use crate::form::{Form, element, has_items, required};
+use crate::inputs::Inputs;
+use nextest_json::{Fault, Form, JsonValue, element, has_items, required};
 use nextest_text::{Listing, Text};
-use serde_json::Value;
 use std::alloc::Global;
 
 /// What is known of a platform.
@@ -61,10 +60,10 @@ impl PlatformRecord {
     }
 }
 
-impl Form for FactRecord {
+impl Form<Inputs> for FactRecord {
     ghost reading = { read.fact_of };
 
-    fn from_value(alloc: Global, value: &Value) -> Result<FactRecord, Fault> {
+    fn from_value(alloc: Global, value: &JsonValue<'_, '_>) -> Result<FactRecord, Fault> {
         if has_items(value, 2) {
             return Ok(FactRecord {
                 name: element(alloc, value, 0)?,
@@ -83,10 +82,10 @@ impl Form for FactRecord {
     }
 }
 
-impl Form for PlatformRecord {
+impl Form<Inputs> for PlatformRecord {
     ghost reading = { read.platform_of };
 
-    fn from_value(alloc: Global, value: &Value) -> Result<PlatformRecord, Fault> {
+    fn from_value(alloc: Global, value: &JsonValue<'_, '_>) -> Result<PlatformRecord, Fault> {
         if !value.is_object() {
             return Err(Fault::here(alloc));
         }

@@ -1,16 +1,15 @@
 // The sources of the configuration.
 ghost use Rattle.std.specs.Prelude.{◌≡◌};
-ghost use Rattle.serde_json.specs.View.{view};
-ghost use Rattle.test_runner_core_inputs.specs.Calls.{Gives};
+ghost use Rattle.nextest_json.specs.Seen.{seen};
+ghost use Rattle.nextest_json.specs.Calls.{Gives};
 ghost use Rattle.test_runner_core_inputs.specs.Reading as read;
 
-use crate::fault::Fault;
-use crate::form::{Form, has_member, required};
+use crate::inputs::Inputs;
 use crate::leaves::{OnlyTrue, UndividedText};
 use crate::source_word::SourceWord;
 use nextest_config_elements_identifiers::ToolName;
+use nextest_json::{Fault, Form, JsonValue, has_member, required};
 use nextest_text::Text;
-use serde_json::Value;
 use std::alloc::Global;
 
 /// Where a source of the configuration comes from.
@@ -77,10 +76,11 @@ impl Drop for ConfigSource {
 }
 
 // The kind of a source.
-fn kind_of_source(alloc: Global, source: &Value) -> Result<ConfigSourceKind, Fault>
-    ensures { Gives result (read.kind_of_source (view source.now)) }
+fn kind_of_source(alloc: Global, source: &JsonValue<'_, '_>) -> Result<ConfigSourceKind, Fault>
+    ensures { Gives result (read.kind_of_source (seen source.now)) }
 {
-    match required::<SourceWord>(alloc, source, "kind")? {
+    let word: SourceWord = required(alloc, source, "kind")?;
+    match word {
         SourceWord::Tool => Ok(ConfigSourceKind::Tool(required(alloc, source, "tool")?)),
         SourceWord::Explicit => Ok(ConfigSourceKind::ExplicitRepository),
         SourceWord::Discovered => Ok(ConfigSourceKind::DiscoveredRepository),
@@ -88,8 +88,8 @@ fn kind_of_source(alloc: Global, source: &Value) -> Result<ConfigSourceKind, Fau
 }
 
 // What came of reading a source, told in one of three forms.
-fn outcome_of(alloc: Global, source: &Value) -> Result<ConfigSourceOutcome, Fault>
-    ensures { Gives result (read.outcome_of (view source.now)) }
+fn outcome_of(alloc: Global, source: &JsonValue<'_, '_>) -> Result<ConfigSourceOutcome, Fault>
+    ensures { Gives result (read.outcome_of (seen source.now)) }
 {
     let forms = (
         has_member(source, "text"),
@@ -107,10 +107,10 @@ fn outcome_of(alloc: Global, source: &Value) -> Result<ConfigSourceOutcome, Faul
     }
 }
 
-impl Form for ConfigSource {
+impl Form<Inputs> for ConfigSource {
     ghost reading = { read.source_of };
 
-    fn from_value(alloc: Global, value: &Value) -> Result<ConfigSource, Fault> {
+    fn from_value(alloc: Global, value: &JsonValue<'_, '_>) -> Result<ConfigSource, Fault> {
         if !value.is_object() {
             return Err(Fault::here(alloc));
         }

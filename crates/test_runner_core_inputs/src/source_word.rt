@@ -2,9 +2,8 @@
 ghost use Rattle.test_runner_core_inputs.specs.Reading as read;
 ghost use Rattle.test_runner_core_inputs.specs.Values as value_of;
 
-use crate::fault::Fault;
-use crate::form::Form;
-use serde_json::Value;
+use crate::inputs::Inputs;
+use nextest_json::{Fault, Form, JsonValue};
 use std::alloc::Global;
 
 // The word of a source's kind.
@@ -15,14 +14,14 @@ pub(crate) enum SourceWord {
     Discovered,
 }
 
-impl Form for SourceWord {
+impl Form<Inputs> for SourceWord {
     ghost reading = { read.leaf value_of.source_word };
 
-    fn from_value(alloc: Global, value: &Value) -> Result<SourceWord, Fault> {
-        let Value::String(word) = value else {
+    fn from_value(alloc: Global, value: &JsonValue<'_, '_>) -> Result<SourceWord, Fault> {
+        let Some(word) = value.as_str() else {
             return Err(Fault::here(alloc));
         };
-        match word.as_str() {
+        match word {
             "tool" => Ok(SourceWord::Tool),
             "explicit" => Ok(SourceWord::Explicit),
             "discovered" => Ok(SourceWord::Discovered),

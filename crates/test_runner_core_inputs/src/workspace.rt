@@ -1,16 +1,15 @@
 // The form of the workspace.
 ghost use Rattle.test_runner_core_inputs.specs.Reading as read;
 
-use crate::fault::Fault;
-use crate::form::{Form, each, element, has_items, items, required};
-use serde_json::Value;
+use crate::inputs::Inputs;
+use nextest_json::{Fault, Form, JsonValue, each, element, has_items, required};
 use std::alloc::Global;
 use test_runner_core_workspace::{Binary, BinaryTests, Link, Package, WorkspaceRecord};
 
-impl Form for Package {
+impl Form<Inputs> for Package {
     ghost reading = { read.package_of };
 
-    fn from_value(alloc: Global, value: &Value) -> Result<Package, Fault> {
+    fn from_value(alloc: Global, value: &JsonValue<'_, '_>) -> Result<Package, Fault> {
         if !value.is_object() {
             return Err(Fault::here(alloc));
         }
@@ -21,10 +20,10 @@ impl Form for Package {
     }
 }
 
-impl Form for Link {
+impl Form<Inputs> for Link {
     ghost reading = { read.link_of };
 
-    fn from_value(alloc: Global, value: &Value) -> Result<Link, Fault> {
+    fn from_value(alloc: Global, value: &JsonValue<'_, '_>) -> Result<Link, Fault> {
         if !has_items(value, 2) {
             return Err(Fault::here(alloc));
         }
@@ -35,12 +34,12 @@ impl Form for Link {
     }
 }
 
-impl Form for BinaryTests {
+impl Form<Inputs> for BinaryTests {
     ghost reading = { read.tests_of };
 
-    fn from_value(alloc: Global, value: &Value) -> Result<BinaryTests, Fault> {
-        if let Some(values) = items(value) {
-            return Ok(BinaryTests::Names(each(alloc, values)?));
+    fn from_value(alloc: Global, value: &JsonValue<'_, '_>) -> Result<BinaryTests, Fault> {
+        if let Some(items) = value.items() {
+            return Ok(BinaryTests::Names(each(alloc, items)?));
         }
         if !value.is_object() {
             return Err(Fault::here(alloc));
@@ -49,10 +48,10 @@ impl Form for BinaryTests {
     }
 }
 
-impl Form for Binary {
+impl Form<Inputs> for Binary {
     ghost reading = { read.binary_of };
 
-    fn from_value(alloc: Global, value: &Value) -> Result<Binary, Fault> {
+    fn from_value(alloc: Global, value: &JsonValue<'_, '_>) -> Result<Binary, Fault> {
         if !value.is_object() {
             return Err(Fault::here(alloc));
         }
@@ -67,10 +66,10 @@ impl Form for Binary {
     }
 }
 
-impl Form for WorkspaceRecord {
+impl Form<Inputs> for WorkspaceRecord {
     ghost reading = { read.workspace_of };
 
-    fn from_value(alloc: Global, value: &Value) -> Result<WorkspaceRecord, Fault> {
+    fn from_value(alloc: Global, value: &JsonValue<'_, '_>) -> Result<WorkspaceRecord, Fault> {
         if !value.is_object() {
             return Err(Fault::here(alloc));
         }

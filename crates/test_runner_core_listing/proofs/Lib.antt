@@ -1,3 +1,4 @@
 pub mod Parts
 pub mod OneByOne
+pub mod Rising
 pub mod Walk

@@ -13,34 +13,6 @@ use Rattle.test_runner_core_listing.specs.declared.listing_fault.ListingFault.Th
 abbrev pub behind : Selection → Result Selection ListingFault → Result Selection ListingFault
 behind found read = read >>= λ rest. Ok (record { tests = found.tests ++ rest.tests; skipped = found.skipped ++ rest.skipped })
 
--- the tests of a binary before those of the rest
-abbrev joined : Filter → Binary → List (List ℕ) → Selection → Selection
-joined chosen binary names rest = record { tests = selected_in chosen binary names ++ rest.tests; skipped = skipped_in chosen binary names ++ rest.skipped }
-
-abbrev first_of : (Binary → Answer) → Filter → Binary → List Binary → Result (List (List ℕ)) ListingFault → Result Selection ListingFault
-first_of answer chosen binary more read = read >>= λ names. listing answer chosen more >>= λ rest. Ok (joined chosen binary names rest)
-
--- a binary was listed
-pub one_listed : (answer : Binary → Answer) (chosen : Filter) (binary : Binary) (more : List Binary) (names : List (List ℕ)) (old new : Selection)
-    → accepted (answer binary) ≡ Ok names → new.tests ≡ old.tests ++ selected_in chosen binary names → new.skipped ≡ old.skipped ++ skipped_in chosen binary names
-    → behind new (listing answer chosen more) ≡ behind old (listing answer chosen (binary ∷ more))
-one_listed answer chosen binary more names old new known tests skipped =
-    by_rest (listing answer chosen more)
-    ∙ sym (ap (λ (read : Result (List (List ℕ)) ListingFault). behind old (first_of answer chosen binary more read)) known)
-  where
-    by_rest : (rest : Result Selection ListingFault) → behind new rest ≡ behind old (rest >>= λ r. Ok (joined chosen binary names r))
-    by_rest (Ok rest) =
-        ap (λ (t : List OwnedTestInstanceId). Ok (record { tests = t ++ rest.tests; skipped = new.skipped ++ rest.skipped })) tests
-        ∙ ap (λ (t : List OwnedTestInstanceId). Ok (record { tests = t; skipped = new.skipped ++ rest.skipped })) (append_assoc old.tests (selected_in chosen binary names) rest.tests)
-        ∙ ap (λ (t : List OwnedTestInstanceId). Ok (record { tests = old.tests ++ (selected_in chosen binary names ++ rest.tests); skipped = t }))
-        (ap (λ (t : List OwnedTestInstanceId). t ++ rest.skipped) skipped ∙ append_assoc old.skipped (skipped_in chosen binary names) rest.skipped)
-    by_rest (Err refusal) = refl
-
--- a binary was refused
-pub one_refused : (answer : Binary → Answer) (chosen : Filter) (binary : Binary) (more : List Binary) (old : Selection) (refusal : ListingFault)
-    → accepted (answer binary) ≡ Err refusal → behind old (listing answer chosen (binary ∷ more)) ≡ Err refusal
-one_refused answer chosen binary more old refusal known = ap (λ (read : Result (List (List ℕ)) ListingFault). behind old (first_of answer chosen binary more read)) known
-
 known_end : (answer : Binary → Answer) (binary : Binary) (more : List Binary) (refusal : ListingFault) (initial walked old new all : List (List ℕ))
     → accepted (answer binary) ≡ Err refusal → new ≡ old ++ binary.id ∷ [] → old ≡ initial ++ walked → all ≡ walked ++ asked_of answer (binary ∷ more)
     → new ≡ initial ++ all

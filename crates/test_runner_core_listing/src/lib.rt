@@ -2,12 +2,14 @@
 #![tactic(auto)]
 
 mod filter;
+mod keyed_state;
 mod listing;
 mod listing_fault;
 mod names;
 mod selection;
 
 pub use filter::Filter;
+pub use keyed_state::{KeyedState, TextsDigest};
 pub use listing::select;
 pub use listing_fault::ListingFault;
 pub use selection::Selection;

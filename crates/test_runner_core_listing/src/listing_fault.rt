@@ -1,44 +1,27 @@
 // Why tests weren't listed.
 use nextest_text::Text;
 use std::alloc::{AllocError, AllocFailed};
-use std::error::Error;
-use std::fmt;
+use thiserror::Error;
 
 /// Why the tests of a binary weren't listed.
-#[derive(Debug, PartialEq, Eq, Drop)]
+#[derive(Debug, PartialEq, Eq, Drop, Error)]
 pub enum ListingFault {
     /// The binary can't list them, for this cause.
+    #[error("a binary can't list its tests: {0}")]
     ListFault(Text),
     /// A test has no name.
+    #[error("one of the tests has no name")]
     EmptyTestName,
     /// A test's name has a tab, a line feed or a carriage return in it.
+    #[error("the name of one of the tests has a tab or a line end in it")]
     BadTestName,
     /// Two tests of the binary have one name.
+    #[error("two tests of a binary have one name")]
     RepeatedTest,
     /// There was no memory, which says nothing of the binary.
+    #[error("out of memory")]
     OutOfMemory,
 }
-
-impl fmt::Display for ListingFault {
-    ghost use Rattle.std.specs.Prelude.{Some};
-    ghost use Rattle.test_runner_core_listing.specs.Texts.{text_of};
-
-    ghost output = { λ fault. Some (text_of fault) };
-
-    fn fmt<W: fmt::Write>(&self, f: &mut fmt::Formatter<W>) -> fmt::Result {
-        match self {
-            ListingFault::ListFault(cause) => write!(f, "a binary can't list its tests: {cause}"),
-            ListingFault::EmptyTestName => write!(f, "a test has no name"),
-            ListingFault::BadTestName => {
-                write!(f, "a test's name has a tab or a line end in it")
-            }
-            ListingFault::RepeatedTest => write!(f, "two tests of a binary have one name"),
-            ListingFault::OutOfMemory => write!(f, "out of memory"),
-        }
-    }
-}
-
-impl Error for ListingFault {}
 
 impl From<AllocError> for ListingFault {
     ghost use Rattle.std.specs.Prelude.{◌≡◌};

@@ -2,6 +2,7 @@
 ghost use Rattle.std.specs.Prelude.{◌≡◌, [], IfOk};
 ghost use Rattle.test_runner_core_listing.specs.Listing.{refused_name};
 
+use crate::keyed_state::{KeyedState, TextsDigest};
 use crate::listing_fault::ListingFault;
 use nextest_text::Text;
 use std::alloc::{AllocError, Global};
@@ -12,7 +13,7 @@ use test_runner_core_workspace::has_separator;
 pub(crate) fn refusal(alloc: Global, names: &[Text]) -> Result<Option<ListingFault>, AllocError>
     ensures { IfOk result (λ refused. refused ≡ refused_name [] names.now) }
 {
-    let mut before = HashSet::with_capacity(alloc, names.len())?;
+    let mut before = HashSet::with_capacity_and_hasher(alloc, names.len(), state_of(names))?;
     for name in names {
         if name.is_empty() {
             return Ok(Some(ListingFault::EmptyTestName));
@@ -25,4 +26,13 @@ pub(crate) fn refusal(alloc: Global, names: &[Text]) -> Result<Option<ListingFau
         }
     }
     Ok(None)
+}
+
+// Hashes these names by a digest of all of them.
+fn state_of(names: &[Text]) -> KeyedState {
+    let mut digest = TextsDigest::new();
+    for name in names {
+        digest.add(name.as_str());
+    }
+    digest.into_state()
 }

@@ -10,46 +10,46 @@ use Rattle.test_runner_core_listing.specs.declared.selection.Selection.{Selectio
 use Rattle.test_runner_core_settings.specs.declared.settings.Settings.{Settings}
 use Rattle.test_runner_core_workspace.specs.Lister.{Answer}
 use Rattle.test_runner_core_workspace.specs.declared.record.Binary.{Binary}
-use Rattle.test_runner_core_plan.specs.Plan.{◌>>=◌, asked_in, listed_in, found_by, has_too_many, Planned, planned, asked_for, plan_test, with_tries, tries_of, Gives, Asks}
-use Rattle.test_runner_core_plan.specs.declared.asked.Asked.{Asked}
+use Rattle.test_runner_core_plan.specs.Plan.{◌>>=◌, wanted_in, listed_in, found_by, has_too_many, Planned, planned, asked_for, plan_test, with_tries, tries_of, Gives, Asks}
+use Rattle.test_runner_core_plan.specs.declared.wanted.Wanted.{Wanted}
 use Rattle.test_runner_core_plan.specs.declared.plan.Plan.{Plan}
 use Rattle.test_runner_core_plan.specs.declared.plan_fault.PlanFault.{PlanFault}
 use Rattle.test_runner_core_plan.specs.declared.plan_fault.PlanFault.TheVariants as refused
 
-nothing : (answer : Binary → Answer) (inputs : Inputs) (refusal : PlanFault) (old : List (List ℕ)) (given : Result Asked PlanFault) → given ≡ Err refusal → old ≡ old ++ asked_for answer inputs given
-nothing answer inputs refusal old given e = sym (ap (λ (g : Result Asked PlanFault). old ++ asked_for answer inputs g) e ∙ append-nil old)
+nothing : (answer : Binary → Answer) (inputs : Inputs) (refusal : PlanFault) (old : List (List ℕ)) (given : Result Wanted PlanFault) → given ≡ Err refusal → old ≡ old ++ asked_for answer inputs given
+nothing answer inputs refusal old given e = sym (ap (λ (g : Result Wanted PlanFault). old ++ asked_for answer inputs g) e ∙ append-nil old)
 
 -- nobody is asked where the inputs are refused before
-pub asks_nothing : (answer : Binary → Answer) (inputs : Inputs) (refusal : PlanFault) (old : List (List ℕ)) → Gives {A = Asked} (Err refusal) (asked_in inputs)
-    → Asks {A = Plan} (Err refusal) old (asked_for answer inputs (asked_in inputs)) old
-asks_nothing answer inputs refused.RepeatedPackage old g = nothing answer inputs refused.RepeatedPackage old (asked_in inputs) g
-asks_nothing answer inputs refused.UnknownLink old g = nothing answer inputs refused.UnknownLink old (asked_in inputs) g
-asks_nothing answer inputs refused.RepeatedBinary old g = nothing answer inputs refused.RepeatedBinary old (asked_in inputs) g
-asks_nothing answer inputs refused.UnknownPackage old g = nothing answer inputs refused.UnknownPackage old (asked_in inputs) g
-asks_nothing answer inputs refused.BadId old g = nothing answer inputs refused.BadId old (asked_in inputs) g
-asks_nothing answer inputs refused.VersionSource old g = nothing answer inputs refused.VersionSource old (asked_in inputs) g
-asks_nothing answer inputs (refused.Load fault) old g = nothing answer inputs (refused.Load fault) old (asked_in inputs) g
-asks_nothing answer inputs refused.NotYet old g = nothing answer inputs refused.NotYet old (asked_in inputs) g
-asks_nothing answer inputs (refused.ListFault cause) old g = nothing answer inputs (refused.ListFault cause) old (asked_in inputs) g
-asks_nothing answer inputs refused.EmptyTestName old g = nothing answer inputs refused.EmptyTestName old (asked_in inputs) g
-asks_nothing answer inputs refused.BadTestName old g = nothing answer inputs refused.BadTestName old (asked_in inputs) g
-asks_nothing answer inputs refused.RepeatedTest old g = nothing answer inputs refused.RepeatedTest old (asked_in inputs) g
-asks_nothing answer inputs refused.RetriesTooMany old g = nothing answer inputs refused.RetriesTooMany old (asked_in inputs) g
-asks_nothing answer inputs refused.OutOfMemory old g = ([], (asked_for answer inputs (asked_in inputs), (sym (append-nil old), refl)))
+pub asks_nothing : (answer : Binary → Answer) (inputs : Inputs) (refusal : PlanFault) (old : List (List ℕ)) → Gives {A = Wanted} (Err refusal) (wanted_in inputs)
+    → Asks {A = Plan} (Err refusal) old (asked_for answer inputs (wanted_in inputs)) old
+asks_nothing answer inputs refused.RepeatedPackage old g = nothing answer inputs refused.RepeatedPackage old (wanted_in inputs) g
+asks_nothing answer inputs refused.UnknownLink old g = nothing answer inputs refused.UnknownLink old (wanted_in inputs) g
+asks_nothing answer inputs refused.RepeatedBinary old g = nothing answer inputs refused.RepeatedBinary old (wanted_in inputs) g
+asks_nothing answer inputs refused.UnknownPackage old g = nothing answer inputs refused.UnknownPackage old (wanted_in inputs) g
+asks_nothing answer inputs refused.BadId old g = nothing answer inputs refused.BadId old (wanted_in inputs) g
+asks_nothing answer inputs refused.VersionSource old g = nothing answer inputs refused.VersionSource old (wanted_in inputs) g
+asks_nothing answer inputs (refused.Load fault) old g = nothing answer inputs (refused.Load fault) old (wanted_in inputs) g
+asks_nothing answer inputs refused.NotYet old g = nothing answer inputs refused.NotYet old (wanted_in inputs) g
+asks_nothing answer inputs (refused.ListFault cause) old g = nothing answer inputs (refused.ListFault cause) old (wanted_in inputs) g
+asks_nothing answer inputs refused.EmptyTestName old g = nothing answer inputs refused.EmptyTestName old (wanted_in inputs) g
+asks_nothing answer inputs refused.BadTestName old g = nothing answer inputs refused.BadTestName old (wanted_in inputs) g
+asks_nothing answer inputs refused.RepeatedTest old g = nothing answer inputs refused.RepeatedTest old (wanted_in inputs) g
+asks_nothing answer inputs refused.RetriesTooMany old g = nothing answer inputs refused.RetriesTooMany old (wanted_in inputs) g
+asks_nothing answer inputs refused.OutOfMemory old g = ([], (asked_for answer inputs (wanted_in inputs), (sym (append-nil old), refl)))
 
 -- what is planned once all tests are listed
-abbrev pub finished : Asked → Selection → Result Planned PlanFault
-finished asked found = cond (has_too_many asked found) (Err refused.RetriesTooMany) (Ok (record { asked = asked; found = found }))
+abbrev pub finished : Wanted → Selection → Result Planned PlanFault
+finished wanted found = cond (has_too_many wanted found) (Err refused.RetriesTooMany) (Ok (record { wanted = wanted; found = found }))
 
-pub planned_is : (answer : Binary → Answer) (inputs : Inputs) (asked : Asked) (found : Selection) → asked_in inputs ≡ Ok asked → listing answer asked.filter (listed_in inputs asked) ≡ Ok found
-    → planned answer inputs ≡ finished asked found
-planned_is answer inputs asked found a f =
-    ap (λ (r : Result Asked PlanFault). r >>= λ x. found_by (listing answer x.filter (listed_in inputs x)) >>= finished x) a
-    ∙ ap (λ r. found_by r >>= finished asked) f
+pub planned_is : (answer : Binary → Answer) (inputs : Inputs) (wanted : Wanted) (found : Selection) → wanted_in inputs ≡ Ok wanted → listing answer wanted.filter (listed_in inputs wanted) ≡ Ok found
+    → planned answer inputs ≡ finished wanted found
+planned_is answer inputs wanted found a f =
+    ap (λ (r : Result Wanted PlanFault). r >>= λ x. found_by (listing answer x.filter (listed_in inputs x)) >>= finished x) a
+    ∙ ap (λ r. found_by r >>= finished wanted) f
 
 -- the sorted tests are as many as the listed ones
-pub as_many : (asked : Asked) (found selection : Selection) → Selects found selection → has_too_many asked found ≡ has_too_many asked selection
-as_many asked found selection s = ap (λ (n : ℕ). asked.settings.retries == 4294967295 && nat_lt 0 n) (sym (length_permutation found.tests selection.tests s.tests))
+pub as_many : (wanted : Wanted) (found selection : Selection) → Selects found selection → has_too_many wanted found ≡ has_too_many wanted selection
+as_many wanted found selection s = ap (λ (n : ℕ). wanted.settings.retries == 4294967295 && nat_lt 0 n) (sym (length_permutation found.tests selection.tests s.tests))
 
 few_tries : (retries : ℕ) (is_last some : Bool) → retries < 2 ^ 32 → (retries == 4294967295) ≡ is_last → some ≡ true → (is_last && some) ≡ false → min (retries + 1) 4294967295 ≡ retries + 1
 few_tries retries true true fits e h f = absurd (let g : true ≡ false = f in cc)
@@ -65,9 +65,9 @@ tries_fit settings (test ∷ tests) fits few =
     ap (λ (n : ℕ). map (with_tries n) (test ∷ tests)) (few_tries settings.retries (settings.retries == 4294967295) (nat_lt 0 (length (test ∷ tests))) fits refl some few)
 
 -- what is refused for too many retries
-pub refused_tries : (answer : Binary → Answer) (inputs : Inputs) (asked : Asked) (binaries : List Binary) (found selection : Selection) (test : Bool) → binaries ≡ inputs.workspace.binaries
-    → asked_in inputs ≡ Ok asked → listing answer asked.filter (listed_of asked.filter binaries) ≡ Ok found → Selects found selection → has_too_many asked selection ≡ test
-    → planned answer inputs ≡ cond test (Err refused.RetriesTooMany) (Ok (record { asked = asked; found = found }))
-refused_tries answer inputs asked binaries found selection test same a f s t =
-    planned_is answer inputs asked found a (ap (λ (bs : List Binary). listing answer asked.filter (listed_of asked.filter bs)) (sym same) ∙ f)
-    ∙ ap (λ (b : Bool). cond b (Err refused.RetriesTooMany) (Ok (record { asked = asked; found = found }))) (as_many asked found selection s ∙ t)
+pub refused_tries : (answer : Binary → Answer) (inputs : Inputs) (wanted : Wanted) (binaries : List Binary) (found selection : Selection) (test : Bool) → binaries ≡ inputs.workspace.binaries
+    → wanted_in inputs ≡ Ok wanted → listing answer wanted.filter (listed_of wanted.filter binaries) ≡ Ok found → Selects found selection → has_too_many wanted selection ≡ test
+    → planned answer inputs ≡ cond test (Err refused.RetriesTooMany) (Ok (record { wanted = wanted; found = found }))
+refused_tries answer inputs wanted binaries found selection test same a f s t =
+    planned_is answer inputs wanted found a (ap (λ (bs : List Binary). listing answer wanted.filter (listed_of wanted.filter bs)) (sym same) ∙ f)
+    ∙ ap (λ (b : Bool). cond b (Err refused.RetriesTooMany) (Ok (record { wanted = wanted; found = found }))) (as_many wanted found selection s ∙ t)

@@ -25,7 +25,7 @@ use Rattle.test_runner_core_workspace.specs.declared.record.Binary.{Binary}
 use Rattle.test_runner_core_workspace.specs.declared.record.WorkspaceRecord.{WorkspaceRecord}
 use Rattle.test_runner_core_workspace.specs.declared.workspace_error.WorkspaceError.{WorkspaceError}
 use Rattle.test_runner_core_plan.specs.Refusals.{of_workspace, of_settings, of_listing}
-use Rattle.test_runner_core_plan.specs.declared.asked.Asked.{Asked}
+use Rattle.test_runner_core_plan.specs.declared.wanted.Wanted.{Wanted}
 use Rattle.test_runner_core_plan.specs.declared.plan.Plan.{Plan}
 use Rattle.test_runner_core_plan.specs.declared.plan.PlanTest.{PlanTest}
 use Rattle.test_runner_core_plan.specs.declared.plan_fault.PlanFault.{PlanFault}
@@ -35,11 +35,6 @@ infixl 10 ◌>>=◌
 abbrev pub ◌>>=◌ : {A B : Type 0} → Result A PlanFault → (A → Result B PlanFault) → Result B PlanFault
 Ok x >>= next = next x
 Err refusal >>= next = Err refusal
-
--- nothing refuses, or this does
-abbrev pub unless : {A : Type 0} → A → Option PlanFault → Result A PlanFault
-unless x None = Ok x
-unless x (Some refusal) = Err refusal
 
 -- the workspace, unless it is refused
 abbrev pub workspace_of : WorkspaceRecord → Option WorkspaceError → Result WorkspaceRecord PlanFault
@@ -74,8 +69,8 @@ filter_in None = Ok filters.All
 filter_in (Some text) = option_map_or Ok (filter_of text) (Err refused.NotYet)
 
 -- what inputs ask for
-abbrev pub asked_in : Inputs → Result Asked PlanFault
-asked_in inputs = do
+abbrev pub wanted_in : Inputs → Result Wanted PlanFault
+wanted_in inputs = do
   workspace ← workspace_of inputs.workspace (refusal_of inputs.workspace)
   settings ← settings_in inputs.sources
   whole ← if asks_for_more inputs then Err refused.NotYet else Ok settings
@@ -83,31 +78,31 @@ asked_in inputs = do
   Ok (record { settings = settings; filter = chosen })
 
 -- the binaries that are listed
-abbrev pub listed_in : Inputs → Asked → List Binary
-listed_in inputs asked = listed_of asked.filter inputs.workspace.binaries
+abbrev pub listed_in : Inputs → Wanted → List Binary
+listed_in inputs wanted = listed_of wanted.filter inputs.workspace.binaries
 
 abbrev pub found_by : Result Selection ListingFault → Result Selection PlanFault
 found_by (Ok found) = Ok found
 found_by (Err refusal) = Err (of_listing refusal)
 
 -- a selected test has more retries than can be counted with its first attempt
-abbrev pub has_too_many : Asked → Selection → Bool
-has_too_many asked found = asked.settings.retries == 4294967295 && nat_lt 0 (length found.tests)
+abbrev pub has_too_many : Wanted → Selection → Bool
+has_too_many wanted found = wanted.settings.retries == 4294967295 && nat_lt 0 (length found.tests)
 
 -- what inputs ask for and the tests that are selected, or the first reason why there is no plan
 pub record Planned : Type 0 where
-  pub asked : Asked
+  pub wanted : Wanted
   pub found : Selection
 
 abbrev pub planned : (Binary → Answer) → Inputs → Result Planned PlanFault
 planned answer inputs = do
-  asked ← asked_in inputs
-  found ← found_by (listing answer asked.filter (listed_in inputs asked))
-  if has_too_many asked found then Err refused.RetriesTooMany else Ok (record { asked = asked; found = found })
+  wanted ← wanted_in inputs
+  found ← found_by (listing answer wanted.filter (listed_in inputs wanted))
+  if has_too_many wanted found then Err refused.RetriesTooMany else Ok (record { wanted = wanted; found = found })
 
 -- the ids that the lister is asked for: none where the inputs are refused before
-abbrev pub asked_for : (Binary → Answer) → Inputs → Result Asked PlanFault → List (List ℕ)
-asked_for answer inputs (Ok asked) = asked_of answer (listed_in inputs asked)
+abbrev pub asked_for : (Binary → Answer) → Inputs → Result Wanted PlanFault → List (List ℕ)
+asked_for answer inputs (Ok wanted) = asked_of answer (listed_in inputs wanted)
 asked_for answer inputs (Err refusal) = []
 
 -- a selected test with its settings
@@ -118,10 +113,10 @@ plan_test settings instance = record { instance = instance; settings = record { 
 pub record IsPlanOf (inputs : Inputs) (it : Planned) (plan : Plan) : Type 0 where
   pub selection : Selection
   pub selected : Selects it.found selection
-  pub tests : plan.tests ≡ map (plan_test it.asked.settings) selection.tests
+  pub tests : plan.tests ≡ map (plan_test it.wanted.settings) selection.tests
   pub skipped : plan.skipped ≡ it.found.skipped
-  pub listed : plan.listed ≡ map (λ binary. binary.id) (listed_in inputs it.asked)
-  pub limit : plan.limit ≡ it.asked.settings.max_fail
+  pub listed : plan.listed ≡ map (λ binary. binary.id) (listed_in inputs it.wanted)
+  pub limit : plan.limit ≡ it.wanted.settings.max_fail
   pub scripts : plan.scripts ≡ []
 
 -- a call builds the plan, or refuses as is written; want of memory says nothing

@@ -1,4 +1,4 @@
--- The names of refusals, and the texts of errors.
+-- The names of refusals.
 use Rattle.std.specs.Prelude.{ℕ, List, ◌++◌, codes}
 use Rattle.test_runner_core_plan.specs.declared.plan_fault.LoadFault.TheVariants as load
 use Rattle.test_runner_core_plan.specs.declared.plan_fault.PlanFault.{PlanFault}
@@ -19,7 +19,3 @@ name_of fault.BadTestName = codes "BadTestName"
 name_of fault.RepeatedTest = codes "RepeatedTest"
 name_of fault.RetriesTooMany = codes "RetriesTooMany"
 name_of fault.OutOfMemory = codes "OutOfMemory"
-
-abbrev pub text_of : PlanFault → List ℕ
-text_of (fault.ListFault cause) = codes "ListFault: " ++ cause
-text_of other = name_of other

@@ -4,9 +4,9 @@ ghost use Rattle.test_runner_core_listing.specs.Listing.{listed_of};
 ghost use Rattle.test_runner_core_plan.specs.Plan as words;
 ghost use Rattle.test_runner_core_workspace.specs.declared.record.Binary.{Binary};
 
-use crate::asked::{Asked, asked_in};
 use crate::plan::{Plan, PlanSettings, PlanTest};
 use crate::plan_fault::PlanFault;
+use crate::wanted::{Wanted, wanted_in};
 use nextest_config_elements_plain::FlakyResult;
 use nextest_run_events_results::OwnedTestInstanceId;
 use nextest_text::{Listing, Text};
@@ -27,24 +27,24 @@ impl Plan {
     ) -> Result<Plan, PlanFault>
         ensures builds { words.Builds (L.answer lister.old) inputs.now result }
         ensures stays { (other : Binary) → L.answer lister.new other ≡ L.answer lister.old other }
-        ensures asks { words.Asks result (L.asked lister.old) (words.asked_for (L.answer lister.old) inputs.now (words.asked_in inputs.now)) (L.asked lister.new) }
+        ensures asks { words.Asks result (L.asked lister.old) (words.asked_for (L.answer lister.old) inputs.now (words.wanted_in inputs.now)) (L.asked lister.new) }
     {
-        let asked = asked_in(alloc, inputs)?;
+        let wanted = wanted_in(alloc, inputs)?;
         let binaries = inputs.workspace.binaries.as_slice();
-        let selection = select(alloc, binaries, &asked.filter, lister)?;
-        if has_too_many(&asked, &selection) {
+        let selection = select(alloc, binaries, &wanted.filter, lister)?;
+        if has_too_many(&wanted, &selection) {
             return Err(PlanFault::RetriesTooMany);
         }
-        Ok(plan_of(alloc, binaries, asked, selection)?)
+        Ok(plan_of(alloc, binaries, wanted, selection)?)
     }
 }
 
 // Whether a selected test has more retries than can be counted with its first attempt.
-fn has_too_many(asked: &Asked, selection: &Selection) -> bool
-    ensures value { result ≡ words.has_too_many asked.now selection.now }
-    ensures fits { asked.now.settings.retries < 2 ^ 32 }
+fn has_too_many(wanted: &Wanted, selection: &Selection) -> bool
+    ensures value { result ≡ words.has_too_many wanted.now selection.now }
+    ensures fits { wanted.now.settings.retries < 2 ^ 32 }
 {
-    let retries = asked.settings.retries;
+    let retries = wanted.settings.retries;
     retries == u32::MAX && !selection.tests.is_empty()
 }
 
@@ -52,27 +52,27 @@ fn has_too_many(asked: &Asked, selection: &Selection) -> bool
 fn plan_of(
     alloc: Global,
     binaries: &[Binary],
-    asked: Asked,
+    wanted: Wanted,
     selection: Selection,
 ) -> Result<Plan, AllocError>
-    ensures tests { IfOk result (λ plan. plan.tests ≡ map (words.with_tries (words.tries_of asked.settings)) selection.tests) }
+    ensures tests { IfOk result (λ plan. plan.tests ≡ map (words.with_tries (words.tries_of wanted.settings)) selection.tests) }
     ensures skipped { IfOk result (λ plan. plan.skipped ≡ selection.skipped) }
-    ensures listed { IfOk result (λ plan. plan.listed ≡ map (λ binary. binary.id) (listed_of asked.filter binaries.now)) }
-    ensures limit { IfOk result (λ plan. plan.limit ≡ asked.settings.max_fail) }
+    ensures listed { IfOk result (λ plan. plan.listed ≡ map (λ binary. binary.id) (listed_of wanted.filter binaries.now)) }
+    ensures limit { IfOk result (λ plan. plan.limit ≡ wanted.settings.max_fail) }
     ensures scripts { IfOk result (λ plan. plan.scripts ≡ []) }
 {
-    let listed = if asked.filter.may_hold() {
+    let listed = if wanted.filter.may_hold() {
         binaries
     } else {
         &[]
     };
-    let tries = asked.settings.retries.saturating_add(1);
+    let tries = wanted.settings.retries.saturating_add(1);
     Ok(Plan {
         scripts: Listing::new(alloc),
         tests: with_tries(alloc, selection.tests, tries)?,
         listed: ids_of(alloc, listed)?,
         skipped: selection.skipped,
-        limit: asked.settings.max_fail,
+        limit: wanted.settings.max_fail,
     })
 }
 

@@ -1,49 +1,63 @@
 // Why inputs have no plan.
 use nextest_text::Text;
 use std::alloc::{AllocError, AllocFailed};
-use std::error::Error;
-use std::fmt;
 use test_runner_core_listing::ListingFault;
 use test_runner_core_settings::SettingsFault;
 use test_runner_core_workspace::WorkspaceError;
+use thiserror::Error;
 
 /// Why a configuration isn't loaded.
-#[derive(Clone, Copy, Debug, PartialEq, Eq, Hash)]
+#[derive(Clone, Copy, Debug, PartialEq, Eq, Hash, Error)]
 pub enum LoadFault {
     /// A value has a type or range that it can't have.
+    #[error("BadValue")]
     BadValue,
 }
 
 /// Why inputs have no plan, in the order in which the reasons are looked for.
-#[derive(Debug, PartialEq, Eq)]
+#[derive(Debug, PartialEq, Eq, Error)]
 pub enum PlanFault {
     /// Two packages have one id.
+    #[error("RepeatedPackage")]
     RepeatedPackage,
     /// An end of a link is the id of no package.
+    #[error("UnknownLink")]
     UnknownLink,
     /// Two binaries have one id.
+    #[error("RepeatedBinary")]
     RepeatedBinary,
     /// A binary's package is the id of no package.
+    #[error("UnknownPackage")]
     UnknownPackage,
     /// A binary's id is empty, or has a tab, a line feed or a carriage return in it.
+    #[error("BadId")]
     BadId,
     /// A source's text is no TOML.
+    #[error("VersionSource")]
     VersionSource,
     /// The configuration isn't loaded.
+    #[error("Load.{0}")]
     Load(LoadFault),
     /// The inputs ask for what isn't built yet; looked for last among the reasons of the part that it belongs to.
+    #[error("NotYet")]
     NotYet,
     /// A binary can't list its tests, for this cause.
+    #[error("ListFault: {0}")]
     ListFault(Text),
     /// A test has no name.
+    #[error("EmptyTestName")]
     EmptyTestName,
     /// A test's name has a tab, a line feed or a carriage return in it.
+    #[error("BadTestName")]
     BadTestName,
     /// Two tests of a binary have one name.
+    #[error("RepeatedTest")]
     RepeatedTest,
     /// A selected test has 4294967295 retries.
+    #[error("RetriesTooMany")]
     RetriesTooMany,
     /// There was no memory, which says nothing of the inputs.
+    #[error("OutOfMemory")]
     OutOfMemory,
 }
 
@@ -95,22 +109,6 @@ impl PlanFault {
         }
     }
 }
-
-impl fmt::Display for PlanFault {
-    ghost use Rattle.std.specs.Prelude.{Some};
-    ghost use Rattle.test_runner_core_plan.specs.Texts.{text_of};
-
-    ghost output = { λ fault. Some (text_of fault) };
-
-    fn fmt<W: fmt::Write>(&self, f: &mut fmt::Formatter<W>) -> fmt::Result {
-        match self {
-            PlanFault::ListFault(cause) => write!(f, "ListFault: {cause}"),
-            _ => f.write_str(self.name()),
-        }
-    }
-}
-
-impl Error for PlanFault {}
 
 impl From<AllocError> for PlanFault {
     ghost use Rattle.std.specs.Prelude.{◌≡◌};

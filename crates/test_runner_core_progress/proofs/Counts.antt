@@ -1,5 +1,5 @@
 -- Counts over a list: after a write, of all, of none, and of three tests at once.
-use Rattle.std.proofs.Common.{suc, ◌≡◌, ℕ, ◌+◌, ◌≤◌, zero, Bool, true, false, cond, ltb, eqb, not, ◌||◌, ◌&&◌, List, [], ◌∷◌, length, Some, refl, sym, ap, ◌∙◌, arith, count_by}
+use Rattle.std.proofs.Common.{suc, ◌≡◌, ℕ, ◌+◌, ◌≤◌, zero, Bool, true, false, cond, eqb, ◌&&◌, List, [], ◌∷◌, length, Some, refl, sym, ap, ◌∙◌, arith, count_by}
 use Rattle.std.specs.Prelude.{slice_get, slice_set}
 use Rattle.std.specs.List.{list_all}
 use Rattle.std.proofs.lemmas.List.Sums.{sum_by-cons, sum_by-set, count_by-le-length}
@@ -23,41 +23,6 @@ all_counted p (x ∷ xs) =
     by_first : (first : Bool) (n m : ℕ) (more : Bool) → more ≡ eqb n m → n ≤ m → (first && more) ≡ eqb (cond first 1 0 + n) (suc m)
     by_first true n m more h within = grind (arith, nat_tests)
     by_first false n m more h within = grind (arith, nat_tests)
-
--- none passes where the count is 0
-pub none_counted : {X : Type 0} (p : X → Bool) (xs : List X) → list_all (λ x. not (p x)) xs ≡ eqb (count_by p xs) 0
-none_counted p [] = refl
-none_counted p (x ∷ xs) =
-    rw (sum_by-cons (λ y. cond (p y) 1 0) x xs) (by_first (p x) _ (list_all (λ y. not (p y)) xs) (none_counted p xs))
-  where
-    by_first : (first : Bool) (n : ℕ) (more : Bool) → more ≡ eqb n 0 → (not first && more) ≡ eqb (cond first 1 0 + n) 0
-    by_first true n more h = grind (arith, nat_tests)
-    by_first false n more h = grind (arith, nat_tests)
-
--- one of three counts is above 0 where one element passes one of the three tests
-pub three_counted : {X : Type 0} (p q r s : X → Bool) (xs : List X) → ((x : X) → (p x || q x || r x) ≡ s x)
-    → ltb 0 (count_by p xs + count_by q xs + count_by r xs) ≡ ltb 0 (count_by s xs)
-three_counted p q r s [] same = refl
-three_counted p q r s (x ∷ xs) same =
-    rw (sum_by-cons (λ y. cond (p y) 1 0) x xs, sum_by-cons (λ y. cond (q y) 1 0) x xs, sum_by-cons (λ y. cond (r y) 1 0) x xs, sum_by-cons (λ y. cond (s y) 1 0) x xs)
-    (by_first (p x) (q x) (r x) (s x) _ _ _ _ (same x) (three_counted p q r s xs same))
-  where
-    by_first : (a b c d : Bool) (k m n o : ℕ) → (a || b || c) ≡ d → ltb 0 (k + m + n) ≡ ltb 0 o
-        → ltb 0 ((cond a 1 0 + k) + (cond b 1 0 + m) + (cond c 1 0 + n)) ≡ ltb 0 (cond d 1 0 + o)
-    by_first a b c true k m n o e h = by_some a b c e
-      where
-        by_some : (a b c : Bool) → (a || b || c) ≡ true → ltb 0 ((cond a 1 0 + k) + (cond b 1 0 + m) + (cond c 1 0 + n)) ≡ ltb 0 (1 + o)
-        by_some true b c e = grind (arith, nat_tests)
-        by_some false true c e = grind (arith, nat_tests)
-        by_some false false true e = grind (arith, nat_tests)
-        by_some false false false e = cc
-    by_first a b c false k m n o e h = by_none a b c e
-      where
-        by_none : (a b c : Bool) → (a || b || c) ≡ false → ltb 0 ((cond a 1 0 + k) + (cond b 1 0 + m) + (cond c 1 0 + n)) ≡ ltb 0 (0 + o)
-        by_none true b c e = cc
-        by_none false true c e = cc
-        by_none false false true e = cc
-        by_none false false false e = grind (arith, nat_tests)
 
 -- what is written at a place is there
 pub written : {X : Type 0} (xs : List X) (i : ℕ) (old new : X) → slice_get xs i ≡ Some old → slice_get (slice_set xs i new) i ≡ Some new

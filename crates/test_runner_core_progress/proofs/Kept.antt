@@ -7,7 +7,7 @@ use Rattle.nextest_config_elements_plain.specs.declared.timeouts.FlakyResult.{Fl
 use Rattle.nextest_run_events_counters.specs.Attempts.{Attempts, last}
 use Rattle.nextest_run_events_counters.specs.Counting.{with_test, with_attempts, finished_as}
 use Rattle.nextest_run_events_counters.specs.declared.run_stats.RunStats.{RunStats}
-use Rattle.test_runner_core_runs.specs.Plan.{TestPlan}
+use Rattle.test_runner_core_runs.specs.declared.run_test.RunTest.{RunTest}
 use Rattle.test_runner_core_runs.specs.State.{is_finished, last_record}
 use Rattle.test_runner_core_runs.specs.declared.mark.Mark.{Mark}
 use Rattle.std.specs.Prelude.{cond, ◌||◌, nat_le}
@@ -19,7 +19,7 @@ use Rattle.test_runner_core_runs.specs.State.{is_finished_mark, is_running_mark}
 use Rattle.test_runner_core_runs.specs.declared.mark.Mark.TheVariants as marks
 use Rattle.test_runner_core_progress.specs.Parts.{KeepsTest}
 use Rattle.test_runner_core_progress.specs.Slots.{SlotState, KeepsRule}
-use Rattle.test_runner_core_progress.specs.declared.planned_test.PlannedTest.{PlannedTest}
+use Rattle.test_runner_core_runs.specs.declared.run_test.RunTest.{RunTest}
 use Rattle.test_runner_core_progress.specs.Counted.{with_finished}
 use Rattle.test_runner_core_progress.proofs.Tallies.{finished_adds}
 use Rattle.nextest_run_events_results.specs.declared.result.ExecutionResultDescription.{ExecutionResultDescription}
@@ -42,17 +42,6 @@ record_back attempt total told status made =
     ∙ ap (λ (s : Bool). made_of told.result s (as_nanos status.time_taken) (told_of status.output)) made.is_slow
     ∙ ap (λ (n : ℕ). made_of told.result told.slow n (told_of status.output)) made.time_taken
     ∙ ap (λ (o : RecordOutput). made_of told.result told.slow told.nanos o) (ap told_of made.output ∙ told_back told.output)
-
-pub script_record_back : (told : Record) (status : ScriptStatus) → IsScriptStatusOf told status → script_record_of status ≡ told
-script_record_back told status made =
-    ap (λ (r : ExecutionResultDescription). made_of r status.is_slow (as_nanos status.time_taken) (told_of status.output)) made.result
-    ∙ ap (λ (s : Bool). made_of told.result s (as_nanos status.time_taken) (told_of status.output)) made.is_slow
-    ∙ ap (λ (n : ℕ). made_of told.result told.slow n (told_of status.output)) made.time_taken
-    ∙ ap (λ (o : RecordOutput). made_of told.result told.slow told.nanos o) (ap told_of made.output ∙ told_back told.output)
-
-pub map_more : {X Y : Type 0} (f : X → Y) (xs : List X) (x : X) → map f (xs ++ x ∷ []) ≡ map f xs ++ f x ∷ []
-map_more f [] x = refl
-map_more {Y = Y} f (first ∷ xs) x = ap (λ (ys : List Y). f first ∷ ys) (map_more f xs x)
 
 pub length_map : {X Y : Type 0} (f : X → Y) (xs : List X) → length (map f xs) ≡ length xs
 length_map f [] = refl
@@ -95,7 +84,7 @@ last_told statuses final found =
     ∙ get_map record_of statuses (length statuses - 1) ∙ ap (option_map record_of) found
 
 -- a finished test counts by its attempts
-pub counted_once : (plan : TestPlan) (mark : Mark) (attempts : Attempts Status) (stats : RunStats)
+pub counted_once : (plan : RunTest) (mark : Mark) (attempts : Attempts Status) (stats : RunStats)
     → attempts.flaky_result ≡ plan.flaky → 0 < length attempts.statuses → is_finished (record { plan = plan; records = map record_of attempts.statuses; mark = mark }) ≡ true
     → with_attempts attempts stats ≡ with_finished (record { plan = plan; records = map record_of attempts.statuses; mark = mark }) stats
 counted_once plan mark attempts stats rule some over =
@@ -106,7 +95,7 @@ counted_once plan mark attempts stats rule some over =
     ∙ sym (finished_adds (record { plan = plan; records = map record_of attempts.statuses; mark = mark }) (record_of final.0) stats over (last_told attempts.statuses final.0 final.1))
 
 -- what a test keeps after one more attempt
-pub test_more : (plan : PlannedTest) (old new : SlotState) (before after : Mark) (told : Record) (status : Status) (reason : Option CancelReason) (finished : Bool) (many : ℕ)
+pub test_more : (plan : RunTest) (old new : SlotState) (before after : Mark) (told : Record) (status : Status) (reason : Option CancelReason) (finished : Bool) (many : ℕ)
     → KeepsTest plan old before → many ≡ length old.statuses → IsStatusOf (many + 1) plan.tries told status
     → new.statuses ≡ old.statuses ++ status ∷ [] → new.rule ≡ Some plan.flaky
     → finished ≡ (is_success told.result || nat_le plan.tries (many + 1) || is_some reason)

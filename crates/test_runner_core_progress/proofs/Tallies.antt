@@ -1,24 +1,22 @@
 -- The counters and the number of running tests, from one state of the tests to the next.
-use Rattle.std.proofs.Common.{suc, ◌≡◌, ℕ, ◌+◌, ◌^◌, ◌≤◌, ◌<◌, ◌-◌, zero, Bool, true, false, cond, ◌&&◌, List, [], ◌∷◌, ◌++◌, length, Option, Some, map, refl, ap, ◌∙◌, arith, count_by}
+use Rattle.std.proofs.Common.{suc, ◌≡◌, ℕ, ◌+◌, ◌^◌, ◌≤◌, ◌<◌, ◌-◌, zero, Bool, true, false, cond, ◌&&◌, List, [], ◌∷◌, length, Option, Some, map, refl, ap, ◌∙◌, arith, count_by}
 use Rattle.std.specs.Prelude.{slice_get, slice_set}
 use Rattle.std.specs.Int.{from_bool}
 use Rattle.std.specs.Option.{option_map_or}
 use Rattle.std.proofs.lemmas.List.Sums.{sum_by-cons, count_by-le-length}
 use Rattle.nextest_config_elements_plain.specs.declared.max_fail.MaxFail.TheVariants as limits
-use Rattle.nextest_run_events_counters.specs.Counting.{CanCountTest, CanCountScript, with_test}
+use Rattle.nextest_run_events_counters.specs.Counting.{CanCountTest, with_test}
 use Rattle.nextest_run_events_counters.specs.Rows as rows
 use Rattle.nextest_run_events_counters.specs.Rows.{Finished, fails_test}
 use Rattle.nextest_run_events_counters.specs.declared.run_stats.RunStats.{RunStats}
 use Rattle.nextest_run_events_results.specs.declared.cancel_reason.CancelReason.{CancelReason}
-use Rattle.nextest_run_events_results.specs.declared.result.ExecutionResultDescription.{ExecutionResultDescription}
 use Rattle.nextest_run_events_results.specs.declared.record.Record.{Record}
-use Rattle.test_runner_core_runs.specs.Plan.{TestPlan}
+use Rattle.test_runner_core_runs.specs.declared.run_test.RunTest.{RunTest}
 use Rattle.test_runner_core_runs.specs.Counters.{counters}
-use Rattle.test_runner_core_runs.specs.Step.{finished_by, stopped_mark, after_attempt, finishes}
-use Rattle.test_runner_core_runs.specs.declared.mark.Mark.{Mark}
+use Rattle.test_runner_core_runs.specs.Step.{after_attempt, finishes}
 use Rattle.test_runner_core_runs.specs.declared.mark.Mark.TheVariants as marks
-use Rattle.test_runner_core_runs.specs.State.{TestState, State, waiting, counts, is_finished, is_running, is_finished_mark, is_running_mark, last_record, finished_as}
-use Rattle.test_runner_core_progress.specs.Counted.{with_finished, with_tests, recounted}
+use Rattle.test_runner_core_runs.specs.State.{TestState, State, waiting, counts, is_finished, is_running, is_running_mark, last_record, finished_as}
+use Rattle.test_runner_core_progress.specs.Counted.{with_finished, recounted}
 use Rattle.test_runner_core_progress.proofs.Counts.{counted_set}
 
 -- some state with a reason
@@ -38,7 +36,7 @@ number_of false true e = cc
 number_of false false e = refl
 
 -- nothing that waits counts
-pub none_waits : (p : TestState → Bool) → ((plan : TestPlan) → p (waiting plan) ≡ false) → (plans : List TestPlan) → count_by p (map waiting plans) ≡ 0
+pub none_waits : (p : TestState → Bool) → ((plan : RunTest) → p (waiting plan) ≡ false) → (plans : List RunTest) → count_by p (map waiting plans) ≡ 0
 none_waits p unmet [] = refl
 none_waits p unmet (plan ∷ plans) =
     rw (sum_by-cons (λ y. cond (p y) 1 0) (waiting plan) (map waiting plans))
@@ -115,50 +113,6 @@ finished_adds test told stats over last =
         ap (λ (b : Bool). from_bool (b && option_map_or (λ told. row (finished_as test told)) (last_record test.records) false)) over
         ∙ ap (λ (o : Option Record). from_bool (option_map_or (λ told. row (finished_as test told)) o false)) last
 
--- tests one after another
-count_more : {X : Type 0} (p : X → Bool) (xs : List X) (x : X) → count_by p (xs ++ x ∷ []) ≡ count_by p xs + from_bool (p x)
-count_more p [] x = rw (sum_by-cons (λ y. cond (p y) 1 0) x []) (let n = number_of (p x) (p x) refl in omega (arith, n))
-count_more p (first ∷ xs) x =
-    rw (sum_by-cons (λ y. cond (p y) 1 0) first (xs ++ x ∷ []), sum_by-cons (λ y. cond (p y) 1 0) first xs) (let rest = count_more p xs x in omega (arith, rest))
-
-pub tests_more : (tests : List TestState) (test : TestState) (stats : RunStats) → with_tests (tests ++ test ∷ []) stats ≡ with_finished test (with_tests tests stats)
-tests_more tests test stats =
-    let e0 = row_more is_finished stats.finished_count in
-    let e1 = row_more (counts rows.passed) stats.passed in
-    let e2 = row_more (counts rows.passed_slow) stats.passed_slow in
-    let e3 = row_more (counts rows.passed_timed_out) stats.passed_timed_out in
-    let e4 = row_more (counts rows.flaky) stats.flaky in
-    let e5 = row_more (counts rows.failed) stats.failed in
-    let e6 = row_more (counts rows.failed_slow) stats.failed_slow in
-    let e7 = row_more (counts rows.failed_timed_out) stats.failed_timed_out in
-    let e8 = row_more (counts rows.leaky) stats.leaky in
-    let e9 = row_more (counts rows.leaky_failed) stats.leaky_failed in
-    let e10 = row_more (counts rows.exec_failed) stats.exec_failed in
-    cc
-  where
-    row_more : (p : TestState → Bool) (n : ℕ) → n + count_by p (tests ++ test ∷ []) ≡ n + count_by p tests + from_bool (p test)
-    row_more p n = let more = count_more p tests test in omega (arith, more)
-
-pub no_tests : (stats : RunStats) → with_tests [] stats ≡ stats
-no_tests stats =
-    let e0 : stats.finished_count + 0 ≡ stats.finished_count = omega arith in
-    let e1 : stats.passed + 0 ≡ stats.passed = omega arith in
-    let e2 : stats.passed_slow + 0 ≡ stats.passed_slow = omega arith in
-    let e3 : stats.passed_timed_out + 0 ≡ stats.passed_timed_out = omega arith in
-    let e4 : stats.flaky + 0 ≡ stats.flaky = omega arith in
-    let e5 : stats.failed + 0 ≡ stats.failed = omega arith in
-    let e6 : stats.failed_slow + 0 ≡ stats.failed_slow = omega arith in
-    let e7 : stats.failed_timed_out + 0 ≡ stats.failed_timed_out = omega arith in
-    let e8 : stats.leaky + 0 ≡ stats.leaky = omega arith in
-    let e9 : stats.leaky_failed + 0 ≡ stats.leaky_failed = omega arith in
-    let e10 : stats.exec_failed + 0 ≡ stats.exec_failed = omega arith in
-    rw (e0, e1, e2, e3, e4, e5, e6, e7, e8, e9, e10) refl
-
--- a script more
-pub scripts_more : (p : ExecutionResultDescription → Bool) (told : List Record) (one : Record)
-    → count_by (λ t. p t.result) (told ++ one ∷ []) ≡ count_by (λ t. p t.result) told + from_bool (p one.result)
-scripts_more p told one = count_more (λ t. p t.result) told one
-
 -- no counter of fewer tests, and of fewer scripts, than numbers of the type is the greatest
 pub can_count_test : (state : State) → length state.tests + 1 < 2 ^ 64 → CanCountTest (counters state)
 can_count_test state few =
@@ -179,45 +133,11 @@ can_count_test state few =
     bound : (p : TestState → Bool) → count_by p state.tests + 1 < 2 ^ 64
     bound p = let most = count_by-le-length p state.tests in omega (arith, most, few)
 
-pub can_count_script : (state : State) → length state.scripts + 1 < 2 ^ 64 → CanCountScript (counters state)
-can_count_script state few =
-    record {
-      finished = few;
-      passed = bound rows.script_passed;
-      failed = bound rows.script_failed;
-      exec_failed = bound rows.script_exec_failed;
-      timed_out = bound rows.script_timed_out;
-    }
-  where
-    bound : (p : ExecutionResultDescription → Bool) → count_by (λ (t : Record). p t.result) state.scripts + 1 < 2 ^ 64
-    bound p = let most = count_by-le-length (λ (t : Record). p t.result) state.scripts in omega (arith, most, few)
-
--- a stop leaves as many running
-pub running_stopped : (reason : CancelReason) (tests : List TestState) → count_by is_running (map (finished_by reason) tests) ≡ count_by is_running tests
-running_stopped reason [] = refl
-running_stopped reason (test ∷ tests) =
-    rw (sum_by-cons (λ y. cond (is_running y) 1 0) (finished_by reason test) (map (finished_by reason) tests), sum_by-cons (λ y. cond (is_running y) 1 0) test tests)
-    (let first : is_running (finished_by reason test) ≡ is_running test = by_mark test.mark in
-    let rest = running_stopped reason tests in cc)
-  where
-    by_mark : (mark : Mark) → is_running_mark (stopped_mark reason mark) ≡ is_running_mark mark
-    by_mark marks.Waiting = refl
-    by_mark marks.Running = refl
-    by_mark marks.Between = refl
-    by_mark (marks.Finished kept) = refl
-
 -- how far a test is after an attempt
 pub after_idle : (state : State) (test : TestState) (told : Record) → is_running (after_attempt state test told) ≡ false
 after_idle state test told = by_test (finishes state test told)
   where
     by_test : (b : Bool) → is_running_mark (cond b (marks.Finished state.reason) marks.Between) ≡ false
-    by_test true = refl
-    by_test false = refl
-
-pub after_over : (state : State) (test : TestState) (told : Record) → is_finished (after_attempt state test told) ≡ finishes state test told
-after_over state test told = by_test (finishes state test told)
-  where
-    by_test : (b : Bool) → is_finished_mark (cond b (marks.Finished state.reason) marks.Between) ≡ b
     by_test true = refl
     by_test false = refl
 

@@ -1,16 +1,15 @@
 -- The counters of a run, from one state to the next, and how many count as failing.
-use Rattle.std.proofs.Common.{◌≡◌, ℕ, ◌+◌, ◌≤◌, Bool, true, false, cond, ◌&&◌, List, [], ◌∷◌, ◌++◌, length, Option, None, Some, map, refl, sym, ap, subst, ◌∙◌, arith, count_by}
+use Rattle.std.proofs.Common.{◌≡◌, ℕ, ◌+◌, ◌≤◌, Bool, true, false, cond, ◌&&◌, List, [], ◌∷◌, length, Option, None, Some, map, refl, sym, ap, subst, ◌∙◌, arith, count_by}
 use Rattle.std.specs.Prelude.{slice_get, slice_set}
 use Rattle.std.specs.Int.{from_bool}
 use Rattle.std.specs.Option.{option_map_or}
-use Rattle.std.proofs.lemmas.List.{length-set, length-append}
+use Rattle.std.proofs.lemmas.List.{length-set}
 use Rattle.std.proofs.lemmas.List.Sums.{sum_by-cons, count_by-le-length}
 use Rattle.nextest_config_elements_plain.specs.declared.max_fail.MaxFail.{MaxFail}
 use Rattle.nextest_config_elements_plain.specs.declared.timeouts.FlakyResult.{FlakyResult}
 use Rattle.nextest_config_elements_plain.specs.declared.timeouts.FlakyResult.TheVariants as rule
 use Rattle.nextest_config_elements_plain.specs.declared.timeouts.LeakTimeoutResult.TheVariants as leak
 use Rattle.nextest_config_elements_plain.specs.declared.timeouts.SlowTimeoutResult.TheVariants as timeout
-use Rattle.nextest_run_events_counters.specs.Counting.{with_script}
 use Rattle.nextest_run_events_counters.specs.Rows as rows
 use Rattle.nextest_run_events_counters.specs.Rows.{Finished, fails_test, fails_script}
 use Rattle.nextest_run_events_counters.specs.Summary.{failed_count, failed_setup_script_count}
@@ -23,9 +22,9 @@ use Rattle.test_runner_core_runs.specs.Counters.{counters}
 use Rattle.test_runner_core_runs.specs.State.{TestState, State, waiting, counts, is_finished, last_record, finished_as, failed_weight}
 use Rattle.test_runner_core_progress.specs.Counted.{with_finished, recounted}
 use Rattle.test_runner_core_progress.specs.Parts.{ScriptState, state_of}
-use Rattle.test_runner_core_runs.specs.Plan.{TestPlan}
+use Rattle.test_runner_core_runs.specs.declared.run_test.RunTest.{RunTest}
 use Rattle.test_runner_core_progress.proofs.Kept.{length_map}
-use Rattle.test_runner_core_progress.proofs.Tallies.{counted_after, none_waits, scripts_more}
+use Rattle.test_runner_core_progress.proofs.Tallies.{counted_after, none_waits}
 
 -- the counters are those of the state that these parts keep
 abbrev pub Counts : ScriptState → List TestState → RunStats → MaxFail → Type 0
@@ -54,24 +53,6 @@ pub test_changed : (scripts : ScriptState) (tests : List TestState) (place : ℕ
 test_changed scripts tests place old new stats next limit own found open_still made =
     tests_changed scripts tests (slice_set tests place new) stats next limit stats.cancel_reason own (length-set tests place new)
     (made ∙ ap (with_finished new) (sym (same_anew scripts tests stats limit own)) ∙ sym (counted_after tests place old new stats found open_still))
-
--- a script ended
-pub script_changed : (scripts : ScriptState) (tests : List TestState) (told : Record) (stats next : RunStats) (limit : MaxFail)
-    → Counts scripts tests stats limit → next ≡ with_script told.result stats
-    → Counts (record scripts { ended = scripts.ended ++ told ∷ [] }) tests next limit
-script_changed scripts tests told stats next limit own made =
-    made ∙ ap (with_script told.result) own ∙ grown
-    ∙ ap (λ (n : ℕ). record (counters (state_of (record scripts { ended = scripts.ended ++ told ∷ [] }) tests stats limit)) { skipped = n }) (sym (ap (λ (s : RunStats). s.skipped) made))
-    ∙ ap (λ (r : Option CancelReason). record (counters (state_of (record scripts { ended = scripts.ended ++ told ∷ [] }) tests stats limit)) { skipped = next.skipped; cancel_reason = r }) (sym (ap (λ (s : RunStats). s.cancel_reason) made))
-  where
-    grown : with_script told.result (counters (state_of scripts tests stats limit)) ≡ counters (state_of (record scripts { ended = scripts.ended ++ told ∷ [] }) tests stats limit)
-    grown =
-        let many : length (scripts.ended ++ told ∷ []) ≡ length scripts.ended + 1 = length-append scripts.ended (told ∷ []) in
-        let a = scripts_more rows.script_passed scripts.ended told in
-        let b = scripts_more rows.script_failed scripts.ended told in
-        let c = scripts_more rows.script_exec_failed scripts.ended told in
-        let d = scripts_more rows.script_timed_out scripts.ended told in
-        rw (many, a, b, c, d) refl
 
 -- ---- how many fail
 
@@ -192,7 +173,7 @@ is_nothing d each =
     rw (each.0, each.1.0, each.1.1.0, each.1.1.1.0, each.1.1.1.1.0, each.1.1.1.1.1.0, each.1.1.1.1.1.1.0, each.1.1.1.1.1.1.1.0, each.1.1.1.1.1.1.1.1.0, each.1.1.1.1.1.1.1.1.1.0, each.1.1.1.1.1.1.1.1.1.1.0, each.1.1.1.1.1.1.1.1.1.1.1.0, each.1.1.1.1.1.1.1.1.1.1.1.1.0, each.1.1.1.1.1.1.1.1.1.1.1.1.1.0, each.1.1.1.1.1.1.1.1.1.1.1.1.1.1.0, each.1.1.1.1.1.1.1.1.1.1.1.1.1.1.1.0, each.1.1.1.1.1.1.1.1.1.1.1.1.1.1.1.1.0, each.1.1.1.1.1.1.1.1.1.1.1.1.1.1.1.1.1.0, each.1.1.1.1.1.1.1.1.1.1.1.1.1.1.1.1.1.1.0, each.1.1.1.1.1.1.1.1.1.1.1.1.1.1.1.1.1.1.1) refl in
     all
 
-pub fresh : (planned n skipped : ℕ) (scripts : ScriptState) (tests : List TestState) (plans : List TestPlan) (limit : MaxFail) (none : RunStats)
+pub fresh : (planned n skipped : ℕ) (scripts : ScriptState) (tests : List TestState) (plans : List RunTest) (limit : MaxFail) (none : RunStats)
     → scripts ≡ record { planned = planned; ended = [] } → tests ≡ map waiting plans → n ≡ length plans → none ≡ nothing
     → Counts scripts tests (record none { initial_run_count = n; setup_scripts_initial_count = planned; skipped = skipped }) limit
 fresh planned n skipped scripts tests plans limit none scripts_are tests_are count none_is =

@@ -1,7 +1,5 @@
-pub mod Plans
 pub mod Statuses
 pub mod Slots
 pub mod Parts
 pub mod Counted
 pub mod Progress
-pub mod Texts

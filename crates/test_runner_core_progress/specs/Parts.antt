@@ -9,7 +9,7 @@ use Rattle.test_runner_core_runs.specs.declared.mark.Mark.{Mark}
 use Rattle.test_runner_core_runs.specs.declared.mark.Mark.TheVariants as marks
 use Rattle.test_runner_core_progress.specs.Statuses.{ScriptStatus, AreStatusesFrom, AreScriptStatuses, record_of}
 use Rattle.test_runner_core_progress.specs.Slots.{SlotState, KeepsRule}
-use Rattle.test_runner_core_progress.specs.declared.planned_test.PlannedTest.{PlannedTest}
+use Rattle.test_runner_core_runs.specs.declared.run_test.RunTest.{RunTest}
 
 -- how many scripts are to run, and the records of those that ended
 pub record ScriptState : Type 0 where
@@ -31,7 +31,7 @@ is_over_once (marks.Finished reason) = true
 
 -- a test keeps the statuses of its records, at most as many as it has tries; where an attempt runs there is room for its
 -- end, and where one ended and none runs there is one
-pub record KeepsTest (plan : PlannedTest) (slot : SlotState) (mark : Mark) : Type 0 where
+pub record KeepsTest (plan : RunTest) (slot : SlotState) (mark : Mark) : Type 0 where
   pub made : AreStatusesFrom 1 plan.tries (map record_of slot.statuses) slot.statuses
   pub rule : KeepsRule plan.flaky slot.rule
   pub room : is_running_mark mark ≡ true → 0 < slot.room

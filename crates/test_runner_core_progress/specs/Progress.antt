@@ -15,11 +15,11 @@ abbrev pub Takes : {T : Type 0} → State → Event → Result T StepRefusal →
 Takes old event (Ok done) new = step old event ≡ Ok new
 Takes old event (Err refusal) new = (step old event ≡ Err refusal) × (new ≡ old)
 
--- the same of an attempt that starts; where there was no memory for it nothing changes either
+-- the same of an attempt that starts; memory may be wanting only where it could start, and then nothing changes either
 abbrev pub Starts : {T : Type 0} → State → ℕ → Result T StartFault → State → Type 0
 Starts old test (Ok done) new = step old (events.Started test) ≡ Ok new
 Starts old test (Err (fault.Refused refusal)) new = (step old (events.Started test) ≡ Err refusal) × (new ≡ old)
-Starts old test (Err fault.OutOfMemory) new = new ≡ old
+Starts old test (Err fault.OutOfMemory) new = ((next : State) × (step old (events.Started test) ≡ Ok next)) × (new ≡ old)
 
 -- the attempt of the test at a place ended, which finishes the test or not; the limit isn't looked at yet
 pub record EndsAttempt (old : State) (place : ℕ) (told : Record) (finished : Bool) (new : State) : Type 0 where

@@ -8,18 +8,16 @@ ghost use Rattle.test_runner_core_runs.specs.State.{TestState, State, waiting, i
 ghost use Rattle.test_runner_core_runs.specs.Step.{after_attempt, finished_by, finishes};
 ghost use Rattle.test_runner_core_runs.specs.declared.mark.Mark.TheVariants as marks;
 ghost use Rattle.test_runner_core_progress.specs.Counted.{with_finished, with_tests, CountsNoTest};
-ghost use Rattle.test_runner_core_progress.specs.Plans.{test_plan};
 ghost use Rattle.test_runner_core_progress.specs.Parts.{IsStartable, IsRunningAt, ChangesAt};
 ghost use Rattle.test_runner_core_progress.specs.Statuses.{IsAttempts};
 
-use crate::planned_test::PlannedTest;
 use crate::test_progress::TestProgress;
 use nextest_run_events_counters::{ExecutionStatuses, RunStats};
 use nextest_run_events_outputs::LiveSpec;
 use nextest_run_events_results::{CancelReason, Record};
 use std::alloc::{AllocError, Global};
 use std::marker::Model;
-use test_runner_core_runs::Mark;
+use test_runner_core_runs::{Mark, RunTest};
 
 // How far the tests of a run are, and how many run. In a clause they are the states of the tests, by their places.
 #[derive(Drop)]
@@ -41,8 +39,8 @@ impl Model for AllTests {
 
 impl AllTests {
     // The tests of which no attempt started.
-    pub(crate) fn new(alloc: Global, planned: &[PlannedTest]) -> Result<AllTests, AllocError>
-        ensures { IfOk result (λ tests. tests ≡ map waiting (map test_plan planned.now)) }
+    pub(crate) fn new(alloc: Global, planned: &[RunTest]) -> Result<AllTests, AllocError>
+        ensures { IfOk result (λ tests. tests ≡ map waiting (planned.now)) }
     {
         Ok(AllTests {
             tests: waiting_tests(alloc, planned)?,
@@ -138,8 +136,8 @@ impl AllTests {
 }
 
 // The tests of which no attempt started.
-fn waiting_tests(alloc: Global, planned: &[PlannedTest]) -> Result<Vec<TestProgress>, AllocError>
-    ensures { IfOk result (λ tests. tests.items ≡ map waiting (map test_plan planned.now)) }
+fn waiting_tests(alloc: Global, planned: &[RunTest]) -> Result<Vec<TestProgress>, AllocError>
+    ensures { IfOk result (λ tests. tests.items ≡ map waiting (planned.now)) }
 {
     let mut tests = Vec::with_capacity(alloc, planned.len())?;
     for plan in planned {

@@ -3,7 +3,6 @@
 #![tactic(auto)]
 
 mod all_tests;
-mod planned_test;
 mod progress;
 mod recorded;
 mod scripts;
@@ -11,6 +10,5 @@ mod slot;
 mod start_fault;
 mod test_progress;
 
-pub use planned_test::PlannedTest;
 pub use progress::Progress;
 pub use start_fault::StartFault;

@@ -12,12 +12,10 @@ ghost use Rattle.test_runner_core_runs.specs.Step.{limited, stopped_by};
 ghost use Rattle.test_runner_core_runs.specs.declared.event.Event.TheVariants as events;
 ghost use Rattle.test_runner_core_progress.specs.Counted.{CountsNoTest, recounted, with_tests};
 ghost use Rattle.test_runner_core_progress.specs.Parts.{IsRunningAt};
-ghost use Rattle.test_runner_core_progress.specs.Plans.{plan_of};
 ghost use Rattle.test_runner_core_progress.specs.Progress.{Takes, Starts, EndsAttempt};
 ghost use Rattle.test_runner_core_progress.specs.Statuses.{IsAttempts};
 
 use crate::all_tests::AllTests;
-use crate::planned_test::PlannedTest;
 use crate::recorded::script_status;
 use crate::scripts::Scripts;
 use crate::start_fault::StartFault;
@@ -28,7 +26,8 @@ use nextest_run_events_results::{CancelReason, Record};
 use std::alloc::{AllocError, Global};
 use std::marker::Model;
 use test_runner_core_runs::{
-    Mark, StepRefusal, end_refusal, exit_status, script_refusal, start_refusal, stop_refusal,
+    Mark, RunTest, StepRefusal, end_refusal, exit_status, script_refusal, start_refusal,
+    stop_refusal,
 };
 
 /// How far a run is. In a clause it is the state of the run.
@@ -75,11 +74,11 @@ impl Progress {
     pub fn new(
         alloc: Global,
         scripts: usize,
-        tests: &[PlannedTest],
+        tests: &[RunTest],
         limit: MaxFail,
         skipped: usize,
     ) -> Result<Progress, AllocError>
-        ensures { IfOk result (λ progress. progress ≡ initial (plan_of scripts tests.now limit skipped)) }
+        ensures { IfOk result (λ progress. progress ≡ initial (record { scripts = scripts; tests = tests.now; limit = limit; skipped = skipped })) }
     {
         Ok(Progress {
             alloc,

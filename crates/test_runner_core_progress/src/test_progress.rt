@@ -6,10 +6,8 @@ ghost use Rattle.test_runner_core_runs.specs.State.{State, waiting, is_finished}
 ghost use Rattle.test_runner_core_runs.specs.Step.{after_attempt, finished_by, finishes};
 ghost use Rattle.test_runner_core_runs.specs.declared.mark.Mark.TheVariants as marks;
 ghost use Rattle.test_runner_core_progress.specs.Counted.{with_finished};
-ghost use Rattle.test_runner_core_progress.specs.Plans.{test_plan};
 ghost use Rattle.test_runner_core_progress.specs.Statuses.{AreAttempts};
 
-use crate::planned_test::PlannedTest;
 use crate::recorded::execute_status;
 use crate::slot::Slot;
 use nextest_run_events_counters::{ExecutionStatuses, RunStats};
@@ -17,12 +15,12 @@ use nextest_run_events_outputs::{LiveSpec, RetryData};
 use nextest_run_events_results::{CancelReason, Record};
 use std::alloc::{AllocError, Global};
 use std::marker::Model;
-use test_runner_core_runs::Mark;
+use test_runner_core_runs::{Mark, RunTest};
 
 // How far a test is. In a clause it is the state of the test.
 #[derive(Drop)]
 pub(crate) struct TestProgress {
-    plan: PlannedTest,
+    plan: RunTest,
     slot: Slot,
     mark: Mark,
 }
@@ -30,21 +28,20 @@ pub(crate) struct TestProgress {
 impl Model for TestProgress {
     ghost use Rattle.std.specs.Prelude.{map};
     ghost use Rattle.test_runner_core_runs.specs.State.{TestState};
-    ghost use Rattle.test_runner_core_progress.specs.Plans.{test_plan};
     ghost use Rattle.test_runner_core_progress.specs.Parts.{KeepsTest};
     ghost use Rattle.test_runner_core_progress.specs.Statuses.{record_of};
 
     ghost Value = { TestState };
 
-    ghost view = { λ t. record { plan = test_plan t.plan; records = map record_of t.slot.statuses; mark = t.mark } };
+    ghost view = { λ t. record { plan = t.plan; records = map record_of t.slot.statuses; mark = t.mark } };
 
     ghost invariant = { λ t. KeepsTest t.plan t.slot t.mark };
 }
 
 impl TestProgress {
     // A test of which no attempt started. Takes no memory.
-    pub(crate) fn new(plan: PlannedTest) -> TestProgress
-        ensures { result ≡ waiting (test_plan plan) }
+    pub(crate) fn new(plan: RunTest) -> TestProgress
+        ensures { result ≡ waiting plan }
     {
         TestProgress {
             plan,

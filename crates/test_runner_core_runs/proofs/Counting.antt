@@ -4,15 +4,6 @@ use Rattle.std.specs.List.{list_any, list_all}
 use Rattle.std.proofs.lemmas.List.Sums.{sum_by-cons}
 use Rattle.std.proofs.lemmas.Bool.Decides.{nat_tests}
 
--- a count is above 0 where one of the elements counts
-pub counts_some : {X : Type 0} (p : X → Bool) (xs : List X) → ltb 0 (count_by p xs) ≡ list_any p xs
-counts_some p [] = refl
-counts_some p (x ∷ xs) = rw (sum_by-cons (λ y. cond (p y) 1 0) x xs) (by_first (p x) _ _ (counts_some p xs))
-  where
-    by_first : (first : Bool) (n : ℕ) (more : Bool) → ltb 0 n ≡ more → ltb 0 (cond first 1 0 + n) ≡ (first || more)
-    by_first true n more h = grind (arith, nat_tests)
-    by_first false n more h = grind (arith, nat_tests)
-
 -- the same of three counts
 pub three_count_some : {X : Type 0} (p q r : X → Bool) (xs : List X)
     → ltb 0 (count_by p xs + count_by q xs + count_by r xs) ≡ list_any (λ x. p x || q x || r x) xs

@@ -19,7 +19,8 @@ use Rattle.nextest_run_events_counters.specs.declared.summary.FinalRunStats.TheV
 use Rattle.nextest_run_events_counters.specs.declared.summary.RunStatsFailureKind.{RunStatsFailureKind}
 use Rattle.nextest_run_events_counters.specs.declared.summary.RunStatsFailureKind.TheVariants as at
 use Rattle.nextest_run_events_results.specs.declared.record.Record.{Record}
-use Rattle.test_runner_core_runs.specs.Plan.{TestPlan, Plan, IsPlan}
+use Rattle.test_runner_core_runs.specs.RunPlan.{RunPlan, IsPlan}
+use Rattle.test_runner_core_runs.specs.declared.run_test.RunTest.{RunTest}
 use Rattle.test_runner_core_runs.specs.Assignment.{Assignment, some_script, some_test_fails, due_status}
 use Rattle.test_runner_core_runs.specs.State.{TestState, State, initial, counts, is_finished, last_record, finished_as}
 use Rattle.test_runner_core_runs.specs.Counters.{counters, status, status_of, status_at}
@@ -112,23 +113,23 @@ status_is state =
 abbrev due_by : Bool → Bool → Bool → ℕ
 due_by empty script test = cond empty 4 (cond script 105 (cond test 100 0))
 
-not_empty : (tests : List TestPlan) (attempt : ℕ → ℕ → Record) → some_test_fails tests attempt ≡ true → eqb (length tests) 0 ≡ false
+not_empty : (tests : List RunTest) (attempt : ℕ → ℕ → Record) → some_test_fails tests attempt ≡ true → eqb (length tests) 0 ≡ false
 not_empty [] attempt h = cc
 not_empty (test ∷ tests) attempt h = grind (arith, nat_tests)
 
-is_empty : (tests : List TestPlan) → eqb (length tests) 0 ≡ true → tests ≡ []
+is_empty : (tests : List RunTest) → eqb (length tests) 0 ≡ true → tests ≡ []
 is_empty [] h = refl
 is_empty (test ∷ tests) h = absurd (grind (arith, nat_tests))
 
 -- where all scripts ended, those of the run are those of the assignment
-ended_scripts : (plan : Plan) (assigned : Assignment) (state : State) → Tracks plan assigned state → length state.scripts ≡ state.planned_scripts
+ended_scripts : (plan : RunPlan) (assigned : Assignment) (state : State) → Tracks plan assigned state → length state.scripts ≡ state.planned_scripts
     → list_any fails_told state.scripts ≡ some_script fails_told assigned.script plan.scripts
 ended_scripts plan assigned state tracks over =
     ap (list_any fails_told) tracks.scripts ∙ any_first fails_told assigned.script (length state.scripts)
     ∙ ap (some_script fails_told assigned.script) (over ∙ tracks.planned)
 
 -- a script that counts as failing makes 105 due
-script_due : (plan : Plan) (assigned : Assignment) (state : State) → IsPlan plan → Tracks plan assigned state → list_any fails_told state.scripts ≡ true
+script_due : (plan : RunPlan) (assigned : Assignment) (state : State) → IsPlan plan → Tracks plan assigned state → list_any fails_told state.scripts ≡ true
     → due_status plan assigned ≡ 105
 script_due plan assigned state ok tracks some =
     let here : some_script fails_told assigned.script (length state.scripts) ≡ true =
@@ -161,12 +162,12 @@ tests_status state none over =
     ∙ ap (λ (b : Bool). status_by false b (list_any (counts fails_test) state.tests)
     (ltb (count_by is_finished state.tests) (length state.tests)) (eqb (count_by is_finished state.tests) 0)) pending
 
-due_of_tests : (plan : Plan) (assigned : Assignment) → some_script fails_told assigned.script plan.scripts ≡ false
+due_of_tests : (plan : RunPlan) (assigned : Assignment) → some_script fails_told assigned.script plan.scripts ≡ false
     → due_status plan assigned ≡ due_by (eqb (length plan.tests) 0) false (some_test_fails plan.tests assigned.attempt)
 due_of_tests plan assigned none = ap (λ (b : Bool). due_by (eqb (length plan.tests) 0) b (some_test_fails plan.tests assigned.attempt)) none
 
 -- a run that the limit stopped
-failing_ends : (plan : Plan) (assigned : Assignment) (state : State) → IsPlan plan → Tracks plan assigned state → Failing plan assigned state → status state ≡ due_status plan assigned
+failing_ends : (plan : RunPlan) (assigned : Assignment) (state : State) → IsPlan plan → Tracks plan assigned state → Failing plan assigned state → status state ≡ due_status plan assigned
 failing_ends plan assigned state ok tracks h = by_script (list_any fails_told state.scripts) refl
   where
     by_script : (some : Bool) → list_any fails_told state.scripts ≡ some → status state ≡ due_status plan assigned
@@ -179,7 +180,7 @@ failing_ends plan assigned state ok tracks h = by_script (list_any fails_told st
         ∙ ap (due_by false false) h.due)
 
 -- a run that nothing stopped
-going_ends : (plan : Plan) (assigned : Assignment) (state : State) → IsPlan plan → Tracks plan assigned state → Going assigned state
+going_ends : (plan : RunPlan) (assigned : Assignment) (state : State) → IsPlan plan → Tracks plan assigned state → Going assigned state
     → length state.scripts ≡ state.planned_scripts → list_all is_finished state.tests ≡ true → status state ≡ due_status plan assigned
 going_ends plan assigned state ok tracks now over all = by_script (list_any fails_told state.scripts) refl
   where
@@ -190,7 +191,7 @@ going_ends plan assigned state ok tracks now over all = by_script (list_any fail
     number = sym (length-map state.tests plan_of) ∙ ap length tracks.plans
 
     same : list_any (counts fails_test) state.tests ≡ some_test_fails plan.tests assigned.attempt
-    same = finished_is_due state.tests assigned.attempt now.fit all ∙ ap (λ (ps : List TestPlan). some_test_fails ps assigned.attempt) tracks.plans
+    same = finished_is_due state.tests assigned.attempt now.fit all ∙ ap (λ (ps : List RunTest). some_test_fails ps assigned.attempt) tracks.plans
 
     by_test : (some : Bool) → some_test_fails plan.tests assigned.attempt ≡ some
         → status_by false false (list_any (counts fails_test) state.tests) (ltb (count_by is_finished state.tests) (length state.tests)) (eqb (count_by is_finished state.tests) 0)
@@ -225,7 +226,7 @@ complete_going state going complete =
     by_tests false tests false rest s t n h = cc
     by_tests false tests true rest s t n h = cc
 
-tracked_ends : (plan : Plan) (assigned : Assignment) (state : State) → IsPlan plan → Tracks plan assigned state → is_complete state ≡ true → status state ≡ due_status plan assigned
+tracked_ends : (plan : RunPlan) (assigned : Assignment) (state : State) → IsPlan plan → Tracks plan assigned state → is_complete state ≡ true → status state ≡ due_status plan assigned
 tracked_ends plan assigned state ok tracks complete = by_reason state.reason refl
   where
     was : (reason : Option CancelReason) → state.reason ≡ reason → Standing plan assigned state reason

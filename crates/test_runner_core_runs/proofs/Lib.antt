@@ -1,5 +1,5 @@
 pub mod Counting
-pub mod Fates
+pub mod FirstSuccess
 pub mod TestStates
 pub mod Scripts
 pub mod Tracking

@@ -8,15 +8,15 @@ use Rattle.nextest_run_events_results.specs.declared.cancel_reason.CancelReason.
 use Rattle.nextest_run_events_results.specs.Result.{is_success}
 use Rattle.nextest_run_events_counters.specs.Rows.{Finished, fails_test}
 use Rattle.nextest_run_events_results.specs.declared.record.Record.{Record}
-use Rattle.test_runner_core_runs.specs.Plan.{TestPlan}
+use Rattle.test_runner_core_runs.specs.declared.run_test.RunTest.{RunTest}
 use Rattle.test_runner_core_runs.specs.Assignment.{first_success, found_or, fails, some_test_fails}
 use Rattle.test_runner_core_runs.specs.State.{TestState, State, waiting, counts, is_finished, is_finished_mark}
 use Rattle.test_runner_core_runs.specs.Step.{finished_by, stopped_mark, after_attempt, finishes}
 use Rattle.test_runner_core_runs.specs.declared.mark.Mark.{Mark}
 use Rattle.test_runner_core_runs.specs.declared.mark.Mark.TheVariants as marks
-use Rattle.test_runner_core_runs.proofs.Fates.{Fits, FitsMark, tried, finished_counts, unfinished_counts}
+use Rattle.test_runner_core_runs.proofs.FirstSuccess.{Fits, FitsMark, tried, finished_counts, unfinished_counts}
 
-abbrev pub plan_of : TestState → TestPlan
+abbrev pub plan_of : TestState → RunTest
 plan_of test = test.plan
 
 -- each test fits its assignment
@@ -42,8 +42,8 @@ fit_set (first ∷ tests) attempt (suc place) test fits new = (fits.0, fit_set t
 pub plans_set : (tests : List TestState) (place : ℕ) (old new : TestState)
     → slice_get tests place ≡ Some old → new.plan ≡ old.plan → map plan_of (slice_set tests place new) ≡ map plan_of tests
 plans_set [] place old new found same = cc
-plans_set (first ∷ tests) zero old new found same = let e : first ≡ old = cc in ap (λ (p : TestPlan). p ∷ map plan_of tests) (same ∙ sym (ap plan_of e))
-plans_set (first ∷ tests) (suc place) old new found same = ap (λ (ps : List TestPlan). first.plan ∷ ps) (plans_set tests place old new found same)
+plans_set (first ∷ tests) zero old new found same = let e : first ≡ old = cc in ap (λ (p : RunTest). p ∷ map plan_of tests) (same ∙ sym (ap plan_of e))
+plans_set (first ∷ tests) (suc place) old new found same = ap (λ (ps : List RunTest). first.plan ∷ ps) (plans_set tests place old new found same)
 
 -- a test that doesn't pass may be replaced: what passed is still there
 pub any_set : (p : TestState → Bool) (tests : List TestState) (place : ℕ) (old new : TestState)
@@ -67,7 +67,7 @@ any_set p (first ∷ tests) (suc place) old new found fails_it some =
 -- a stop changes no plan
 pub plans_stopped : (reason : CancelReason) (tests : List TestState) → map plan_of (map (finished_by reason) tests) ≡ map plan_of tests
 plans_stopped reason [] = refl
-plans_stopped reason (test ∷ tests) = ap (λ (ps : List TestPlan). test.plan ∷ ps) (plans_stopped reason tests)
+plans_stopped reason (test ∷ tests) = ap (λ (ps : List RunTest). test.plan ∷ ps) (plans_stopped reason tests)
 
 -- a test that counts in a row still does after a stop
 counts_stopped : (row : Finished → Bool) (reason : CancelReason) (test : TestState) → counts row test ≡ true → counts row (finished_by reason test) ≡ true
@@ -181,11 +181,11 @@ fits_started attempt test fits open_still =
     by_mark (marks.Finished kept) o h = cc
 
 -- all tests fit in the state in which nothing ended
-pub fits_initial : (tests : List TestPlan) (attempt : ℕ → ℕ → Record) → AllByRecursion (λ test. 0 < test.tries) tests → AllFit (map waiting tests) attempt
+pub fits_initial : (tests : List RunTest) (attempt : ℕ → ℕ → Record) → AllByRecursion (λ test. 0 < test.tries) tests → AllFit (map waiting tests) attempt
 fits_initial [] attempt tries = tt
 fits_initial (test ∷ tests) attempt tries =
     (record { tries = tries.0; records = refl; marked = (tries.0, refl) }, fits_initial tests (λ p. attempt (suc p)) tries.1)
 
-pub plans_initial : (tests : List TestPlan) → map plan_of (map waiting tests) ≡ tests
+pub plans_initial : (tests : List RunTest) → map plan_of (map waiting tests) ≡ tests
 plans_initial [] = refl
-plans_initial (test ∷ tests) = ap (λ (ps : List TestPlan). test ∷ ps) (plans_initial tests)
+plans_initial (test ∷ tests) = ap (λ (ps : List RunTest). test ∷ ps) (plans_initial tests)

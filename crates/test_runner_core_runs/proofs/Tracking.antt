@@ -14,7 +14,8 @@ use Rattle.nextest_run_events_results.specs.declared.cancel_reason.CancelReason.
 use Rattle.nextest_run_events_results.specs.Result.{is_success}
 use Rattle.nextest_run_events_counters.specs.Rows.{fails_test}
 use Rattle.nextest_run_events_results.specs.declared.record.Record.{Record}
-use Rattle.test_runner_core_runs.specs.Plan.{TestPlan, Plan, IsPlan, IsLimit, weight}
+use Rattle.test_runner_core_runs.specs.RunPlan.{RunPlan, IsPlan, IsLimit, weight}
+use Rattle.test_runner_core_runs.specs.declared.run_test.RunTest.{RunTest}
 use Rattle.test_runner_core_runs.specs.Assignment.{Assignment, some_test_fails}
 use Rattle.test_runner_core_runs.specs.State.{TestState, State, initial, waiting, counts, is_finished, is_finished_mark, failed_weight}
 use Rattle.test_runner_core_runs.specs.Step.{step, script_ended, after_script, started, start_of, start_from, attempt_ended, end_from, with_test, after_attempt, finishes, limited, limit_reason, stopped_by}
@@ -25,7 +26,7 @@ use Rattle.test_runner_core_runs.specs.declared.event.Event.{Event}
 use Rattle.test_runner_core_runs.specs.declared.event.Event.TheVariants as events
 use Rattle.test_runner_core_runs.specs.declared.step_refusal.StepRefusal.TheVariants as refused
 use Rattle.test_runner_core_runs.proofs.Counting.{weighs_some}
-use Rattle.test_runner_core_runs.proofs.Fates.{unfinished_counts}
+use Rattle.test_runner_core_runs.proofs.FirstSuccess.{unfinished_counts}
 use Rattle.test_runner_core_runs.proofs.TestStates.{plan_of, AllFit, fit_at, fit_set, plans_set, any_set, plans_stopped, any_stopped, failed_is_due, fits_after, fits_started, fits_initial, plans_initial}
 use Rattle.test_runner_core_runs.proofs.Scripts.{first_scripts, any_push, guard_ok, found_ok, ok_is}
 
@@ -48,12 +49,12 @@ pub record Going (assigned : Assignment) (state : State) : Type 0 where
   pub order : (list_all is_waiting state.tests ≡ true) ⊎ (length state.scripts ≡ state.planned_scripts)
 
 -- once the limit stopped the run
-pub record Failing (plan : Plan) (assigned : Assignment) (state : State) : Type 0 where
+pub record Failing (plan : RunPlan) (assigned : Assignment) (state : State) : Type 0 where
   pub ended : length state.scripts ≡ state.planned_scripts
   pub failed : list_any (counts fails_test) state.tests ≡ true
   pub due : some_test_fails plan.tests assigned.attempt ≡ true
 
-abbrev pub Standing : Plan → Assignment → State → Option CancelReason → Type 0
+abbrev pub Standing : RunPlan → Assignment → State → Option CancelReason → Type 0
 Standing plan assigned state None = Going assigned state
 Standing plan assigned state (Some why.SetupScriptFailure) = list_any stops state.scripts ≡ true
 Standing plan assigned state (Some why.TestFailure) = Failing plan assigned state
@@ -64,7 +65,7 @@ Standing plan assigned state (Some why.Signal) = ⊥
 Standing plan assigned state (Some why.Interrupt) = ⊥
 Standing plan assigned state (Some why.SecondSignal) = ⊥
 
-pub record Tracks (plan : Plan) (assigned : Assignment) (state : State) : Type 0 where
+pub record Tracks (plan : RunPlan) (assigned : Assignment) (state : State) : Type 0 where
   pub plans : map plan_of state.tests ≡ plan.tests
   pub planned : state.planned_scripts ≡ plan.scripts
   pub limit : state.limit ≡ plan.limit
@@ -76,11 +77,11 @@ none_of : (o : Option CancelReason) → is_some o ≡ false → o ≡ None
 none_of None h = refl
 none_of (Some reason) h = cc
 
-all_waiting : (tests : List TestPlan) → list_all is_waiting (map waiting tests) ≡ true
+all_waiting : (tests : List RunTest) → list_all is_waiting (map waiting tests) ≡ true
 all_waiting [] = refl
 all_waiting (test ∷ tests) = all_waiting tests
 
-pub tracks_initial : (plan : Plan) (assigned : Assignment) → IsPlan plan → Tracks plan assigned (initial plan)
+pub tracks_initial : (plan : RunPlan) (assigned : Assignment) → IsPlan plan → Tracks plan assigned (initial plan)
 tracks_initial plan assigned ok =
     record {
       plans = plans_initial plan.tests;
@@ -97,7 +98,7 @@ not_true : (b : Bool) → not b ≡ false → b ≡ true
 not_true true h = refl
 not_true false h = cc
 
-tracks_script : (plan : Plan) (assigned : Assignment) (old : State) (script : ℕ) (told : Record) → Tracks plan assigned old
+tracks_script : (plan : RunPlan) (assigned : Assignment) (old : State) (script : ℕ) (told : Record) → Tracks plan assigned old
     → length old.scripts < old.planned_scripts → old.reason ≡ None → told ≡ assigned.script (length old.scripts)
     → Tracks plan assigned (after_script old told)
 tracks_script plan assigned old script told tracks less going same = by_success (is_success told.result) refl
@@ -144,7 +145,7 @@ tracks_script plan assigned old script told tracks less going same = by_success 
           standing = any_push stops old.scripts told ∙ ap (λ (b : Bool). b || stops told) now.succeeded ∙ ap not s;
         }
 
-step_script : (plan : Plan) (assigned : Assignment) (old new : State) (script : ℕ) (told : Record) → Tracks plan assigned old
+step_script : (plan : RunPlan) (assigned : Assignment) (old new : State) (script : ℕ) (told : Record) → Tracks plan assigned old
     → script_ended old script told ≡ Ok new → AgreesWith old.reason (assigned.script script) told → Tracks plan assigned new
 step_script plan assigned old new script told tracks happens agrees =
     let known = guard_ok (leb old.planned_scripts script) _ _ new happens in
@@ -167,7 +168,7 @@ any_waiting (first ∷ tests) (suc place) test found not_it = and_false (is_wait
     and_false true b h = h
     and_false false b h = refl
 
-step_start : (plan : Plan) (assigned : Assignment) (old new : State) (place : ℕ) → Tracks plan assigned old → started old place ≡ Ok new → Tracks plan assigned new
+step_start : (plan : RunPlan) (assigned : Assignment) (old new : State) (place : ℕ) → Tracks plan assigned old → started old place ≡ Ok new → Tracks plan assigned new
 step_start plan assigned old new place tracks happens =
     let found = found_ok (start_of old place) (slice_get old.tests place) refused.UnknownTest new happens in
     let test = found.0 in
@@ -213,12 +214,12 @@ reaches (limits.Count max_fail terminate) weighed mode ok h = by_test (leb max_f
     by_test false e h' = cc
 reaches limits.All weighed mode ok h = cc
 
-by_limit : (plan : Plan) (assigned : Assignment) (state : State) (mode : TerminateMode) → Failing plan assigned state → Standing plan assigned state (Some (limit_reason mode))
+by_limit : (plan : RunPlan) (assigned : Assignment) (state : State) (mode : TerminateMode) → Failing plan assigned state → Standing plan assigned state (Some (limit_reason mode))
 by_limit plan assigned state modes.Wait h = h
 by_limit plan assigned state modes.Immediate h = h
 
 -- a run that its failing tests may stop still tracks
-tracks_limited : (plan : Plan) (assigned : Assignment) (state : State) (finished : Bool) → IsLimit plan.limit → Tracks plan assigned state
+tracks_limited : (plan : RunPlan) (assigned : Assignment) (state : State) (finished : Bool) → IsLimit plan.limit → Tracks plan assigned state
     → state.reason ≡ None → length state.scripts ≡ state.planned_scripts → Tracks plan assigned (limited finished state)
 tracks_limited plan assigned state finished ok tracks going ended =
     by_test (finished && not (is_some state.reason)) (mode_at state.limit (failed_weight state.tests)) refl
@@ -238,7 +239,7 @@ tracks_limited plan assigned state finished ok tracks going ended =
               (record {
                 ended = ended;
                 failed = any_stopped fails_test (limit_reason mode) state.tests failed;
-                due = subst (λ (ps : List TestPlan). some_test_fails ps assigned.attempt ≡ true) tracks.plans (failed_is_due state.tests assigned.attempt now.fit failed);
+                due = subst (λ (ps : List RunTest). some_test_fails ps assigned.attempt ≡ true) tracks.plans (failed_is_due state.tests assigned.attempt now.fit failed);
               });
         }
 
@@ -248,7 +249,7 @@ tracks_limited plan assigned state finished ok tracks going ended =
     by_test true None e = tracks
     by_test true (Some mode) e = stop mode e
 
-tracks_end : (plan : Plan) (assigned : Assignment) (old : State) (place : ℕ) (told : Record) (test : TestState) → IsLimit plan.limit → Tracks plan assigned old
+tracks_end : (plan : RunPlan) (assigned : Assignment) (old : State) (place : ℕ) (told : Record) (test : TestState) → IsLimit plan.limit → Tracks plan assigned old
     → slice_get old.tests place ≡ Some test → test.mark ≡ marks.Running → AgreesWith old.reason (assigned.attempt place (length test.records + 1)) told
     → Tracks plan assigned (limited (finishes old test told) (with_test old place (after_attempt old test told)))
 tracks_end plan assigned old place told test ok tracks at running agrees = by_reason old.reason refl
@@ -319,7 +320,7 @@ tracks_end plan assigned old place told test ok tracks at running agrees = by_re
     by_reason (Some why.Interrupt) e = absurd (was (Some why.Interrupt) e)
     by_reason (Some why.SecondSignal) e = absurd (was (Some why.SecondSignal) e)
 
-step_end : (plan : Plan) (assigned : Assignment) (old new : State) (place : ℕ) (told : Record) → IsLimit plan.limit → Tracks plan assigned old
+step_end : (plan : RunPlan) (assigned : Assignment) (old new : State) (place : ℕ) (told : Record) → IsLimit plan.limit → Tracks plan assigned old
     → attempt_ended old place told ≡ Ok new → AgreesWith old.reason (assigned.attempt place (try_at old.tests place)) told → Tracks plan assigned new
 step_end plan assigned old new place told ok tracks happens agrees =
     let found = found_ok (λ (t : TestState). end_from old place told t t.mark) (slice_get old.tests place) refused.UnknownTest new happens in
@@ -335,14 +336,14 @@ step_end plan assigned old new place told ok tracks happens agrees =
 
 -- each step of such a run, and so the whole run
 
-step_tracks : (plan : Plan) (assigned : Assignment) (old new : State) (event : Event) → IsLimit plan.limit → Tracks plan assigned old
+step_tracks : (plan : RunPlan) (assigned : Assignment) (old new : State) (event : Event) → IsLimit plan.limit → Tracks plan assigned old
     → step old event ≡ Ok new → EventAgrees assigned old event → IsNoStop event → Tracks plan assigned new
 step_tracks plan assigned old new (events.ScriptEnded script told) ok tracks happens agrees plain = step_script plan assigned old new script told tracks happens agrees
 step_tracks plan assigned old new (events.Started test) ok tracks happens agrees plain = step_start plan assigned old new test tracks happens
 step_tracks plan assigned old new (events.Ended test told) ok tracks happens agrees plain = step_end plan assigned old new test told ok tracks happens agrees
 step_tracks plan assigned old new (events.Stopped reason) ok tracks happens agrees plain = absurd plain
 
-pub run_tracks : (plan : Plan) (assigned : Assignment) (old : State) (run : List Event) (new : State) → IsLimit plan.limit → Tracks plan assigned old
+pub run_tracks : (plan : RunPlan) (assigned : Assignment) (old : State) (run : List Event) (new : State) → IsLimit plan.limit → Tracks plan assigned old
     → Run old run new → Agrees assigned old run → AllByRecursion IsNoStop run → Tracks plan assigned new
 run_tracks plan assigned old [] new ok tracks happens agrees plain = subst (Tracks plan assigned) (sym happens) tracks
 run_tracks plan assigned old (event ∷ run) new ok tracks happens agrees plain =

@@ -1,4 +1,4 @@
-pub mod Plan
+pub mod RunPlan
 pub mod Assignment
 pub mod State
 pub mod Counters
@@ -7,4 +7,3 @@ pub mod Runs
 pub mod Decisions
 pub mod Laws
 pub mod WorkedRows
-pub mod Texts

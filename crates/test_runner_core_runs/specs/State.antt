@@ -5,13 +5,14 @@ use Rattle.nextest_config_elements_plain.specs.declared.max_fail.MaxFail.{MaxFai
 use Rattle.nextest_run_events_results.specs.declared.cancel_reason.CancelReason.{CancelReason}
 use Rattle.nextest_run_events_counters.specs.Rows.{Finished, fails_test}
 use Rattle.nextest_run_events_results.specs.declared.record.Record.{Record}
-use Rattle.test_runner_core_runs.specs.Plan.{TestPlan, Plan, weight}
+use Rattle.test_runner_core_runs.specs.RunPlan.{RunPlan, weight}
+use Rattle.test_runner_core_runs.specs.declared.run_test.RunTest.{RunTest}
 use Rattle.test_runner_core_runs.specs.declared.mark.Mark.{Mark}
 use Rattle.test_runner_core_runs.specs.declared.mark.Mark.TheVariants as marks
 
 -- a test: its plan, the records of the attempts that ended, in their order, and how far it is
 pub record TestState : Type 0 where
-  pub plan : TestPlan
+  pub plan : RunTest
   pub records : List Record
   pub mark : Mark
 
@@ -25,11 +26,11 @@ pub record State : Type 0 where
   pub skipped : ℕ
   pub reason : Option CancelReason
 
-abbrev pub waiting : TestPlan → TestState
+abbrev pub waiting : RunTest → TestState
 waiting test = record { plan = test; records = []; mark = marks.Waiting }
 
 -- the state in which nothing ended
-abbrev pub initial : Plan → State
+abbrev pub initial : RunPlan → State
 initial plan = record { planned_scripts = plan.scripts; scripts = []; tests = map waiting plan.tests; limit = plan.limit; skipped = plan.skipped; reason = None }
 
 abbrev pub is_finished_mark : Mark → Bool

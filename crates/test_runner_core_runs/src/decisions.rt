@@ -49,14 +49,9 @@ pub fn end_refusal(mark: Mark) -> Option<StepRefusal>
 pub fn stop_refusal(reason: CancelReason) -> Option<StepRefusal>
     ensures { (state : State) → Decides state (events.Stopped reason) result }
 {
-    match reason {
-        CancelReason::SetupScriptFailure => Some(StepRefusal::InnerReason),
-        CancelReason::TestFailure => Some(StepRefusal::InnerReason),
-        CancelReason::TestFailureImmediate => Some(StepRefusal::InnerReason),
-        CancelReason::ReportError => None,
-        CancelReason::GlobalTimeout => None,
-        CancelReason::Signal => None,
-        CancelReason::Interrupt => None,
-        CancelReason::SecondSignal => None,
+    if reason.is_inner() {
+        Some(StepRefusal::InnerReason)
+    } else {
+        None
     }
 }

@@ -1,49 +1,34 @@
 // Why an event can't happen.
-use std::error::Error;
-use std::fmt;
+use thiserror::Error;
 
 /// Why an event can't happen in the state in which it comes.
-#[derive(Clone, Copy, Debug, PartialEq, Eq, Hash)]
+#[derive(Clone, Copy, Debug, PartialEq, Eq, Hash, Error)]
 pub enum StepRefusal {
     /// The plan has no such script.
+    #[error("the plan has no such script")]
     UnknownScript,
     /// The plan has no such test.
+    #[error("the plan has no such name among its tests")]
     UnknownTest,
     /// The run is stopped: no script ends and no attempt starts any more.
+    #[error("the run is stopped")]
     Stopped,
     /// The script isn't the next one.
+    #[error("the script isn't the next one")]
     OutOfOrder,
     /// Not all scripts ended yet.
+    #[error("not all scripts ended yet")]
     ScriptsPending,
     /// An attempt of the test runs already.
+    #[error("an attempt of it runs already")]
     Running,
     /// The test is over.
+    #[error("its attempts are over")]
     Finished,
     /// No attempt of the test runs.
+    #[error("no attempt of it runs")]
     NotRunning,
     /// The reason is one that only the run itself gives.
+    #[error("only the run itself gives this reason")]
     InnerReason,
 }
-
-impl fmt::Display for StepRefusal {
-    ghost use Rattle.std.specs.Prelude.{Some};
-    ghost use Rattle.test_runner_core_runs.specs.Texts.{text_of};
-
-    ghost output = { λ it. Some (text_of it) };
-
-    fn fmt<W: fmt::Write>(&self, f: &mut fmt::Formatter<W>) -> fmt::Result {
-        match self {
-            StepRefusal::UnknownScript => write!(f, "the plan has no such script"),
-            StepRefusal::UnknownTest => write!(f, "the plan has no such test"),
-            StepRefusal::Stopped => write!(f, "the run is stopped"),
-            StepRefusal::OutOfOrder => write!(f, "the script isn't the next one"),
-            StepRefusal::ScriptsPending => write!(f, "not all scripts ended yet"),
-            StepRefusal::Running => write!(f, "an attempt of the test runs already"),
-            StepRefusal::Finished => write!(f, "the test is over"),
-            StepRefusal::NotRunning => write!(f, "no attempt of the test runs"),
-            StepRefusal::InnerReason => write!(f, "only the run itself gives this reason"),
-        }
-    }
-}
-
-impl Error for StepRefusal {}

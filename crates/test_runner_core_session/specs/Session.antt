@@ -3,8 +3,9 @@ use Rattle.std.specs.Prelude.{◌≡◌, ℕ, List, map, length, Option, None, S
 use Rattle.nextest_run_events_results.specs.declared.instance.OwnedTestInstanceId.{OwnedTestInstanceId}
 use Rattle.test_runner_core_plan.specs.declared.plan.Plan.{Plan}
 use Rattle.test_runner_core_plan.specs.declared.plan.PlanTest.{PlanTest}
-use Rattle.test_runner_core_runs.specs.Plan as runs
+use Rattle.test_runner_core_runs.specs.RunPlan.{RunPlan}
 use Rattle.test_runner_core_runs.specs.State.{State, TestState, initial}
+use Rattle.test_runner_core_runs.specs.declared.run_test.RunTest.{RunTest}
 use Rattle.test_runner_core_progress.specs.Statuses.{IsAttempts}
 use Rattle.test_runner_core_session.specs.Names.{place_of}
 use Rattle.test_runner_core_session.specs.declared.session.Fate.{Fate}
@@ -15,11 +16,11 @@ pub record SessionState : Type 0 where
   pub tests : List OwnedTestInstanceId
   pub run : State
 
-abbrev pub run_test : PlanTest → runs.TestPlan
+abbrev pub run_test : PlanTest → RunTest
 run_test test = record { tries = test.tries; flaky = test.settings.flaky_result }
 
 -- a plan as a run sees it
-abbrev pub run_plan : Plan → runs.Plan
+abbrev pub run_plan : Plan → RunPlan
 run_plan plan = record { scripts = length plan.scripts; tests = map run_test plan.tests; limit = plan.limit; skipped = length plan.skipped }
 
 -- the run of a plan in which nothing ended

@@ -1,6 +1,5 @@
 // A run of a plan.
 ghost use Rattle.std.specs.Prelude.{◌≡◌, IfOk, map};
-ghost use Rattle.test_runner_core_progress.specs.Plans.{test_plan};
 ghost use Rattle.test_runner_core_progress.specs.Progress.{Takes, Starts};
 ghost use Rattle.test_runner_core_runs.specs.Counters as counters;
 ghost use Rattle.test_runner_core_runs.specs.Runs as runs;
@@ -16,8 +15,8 @@ use nextest_text::Text;
 use std::alloc::{AllocError, Global};
 use std::marker::Model;
 use test_runner_core_plan::{Plan, PlanTest};
-use test_runner_core_progress::{PlannedTest, Progress, StartFault};
-use test_runner_core_runs::{Mark, StepRefusal};
+use test_runner_core_progress::{Progress, StartFault};
+use test_runner_core_runs::{Mark, RunTest, StepRefusal};
 
 /// How far a test is.
 #[derive(Clone, Copy)]
@@ -164,12 +163,12 @@ impl<'a> Session<'a> {
 }
 
 // The tests as a run sees them.
-fn planned_tests(alloc: Global, tests: &[PlanTest]) -> Result<Vec<PlannedTest>, AllocError>
-    ensures { IfOk result (λ planned. map test_plan planned.items ≡ map run_test tests.now) }
+fn planned_tests(alloc: Global, tests: &[PlanTest]) -> Result<Vec<RunTest>, AllocError>
+    ensures { IfOk result (λ planned. planned.items ≡ map run_test tests.now) }
 {
     let mut planned = Vec::with_capacity(alloc, tests.len())?;
     for test in tests {
-        planned.push(PlannedTest {
+        planned.push(RunTest {
             tries: test.tries,
             flaky: test.settings.flaky_result,
         })?;

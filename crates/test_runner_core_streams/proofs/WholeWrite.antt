@@ -1,5 +1,5 @@
 -- What stays true while all of some bytes are written.
-use Rattle.std.proofs.Common.{◌≡◌, ℕ, ◌+◌, ◌-◌, ◌≤◌, List, [], ◌++◌, length, take, drop, Option, Some, None, refl, sym, ap, ◌∙◌, append_assoc, append-nil, arith, length-drop, Bool, false, eqb, ltb, ◌&&◌, Ok}
+use Rattle.std.proofs.Common.{◌≡◌, ℕ, ◌+◌, ◌-◌, ◌≤◌, List, ◌++◌, length, take, drop, Option, Some, None, sym, ap, ◌∙◌, append_assoc, arith, length-drop, Bool, false, eqb, ltb, ◌&&◌, Ok}
 use Rattle.std.proofs.Math.Seq.{take-add}
 use Rattle.std.proofs.lemmas.List.{take_all}
 use Rattle.std.proofs.lemmas.Bool.Decides.{nat_tests}
@@ -12,10 +12,6 @@ pub record Writing (before after : Option (List ℕ)) (bytes : List ℕ) (at fir
   pub taken : Appends before after (take at bytes)
   pub within : at ≤ length bytes
   pub unfailed : failures ≡ first_failures
-
-pub taken_first : (before : Option (List ℕ)) → Appends before before []
-taken_first None = tt
-taken_first (Some xs) = sym (append-nil xs)
 
 pub taken_next : (before mid after : Option (List ℕ)) (bytes : List ℕ) (at count : ℕ) → Appends before mid (take at bytes)
     → Appends mid after (take count (drop at bytes)) → Appends before after (take (at + count) bytes)

@@ -17,7 +17,7 @@ abbrev pub write_fails : {E : Type 0} → Result ℕ E → List ℕ → Bool
 write_fails (Ok taken) bytes = taken == 0 && nat_lt 0 (length bytes)
 write_fails (Err e) bytes = true
 
--- all of the bytes are taken; where that fails, a front of them is
+-- all of the bytes are taken; where that fails, a prefix of them is
 abbrev pub TakesAll : {T E : Type 0} → Result T E → Option (List ℕ) → Option (List ℕ) → List ℕ → Type 0
 TakesAll (Ok value) before after bytes = Appends before after bytes
 TakesAll (Err fault) before after bytes = (count : ℕ) × Appends before after (take count bytes)

@@ -6,6 +6,7 @@
 //! fail at a chosen call.
 #![tactic(auto)]
 
+mod failures;
 mod memory_reader;
 mod memory_writer;
 mod std_streams;

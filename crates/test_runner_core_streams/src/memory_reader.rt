@@ -5,6 +5,7 @@ ghost use Rattle.std.specs.Io.{ReadsAtMost};
 ghost use Rattle.std.specs.Io.KnownBytes.{ReadConsumes};
 ghost use Rattle.test_runner_core_streams.specs.Streams.{read_fails, counted, counted_down};
 
+use super::failures::Failures;
 use super::traits::LogReader;
 use std::io;
 use std::io::ErrorKind;
@@ -18,8 +19,7 @@ pub struct MemoryReader<'a> {
     piece: usize,
     fails_after: Option<u64>,
     calls: u64,
-    failures: u64,
-    last_failed: bool,
+    failures: Failures,
 }
 
 impl<'a> Model for MemoryReader<'a> {
@@ -28,7 +28,7 @@ impl<'a> Model for MemoryReader<'a> {
 
     ghost Value = { MemoryRead };
 
-    ghost view = { λ r. record { left = r.left.now; piece = r.piece; fails_after = r.fails_after; calls = r.calls; failures = r.failures; last_failed = r.last_failed } };
+    ghost view = { λ r. record { left = r.left.now; piece = r.piece; fails_after = r.fails_after; calls = r.calls; failures = r.failures.count; last_failed = r.failures.last } };
 
     ghost invariant = { λ r. 0 < r.piece };
 }
@@ -44,8 +44,7 @@ impl<'a> MemoryReader<'a> {
             piece: piece.max(1),
             fails_after: None,
             calls: 0,
-            failures: 0,
-            last_failed: false,
+            failures: Failures::none(),
         }
     }
 
@@ -77,14 +76,14 @@ impl<'a> MemoryReader<'a> {
     pub fn failures(&self) -> u64
         ensures { result ≡ self.now.failures }
     {
-        self.failures
+        self.failures.count
     }
 
     /// Whether the last call failed.
     pub fn last_failed(&self) -> bool
         ensures { result ≡ self.now.last_failed }
     {
-        self.last_failed
+        self.failures.last
     }
 }
 
@@ -122,10 +121,9 @@ impl<'a> LogReader for MemoryReader<'a> {
         ensures fails_after { self.new.fails_after ≡ counted_down self.old.fails_after }
     {
         self.calls += 1;
-        self.last_failed = self.fails_after == Some(0);
+        self.failures = self.failures.and(self.fails_after == Some(0));
         self.fails_after = self.fails_after.and_then(|calls| calls.checked_sub(1));
-        if self.last_failed {
-            self.failures += 1;
+        if self.failures.last {
             return Err(io::Error::other("this call was chosen to fail"));
         }
         let count = self.piece.min(self.left.len()).min(buffer.len());

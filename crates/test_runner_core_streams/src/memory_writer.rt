@@ -4,6 +4,7 @@ ghost use Rattle.std.specs.Io.{WritesAtMost};
 ghost use Rattle.std.specs.Io.KnownBytes.{WriteAppends};
 ghost use Rattle.test_runner_core_streams.specs.Streams.{write_fails, counted, counted_down_to, chosen_failure, memory_answer, piece_answer, Answers};
 
+use super::failures::Failures;
 use super::traits::{ReportWriter, write_failed};
 use std::alloc::{AllocError, Global};
 use std::io;
@@ -27,8 +28,7 @@ pub struct MemoryWriter {
     room: usize,
     piece: usize,
     fails_after: Option<(u64, WriteFailure)>,
-    failures: u64,
-    last_failed: bool,
+    failures: Failures,
 }
 
 impl Model for MemoryWriter {
@@ -37,7 +37,7 @@ impl Model for MemoryWriter {
 
     ghost Value = { MemoryWritten };
 
-    ghost view = { λ w. record { written = w.written.items; room = w.room; piece = w.piece; fails_after = w.fails_after; failures = w.failures; last_failed = w.last_failed } };
+    ghost view = { λ w. record { written = w.written.items; room = w.room; piece = w.piece; fails_after = w.fails_after; failures = w.failures.count; last_failed = w.failures.last } };
 
     ghost invariant = { λ w. HasItsRoom w.piece (length w.written.items) w.room (vec_capacity w.written) };
 }
@@ -55,8 +55,7 @@ impl MemoryWriter {
             room,
             piece: piece.max(1),
             fails_after: None,
-            failures: 0,
-            last_failed: false,
+            failures: Failures::none(),
         })
     }
 
@@ -89,14 +88,14 @@ impl MemoryWriter {
     pub fn failures(&self) -> u64
         ensures { result ≡ self.now.failures }
     {
-        self.failures
+        self.failures.count
     }
 
     /// Whether the last call failed.
     pub fn last_failed(&self) -> bool
         ensures { result ≡ self.now.last_failed }
     {
-        self.last_failed
+        self.failures.last
     }
 }
 
@@ -153,8 +152,7 @@ impl ReportWriter for MemoryWriter {
             Some(WriteFailure::TakesNone) => Ok(0),
             None => put(&mut self.written, self.room, &bytes[..count]),
         };
-        self.last_failed = write_failed(&result, bytes);
-        self.failures += u64::from(self.last_failed);
+        self.failures = self.failures.and(write_failed(&result, bytes));
         result
     }
 }

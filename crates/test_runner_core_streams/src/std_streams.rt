@@ -1,6 +1,7 @@
 // The two streams over std's `Read` and `Write`.
 ghost use Rattle.std.specs.Prelude.{◌≡◌, false};
 
+use super::failures::Failures;
 use super::traits::{LogReader, ReportWriter, write_failed};
 use std::io;
 use std::io::{Read, Write};
@@ -12,8 +13,7 @@ use std::marker::Model;
 pub struct StdReader<R> {
     inner: R,
     calls: u64,
-    failures: u64,
-    last_failed: bool,
+    failures: Failures,
 }
 
 /// A `ReportWriter` over one of std's writers. Each call is one call of the writer below: a failed one is never
@@ -21,8 +21,7 @@ pub struct StdReader<R> {
 #[derive(Drop)]
 pub struct StdWriter<W> {
     inner: W,
-    failures: u64,
-    last_failed: bool,
+    failures: Failures,
 }
 
 impl<R> Model for StdReader<R> {
@@ -30,7 +29,7 @@ impl<R> Model for StdReader<R> {
 
     ghost Value = { Counted R };
 
-    ghost view = { λ r. record { inner = r.inner; calls = r.calls; failures = r.failures; last_failed = r.last_failed } };
+    ghost view = { λ r. record { inner = r.inner; calls = r.calls; failures = r.failures.count; last_failed = r.failures.last } };
 }
 
 impl<R> StdReader<R> {
@@ -41,8 +40,7 @@ impl<R> StdReader<R> {
         StdReader {
             inner,
             calls: 0,
-            failures: 0,
-            last_failed: false,
+            failures: Failures::none(),
         }
     }
 
@@ -57,14 +55,14 @@ impl<R> StdReader<R> {
     pub fn failures(&self) -> u64
         ensures { result ≡ self.now.failures }
     {
-        self.failures
+        self.failures.count
     }
 
     /// Whether the last call failed.
     pub fn last_failed(&self) -> bool
         ensures { result ≡ self.now.last_failed }
     {
-        self.last_failed
+        self.failures.last
     }
 
     /// The reader below.
@@ -75,7 +73,6 @@ impl<R> StdReader<R> {
             inner,
             calls: _,
             failures: _,
-            last_failed: _,
         } = self;
         inner
     }
@@ -94,8 +91,7 @@ impl<R: Read> LogReader for StdReader<R> {
     fn read(&mut self, buffer: &mut [u8]) -> io::Result<usize> {
         let result = self.inner.read(buffer);
         self.calls += 1;
-        self.last_failed = result.is_err();
-        self.failures += u64::from(self.last_failed);
+        self.failures = self.failures.and(result.is_err());
         result
     }
 }
@@ -105,7 +101,7 @@ impl<W> Model for StdWriter<W> {
 
     ghost Value = { CountedWriter W };
 
-    ghost view = { λ w. record { inner = w.inner; failures = w.failures; last_failed = w.last_failed } };
+    ghost view = { λ w. record { inner = w.inner; failures = w.failures.count; last_failed = w.failures.last } };
 }
 
 impl<W> StdWriter<W> {
@@ -115,8 +111,7 @@ impl<W> StdWriter<W> {
     {
         StdWriter {
             inner,
-            failures: 0,
-            last_failed: false,
+            failures: Failures::none(),
         }
     }
 
@@ -124,25 +119,21 @@ impl<W> StdWriter<W> {
     pub fn failures(&self) -> u64
         ensures { result ≡ self.now.failures }
     {
-        self.failures
+        self.failures.count
     }
 
     /// Whether the last call failed.
     pub fn last_failed(&self) -> bool
         ensures { result ≡ self.now.last_failed }
     {
-        self.last_failed
+        self.failures.last
     }
 
     /// The writer below.
     pub fn into_inner(self) -> W
         ensures { result ≡ self.inner }
     {
-        let StdWriter {
-            inner,
-            failures: _,
-            last_failed: _,
-        } = self;
+        let StdWriter { inner, failures: _ } = self;
         inner
     }
 }
@@ -157,8 +148,7 @@ impl<W: Write> ReportWriter for StdWriter<W> {
     /// Writes once to the writer below, and answers what that answers.
     fn write(&mut self, bytes: &[u8]) -> io::Result<usize> {
         let result = self.inner.write(bytes);
-        self.last_failed = write_failed(&result, bytes);
-        self.failures += u64::from(self.last_failed);
+        self.failures = self.failures.and(write_failed(&result, bytes));
         result
     }
 }

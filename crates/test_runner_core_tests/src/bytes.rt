@@ -1,7 +1,8 @@
 // Bytes that are no text are refused as that, whatever else is wrong with them.
 use std::test::Fail;
 use test_runner_core::{
-    Inputs, InputsError, LentLine, LineRefusal, MemoryReader, SpellingError, first_refused,
+    Inputs, InputsError, InputsRefusal, LentLine, LineRefusal, MemoryReader, SpellingError,
+    first_refused,
 };
 
 #[test]
@@ -31,6 +32,8 @@ fn lines_that_are_no_text_are_told_first(rt: HostRuntime) -> Result<(), Fail> {
 #[test]
 fn inputs_that_are_no_text_are_no_json(rt: HostRuntime) {
     for bytes in [b"\xff".as_slice(), b"{\"workspace\": \"\xc3\"}"] {
-        assert!(rt; Inputs::from_json(rt.alloc(), bytes) == Err(InputsError::Syntax));
+        assert!(rt;
+            Inputs::from_json(rt.alloc(), bytes) == Err(InputsError::Refused(InputsRefusal::Syntax))
+        );
     }
 }

@@ -51,7 +51,7 @@ fn refused_steps_print(rt: HostRuntime) -> Result<(), Fail> {
     )?;
     assert_eq!(rt;
         told.as_str(),
-        "not all scripts ended yet; the test is over; out of memory"
+        "not all scripts ended yet; its attempts are over; out of memory"
     );
     Ok(())
 }

@@ -4,9 +4,12 @@ use semver::Version;
 use std::alloc::{AllocError, Global};
 use std::fmt::Display;
 use std::test::Fail;
-use test_runner_core::{CurrentVersion, InputsError};
+use test_runner_core::{
+    CurrentVersion, InputsError, InputsRefusal, LineFault, ParseLineError, SpellingError,
+};
 use test_runner_core_listing::ListingFault;
 use test_runner_core_settings::SettingsFault;
+use test_runner_core_workspace::{ListFault, WorkspaceError};
 
 fn push<T: Display>(alloc: Global, told: &mut String, refusal: &T) -> Result<(), AllocError> {
     told.push_str(format!(in alloc; "{refusal}\n")?.as_str())
@@ -37,10 +40,54 @@ out of memory
 
 const OF_LISTING: &str = "\
 a binary can't list its tests: gone
-a test has no name
-a test's name has a tab or a line end in it
+one of the tests has no name
+the name of one of the tests has a tab or a line end in it
 two tests of a binary have one name
 ";
+
+const OF_LINES: &str = "\
+the line is too long
+the log is too long
+the log ends within the line
+";
+
+const OF_WORKSPACES: &str = "\
+two packages have one id
+a link has an end that is no package
+two binaries have one id
+a binary is of no package
+a binary's id is empty or has a tab or a line end in it
+out of memory
+";
+
+#[test]
+fn refusals_of_lines_and_workspaces_print(rt: HostRuntime) -> Result<(), Fail> {
+    let alloc = rt.alloc();
+    let of_lines = [
+        LineFault::LineTooLong,
+        LineFault::LogTooLong,
+        LineFault::NoLineEnd,
+    ];
+    assert_eq!(rt; told_of(alloc, &of_lines)?.as_str(), OF_LINES);
+    let of_workspaces = [
+        WorkspaceError::RepeatedPackage,
+        WorkspaceError::UnknownLink,
+        WorkspaceError::RepeatedBinary,
+        WorkspaceError::UnknownPackage,
+        WorkspaceError::BadId,
+        WorkspaceError::OutOfMemory,
+    ];
+    assert_eq!(rt; told_of(alloc, &of_workspaces)?.as_str(), OF_WORKSPACES);
+    let of_lists = [
+        ListFault::Cause(Text::from_str(alloc, "gone")?),
+        ListFault::OutOfMemory,
+    ];
+    assert_eq!(rt;
+        told_of(alloc, &of_lists)?.as_str(),
+        "gone\nout of memory\n"
+    );
+    Ok(())
+}
 
 #[test]
 fn refusals_of_settings_print(rt: HostRuntime) -> Result<(), Fail> {
@@ -55,12 +102,37 @@ fn refusals_of_settings_print(rt: HostRuntime) -> Result<(), Fail> {
     Ok(())
 }
 
+const OF_READINGS: &str = "\
+the line isn't UTF-8
+the line spells no event
+out of memory
+";
+
+const OF_SPELLINGS: &str = "\
+the line isn't UTF-8
+the line spells no event
+";
+
+#[test]
+fn refusals_of_lines_print(rt: HostRuntime) -> Result<(), Fail> {
+    let alloc = rt.alloc();
+    let of_readings = [
+        ParseLineError::NotUtf8,
+        ParseLineError::BadLine,
+        ParseLineError::OutOfMemory,
+    ];
+    assert_eq!(rt; told_of(alloc, &of_readings)?.as_str(), OF_READINGS);
+    let of_spellings = [SpellingError::NotUtf8, SpellingError::BadLine];
+    assert_eq!(rt; told_of(alloc, &of_spellings)?.as_str(), OF_SPELLINGS);
+    Ok(())
+}
+
 #[test]
 fn refusals_with_a_text_print(rt: HostRuntime) -> Result<(), Fail> {
     let alloc = rt.alloc();
     let of_inputs = [
-        InputsError::Syntax,
-        InputsError::Field(Text::from_str(alloc, "workspace.links.0.1")?),
+        InputsError::Refused(InputsRefusal::Syntax),
+        InputsError::Refused(InputsRefusal::Field(Text::from_str(alloc, "workspace.links.0.1")?)),
         InputsError::OutOfMemory,
     ];
     assert_eq!(rt; told_of(alloc, &of_inputs)?.as_str(), OF_INPUTS);

@@ -8,7 +8,8 @@ use test_runner_core::{
     Mark, Plan, PlanSettings, PlanTest, Record, RecordOutput, Session, StartFault, StepRefusal,
     TestInstanceId,
 };
-use test_runner_core_progress::{PlannedTest, Progress};
+use test_runner_core_progress::Progress;
+use test_runner_core_runs::RunTest;
 
 const FIRST_FAILURE: MaxFail = MaxFail::Count {
     max_fail: 1,
@@ -46,7 +47,7 @@ fn retried(run: &mut Progress, test: usize) -> (bool, Option<Mark>) {
 
 #[test]
 fn a_run_goes_by_places(rt: HostRuntime) -> Result<(), Fail> {
-    let test = PlannedTest {
+    let test = RunTest {
         tries: 2,
         flaky: FlakyResult::Pass,
     };

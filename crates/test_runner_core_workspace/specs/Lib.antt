@@ -1,4 +1,3 @@
 pub mod Ids
 pub mod Lister
-pub mod Texts
 pub mod Workspace

@@ -26,11 +26,11 @@ binary_ids workspace = map (λ it. it.id) workspace.binaries
 abbrev pub is_known_link : (List ℕ → Bool) → Link → Bool
 is_known_link is_known link = is_known link.from && is_known link.to
 
--- a text has a tab, a line feed or a carriage return in it
+-- a text contains a tab, a line feed or a carriage return
 abbrev pub has_separator : List ℕ → Bool
 has_separator text = list_any (λ byte. byte == 9 || byte == 10 || byte == 13) text
 
--- an id is empty or has a tab, a line feed or a carriage return in it
+-- an id is empty or contains a tab, a line feed or a carriage return
 abbrev pub is_bad_id : List ℕ → Bool
 is_bad_id id = length id == 0 || has_separator id
 

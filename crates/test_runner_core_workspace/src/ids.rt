@@ -90,14 +90,14 @@ fn is_separator(byte: u8) -> bool
     byte == b'\t' || byte == b'\n' || byte == b'\r'
 }
 
-/// Whether a text has a tab, a line feed or a carriage return in it, which divide what a log and a report have.
+/// Whether a text contains a tab, a line feed or a carriage return, which divide what a log and a report have.
 pub fn has_separator(text: &str) -> bool
     ensures { result ≡ refusing.has_separator text.now }
 {
     text.as_bytes().iter().any(|&byte| is_separator(byte))
 }
 
-// Whether an id is empty or has a tab, a line feed or a carriage return in it.
+// Whether an id is empty or contains a tab, a line feed or a carriage return.
 fn is_bad(id: &str) -> bool
     ensures { result ≡ refusing.is_bad_id id.now }
 {

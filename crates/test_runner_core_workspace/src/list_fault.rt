@@ -1,33 +1,18 @@
 // Why a binary's tests weren't listed.
 use nextest_text::Text;
 use std::alloc::{AllocError, AllocFailed};
-use std::error::Error;
-use std::fmt;
+use thiserror::Error;
 
 /// Why a binary's tests weren't listed.
-#[derive(Debug, PartialEq, Eq, Drop)]
+#[derive(Debug, PartialEq, Eq, Drop, Error)]
 pub enum ListFault {
     /// The binary can't list them, for this cause.
+    #[error("{0}")]
     Cause(Text),
     /// There was no memory for the list, which says nothing of the binary.
+    #[error("out of memory")]
     OutOfMemory,
 }
-
-impl fmt::Display for ListFault {
-    ghost use Rattle.std.specs.Prelude.{Some};
-    ghost use Rattle.test_runner_core_workspace.specs.Texts.{text_of_fault};
-
-    ghost output = { λ fault. Some (text_of_fault fault) };
-
-    fn fmt<W: fmt::Write>(&self, f: &mut fmt::Formatter<W>) -> fmt::Result {
-        match self {
-            ListFault::Cause(cause) => fmt::Display::fmt(cause, f),
-            ListFault::OutOfMemory => write!(f, "out of memory"),
-        }
-    }
-}
-
-impl Error for ListFault {}
 
 impl From<AllocError> for ListFault {
     ghost use Rattle.std.specs.Prelude.{◌≡◌};

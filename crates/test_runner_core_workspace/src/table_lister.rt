@@ -30,7 +30,7 @@ impl<'a> Model for TableLister<'a> {
 }
 
 impl<'a> TableLister<'a> {
-    /// A lister that answers by `record`, and that wasn't asked yet. Only want of memory refuses it.
+    /// A lister that answers by `record`, and that wasn't asked yet. It fails only on allocation.
     pub fn new(alloc: Global, record: &'a WorkspaceRecord) -> Result<Self, AllocError>
         ensures answers { IfOk result (λ lister. lister.workspace ≡ «record».now) }
         ensures unasked { IfOk result (λ lister. lister.asked ≡ []) }

@@ -1,47 +1,29 @@
 // Why a record of a workspace is refused.
 use std::alloc::{AllocError, AllocFailed};
-use std::error::Error;
-use std::fmt;
+use thiserror::Error;
 
 /// Why a record is no workspace. Each reason is looked for in the whole record before the next, in this order.
-#[derive(Clone, Copy, Debug, PartialEq, Eq, Hash)]
+#[derive(Clone, Copy, Debug, PartialEq, Eq, Hash, Error)]
 pub enum WorkspaceError {
     /// Two packages have one id.
+    #[error("two packages have one id")]
     RepeatedPackage,
     /// An end of a link is the id of no package.
+    #[error("a link has an end that is no package")]
     UnknownLink,
     /// Two binaries have one id.
+    #[error("two binaries have one id")]
     RepeatedBinary,
     /// A binary's package is the id of no package.
+    #[error("a binary is of no package")]
     UnknownPackage,
-    /// A binary's id is empty, or has a tab, a line feed or a carriage return in it.
+    /// A binary's id is empty, or contains a tab, a line feed or a carriage return.
+    #[error("a binary's id is empty or has a tab or a line end in it")]
     BadId,
     /// There was no memory for the check, which says nothing of the record.
+    #[error("out of memory")]
     OutOfMemory,
 }
-
-impl fmt::Display for WorkspaceError {
-    ghost use Rattle.std.specs.Prelude.{Some};
-    ghost use Rattle.test_runner_core_workspace.specs.Texts.{text_of};
-
-    ghost output = { λ error. Some (text_of error) };
-
-    fn fmt<W: fmt::Write>(&self, f: &mut fmt::Formatter<W>) -> fmt::Result {
-        match self {
-            WorkspaceError::RepeatedPackage => write!(f, "two packages have one id"),
-            WorkspaceError::UnknownLink => write!(f, "a link has an end that is no package"),
-            WorkspaceError::RepeatedBinary => write!(f, "two binaries have one id"),
-            WorkspaceError::UnknownPackage => write!(f, "a binary is of no package"),
-            WorkspaceError::BadId => write!(
-                f,
-                "a binary's id is empty or has a tab or a line end in it"
-            ),
-            WorkspaceError::OutOfMemory => write!(f, "out of memory"),
-        }
-    }
-}
-
-impl Error for WorkspaceError {}
 
 impl From<AllocError> for WorkspaceError {
     ghost use Rattle.std.specs.Prelude.{◌≡◌};

@@ -9,6 +9,7 @@ mod ends;
 mod errors;
 mod json_forms;
 mod outcomes;
+mod run_modes;
 mod summaries;
 mod tool_names;
 
@@ -19,6 +20,7 @@ use ends::{Ends, Exits, Signals};
 use errors::Errors;
 use json_forms::{JsonForms, Texts};
 use outcomes::Outcomes;
+use run_modes::RunModes;
 use std::process::ExitCode;
 use summaries::Summaries;
 use tool_names::ToolNames;
@@ -38,6 +40,7 @@ fn main(rt: HostRuntime) -> Result<ExitCode> {
         rows_hold(&rt, &Summaries)?,
         rows_hold(&rt, &Outcomes)?,
         rows_hold(&rt, &Errors)?,
+        rows_hold(&rt, &RunModes)?,
     ];
     Ok(if all.iter().all(|holds| *holds) {
         ExitCode::SUCCESS

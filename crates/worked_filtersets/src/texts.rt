@@ -8,7 +8,7 @@ use nextest_filtering_texts::{
 use std::alloc::Global;
 use worked_tables::Table;
 
-// The text at the front of an input, and what follows it.
+// The text at the start of an input, and what follows it.
 pub struct Texts;
 
 impl Table for Texts {
@@ -75,7 +75,7 @@ impl Table for Regexes {
     }
 }
 
-// The text at the front of an input as an argument: what it stands for, where it stands, what follows it, and its faults.
+// The text at the start of an input as an argument: what it stands for, where it stands, what follows it, and its faults.
 pub struct Arguments;
 
 impl Table for Arguments {

@@ -2,15 +2,15 @@
 use crate::changes::Changed;
 use anyhow::{Result, anyhow};
 use std::alloc::Global;
-use test_runner_core::{Inputs, InputsError};
+use test_runner_core::{Inputs, InputsError, InputsRefusal};
 use worked_tables::{Cases, Table};
 
 // `read`, `syntax`, or the path that is told.
 fn told(alloc: Global, text: &str) -> Result<String> {
     match Inputs::from_json(alloc, text.as_bytes()) {
         Ok(_) => Ok(String::from_str(alloc, "read")?),
-        Err(InputsError::Syntax) => Ok(String::from_str(alloc, "syntax")?),
-        Err(InputsError::Field(path)) => Ok(String::from(path)),
+        Err(InputsError::Refused(InputsRefusal::Syntax)) => Ok(String::from_str(alloc, "syntax")?),
+        Err(InputsError::Refused(InputsRefusal::Field(path))) => Ok(String::from(path)),
         Err(InputsError::OutOfMemory) => Err(anyhow!("out of memory")),
     }
 }

@@ -1,14 +1,14 @@
 use Rattle.std.proofs.Math.Path.{sym, ◌∙◌}
 use Rattle.std.specs.Prelude.{◌∷◌, []}
-use Rattle.nextest_filtering_arguments.proofs.Spans.{suffix_token, suffix_at, suffix_trans}
-use Rattle.nextest_filtering_syntax.proofs.Leaves.{predicate_finds_so, unopened_finds, unnamed_finds, runs_out_at, name_rest}
+use Rattle.nextest_filtering_arguments.proofs.Spans.{runs_out_at, suffix_token, suffix_at, suffix_trans}
+use Rattle.nextest_filtering_syntax.proofs.Leaves.{predicate_finds_so, unopened_finds, unnamed_finds, name_rest}
 use Rattle.nextest_filtering_syntax.proofs.leaf.predicate.Goals as goal
 
 pub span-span-requires : goal.span-span-requires
 span-span-requires c = record { suffix = suffix_at _ _ _ c.skip_blanks-start.ensures c.requires.suffix }
 
 pub report-requires : goal.report-requires
-report-requires c = record { fault = runs_out_at _ _ _ c.span-span.ensures (suffix_at _ _ _ c.skip_blanks-start.ensures c.requires.suffix) }
+report-requires c = record { fault = runs_out_at _ _ _ _ c.span-span.ensures c.requires.suffix c.skip_blanks-start.ensures }
 
 pub returns-in_default-clause-finds : goal.returns-in_default-clause-finds
 returns-in_default-clause-finds c = unnamed_finds _ _ _ _ c.skip_blanks-start.ensures c.in_default.ensures.none c.in_ok-report.ensures.ok

@@ -1,4 +1,4 @@
-use Rattle.nextest_filtering_arguments.proofs.Spans.{suffix_at, suffix_trans}
+use Rattle.nextest_filtering_arguments.proofs.Spans.{place_at, suffix_at, suffix_trans}
 use Rattle.std.specs.Prelude.{[], refl, codes}
 use Rattle.std.proofs.Math.Path.{subst}
 use Rattle.nextest_filtering_syntax.specs.Names.{name_word}
@@ -8,6 +8,9 @@ use Rattle.nextest_filtering_syntax.proofs.leaf.unopened.Goals as goal
 
 pub span-place-requires : goal.span-place-requires
 span-place-requires c = record { suffix = suffix_at _ _ _ c.skip_blanks.ensures (suffix_trans _ _ _ c.requires.suffix c.requires.start) }
+
+pub report-requires : goal.report-requires
+report-requires c = record { fault = place_at _ _ _ _ c.span-place.ensures (suffix_trans _ _ _ c.requires.suffix c.requires.start) c.skip_blanks.ensures }
 
 pub returns-in-Default-clause-placed : goal.returns-in-Default-clause-placed
 returns-in-Default-clause-placed c =

@@ -1,6 +1,6 @@
 use Rattle.std.proofs.Common.{List, ℕ, Some, Ok, sym, subst}
-use Rattle.test_runner_core_lines.specs.Calls.{Hands}
-use Rattle.test_runner_core_lines.specs.declared.next.Next.{Next}
+use Rattle.test_runner_core_log_reader.specs.Calls.{Hands}
+use Rattle.test_runner_core_log_reader.specs.declared.next.Next.{Next}
 use Rattle.test_runner_core.specs.Check.{IsReading}
 use Rattle.test_runner_core.specs.declared.refused_line.RefusedLine.{RefusedLine}
 use Rattle.test_runner_core.proofs.Checking.{finds_line, finds_if, Finds}

@@ -1,5 +1,5 @@
 use Rattle.std.proofs.Common.{◌+◌, ◌-◌}
-use Rattle.test_runner_core_lines.specs.declared.limits.TheConstants.{LOG_LIMIT}
+use Rattle.test_runner_core_log_reader.specs.declared.limits.TheConstants.{LOG_LIMIT}
 use Rattle.test_runner_core.proofs.Checking.{Checking}
 use Rattle.test_runner_core.proofs.check.first_refused.Given as goal
 

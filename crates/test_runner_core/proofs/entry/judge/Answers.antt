@@ -1,5 +1,5 @@
 use Rattle.std.proofs.Common.{IfSome}
-use Rattle.test_runner_core_lines.specs.Items.{items}
+use Rattle.test_runner_core_log_reader.specs.Items.{items}
 use Rattle.test_runner_core.specs.Outcome.{Outcome}
 use Rattle.test_runner_core.proofs.Telling.{asks_all, from_beginning, reported, status_is_due}
 use Rattle.test_runner_core.proofs.entry.judge.Goals as goal

@@ -1,5 +1,5 @@
 use Rattle.std.proofs.Common.{◌+◌, ◌-◌}
-use Rattle.test_runner_core_lines.specs.declared.limits.TheConstants.{LOG_LIMIT}
+use Rattle.test_runner_core_log_reader.specs.declared.limits.TheConstants.{LOG_LIMIT}
 use Rattle.test_runner_core.proofs.Walk.{Judging}
 use Rattle.test_runner_core.proofs.judging.judge_lines.Given as goal
 

@@ -1,4 +1,4 @@
-use Rattle.std.proofs.Common.{◌≤◌, ◌-◌, ℕ, List, length, take, drop, subst, ap, arith, ◌∙◌, length-drop}
+use Rattle.std.proofs.Common.{ℕ, List, length, take, subst, ap, arith, ◌∙◌, length-drop}
 use Rattle.std.specs.Io.KnownBytes.{Appends}
 use Rattle.test_runner_core_streams.proofs.WholeWrite.{taken_next, rest_is, not_failed}
 use Rattle.test_runner_core_streams.proofs.whole_write.write_all.Goals as goal

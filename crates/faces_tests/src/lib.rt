@@ -1,0 +1,15 @@
+//! What a user of the faces writes: this crate names no other crate of the repository, and its clauses cite the definitions
+//! that the faces hand on.
+#![tactic(auto)]
+
+mod filters;
+mod listers;
+mod logs;
+mod outcomes;
+mod runs;
+
+pub use filters::read_filterset;
+pub use listers::Suite;
+pub use logs::interrupted;
+pub use outcomes::worse;
+pub use runs::replay;

@@ -1,0 +1,43 @@
+-- What the contracts of the items that this crate hands on speak of.
+-- filtersets: which texts they are, and how they print
+pub use Rattle.nextest_filtering_trees.specs.Tree
+pub use Rattle.nextest_filtering_trees.specs.Grammar
+pub use Rattle.nextest_filtering_trees.specs.Words
+pub use Rattle.nextest_filtering_trees.specs.Printing
+pub use Rattle.nextest_filtering_trees.specs.Runtime
+pub use Rattle.nextest_filtering_trees.specs.Same
+pub use Rattle.nextest_filtering_laws.specs.Laws
+-- reading: what is read, and where faults and predicates stand
+pub use Rattle.nextest_filtering_syntax.specs.Reading
+pub use Rattle.nextest_filtering_syntax.specs.Places
+pub use Rattle.nextest_filtering_arguments.specs.Blanks
+pub use Rattle.nextest_filtering_arguments.specs.Faults
+pub use Rattle.nextest_filtering_arguments.specs.Kinds
+-- arguments: texts, regular expressions, globs
+pub use Rattle.nextest_filtering_texts.specs.Text
+pub use Rattle.nextest_filtering_texts.specs.Spans
+pub use Rattle.nextest_filtering_texts.specs.Regex
+pub use Rattle.nextest_filtering_texts.specs.Printing as TextPrinting
+pub use Rattle.nextest_filtering_texts.specs.Laws as TextLaws
+pub use Rattle.nextest_filtering_globs.specs.Glob
+pub use Rattle.nextest_filtering_globs.specs.Plain
+pub use Rattle.nextest_filtering_globs.specs.Syntax as GlobSyntax
+pub use Rattle.nextest_filtering_globs.specs.Tree as GlobTree
+pub use Rattle.nextest_filtering_globs.specs.Laws as GlobLaws
+-- types
+pub use Rattle.nextest_filtering_trees.specs.declared.tree.ParsedExpr
+pub use Rattle.nextest_filtering_trees.specs.declared.leaf.ParsedLeaf
+pub use Rattle.nextest_filtering_trees.specs.declared.leaf.BuildPlatform
+pub use Rattle.nextest_filtering_trees.specs.declared.leaf.SourceSpan
+pub use Rattle.nextest_filtering_trees.specs.declared.matcher.NameMatcher
+pub use Rattle.nextest_filtering_trees.specs.declared.operators.AndOperator
+pub use Rattle.nextest_filtering_trees.specs.declared.operators.DifferenceOperator
+pub use Rattle.nextest_filtering_trees.specs.declared.operators.NotOperator
+pub use Rattle.nextest_filtering_trees.specs.declared.operators.OrOperator
+pub use Rattle.nextest_filtering_trees.specs.declared.pattern.PatternError
+pub use Rattle.nextest_filtering_arguments.specs.declared.error.ParseSingleError
+pub use Rattle.nextest_filtering_syntax.specs.declared.reading.Reading as ReadingType
+pub use Rattle.nextest_filtering_syntax.specs.declared.reading.ParseError
+pub use Rattle.nextest_filtering_globs.specs.declared.construct_error.GlobConstructError
+pub use Rattle.nextest_filtering_globs.specs.declared.token.ClassRange
+pub use Rattle.nextest_filtering_globs.specs.declared.token.GlobToken

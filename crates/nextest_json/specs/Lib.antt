@@ -1,0 +1,12 @@
+pub mod Found
+pub mod Fits
+pub mod Place
+pub mod Seen
+pub mod Listed
+pub mod Rest
+pub mod Left
+pub mod Documents
+pub mod Parts
+pub mod Paths
+pub mod Reading
+pub mod Calls

@@ -1,0 +1,24 @@
+// The items of a list in JSON, one after another.
+ghost use Rattle.std.specs.Prelude.{◌≡◌, is_some, true};
+ghost use Rattle.nextest_json.specs.Rest.{found};
+
+mod next;
+
+use json::Items;
+use serde_json::Value;
+
+// Where the items stand that are left.
+#[derive(Drop)]
+enum Rest<'t, 'a> {
+    // at the places of a text
+    Places(Items<'t, 'a>),
+    // in trees
+    Trees(&'t [Value]),
+}
+
+/// The items of a list that are left. In a clause they are `left`: the data of each.
+#[derive(Drop)]
+pub struct JsonItems<'t, 'a> {
+    rest: Rest<'t, 'a>,
+    ghost there: { is_some (found rest) ≡ true },
+}

@@ -1,0 +1,21 @@
+//! JSON, read with little memory: a text as one flat list of places, of which values are asked, and how the parts of
+//! a value are read, each fault with its path.
+#![tactic(auto)]
+
+mod document;
+mod fault;
+mod form;
+mod items;
+mod number;
+mod steps;
+mod value;
+
+pub use document::{DocumentError, JsonDocument, JsonMemory};
+pub use fault::Fault;
+pub use form::{
+    Form, defaulted, each, element, has_items, has_member, listed_member, optional, required, text,
+    truth, word,
+};
+pub use items::JsonItems;
+pub use steps::{Step, Steps};
+pub use value::JsonValue;

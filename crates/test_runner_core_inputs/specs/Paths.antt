@@ -1,9 +1,0 @@
--- The steps of a path.
-use Rattle.std.specs.Prelude.{ℕ, List, decimal}
-use Rattle.test_runner_core_inputs.specs.declared.steps.Step.{Step}
-use Rattle.test_runner_core_inputs.specs.declared.steps.Step.TheVariants as steps
-
--- a name, or a position in shortest decimal
-abbrev pub step_text : Step → List ℕ
-step_text (steps.Name name) = name.now
-step_text (steps.Position position) = decimal position

@@ -1,0 +1,7 @@
+pub mod Spelling
+pub mod Fields
+pub mod Lent
+pub mod Faults
+pub mod Reading
+pub mod Writing
+pub mod Laws

@@ -1,0 +1,166 @@
+// Which parts of a line have a spelling, and writing them.
+ghost use Rattle.std.specs.Prelude.{◌≡◌, ◌↔◌, ◌∷◌, ◌++◌, IsTrue, OnOk, string_bytes};
+ghost use Rattle.std.specs.Str.{IsUtf8};
+ghost use Rattle.test_runner_core_line_syntax.specs.Spelling.{IsField, SpellsFailure, SpellsResult, SpellsSlow, SpellsStream};
+ghost use Rattle.test_runner_core_line_syntax.specs.Writing.{Appends, IsSpellable, SpellsBothStreams, SpellsRecordText};
+
+use super::signals::{is_name_of, is_signal};
+use itoa::Buffer;
+use nextest_config_elements_plain::{LeakTimeoutResult, SlowTimeoutResult};
+use nextest_run_events_results::{
+    AbortDescription, ExecutionResultDescription, FailureDescription, Record, RecordOutput,
+};
+use nextest_text::Listing;
+use std::alloc::AllocError;
+
+/// Whether the text can be a field: it has neither a tab nor a line feed in it.
+pub fn is_field(text: &str) -> bool
+    ensures plain { IsTrue result ↔ IsField text.now }
+    ensures utf8 { IsUtf8 text.now }
+{
+    !text.contains('\t') && !text.contains('\n')
+}
+
+/// Whether both texts can be fields.
+pub fn are_fields(first: &str, second: &str) -> bool
+    ensures plain { IsTrue result ↔ (IsField first.now × IsField second.now) }
+    ensures first_utf8 { IsUtf8 first.now }
+    ensures second_utf8 { IsUtf8 second.now }
+{
+    is_field(first) && is_field(second)
+}
+
+fn failure_is_spellable(told: &FailureDescription) -> bool
+    ensures { IsTrue result ↔ IsSpellable (SpellsFailure told.now) }
+{
+    match told {
+        FailureDescription::ExitCode { code } => *code != 0,
+        FailureDescription::Abort { abort } => match abort {
+            AbortDescription::UnixSignal { signal, name } => {
+                is_signal(*signal) && is_name_of(name, *signal)
+            }
+            AbortDescription::WindowsNtStatus { .. } => false,
+            AbortDescription::WindowsJobObject => false,
+        },
+    }
+}
+
+fn result_is_spellable(told: &ExecutionResultDescription) -> bool
+    ensures { IsTrue result ↔ IsSpellable (SpellsResult told.now) }
+{
+    match told {
+        ExecutionResultDescription::Pass => true,
+        ExecutionResultDescription::Leak { .. } => true,
+        ExecutionResultDescription::Fail { failure, .. } => failure_is_spellable(failure),
+        ExecutionResultDescription::ExecFail => false,
+        ExecutionResultDescription::Timeout { .. } => true,
+    }
+}
+
+fn output_is_spellable(told: &RecordOutput) -> bool
+    ensures { IsTrue result ↔ IsSpellable (SpellsBothStreams told.now) }
+{
+    match told {
+        RecordOutput::Streams { out, err } => out.is_none() && err.is_none(),
+        RecordOutput::Message(_) => false,
+    }
+}
+
+/// Whether the record has a spelling.
+pub fn record_is_spellable(told: &Record) -> bool
+    ensures { IsTrue result ↔ IsSpellable (SpellsRecordText told.now) }
+{
+    // Every number of nanoseconds has a spelling: this read shows that it fits its type.
+    let _nanos = told.nanos;
+    result_is_spellable(&told.result) && output_is_spellable(&told.output)
+}
+
+/// Adds a tab and the field.
+pub fn push_field(line: &mut String, field: &str) -> Result<(), AllocError>
+    ensures { OnOk result (string_bytes line.new ≡ string_bytes line.old ++ 9 ∷ field.now) }
+{
+    line.push('\t')?;
+    line.push_str(field)
+}
+
+fn push_failure(line: &mut String, told: &FailureDescription) -> Result<(), AllocError>
+    requires { IsSpellable (SpellsFailure told.now) }
+    ensures { OnOk result (Appends (SpellsFailure told.now) (string_bytes line.old) (string_bytes line.new)) }
+{
+    match told {
+        FailureDescription::ExitCode { code } => {
+            push_field(line, "fail:")?;
+            line.push_str(Buffer::new().format(*code))
+        }
+        FailureDescription::Abort { abort } => match abort {
+            AbortDescription::UnixSignal { signal, .. } => {
+                push_field(line, "abort:")?;
+                line.push_str(Buffer::new().format(*signal))
+            }
+            AbortDescription::WindowsNtStatus { .. } => unreachable!(),
+            AbortDescription::WindowsJobObject => unreachable!(),
+        },
+    }
+}
+
+fn push_result(line: &mut String, told: &ExecutionResultDescription) -> Result<(), AllocError>
+    requires { IsSpellable (SpellsResult told.now) }
+    ensures { OnOk result (Appends (SpellsResult told.now) (string_bytes line.old) (string_bytes line.new)) }
+{
+    match told {
+        ExecutionResultDescription::Pass => push_field(line, "pass"),
+        ExecutionResultDescription::Leak { result } => match result {
+            LeakTimeoutResult::Pass => push_field(line, "leak:pass"),
+            LeakTimeoutResult::Fail => push_field(line, "leak:fail"),
+        },
+        ExecutionResultDescription::Fail { failure, leaked } => {
+            push_failure(line, failure)?;
+            line.push_str(if *leaked { ":leaked" } else { "" })
+        }
+        ExecutionResultDescription::ExecFail => unreachable!(),
+        ExecutionResultDescription::Timeout { result } => match result {
+            SlowTimeoutResult::Pass => push_field(line, "timeout:pass"),
+            SlowTimeoutResult::Fail => push_field(line, "timeout:fail"),
+        },
+    }
+}
+
+fn push_slow(line: &mut String, slow: bool) -> Result<(), AllocError>
+    ensures { OnOk result (Appends (SpellsSlow slow) (string_bytes line.old) (string_bytes line.new)) }
+{
+    push_field(line, if slow { "slow" } else { "-" })
+}
+
+fn push_stream(line: &mut String, told: &Option<Listing<u8>>) -> Result<(), AllocError>
+    requires { IsSpellable (SpellsStream told.now) }
+    ensures { OnOk result (Appends (SpellsStream told.now) (string_bytes line.old) (string_bytes line.new)) }
+{
+    match told {
+        None => push_field(line, "-"),
+        Some(_) => unreachable!(),
+    }
+}
+
+fn push_output(line: &mut String, told: &RecordOutput) -> Result<(), AllocError>
+    requires { IsSpellable (SpellsBothStreams told.now) }
+    ensures { OnOk result (Appends (SpellsBothStreams told.now) (string_bytes line.old) (string_bytes line.new)) }
+{
+    match told {
+        RecordOutput::Streams { out, err } => {
+            push_stream(line, out)?;
+            push_stream(line, err)
+        }
+        RecordOutput::Message(_) => unreachable!(),
+    }
+}
+
+/// Adds the fields of the record, a tab before each.
+pub fn push_record(line: &mut String, told: &Record) -> Result<(), AllocError>
+    requires { IsSpellable (SpellsRecordText told.now) }
+    ensures { OnOk result (Appends (SpellsRecordText told.now) (string_bytes line.old) (string_bytes line.new)) }
+{
+    push_result(line, &told.result)?;
+    push_slow(line, told.slow)?;
+    push_field(line, Buffer::new().format(told.nanos))?;
+    push_output(line, &told.output)
+}

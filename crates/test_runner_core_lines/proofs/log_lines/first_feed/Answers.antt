@@ -1,5 +1,0 @@
-use Rattle.test_runner_core_lines.proofs.Ranges.{first_feed_is}
-use Rattle.test_runner_core_lines.proofs.log_lines.first_feed.Goals as goal
-
-pub returns : goal.returns
-returns c = first_feed_is c.args.bytes.now c.memchr.result c.memchr.ensures

@@ -1,5 +1,0 @@
-use Rattle.test_runner_core_log.proofs.Lines as lemma
-use Rattle.test_runner_core_log.proofs.laws.one_spelling.Goals as goal
-
-pub returns : goal.returns
-returns c = lemma.one_spelling

@@ -1,7 +1,0 @@
-pub mod Spelling
-pub mod Fields
-pub mod Lent
-pub mod Message
-pub mod Reading
-pub mod Writing
-pub mod Laws

@@ -1,0 +1,91 @@
+-- The first line of a stream, and what stays true while it is looked for.
+use Rattle.std.proofs.Common.{◌≡◌, ℕ, ◌+◌, ◌<◌, ◌≤◌, Bool, not, cond, eqb, List, [], ◌∷◌, ◌++◌, length, take, drop, Option, Some, None, IfSome, sym, ap, ◌∙◌, subst, arith, zero-add, append-nil, append_assoc, length-append}
+use Rattle.std.specs.List.{position_or_len}
+use Rattle.std.specs.Option.{unwrap_or}
+use Rattle.std.specs.Io.KnownBytes.{IsAtEnd}
+use Rattle.std.proofs.Math.Seq.{take-append-add, drop-append-add}
+use Rattle.std.proofs.lemmas.List.{take-append-drop, take_all, length-take}
+use Rattle.test_runner_core_log_reader.specs.declared.limits.TheConstants.{FIRST_LINE_LIMIT, LOG_LIMIT}
+use Rattle.test_runner_core_log_reader.specs.Feeds.{IsPlain, IsFirstFeed, before_feed, behind_feed}
+use Rattle.test_runner_core_log_reader.specs.Cursor.{Cursor, received}
+use Rattle.test_runner_core_log_reader.specs.Calls.{Cut, KeepsAhead, PartsAtFirst, WaitsMore}
+use Rattle.test_runner_core_log_reader.proofs.Items.{is_no_feed}
+
+-- where the first line feed stands behind plain bytes
+at_plain : (plain more : List ℕ) → IsPlain plain → position_or_len (λ byte. eqb byte 10) (plain ++ more) ≡ length plain + position_or_len (λ byte. eqb byte 10) more
+at_plain [] more h = sym (zero-add (position_or_len (λ byte. eqb byte 10) more))
+at_plain (byte ∷ plain) more h =
+    ap (λ (feed : Bool). cond (not feed) (1 + position_or_len (λ b. eqb b 10) (plain ++ more)) 0) (is_no_feed byte h.0)
+    ∙ ap (λ (n : ℕ). 1 + n) (at_plain plain more h.1) ∙ omega arith
+
+-- plain bytes stand before the first line feed
+before_plain : (plain more : List ℕ) → IsPlain plain → before_feed (plain ++ more) ≡ plain ++ before_feed more
+before_plain plain more h =
+    ap (λ (n : ℕ). take n (plain ++ more)) (at_plain plain more h) ∙ take-append-add plain more (position_or_len (λ byte. eqb byte 10) more)
+
+behind_plain : (plain more : List ℕ) → IsPlain plain → behind_feed (plain ++ more) ≡ behind_feed more
+behind_plain plain more h =
+    let n = position_or_len (λ byte. eqb byte 10) more in
+    ap (λ (m : ℕ). drop m (plain ++ more)) (ap (λ (m : ℕ). m + 1) (at_plain plain more h) ∙ (let e : length plain + n + 1 ≡ length plain + (n + 1) = omega arith in e))
+    ∙ drop-append-add plain more (n + 1)
+
+too_long : (plain more : List ℕ) → IsPlain plain → FIRST_LINE_LIMIT < length plain → FIRST_LINE_LIMIT < length (before_feed (plain ++ more))
+too_long plain more h long =
+    omega (arith, ap length (before_plain plain more h), length-append plain (before_feed more))
+
+-- the same of the bytes up to a line feed
+feed_too_far : (bytes more : List ℕ) (at : ℕ) → IsFirstFeed bytes (Some at) → FIRST_LINE_LIMIT < at → FIRST_LINE_LIMIT < length (before_feed (bytes ++ more))
+feed_too_far bytes more at feed far =
+    let size : length (take at bytes) ≡ at = let within = feed.0 in omega (arith, length-take at bytes) in
+    let front = too_long (take at bytes) (drop at bytes ++ more) feed.1 (omega arith) in
+    subst (λ (xs : List ℕ). FIRST_LINE_LIMIT < length (before_feed xs))
+    (sym (append_assoc (take at bytes) (drop at bytes) more) ∙ ap (λ (xs : List ℕ). xs ++ more) (take-append-drop at bytes)) front
+
+-- the line that waits is too long, whether its line feed came or not
+pub first_too_long : (waiting more : List ℕ) (found : Option ℕ) (size : ℕ) → IsFirstFeed waiting found → size ≡ length waiting → FIRST_LINE_LIMIT < unwrap_or found size
+    → FIRST_LINE_LIMIT < length (before_feed (waiting ++ more))
+first_too_long waiting more None size plain all long = too_long waiting more plain (omega (arith, all, long))
+first_too_long waiting more (Some at) size feed all long = feed_too_far waiting more at feed long
+
+-- the beginning of a stream
+abbrev pub beginning : Cursor
+beginning = record { line = []; waiting = []; handed = 0 }
+
+-- what is ahead is the whole stream, each call brought a byte and none failed; there is no call past the limit
+pub record ReadingFirst (stream : Option (List ℕ)) (first_calls first_failures : ℕ) (lines : Cursor) (rest : Option (List ℕ)) (calls failures : ℕ) : Type 0 where
+  pub ahead : KeepsAhead beginning stream lines rest
+  pub handed : lines.handed ≡ 0
+  pub grown : calls ≤ first_calls + length lines.waiting
+  pub bounded : calls ≤ first_calls + FIRST_LINE_LIMIT + 1
+  pub limit : received lines ≤ LOG_LIMIT + 1
+  pub unfailed : failures ≡ first_failures
+
+-- a line that a line feed ends
+pub parts_at_feed : (stream rest : Option (List ℕ)) (mid new : Cursor) → KeepsAhead beginning stream mid rest → Cut (length new.line) mid new
+    → length new.line ≤ FIRST_LINE_LIMIT → IfSome stream (λ bytes. PartsAtFirst bytes (Some new) rest)
+parts_at_feed None rest mid new ahead line short = tt
+parts_at_feed (Some bytes) None mid new ahead line short = absurd ahead
+parts_at_feed (Some bytes) (Some rest) mid new ahead line short =
+    let whole : new.line ++ 10 ∷ (new.waiting ++ rest) ≡ bytes =
+    sym (append_assoc new.line (10 ∷ new.waiting) rest) ∙ ap (λ (xs : List ℕ). xs ++ rest) (sym line.whole) ∙ ahead in
+    let front : before_feed bytes ≡ new.line =
+    ap before_feed (sym whole) ∙ before_plain new.line (10 ∷ (new.waiting ++ rest)) line.plain ∙ append-nil new.line in (
+      sym front,
+      omega (arith, ap length front),
+      sym (ap behind_feed (sym whole) ∙ behind_plain new.line (10 ∷ (new.waiting ++ rest)) line.plain),
+    )
+
+-- the last line, which the stream's end ends
+pub parts_at_end : (stream rest : Option (List ℕ)) (mid last new : Cursor) → KeepsAhead beginning stream last rest → IsPlain mid.waiting → length mid.waiting ≤ FIRST_LINE_LIMIT
+    → WaitsMore mid last 0 → IsAtEnd rest → new.line ≡ last.waiting → new.waiting ≡ [] → IfSome stream (λ bytes. PartsAtFirst bytes (Some new) rest)
+parts_at_end None rest mid last new ahead plain short more over line empty = tt
+parts_at_end (Some bytes) None mid last new ahead plain short more over line empty = absurd ahead
+parts_at_end (Some bytes) (Some rest) mid last new ahead plain short more over line empty =
+    let size = more.size in
+    let same : last.waiting ≡ mid.waiting = sym (take_all (length mid.waiting) last.waiting (omega arith)) ∙ more.front in
+    let whole : mid.waiting ++ [] ≡ bytes = ap (λ (xs : List ℕ). xs ++ []) (sym same) ∙ ap (λ (xs : List ℕ). last.waiting ++ xs) (sym over) ∙ ahead in
+    let front : before_feed bytes ≡ mid.waiting = ap before_feed (sym whole) ∙ before_plain mid.waiting [] plain ∙ append-nil mid.waiting in (
+      line ∙ same ∙ sym front,
+      omega (arith, ap length front),
+      ap (λ (xs : List ℕ). xs ++ rest) empty ∙ over ∙ sym (ap behind_feed (sym whole) ∙ behind_plain mid.waiting [] plain),
+    )

@@ -1,0 +1,23 @@
+-- Where a reader of lines stands in a log.
+use Rattle.std.specs.Prelude.{◌≡◌, ℕ, ◌+◌, length, List, ◌++◌}
+use Rattle.test_runner_core_log_reader.specs.Items.{Item, items}
+
+-- the line that the last call found, or no bytes; the bytes that were read and not handed out yet; and how many bytes
+-- of the log were handed out, line feeds among them
+pub record Cursor : Type 0 where
+  pub line : List ℕ
+  pub waiting : List ℕ
+  pub handed : ℕ
+
+-- how many bytes of the log were read
+abbrev pub received : Cursor → ℕ
+received cursor = cursor.handed + length cursor.waiting
+
+-- the items that are ahead where the reader has these bytes left
+abbrev pub items_ahead : Cursor → List ℕ → List Item
+items_ahead cursor left = items cursor.handed (cursor.waiting ++ left)
+
+-- nothing was read or handed out
+pub record Unmoved (old new : Cursor) : Type 0 where
+  pub waiting : new.waiting ≡ old.waiting
+  pub handed : new.handed ≡ old.handed

@@ -1,0 +1,85 @@
+// What inputs ask for.
+ghost use Rattle.std.specs.Prelude.{◌≡◌, IfOk};
+ghost use Rattle.test_runner_core_plan.specs.Plan as words;
+
+use crate::plan_fault::PlanFault;
+use nextest_text::Text;
+use std::alloc::Global;
+use test_runner_core_inputs::{ConfigSource, ConfigSourceKind, ConfigSourceOutcome, Inputs};
+use test_runner_core_listing::Filter;
+use test_runner_core_settings::Settings;
+
+// What inputs ask for.
+pub(crate) struct Wanted {
+    pub(crate) settings: Settings,
+    pub(crate) filter: Filter,
+}
+
+// One call drops it, whoever holds it.
+impl Drop for Wanted {
+    fn drop(self) {
+        let Self {
+            settings: _,
+            filter: _,
+        } = self;
+    }
+}
+
+// What the sources set.
+fn settings_in(alloc: Global, sources: &[ConfigSource]) -> Result<Settings, PlanFault>
+    ensures { words.Gives result (words.settings_in sources.now) }
+{
+    match sources {
+        [] => Ok(Settings::default()),
+        [source] => settings_by(alloc, source),
+        _ => Err(PlanFault::NotYet),
+    }
+}
+
+// What one source sets.
+fn settings_by(alloc: Global, source: &ConfigSource) -> Result<Settings, PlanFault>
+    ensures { words.Gives result (words.settings_by source.now.kind source.now.outcome) }
+{
+    match (&source.kind, &source.outcome) {
+        (ConfigSourceKind::ExplicitRepository, ConfigSourceOutcome::Text(text)) => {
+            Ok(Settings::from_toml(alloc, text.as_str())?)
+        }
+        _ => Err(PlanFault::NotYet),
+    }
+}
+
+// Whether inputs ask for what isn't read yet.
+fn asks_for_more(inputs: &Inputs) -> bool
+    ensures { result ≡ words.asks_for_more inputs.now }
+{
+    inputs.profile.as_str() != "default"
+        || !inputs.host.triple.is_empty()
+        || !inputs.host.facts.is_empty()
+        || inputs.target.is_some()
+}
+
+// The filter in force.
+fn filter_in(alloc: Global, filterset: &Option<Text>) -> Result<Filter, PlanFault>
+    ensures { words.Gives result (words.filter_in filterset.now) }
+{
+    let Some(text) = filterset else {
+        return Ok(Filter::All);
+    };
+    match Filter::from_text(alloc, text.as_str())? {
+        Some(filter) => Ok(filter),
+        None => Err(PlanFault::NotYet),
+    }
+}
+
+// What inputs ask for.
+pub(crate) fn wanted_in(alloc: Global, inputs: &Inputs) -> Result<Wanted, PlanFault>
+    ensures { words.Gives result (words.wanted_in inputs.now) }
+{
+    inputs.workspace.check(alloc)?;
+    let settings = settings_in(alloc, inputs.sources.as_slice())?;
+    if asks_for_more(inputs) {
+        return Err(PlanFault::NotYet);
+    }
+    let filter = filter_in(alloc, &inputs.filterset)?;
+    Ok(Wanted { settings, filter })
+}
