@@ -11,15 +11,16 @@ ghost use Rattle.test_runner_core.specs.Faults.{TellsRead, TellsWrite, lacks_mem
 ghost use Rattle.test_runner_core.specs.Outcome.{HasNoPlan, IsDue, IsStreamDue, Outcome, StreamOutcome, table_of};
 ghost use Rattle.test_runner_core.specs.Report.{Reports, Writes};
 ghost use Rattle.test_runner_core_listing.specs.Listing.{AsksFor};
-ghost use Rattle.test_runner_core_plan.specs.Plan.{asked_for, wanted_in, planned};
+ghost use Rattle.test_runner_core_plan.specs.Plan.{Builds, asked_for, wanted_in, planned};
 ghost use Rattle.test_runner_core_plan.specs.declared.plan_fault.PlanFault.{PlanFault};
 ghost use Rattle.test_runner_core_workspace.specs.declared.record.Binary.{Binary};
 
 use crate::judge_fault::JudgeFault;
-use crate::judgement::Judgement;
+use crate::judgement::{Judgement, judgement_by_plan, without_plan};
 use std::alloc::Global;
 use test_runner_core_inputs::{Inputs, InputsError, InputsRefusal};
 use test_runner_core_log_reader::{LogFault, LogLines};
+use test_runner_core_plan::{Plan, PlanFault};
 use test_runner_core_streams::{LogReader, ReportWriter, write_all};
 use test_runner_core_workspace::{Lister, TableLister};
 
@@ -87,7 +88,7 @@ fn judgement_of<R: LogReader>(alloc: Global, input: &mut R) -> Result<Judgement,
         return Ok(Judgement::NoInputs(InputsRefusal::Syntax));
     };
     match Inputs::from_json(alloc, lines.line()) {
-        Ok(inputs) => judgement_by_table(alloc, &inputs, &mut lines, input),
+        Ok(inputs) => judgement_by_table(alloc, inputs, &mut lines, input),
         Err(InputsError::Refused(refusal)) => Ok(Judgement::NoInputs(refusal)),
         Err(InputsError::OutOfMemory) => Err(LogFault::Memory),
     }
@@ -96,19 +97,29 @@ fn judgement_of<R: LogReader>(alloc: Global, input: &mut R) -> Result<Judgement,
 // What the run of inputs comes to by the lines of a log, where each binary answers by the inputs' own table.
 fn judgement_by_table<R: LogReader>(
     alloc: Global,
-    inputs: &Inputs,
+    inputs: Inputs,
     lines: &mut LogLines,
     log: &mut R,
 ) -> Result<Judgement, LogFault>
     requires calls_fit { R.calls log.old + 2 ^ 32 ≤ 2 ^ 63 }
     requires failures_fit { R.failures log.old < 2 ^ 62 }
-    ensures outcome { IfOk result (λ it. IfSome (R.left log.old) (λ left. Outcome (table_of inputs.now) inputs.now (items_ahead lines.old left) it)) }
-    ensures unread { (refusal : PlanFault) → planned (table_of inputs.now) inputs.now ≡ Err refusal → R.calls log.new ≡ R.calls log.old }
+    ensures outcome { IfOk result (λ it. IfSome (R.left log.old) (λ left. Outcome (table_of inputs) inputs (items_ahead lines.old left) it)) }
+    ensures unread { (refusal : PlanFault) → planned (table_of inputs) inputs ≡ Err refusal → R.calls log.new ≡ R.calls log.old }
     ensures reads { R.calls log.new ≤ R.calls log.old + LOG_LIMIT + 1 }
     ensures failures { TellsFailure result (R.failures log.old) (R.failures log.new) (R.last_failed log.new) }
 {
+    match plan_by_table(alloc, inputs) {
+        Ok(plan) => judgement_by_plan(alloc, &plan, lines, log),
+        Err(refusal) => without_plan(refusal),
+    }
+}
+
+// The plan of inputs, where each binary answers by their own table. The inputs' room is given back.
+fn plan_by_table(alloc: Global, inputs: Inputs) -> Result<Plan, PlanFault>
+    ensures { Builds (table_of inputs) inputs result }
+{
     let mut lister = TableLister::new(alloc, &inputs.workspace)?;
-    Judgement::of(alloc, inputs, &mut lister, lines, log)
+    Plan::build(alloc, &inputs, &mut lister)
 }
 
 // Writes the report of a judgement, and answers its exit status.

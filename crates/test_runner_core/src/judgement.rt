@@ -78,7 +78,7 @@ impl Judgement {
 }
 
 // What inputs that have no plan come to; want of memory says nothing of them.
-fn without_plan(refusal: PlanFault) -> Result<Judgement, LogFault>
+pub(crate) fn without_plan(refusal: PlanFault) -> Result<Judgement, LogFault>
     ensures { IsWithoutPlan refusal result }
 {
     match &refusal {
@@ -88,7 +88,7 @@ fn without_plan(refusal: PlanFault) -> Result<Judgement, LogFault>
 }
 
 // What the run of a plan comes to by the lines of a log.
-fn judgement_by_plan<R: LogReader>(
+pub(crate) fn judgement_by_plan<R: LogReader>(
     alloc: Global,
     plan: &Plan,
     lines: &mut LogLines,

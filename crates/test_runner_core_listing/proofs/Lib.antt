@@ -1,4 +1,5 @@
 pub mod Parts
 pub mod OneByOne
 pub mod Rising
+pub mod Strict
 pub mod Walk

@@ -1,5 +1,5 @@
 -- Tests of which none is greater than the next rise.
-use Rattle.std.proofs.Common.{◌≡◌, ℕ, ◌+◌, ◌≤◌, ◌<◌, List, length, Bool, Option, Some, true, false, refl, ap, sym, ◌∙◌, subst, slice_index_or}
+use Rattle.std.proofs.Common.{◌≡◌, ◌+◌, List, Bool, Option, Some, true, false, refl, ap, sym, ◌∙◌, slice_index_or}
 use Rattle.std.specs.Ordering.{is_lt, is_le, is_some_and, nat_cmp, ordering_then, ordering_reverse, partial_le, partial_ordering_then}
 use Rattle.std.specs.declared.cmp.Ordering.{Ordering}
 use Rattle.std.specs.declared.cmp.Ordering.TheVariants.{Less, Equal, Greater}

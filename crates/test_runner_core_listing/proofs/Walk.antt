@@ -1,9 +1,8 @@
 -- Binaries, one after another.
-use Rattle.std.proofs.Common.{◌≡◌, ◌<◌, ℕ, length, get_or, drop, drop-cons, add-one, ◌+◌, ◌∷◌, ◌++◌, [], List, Result, Ok, Err, refl, ap, sym, ◌∙◌, append_assoc}
-use Rattle.nextest_run_events_results.specs.declared.instance.OwnedTestInstanceId.{OwnedTestInstanceId}
+use Rattle.std.proofs.Common.{◌≡◌, ◌<◌, ℕ, length, get_or, drop, drop-cons, add-one, ◌+◌, ◌∷◌, ◌++◌, [], List, Result, Ok, Err, ap, sym, ◌∙◌, append_assoc}
 use Rattle.test_runner_core_workspace.specs.Lister.{Answer}
 use Rattle.test_runner_core_workspace.specs.declared.record.Binary.{Binary}
-use Rattle.test_runner_core_listing.specs.Listing.{◌>>=◌, accepted, selected_in, skipped_in, listing, asked_of, asked_after, Adds, Asks}
+use Rattle.test_runner_core_listing.specs.Listing.{◌>>=◌, accepted, asked_of, asked_after, Adds, Asks}
 use Rattle.test_runner_core_listing.specs.declared.filter.Filter.{Filter}
 use Rattle.test_runner_core_listing.specs.declared.selection.Selection.{Selection}
 use Rattle.test_runner_core_listing.specs.declared.listing_fault.ListingFault.{ListingFault}

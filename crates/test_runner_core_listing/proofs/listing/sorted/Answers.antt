@@ -1,4 +1,4 @@
-use Rattle.std.proofs.Common.{◌≡◌, true, List, subst}
+use Rattle.std.proofs.Common.{List, subst}
 use Rattle.std.specs.List.Sorted.{IsSorted}
 use Rattle.nextest_run_events_results.specs.declared.instance.OwnedTestInstanceId.{OwnedTestInstanceId}
 use Rattle.test_runner_core_listing.specs.Listing.{instance_cmp}

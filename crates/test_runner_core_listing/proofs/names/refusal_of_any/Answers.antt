@@ -2,7 +2,7 @@ use Rattle.std.proofs.Common.{◌≡◌, ℕ, ◌++◌, ◌∷◌, List, [], len
 use Rattle.std.proofs.lemmas.Bool.{not-true, not-false}
 use Rattle.test_runner_core_workspace.specs.Workspace.{is_among, has_separator}
 use Rattle.test_runner_core_listing.proofs.OneByOne.{has_name, names_more, at_name, taken_more}
-use Rattle.test_runner_core_listing.proofs.names.refusal.Goals as goal
+use Rattle.test_runner_core_listing.proofs.names.refusal_of_any.Goals as goal
 
 pub returns-then-not-branch : goal.returns-then-not-branch
 returns-then-not-branch c =

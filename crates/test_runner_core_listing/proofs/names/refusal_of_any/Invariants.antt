@@ -2,7 +2,7 @@ use Rattle.std.proofs.Common.{◌≡◌, ℕ, List, [], take, drop}
 use Rattle.test_runner_core_workspace.specs.Workspace.{is_among}
 use Rattle.test_runner_core_listing.specs.Listing.{refused_name}
 use Rattle.test_runner_core_listing.proofs.OneByOne.{has_name}
-use Rattle.test_runner_core_listing.proofs.names.refusal.Given as goal
+use Rattle.test_runner_core_listing.proofs.names.refusal_of_any.Given as goal
 
 -- the set has the names so far, and none of them is refused
 abbrev pub invariant-loop-name : goal.invariant-loop-name

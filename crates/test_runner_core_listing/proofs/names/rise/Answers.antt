@@ -1,0 +1,18 @@
+use Rattle.std.proofs.Common.{◌≡◌, sym, ◌∙◌, arith}
+use Rattle.std.specs.Cmp.Lexicographic.{slice_cmp, nat_list_cmp_total}
+use Rattle.std.specs.Ordering.{nat_cmp}
+use Rattle.std.specs.declared.cmp.Ordering.TheVariants.{Less}
+use Rattle.test_runner_core_listing.proofs.Strict.{greater, one_more, strictly}
+use Rattle.test_runner_core_listing.proofs.names.rise.Goals as goal
+
+pub loop-place-preserved : goal.loop-place-preserved
+loop-place-preserved c =
+    let names = c.args.names.now in
+    let name = c.index-names-place.result in
+    let before = c.index-names-place-in-loop-place.result in
+    one_more (λ x y. slice_cmp nat_cmp x y ≡ Less) names c.loop-place.place before name c.loop-place.invariant c.loop-place.auto.place c.loop-place-test.true
+    c.index-names-place-in-loop-place.is c.index-names-place.is
+    (greater (slice_cmp nat_cmp) nat_list_cmp_total before name (sym c.le.ensures ∙ c.if-le.false))
+
+pub returns : goal.returns
+returns c = λ _. strictly (slice_cmp nat_cmp) nat_list_cmp_total c.args.names.now (λ k d inside. c.loop-place.invariant k d (omega (arith, inside, c.loop-place-test.false)))

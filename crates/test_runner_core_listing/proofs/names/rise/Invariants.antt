@@ -1,0 +1,10 @@
+use Rattle.std.proofs.Common.{◌≡◌}
+use Rattle.std.specs.Cmp.Lexicographic.{slice_cmp}
+use Rattle.std.specs.List.{AllAdjacentBelow}
+use Rattle.std.specs.Ordering.{nat_cmp}
+use Rattle.std.specs.declared.cmp.Ordering.TheVariants.{Less}
+use Rattle.test_runner_core_listing.proofs.names.rise.Given as goal
+
+-- the names so far rise
+abbrev pub invariant-loop-place : goal.invariant-loop-place
+invariant-loop-place l = AllAdjacentBelow (λ x y. slice_cmp nat_cmp x y ≡ Less) l.names l.place
