@@ -1,2 +1,3 @@
 pub mod Indexes
+pub mod Rising
 pub mod InOrder

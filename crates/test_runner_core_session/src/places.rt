@@ -1,6 +1,10 @@
 // The places of tests by their names.
-ghost use Rattle.std.specs.Prelude.{◌≡◌, IfOk, map};
-ghost use Rattle.test_runner_core_session.specs.Names.{IsIndex, place_of};
+ghost use Rattle.std.specs.Prelude.{◌≡◌, false, IfOk, IsTrue, map, slice_get};
+ghost use Rattle.std.specs.List.Sorted.{IsStrictlySortedBy};
+ghost use Rattle.std.specs.Option.{option_map_or};
+ghost use Rattle.std.specs.Ordering.{is_lt};
+ghost use Rattle.test_runner_core_listing.specs.Listing.{instance_cmp};
+ghost use Rattle.test_runner_core_session.specs.Names.{IsIndex, is_named, name_of, place_of};
 
 use indexmap::IndexMap;
 use nextest_run_events_results::TestInstanceId;
@@ -13,7 +17,10 @@ use test_runner_core_plan::PlanTest;
 #[derive(Drop)]
 pub(crate) struct Places<'a> {
     tests: &'a [PlanTest],
-    index: Index<'a>,
+    // Where the tests don't rise by their names, as without priorities they do.
+    index: Option<Index<'a>>,
+    // The place that was found last, where the next look-up begins.
+    last: usize,
 }
 
 // A table that nobody who chooses names can slow down.
@@ -22,13 +29,13 @@ type Index<'a> = IndexMap<TestInstanceId<'a>, usize, KeyedState>;
 impl<'a> Model for Places<'a> {
     ghost use Rattle.std.specs.Prelude.{List, map};
     ghost use Rattle.nextest_run_events_results.specs.declared.instance.OwnedTestInstanceId.{OwnedTestInstanceId};
-    ghost use Rattle.test_runner_core_session.specs.Names.{IsIndex};
+    ghost use Rattle.test_runner_core_session.specs.Names.{KeepsPlaces};
 
     ghost Value = { List OwnedTestInstanceId };
 
     ghost view = { λ p. map (λ test. test.instance) p.tests.now };
 
-    ghost invariant = { λ p. IsIndex p.index (map (λ test. test.instance) p.tests.now) };
+    ghost invariant = { λ p. KeepsPlaces p.index (map (λ test. test.instance) p.tests.now) };
 }
 
 impl<'a> Places<'a> {
@@ -36,9 +43,15 @@ impl<'a> Places<'a> {
     pub(crate) fn new(alloc: Global, tests: &'a [PlanTest]) -> Result<Places<'a>, AllocError>
         ensures { IfOk result (λ places. places ≡ map (λ test. test.instance) tests.now) }
     {
+        let index = if rise(tests) {
+            None
+        } else {
+            Some(index_of(alloc, tests)?)
+        };
         Ok(Places {
             tests,
-            index: index_of(alloc, tests)?,
+            index,
+            last: 0,
         })
     }
 
@@ -46,10 +59,67 @@ impl<'a> Places<'a> {
     pub(crate) fn place(&self, test: TestInstanceId<'_>) -> usize
         ensures { result ≡ place_of self.now test.entry.binary_id.now test.entry.test_name.now }
     {
-        match self.index.get(&test) {
-            Some(place) => *place,
-            None => self.tests.len(),
+        match &self.index {
+            None => place_among(self.tests, self.last, test),
+            Some(index) => match index.get(&test) {
+                Some(place) => *place,
+                None => self.tests.len(),
+            },
         }
+    }
+
+    // The same, from which the next look-up begins.
+    pub(crate) fn find(&mut self, test: TestInstanceId<'_>) -> usize
+        ensures place { result ≡ place_of self.old test.entry.binary_id.now test.entry.test_name.now }
+        ensures same { self.new ≡ self.old }
+    {
+        let place = self.place(test);
+        self.last = place;
+        place
+    }
+}
+
+// Whether the name of each test is greater than that of the test before it.
+fn rise(tests: &[PlanTest]) -> bool
+    ensures { IsTrue result → IsStrictlySortedBy instance_cmp (map (λ test. test.instance) tests.now) }
+{
+    for place in 1..tests.len() {
+        if tests[place].instance <= tests[place - 1].instance {
+            return false;
+        }
+    }
+    true
+}
+
+// The place of the test of this name among tests that rise, or one past the end: mostly it is that of the look-up
+// before, or the next.
+fn place_among(tests: &[PlanTest], last: usize, test: TestInstanceId<'_>) -> usize
+    requires { IsStrictlySortedBy instance_cmp (map (λ test. test.instance) tests.now) }
+    ensures { result ≡ place_of (map (λ test. test.instance) tests.now) test.entry.binary_id.now test.entry.test_name.now }
+{
+    if is_at(tests, last, test) {
+        return last;
+    }
+    let next = last.saturating_add(1);
+    if is_at(tests, next, test) {
+        return next;
+    }
+    let place = tests.partition_point(|planned: &PlanTest| -> bool
+            ensures { result ≡ is_lt (instance_cmp planned.now.instance (name_of test.entry)) }
+        { planned.instance.as_ref() < test });
+    if is_at(tests, place, test) {
+        return place;
+    }
+    tests.len()
+}
+
+// Whether the test of this name stands at a place.
+fn is_at(tests: &[PlanTest], place: usize, test: TestInstanceId<'_>) -> bool
+    ensures { result ≡ option_map_or (λ planned. is_named test.entry.binary_id.now test.entry.test_name.now planned.instance) (slice_get tests.now place) false }
+{
+    match tests.get(place) {
+        Some(planned) => test == planned.instance.as_ref(),
+        None => false,
     }
 }
 

@@ -83,7 +83,7 @@ impl<'a> Session<'a> {
         ensures tests { self.new.tests ≡ self.old.tests }
         ensures step { Starts self.old.run (place_of self.old.tests test.entry.binary_id.now test.entry.test_name.now) result self.new.run }
     {
-        let place = self.places.place(test);
+        let place = self.places.find(test);
         self.progress.start(place)
     }
 
@@ -98,7 +98,7 @@ impl<'a> Session<'a> {
         ensures tests { self.new.tests ≡ self.old.tests }
         ensures step { Takes self.old.run (events.Ended (place_of self.old.tests test.entry.binary_id.now test.entry.test_name.now) «record») result self.new.run }
     {
-        let place = self.places.place(test);
+        let place = self.places.find(test);
         self.progress.attempt_finished(place, record)
     }
 
