@@ -9,7 +9,6 @@ pub use Rattle.nextest_run_events_results.specs.Texts
 pub use Rattle.nextest_run_events_outputs.specs.Chain
 pub use Rattle.nextest_run_events_outputs.specs.ChildError as ErrorSources
 pub use Rattle.nextest_run_events_outputs.specs.Live
-pub use Rattle.nextest_run_events_outputs.specs.Moment
 pub use Rattle.nextest_run_events_outputs.specs.Output
 -- attempts of tests, and what is counted of them
 pub use Rattle.nextest_run_events_counters.specs.Attempts

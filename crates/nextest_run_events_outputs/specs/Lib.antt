@@ -1,5 +1,4 @@
 pub mod Chain
 pub mod ChildError
 pub mod Live
-pub mod Moment
 pub mod Output

@@ -3,7 +3,7 @@ use nextest_run_events::{
     AbortDescription, Boxed, ChildError, ChildErrorDescription, ChildExecutionOutput,
     ChildExecutionOutputDescription, ChildFdError, ChildOutput, ChildOutputDescription,
     ChildSingleOutput, ChildSplitOutput, ChildStartError, ChildStartErrorDescription, ErrorChain,
-    ErrorList, EventTime, ExecuteStatus, ExecutionResult, ExecutionResultDescription,
+    ErrorList, ExecuteStatus, ExecutionResult, ExecutionResultDescription,
     ExecutionStatuses, FailureDescription, FlakyResult, JsonError, LiveSpec, OutputSpec, RetryData,
     SerializableError, TestInstanceId,
 };
@@ -180,27 +180,6 @@ fn a_boxed_value_is_the_value(rt: HostRuntime) -> Result<(), Fail> {
     assert!(rt; boxed.clone()? == boxed && boxed.get().as_str() == "a");
     assert_eq!(rt; boxed.into_inner().as_str(), "a");
     Ok(())
-}
-
-#[test]
-fn a_moment_is_kept_to_the_nanosecond(rt: HostRuntime) {
-    for (unix_nanos, seconds, nanos) in [
-        (0, 0, 0),
-        (1_700_000_000_123_456_789, 1_700_000_000, 123_456_789),
-        (-1, -1, 999_999_999),
-        (-1_000_000_000, -1, 0),
-        (-1_000_000_001, -2, 999_999_999),
-        (253_402_300_799_999_999_999, 253_402_300_799, 999_999_999),
-    ] {
-        let moment = EventTime::from_unix_nanos(unix_nanos, -90);
-        let told = moment.map(|it| (it.unix_seconds, it.subsec_nanos, it.offset_minutes));
-        assert!(rt; told == Some((seconds, nanos, -90)), "{unix_nanos}");
-        assert!(rt;
-            moment.map(|it| it.unix_nanos()) == Some(unix_nanos),
-            "{unix_nanos}"
-        );
-    }
-    assert!(rt; EventTime::from_unix_nanos(i128::MAX, 0).is_none());
 }
 
 fn attempt(ended: ExecutionResultDescription, is_slow: bool) -> ExecuteStatus<LiveSpec> {
