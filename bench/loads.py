@@ -10,7 +10,17 @@ before it took for so many times the bytes (1.0 is in proportion).
   places N     inputs of N bytes that are made to take much memory, and no log
   ordinary N, given N   tests of the names in a file that is given as an argument, one a line, beside as many others of their
                length: so names that are made to collide can be tried
+
+With `colliding` or `colliding N` as arguments it times these alone, of names of 32 bytes, for N = 20000 and less of them:
+
+  ordinary N   tests of names that come one after another
+  listing N    tests of names that collide in a set of names, were it hashed as the kit's tables are that are given no hasher
+  session N    tests of names that collide so in a map whose keys are the binary's id and the name
+
+The names of the last two cost as ordinary ones do unless a table of the program hashes as the kit's tables do of themselves: then the
+time grows with the square of N.
 """
+import itertools
 import json
 import os
 import pathlib
@@ -54,6 +64,57 @@ def places(count):
     return '{"x":[' + ",".join(['{"":0}'] * (count // 8)) + "]}", ""
 
 
+# The hasher of a table that is given none, as far as names of 32 bytes and single bytes want it.
+WORD = 2**64 - 1
+START = 0x243F_6A88_85A3_08D3
+MULTIPLIER = 0x9E37_79B9_7F4A_7C15
+
+
+def folded(one, other):
+    product = one * other
+    return (product ^ product >> 64) & WORD
+
+
+def after_byte(state, byte):
+    return folded(state ^ 0x010101 * byte, MULTIPLIER ^ 2)
+
+
+def after_two_words(state, two_words):
+    first, second = (int.from_bytes(two_words[at : at + 8], "little") for at in (0, 8))
+    return folded(first ^ (state + 32 & WORD), second ^ MULTIPLIER)
+
+
+def colliding(state, count):
+    """Names after which each hasher that was in this state has the same state, 0: their third word is the state that the first two
+    lead to, so that the hasher multiplies the fourth, whatever it is, by 0."""
+    for place in itertools.count():
+        head = f"module::{place:08}"
+        third = after_two_words(state, head.encode()).to_bytes(8, "little")
+        if third.isalnum():
+            return [f"{head}{third.decode()}{i:08}" for i in range(count)]
+
+
+def listing(count):
+    names = colliding(START, count)
+    return run_of(names, names)
+
+
+def session(count):
+    # The map's hasher has read the id of the binary, and the byte that ends each text.
+    names = colliding(after_byte(after_byte(START, ord("p")), 0xFF), count)
+    return run_of(names, names)
+
+
+def ordinary(count):
+    names = [f"module::case_{i:019}" for i in range(count)]
+    return run_of(names, names)
+
+
+def colliding_loads(count):
+    sizes = (count // 4, count // 2, count)
+    return [("ordinary", ordinary, sizes), ("listing", listing, sizes), ("session", session, sizes)]
+
+
 def run(text):
     with tempfile.TemporaryFile("w+") as load, open(os.devnull, "w") as report:
         load.write(text)
@@ -77,7 +138,11 @@ def main():
         ("shuffled", shuffled, (300_000,)),
         ("places", places, (1_000_000, 16_000_000)),
     ]
-    for file in sys.argv[1:]:
+    arguments = sys.argv[1:]
+    if arguments[:1] == ["colliding"]:
+        loads = colliding_loads(int(arguments[1]) if arguments[1:] else 20_000)
+        arguments = []
+    for file in arguments:
         names = pathlib.Path(file).read_text().split()
         others = [f"{i:0{len(names[0])}}" for i in range(len(names))]
         random.Random(1).shuffle(others)
