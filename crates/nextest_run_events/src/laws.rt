@@ -7,4 +7,6 @@ pub use nextest_run_events_outcomes::laws::{
     associative, commutative, idempotent, in_any_order, no_tests_run_is_neutral, one_highest,
 };
 pub use nextest_run_events_results::laws::reasons_rise;
-pub use nextest_run_events_visibility::laws::{graver_reasons_hide, no_reason_shows_most};
+pub use nextest_run_events_visibility::laws::{
+    graver_reasons_hide, no_reason_shows_most, reasons_weigh,
+};
