@@ -10,7 +10,17 @@ before it took for so many times the bytes (1.0 is in proportion).
   places N     inputs of N bytes that are made to take much memory, and no log
   ordinary N, given N   tests of the names in a file that is given as an argument, one a line, beside as many others of their
                length: so names that are made to collide can be tried
+
+With `colliding` or `colliding N` as arguments it times these alone, of N names of 32 bytes each, 20000 where no N is given, a half and
+a quarter of them. They cost as ordinary ones do; the time of a program with a table that they are aimed at grows with the square of N.
+
+  ordinary N       names that come one after another
+  listing N        names of one hash in the set of a binary's names, if that were a table that is given no hasher
+  session N        the same for the map from a binary's id and a name to a test
+  near listing N   names that lie close together in that set, if it were given std's hasher with no key
+  near session N   the same for that map
 """
+import itertools
 import json
 import os
 import pathlib
@@ -54,6 +64,111 @@ def places(count):
     return '{"x":[' + ",".join(['{"":0}'] * (count // 8)) + "]}", ""
 
 
+WORD = 2**64 - 1
+
+# What the hashers of the map read before a name, and all hashers behind each text.
+TEXT_END = b"\xff"
+MAP_KEY = b"p" + TEXT_END
+
+# The hasher of a table that is given none, as far as single bytes and names of 32 bytes want it.
+FOLD_START = 0x243F_6A88_85A3_08D3
+FOLD_FACTOR = 0x9E37_79B9_7F4A_7C15
+
+
+def folded(one, other):
+    product = one * other
+    return (product ^ product >> 64) & WORD
+
+
+def word(text):
+    return int.from_bytes(text, "little")
+
+
+def one_hash(before, count):
+    """Names that all leave the hasher at 0, if it reads these bytes before each: their third word is the hasher's state once it has read
+    two, so that it multiplies by 0 whatever the fourth is."""
+    start = FOLD_START
+    for byte in before:
+        start = folded(start ^ 0x010101 * byte, FOLD_FACTOR ^ 2)
+    for place in itertools.count():
+        head = f"module::{place:08}"
+        first, second = word(head[:8].encode()), word(head[8:].encode())
+        third = folded(first ^ (start + 32 & WORD), second ^ FOLD_FACTOR).to_bytes(8, "little")
+        if third.isalnum():
+            return [f"{head}{third.decode()}{i:08}" for i in range(count)]
+
+
+# The hasher of std with no key: SipHash with one round a word, and three at the end.
+SIP_START = (0x736F_6D65_7073_6575, 0x646F_7261_6E64_6F6D, 0x6C79_6765_6E65_7261, 0x7465_6462_7974_6573)
+
+
+def sip_round(a, b, c, d):
+    a, c = a + b & WORD, c + d & WORD
+    b, d = (b << 13 & WORD | b >> 51) ^ a, (d << 16 & WORD | d >> 48) ^ c
+    a = a << 32 & WORD | a >> 32
+    c, a = c + b & WORD, a + d & WORD
+    b, d = (b << 17 & WORD | b >> 47) ^ c, (d << 21 & WORD | d >> 43) ^ a
+    return a, b, c << 32 & WORD | c >> 32, d
+
+
+def sip_word(state, read):
+    a, b, c, d = state
+    a, b, c, d = sip_round(a, b, c, d ^ read)
+    return a ^ read, b, c, d
+
+
+def sip_end(state):
+    a, b, c, d = state
+    c ^= 0xFF
+    for _ in range(3):
+        a, b, c, d = sip_round(a, b, c, d)
+    return a ^ b ^ c ^ d
+
+
+def near(before, count):
+    """Names whose places are in the first eighth of a table for so many, if the hasher reads these bytes before each."""
+    groups = 1
+    while 9 * groups < count:
+        groups *= 2
+    common = before + b"module::case_" + b"0" * 24
+    state = SIP_START
+    for at in (0, 8, 16):
+        state = sip_word(state, word(common[at : at + 8]))
+    names = []
+    for i in itertools.count():
+        name = f"module::case_{i:019}"
+        read = before + name.encode() + TEXT_END
+        last = word(read[32:]) | len(read) << 56
+        found = sip_end(sip_word(sip_word(state, word(read[24:32])), last))
+        if (found ^ found >> 32) % groups < max(groups // 8, 1):
+            names.append(name)
+            if len(names) == count:
+                return names
+
+
+def one_by_one(_before, count):
+    return [f"module::case_{i:019}" for i in range(count)]
+
+
+def colliding(count):
+    def load(names_of, before):
+        def make(size):
+            names = names_of(before, size)
+            return run_of(names, names)
+
+        return make
+
+    sizes = (count // 4, count // 2, count)
+    makers = [
+        ("ordinary", one_by_one, b""),
+        ("listing", one_hash, b""),
+        ("session", one_hash, MAP_KEY),
+        ("near listing", near, b""),
+        ("near session", near, MAP_KEY),
+    ]
+    return [(name, load(names_of, before), sizes) for name, names_of, before in makers]
+
+
 def run(text):
     with tempfile.TemporaryFile("w+") as load, open(os.devnull, "w") as report:
         load.write(text)
@@ -77,7 +192,11 @@ def main():
         ("shuffled", shuffled, (300_000,)),
         ("places", places, (1_000_000, 16_000_000)),
     ]
-    for file in sys.argv[1:]:
+    arguments = sys.argv[1:]
+    if arguments[:1] == ["colliding"]:
+        loads = colliding(int(arguments[1]) if arguments[1:] else 20_000)
+        arguments = []
+    for file in arguments:
         names = pathlib.Path(file).read_text().split()
         others = [f"{i:0{len(names[0])}}" for i in range(len(names))]
         random.Random(1).shuffle(others)

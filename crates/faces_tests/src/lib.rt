@@ -7,9 +7,11 @@ mod listers;
 mod logs;
 mod outcomes;
 mod runs;
+mod shows;
 
 pub use filters::read_filterset;
 pub use listers::Suite;
 pub use logs::interrupted;
 pub use outcomes::worse;
 pub use runs::replay;
+pub use shows::keeps_failure;

@@ -29,6 +29,11 @@ pub use Rattle.nextest_run_events_json.specs.Forms
 pub use Rattle.nextest_run_events_json.specs.Reading
 pub use Rattle.nextest_run_events_json.specs.Calls
 pub use Rattle.nextest_run_events_json.specs.Laws as JsonLaws
+-- what is shown of a finished test, and the levels and displays that say so
+pub use Rattle.nextest_config_elements_plain.specs.Display
+pub use Rattle.nextest_config_elements_plain.specs.Levels
+pub use Rattle.nextest_run_events_visibility.specs.Laws as VisibilityLaws
+pub use Rattle.nextest_run_events_visibility.specs.Visibility
 -- clones of lists
 pub use Rattle.nextest_text.specs.Clones
 -- types
@@ -94,3 +99,6 @@ pub use Rattle.nextest_run_events_units.specs.declared.test_list.TestsNotSeen
 pub use Rattle.nextest_run_events_units.specs.declared.unit_kind.UnitKind
 pub use Rattle.nextest_run_events_units.specs.declared.unit_state.UnitState
 pub use Rattle.nextest_run_events_json.specs.declared.json_error.JsonError
+pub use Rattle.nextest_run_events_visibility.specs.declared.visibility.OutputOnTestFinished
+pub use Rattle.nextest_run_events_visibility.specs.declared.visibility.OutputStoreFinal
+pub use Rattle.nextest_run_events_visibility.specs.declared.visibility.StatusLevels

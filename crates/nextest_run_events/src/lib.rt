@@ -3,7 +3,7 @@
 //!
 //! A runner describes how a process ended by `ExecutionResultDescription`, keeps a test's attempts as `ExecutionStatuses`,
 //! and counts each test and setup script that finishes in `RunStats`. A reporter asks attempts for their
-//! `ExecutionDescription`, and counters for their `FinalRunStats`.
+//! `ExecutionDescription`, counters for their `FinalRunStats`, and `StatusLevels` for what is shown of a test that finishes.
 #![tactic(auto)]
 
 pub mod laws;
@@ -38,4 +38,5 @@ pub use nextest_run_events_units::{
     TestInfoResponse, TestList, TestsNotSeen, UnitKind, UnitState, UnitTerminateMethod,
     UnitTerminateReason, UnitTerminateSignal, UnitTerminatingState,
 };
+pub use nextest_run_events_visibility::{OutputOnTestFinished, OutputStoreFinal, StatusLevels};
 pub use nextest_text::{Listing, Text};
