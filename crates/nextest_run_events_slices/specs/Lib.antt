@@ -1,0 +1,3 @@
+pub mod Notes
+pub mod Places
+pub mod Slices
