@@ -7,3 +7,4 @@ pub mod Taken
 pub mod ErrorLines
 pub mod NoteLines
 pub mod Parts
+pub mod OneSlice

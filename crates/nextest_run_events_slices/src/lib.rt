@@ -3,6 +3,7 @@
 
 mod errors;
 mod heads;
+pub mod laws;
 mod notes;
 mod panics;
 mod slices;
