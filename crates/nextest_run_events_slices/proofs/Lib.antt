@@ -1,0 +1,10 @@
+pub mod Splits
+pub mod Names
+pub mod Numbers
+pub mod PanicHeads
+pub mod LineStarts
+pub mod Taken
+pub mod ErrorLines
+pub mod NoteLines
+pub mod Parts
+pub mod OneSlice

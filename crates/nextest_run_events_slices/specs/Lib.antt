@@ -1,0 +1,4 @@
+pub mod Laws
+pub mod Notes
+pub mod Places
+pub mod Slices
