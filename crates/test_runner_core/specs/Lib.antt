@@ -37,6 +37,7 @@ pub use Rattle.test_runner_core_workspace.specs.Workspace
 pub use Rattle.test_runner_core_workspace.specs.Lister
 -- logs, their lines and streams
 pub use Rattle.test_runner_core_line_syntax.specs.Spelling
+pub use Rattle.test_runner_core_line_syntax.specs.Hex
 pub use Rattle.test_runner_core_line_syntax.specs.Reading as LineReading
 pub use Rattle.test_runner_core_line_syntax.specs.Lent
 pub use Rattle.test_runner_core_line_syntax.specs.Laws as LineLaws
@@ -80,7 +81,10 @@ pub use Rattle.test_runner_core_inputs.specs.declared.platform.PlatformRecord
 pub use Rattle.test_runner_core_log_reader.specs.declared.fault.LineFault
 pub use Rattle.test_runner_core_log_reader.specs.declared.fault.LogFault
 pub use Rattle.test_runner_core_log_reader.specs.declared.next.Next
+pub use Rattle.test_runner_core_line_syntax.specs.declared.hex_digits.HexDigits
+pub use Rattle.test_runner_core_line_syntax.specs.declared.hex_text.HexText
 pub use Rattle.test_runner_core_line_syntax.specs.declared.lent.LentLine
+pub use Rattle.test_runner_core_line_syntax.specs.declared.lent.LentOutput
 pub use Rattle.test_runner_core_line_syntax.specs.declared.lent.LentRecord
 pub use Rattle.test_runner_core_line_syntax.specs.declared.lent.LentStream
 pub use Rattle.test_runner_core_line_syntax.specs.declared.log_line.LogLine

@@ -38,7 +38,8 @@ pub use test_runner_core_inputs::{
     InputsError, InputsRefusal, PlatformRecord,
 };
 pub use test_runner_core_line_syntax::{
-    LentLine, LentRecord, LentStream, LogLine, ParseLineError, SpellingError, reason_word,
+    HexDigits, HexText, LentLine, LentOutput, LentRecord, LentStream, LogLine, ParseLineError,
+    SpellingError, reason_word,
 };
 pub use test_runner_core_log_reader::{
     FIRST_LINE_LIMIT, LINE_LIMIT, LOG_LIMIT, LineFault, LogFault, LogLines, Next,

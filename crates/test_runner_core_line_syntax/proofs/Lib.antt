@@ -1,3 +1,4 @@
+pub mod Hex
 pub mod Fields
 pub mod Apart
 pub mod Spellings

@@ -76,15 +76,15 @@ no_leaked_failure field text front none told false spelled =
 
 -- ---- a result without its words
 
-pub no_result : (field : List ℕ) → field ≢ codes "pass" → field ≢ codes "leak:pass" → field ≢ codes "leak:fail" → field ≢ codes "timeout:pass" → field ≢ codes "timeout:fail"
+pub no_result : (field : List ℕ) → field ≢ codes "pass" → field ≢ codes "exec-fail" → field ≢ codes "leak:pass" → field ≢ codes "leak:fail" → field ≢ codes "timeout:pass" → field ≢ codes "timeout:fail"
     → ((told : FailureDescription) (leaked : Bool) → SpellsResult (ended.Fail told leaked) field → ⊥) → (told : ExecutionResultDescription) → SpellsResult told field → ⊥
-no_result field pass leak_pass leak_fail timeout_pass timeout_fail none ended.Pass spelled = pass spelled
-no_result field pass leak_pass leak_fail timeout_pass timeout_fail none (ended.Leak leak_judged.TheVariants.Pass) spelled = leak_pass spelled
-no_result field pass leak_pass leak_fail timeout_pass timeout_fail none (ended.Leak leak_judged.TheVariants.Fail) spelled = leak_fail spelled
-no_result field pass leak_pass leak_fail timeout_pass timeout_fail none (ended.Fail told leaked) spelled = none told leaked spelled
-no_result field pass leak_pass leak_fail timeout_pass timeout_fail none ended.ExecFail spelled = spelled
-no_result field pass leak_pass leak_fail timeout_pass timeout_fail none (ended.Timeout timeout_judged.TheVariants.Pass) spelled = timeout_pass spelled
-no_result field pass leak_pass leak_fail timeout_pass timeout_fail none (ended.Timeout timeout_judged.TheVariants.Fail) spelled = timeout_fail spelled
+no_result field pass exec_fail leak_pass leak_fail timeout_pass timeout_fail none ended.Pass spelled = pass spelled
+no_result field pass exec_fail leak_pass leak_fail timeout_pass timeout_fail none (ended.Leak leak_judged.TheVariants.Pass) spelled = leak_pass spelled
+no_result field pass exec_fail leak_pass leak_fail timeout_pass timeout_fail none (ended.Leak leak_judged.TheVariants.Fail) spelled = leak_fail spelled
+no_result field pass exec_fail leak_pass leak_fail timeout_pass timeout_fail none (ended.Fail told leaked) spelled = none told leaked spelled
+no_result field pass exec_fail leak_pass leak_fail timeout_pass timeout_fail none ended.ExecFail spelled = exec_fail spelled
+no_result field pass exec_fail leak_pass leak_fail timeout_pass timeout_fail none (ended.Timeout timeout_judged.TheVariants.Pass) spelled = timeout_pass spelled
+no_result field pass exec_fail leak_pass leak_fail timeout_pass timeout_fail none (ended.Timeout timeout_judged.TheVariants.Fail) spelled = timeout_fail spelled
 
 -- ---- an event without its record, or without its word
 

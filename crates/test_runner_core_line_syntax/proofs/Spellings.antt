@@ -1,5 +1,5 @@
 -- What is spelled tells what it was spelled from, and the other way round.
-use Rattle.std.proofs.Common.{◌≡◌, ◌≢◌, ℕ, suc, ◌^◌, ◌<◌, Bool, true, false, nat_eq, List, [], ◌∷◌, ◌++◌, length, get_or, Option, Some, None, refl, sym, ap, subst, ◌∙◌, arith}
+use Rattle.std.proofs.Common.{◌≡◌, ◌≢◌, ℕ, suc, ◌^◌, ◌<◌, Bool, true, false, nat_eq, List, [], ◌∷◌, ◌++◌, length, get_or, Option, Some, None, refl, sym, ap, subst, ◌∙◌, arith, lit<}
 use Rattle.std.specs.Prelude.{ℤ, pos, negsuc, FitsSigned, codes, decimal, ◌&&◌, not}
 use Rattle.std.specs.Fmt.{signed_decimal}
 use Rattle.std.specs.Int.{w32, IsInRange}
@@ -26,7 +26,8 @@ use Rattle.nextest_run_events_results.specs.declared.record.RecordOutput.TheVari
 use Rattle.test_runner_core_line_syntax.specs.declared.log_line.LogLine.{LogLine}
 use Rattle.test_runner_core_line_syntax.specs.declared.log_line.LogLine.TheVariants as line
 use Rattle.test_runner_core_line_syntax.proofs.Apart.{apart, word_of}
-use Rattle.test_runner_core_line_syntax.specs.Spelling.{leak_word, timeout_word, leaked_suffix, IsSignal, SpellsFailure, SpellsResult, SpellsSlow, SpellsNanos, SpellsStream, SpellsOutput, SpellsRecord, reason_word, SpellsReason, SpellsFields}
+use Rattle.test_runner_core_line_syntax.proofs.Hex.{hex_end, hex_is_one}
+use Rattle.test_runner_core_line_syntax.specs.Spelling.{leak_word, timeout_word, leaked_suffix, IsSignal, SpellsFailure, SpellsResult, SpellsSlow, SpellsNanos, SpellsHex, SpellsStream, SpellsOutput, Pairs, is_exec_fail, has_message, SpellsRecord, reason_word, SpellsReason, SpellsFields}
 
 -- ---- a failure
 
@@ -151,7 +152,7 @@ first_of_field (ended.Fail (failed_by.Abort (aborted_by.UnixSignal signal name))
     ((codes "bort:" ++ signed_decimal signal) ++ leaked_suffix leaked, spelled.2 ∙ ap (λ (text : List ℕ). text ++ leaked_suffix leaked) spelled.1.2)
 first_of_field (ended.Fail (failed_by.Abort (aborted_by.WindowsNtStatus code message)) leaked) field spelled = absurd spelled.1
 first_of_field (ended.Fail (failed_by.Abort aborted_by.WindowsJobObject) leaked) field spelled = absurd spelled.1
-first_of_field ended.ExecFail field spelled = absurd spelled
+first_of_field ended.ExecFail field spelled = (codes "xec-fail", spelled)
 first_of_field (ended.Timeout judged) field spelled = (codes "imeout:" ++ timeout_word judged, spelled)
 
 leak_is_one : (a b : leak_judged.LeakTimeoutResult) (field : List ℕ) → field ≡ codes "leak:" ++ leak_word a → field ≡ codes "leak:" ++ leak_word b → a ≡ b
@@ -180,10 +181,12 @@ same_kind : (a b : ExecutionResultDescription) (field : List ℕ) → first_byte
 same_kind ended.Pass ended.Pass field first of_a of_b = refl
 same_kind (ended.Leak x) (ended.Leak y) field first of_a of_b = ap (λ (judged : leak_judged.LeakTimeoutResult). ended.Leak judged) (leak_is_one x y field of_a of_b)
 same_kind (ended.Fail f a) (ended.Fail g b) field first of_a of_b = fail_is_one f g a b field of_a of_b
-same_kind ended.ExecFail b field first of_a of_b = absurd of_a
+same_kind ended.ExecFail ended.ExecFail field first of_a of_b = refl
 same_kind (ended.Timeout x) (ended.Timeout y) field first of_a of_b = ap (λ (judged : timeout_judged.SlowTimeoutResult). ended.Timeout judged) (timeout_is_one x y field of_a of_b)
 same_kind ended.Pass (ended.Fail (failed_by.ExitCode code) leaked) field first of_a of_b = absurd (eqb-false (first_byte ended.Pass) (first_byte (ended.Fail (failed_by.ExitCode code) leaked)) refl first)
 same_kind ended.Pass (ended.Fail (failed_by.Abort abort) leaked) field first of_a of_b = absurd (eqb-false (first_byte ended.Pass) (first_byte (ended.Fail (failed_by.Abort abort) leaked)) refl first)
+same_kind ended.ExecFail (ended.Fail (failed_by.ExitCode code) leaked) field first of_a of_b = absurd (eqb-false (first_byte ended.ExecFail) (first_byte (ended.Fail (failed_by.ExitCode code) leaked)) refl first)
+same_kind ended.ExecFail (ended.Fail (failed_by.Abort abort) leaked) field first of_a of_b = absurd (eqb-false (first_byte ended.ExecFail) (first_byte (ended.Fail (failed_by.Abort abort) leaked)) refl first)
 same_kind (ended.Leak x) (ended.Fail (failed_by.ExitCode code) leaked) field first of_a of_b = absurd (eqb-false (first_byte (ended.Leak x)) (first_byte (ended.Fail (failed_by.ExitCode code) leaked)) refl first)
 same_kind (ended.Leak x) (ended.Fail (failed_by.Abort abort) leaked) field first of_a of_b = absurd (eqb-false (first_byte (ended.Leak x)) (first_byte (ended.Fail (failed_by.Abort abort) leaked)) refl first)
 same_kind (ended.Timeout x) (ended.Fail (failed_by.ExitCode code) leaked) field first of_a of_b = absurd (eqb-false (first_byte (ended.Timeout x)) (first_byte (ended.Fail (failed_by.ExitCode code) leaked)) refl first)
@@ -192,7 +195,7 @@ same_kind (ended.Fail (failed_by.ExitCode code) leaked) b field first of_a of_b 
 same_kind (ended.Fail (failed_by.Abort abort) leaked) b field first of_a of_b = absurd (eqb-false (first_byte (ended.Fail (failed_by.Abort abort) leaked)) (first_byte b) refl first)
 same_kind a b field first of_a of_b = absurd (eqb-false (first_byte a) (first_byte b) refl first)
 
-result_is_one : (a b : ExecutionResultDescription) (field : List ℕ) → SpellsResult a field → SpellsResult b field → a ≡ b
+pub result_is_one : (a b : ExecutionResultDescription) (field : List ℕ) → SpellsResult a field → SpellsResult b field → a ≡ b
 result_is_one a b field of_a of_b =
     let x = first_of_field a field of_a in
     let y = first_of_field b field of_b in
@@ -206,7 +209,7 @@ result_has_one ended.Pass x y of_x of_y = of_x ∙ sym of_y
 result_has_one (ended.Leak judged) x y of_x of_y = of_x ∙ sym of_y
 result_has_one (ended.Fail failure leaked) x y of_x of_y =
     of_x.2 ∙ ap (λ (text : List ℕ). text ++ leaked_suffix leaked) (failure_has_one failure of_x.0 of_y.0 of_x.1 of_y.1) ∙ sym of_y.2
-result_has_one ended.ExecFail x y of_x of_y = absurd of_x
+result_has_one ended.ExecFail x y of_x of_y = of_x ∙ sym of_y
 result_has_one (ended.Timeout judged) x y of_x of_y = of_x ∙ sym of_y
 
 -- ---- a reason
@@ -234,25 +237,35 @@ slow_has_one : (told : Bool) (x y : List ℕ) → SpellsSlow told x → SpellsSl
 slow_has_one true x y of_x of_y = of_x ∙ sym of_y
 slow_has_one false x y of_x of_y = of_x ∙ sym of_y
 
+-- no bytes are spelled as a stream that was not captured
+no_dash : (bytes : List ℕ) → SpellsHex bytes (codes "-") → ⊥
+no_dash bytes spelled = absurd (cc (hex_end bytes (codes "-") (lit< tt) spelled).1)
+
+hex_has_one : (bytes x y : List ℕ) → SpellsHex bytes x → SpellsHex bytes y → x ≡ y
+hex_has_one bytes x y of_x of_y = of_x.1 ∙ sym of_y.1
+
 stream_is_one : (a b : Option (List ℕ)) (field : List ℕ) → SpellsStream a field → SpellsStream b field → a ≡ b
 stream_is_one None None field of_a of_b = refl
-stream_is_one None (Some y) field of_a of_b = absurd of_b
-stream_is_one (Some x) b field of_a of_b = absurd of_a
+stream_is_one None (Some y) field of_a of_b = absurd (no_dash y (subst (λ (x : List ℕ). SpellsHex y x) of_a of_b))
+stream_is_one (Some x) None field of_a of_b = absurd (no_dash x (subst (λ (y : List ℕ). SpellsHex x y) of_b of_a))
+stream_is_one (Some x) (Some y) field of_a of_b = ap (λ (bytes : List ℕ). let o : Option (List ℕ) = Some bytes in o) (hex_is_one x y field of_a of_b)
 
 stream_has_one : (told : Option (List ℕ)) (x y : List ℕ) → SpellsStream told x → SpellsStream told y → x ≡ y
 stream_has_one None x y of_x of_y = of_x ∙ sym of_y
-stream_has_one (Some bytes) x y of_x of_y = absurd of_x
+stream_has_one (Some bytes) x y of_x of_y = hex_has_one bytes x y of_x of_y
 
-output_is_one : (a b : RecordOutput) (out err : List ℕ) → SpellsOutput a out err → SpellsOutput b out err → a ≡ b
-output_is_one (wrote.Streams a_out a_err) (wrote.Streams b_out b_err) out err of_a of_b =
+-- two outputs of one kind
+output_is_one : (a b : RecordOutput) (out err : List ℕ) → has_message a ≡ has_message b → SpellsOutput a out err → SpellsOutput b out err → a ≡ b
+output_is_one (wrote.Streams a_out a_err) (wrote.Streams b_out b_err) out err kinds of_a of_b =
     let same_out : a_out ≡ b_out = stream_is_one a_out b_out out of_a.0 of_b.0 in
     let same_err : a_err ≡ b_err = stream_is_one a_err b_err err of_a.1 of_b.1 in cc
-output_is_one (wrote.Streams a_out a_err) (wrote.Message y) out err of_a of_b = absurd of_b
-output_is_one (wrote.Message x) b out err of_a of_b = absurd of_a
+output_is_one (wrote.Streams a_out a_err) (wrote.Message y) out err kinds of_a of_b = absurd cc
+output_is_one (wrote.Message x) (wrote.Streams b_out b_err) out err kinds of_a of_b = absurd cc
+output_is_one (wrote.Message x) (wrote.Message y) out err kinds of_a of_b = ap (λ (text : List ℕ). let o : RecordOutput = wrote.Message text in o) (hex_is_one x y out of_a.1 of_b.1)
 
 output_has_one : (told : RecordOutput) (x_out x_err y_out y_err : List ℕ) → SpellsOutput told x_out x_err → SpellsOutput told y_out y_err → (x_out ≡ y_out) × (x_err ≡ y_err)
 output_has_one (wrote.Streams out err) x_out x_err y_out y_err of_x of_y = (stream_has_one out x_out y_out of_x.0 of_y.0, stream_has_one err x_err y_err of_x.1 of_y.1)
-output_has_one (wrote.Message message) x_out x_err y_out y_err of_x of_y = absurd of_x
+output_has_one (wrote.Message message) x_out x_err y_out y_err of_x of_y = (hex_has_one message x_out y_out of_x.1 of_y.1, of_x.2 ∙ sym of_y.2)
 
 -- ---- a record
 
@@ -268,6 +281,7 @@ pub record FiveFields (told : Record) (fields : List (List ℕ)) : Type 0 where
   pub spells_slow : SpellsSlow told.slow slow
   pub spells_nanos : SpellsNanos told.nanos nanos
   pub spells_output : SpellsOutput told.output out err
+  pub pairs : Pairs told.result told.output
 
 pub five_fields : (told : Record) (fields : List (List ℕ)) → SpellsRecord told fields → FiveFields told fields
 five_fields told [] spelled = absurd spelled
@@ -276,7 +290,7 @@ five_fields told (result ∷ slow ∷ []) spelled = absurd spelled
 five_fields told (result ∷ slow ∷ nanos ∷ []) spelled = absurd spelled
 five_fields told (result ∷ slow ∷ nanos ∷ out ∷ []) spelled = absurd spelled
 five_fields told (result ∷ slow ∷ nanos ∷ out ∷ err ∷ []) spelled =
-    record { result = result; slow = slow; nanos = nanos; out = out; err = err; are = refl; spells_result = spelled.0; spells_slow = spelled.1; spells_nanos = spelled.2; spells_output = spelled.3 }
+    record { result = result; slow = slow; nanos = nanos; out = out; err = err; are = refl; spells_result = spelled.0; spells_slow = spelled.1; spells_nanos = spelled.2; spells_output = spelled.3; pairs = spelled.4 }
 five_fields told (result ∷ slow ∷ nanos ∷ out ∷ err ∷ next ∷ more) spelled = absurd spelled
 
 record_same : (a b : Record) → a.result ≡ b.result → a.slow ≡ b.slow → a.nanos ≡ b.nanos → a.output ≡ b.output → a ≡ b
@@ -296,11 +310,11 @@ record_is_one : (a b : Record) (fields : List (List ℕ)) → SpellsRecord a fie
 record_is_one a b fields of_a of_b =
     let x = five_fields a fields of_a in
     let spelled : SpellsRecord b (x.result ∷ x.slow ∷ x.nanos ∷ x.out ∷ x.err ∷ []) = subst (λ (f : List (List ℕ)). SpellsRecord b f) x.are of_b in
-    record_same a b
-    (result_is_one a.result b.result x.result x.spells_result spelled.0)
+    let results = result_is_one a.result b.result x.result x.spells_result spelled.0 in
+    record_same a b results
     (slow_is_one a.slow b.slow x.slow x.spells_slow spelled.1)
     (nanos_is_one a.nanos b.nanos x.nanos x.spells_nanos spelled.2)
-    (output_is_one a.output b.output x.out x.err x.spells_output spelled.3)
+    (output_is_one a.output b.output x.out x.err (sym x.pairs ∙ ap is_exec_fail results ∙ spelled.4) x.spells_output spelled.3)
 
 record_has_one : (told : Record) (first second : List (List ℕ)) → SpellsRecord told first → SpellsRecord told second → first ≡ second
 record_has_one told first second of_first of_second =

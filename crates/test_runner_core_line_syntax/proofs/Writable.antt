@@ -1,13 +1,13 @@
 -- Which events have a line: those whose texts can be fields, and whose record has a spelling.
 use Rattle.std.proofs.Common.{◌≡◌, ◌≢◌, ℕ, suc, ◌^◌, ◌<◌, Bool, true, false, nat_eq, List, [], ◌∷◌, ◌++◌, length, get_or, Option, Some, None, refl, sym, ap, subst, ◌∙◌, append_assoc, arith, nat_lt, lit<}
-use Rattle.std.specs.Prelude.{ℤ, pos, negsuc, FitsSigned, codes, decimal, ◌&&◌, not, is_some, IsTrue, ◌↔◌}
+use Rattle.std.specs.Prelude.{ℤ, pos, negsuc, FitsSigned, codes, decimal, ◌&&◌, not, IsTrue, IfSome, ◌↔◌}
 use Rattle.std.specs.Fmt.{signed_decimal}
 use Rattle.std.specs.Int.{w32, IsInRange}
 use Rattle.std.specs.Int.Signed.{mag}
 use mir.Val.{of_z}
 use Rattle.std.specs.List.{AllByRecursion}
 use Rattle.std.specs.Str.{IsUtf8, IsAscii}
-use Rattle.std.proofs.lemmas.Bool.{and_parts, ltb-true, eqb-true, eqb-false, not-true, not_from_false, false_from_ne_true}
+use Rattle.std.proofs.lemmas.Bool.{both_ways, and_parts, ltb-true, eqb-true, eqb-false, not-true, not_from_false, false_from_ne_true}
 use Rattle.std.proofs.lemmas.Fmt.{digits_decimal, IsAscii-signed, IsAscii-decimal}
 use Rattle.std.proofs.lemmas.List.Elements.{recursion_from_All, All-from_get_or}
 use Rattle.std.proofs.lemmas.Str.{IsUtf8-append, IsUtf8-from_ascii}
@@ -29,8 +29,10 @@ use Rattle.nextest_run_events_results.specs.declared.record.RecordOutput.{Record
 use Rattle.nextest_run_events_results.specs.declared.record.RecordOutput.TheVariants as wrote
 use Rattle.test_runner_core_line_syntax.specs.declared.log_line.LogLine.{LogLine}
 use Rattle.test_runner_core_line_syntax.specs.declared.log_line.LogLine.TheVariants as line
-use Rattle.test_runner_core_line_syntax.specs.Spelling.{leak_word, timeout_word, leaked_suffix, IsSignal, SpellsFailure, SpellsResult, reason_word, SpellsSlow, SpellsStream, SpellsOutput, SpellsRecord, SpellsFields, Spells, IsField, joined, HasSpelling}
+use Rattle.test_runner_core_line_syntax.specs.Spelling.{leak_word, timeout_word, leaked_suffix, IsSignal, SpellsFailure, SpellsResult, reason_word, SpellsSlow, SpellsHex, SpellsStream, Pairs, SpellsOutput, SpellsRecord, SpellsFields, Spells, IsField, joined, HasSpelling}
 use Rattle.test_runner_core_line_syntax.specs.Writing.{Appends, IsSpellable, SpellsBothStreams, SpellsRecordText}
+use Rattle.hex.specs.Hex.{IsBytes, encode_lower, is_hex_digit, lower_digits}
+use Rattle.hex.proofs.HexLemmas.{IsAscii-encode_with, decode_of-encode_lower, decode_of-ok}
 use Rattle.test_runner_core_line_syntax.proofs.Lines.{spells_joined}
 use Rattle.test_runner_core_line_syntax.proofs.Refusals.{zero_is, other_code}
 use Rattle.test_runner_core_line_syntax.proofs.Spellings.{mag_fits, mag_signal, five_fields, script_fields, start_fields, end_fields, stop_fields}
@@ -129,7 +131,7 @@ result_writable (ended.Leak leak_judged.TheVariants.Pass) field spelled = subst 
 result_writable (ended.Leak leak_judged.TheVariants.Fail) field spelled = subst IsWritable (sym spelled) (IsWritable-word (codes "leak:fail") refl)
 result_writable (ended.Fail failure leaked) field spelled =
     subst IsWritable (sym spelled.2) (IsWritable-append spelled.0 (leaked_suffix leaked) (failure_writable failure spelled.0 spelled.1) (suffix_writable leaked))
-result_writable ended.ExecFail field spelled = absurd spelled
+result_writable ended.ExecFail field spelled = subst IsWritable (sym spelled) (IsWritable-word (codes "exec-fail") refl)
 result_writable (ended.Timeout timeout_judged.TheVariants.Pass) field spelled = subst IsWritable (sym spelled) (IsWritable-word (codes "timeout:pass") refl)
 result_writable (ended.Timeout timeout_judged.TheVariants.Fail) field spelled = subst IsWritable (sym spelled) (IsWritable-word (codes "timeout:fail") refl)
 
@@ -137,13 +139,28 @@ slow_writable : (told : Bool) (field : List ℕ) → SpellsSlow told field → I
 slow_writable true field spelled = subst IsWritable (sym spelled) (IsWritable-word (codes "slow") refl)
 slow_writable false field spelled = subst IsWritable (sym spelled) (IsWritable-word (codes "-") refl)
 
+-- no digit is a tab or a line feed
+digits_plain : (digits : List ℕ) → AllByRecursion (λ digit. is_hex_digit digit ≡ true) digits → IsField digits
+digits_plain [] each = tt
+digits_plain (digit ∷ digits) each =
+    let is = each.0 in
+    (((λ tab. both_ways (is_hex_digit digit) (ap is_hex_digit tab) is), (λ feed. both_ways (is_hex_digit digit) (ap is_hex_digit feed) is)), digits_plain digits each.1)
+
+hex_writable : (bytes field : List ℕ) → SpellsHex bytes field → IsWritable field
+hex_writable bytes field spelled =
+    let digits = (decode_of-ok (encode_lower bytes) bytes (decode_of-encode_lower bytes spelled.0)).1 in
+    subst IsWritable (sym spelled.1) (record {
+      plain = digits_plain (encode_lower bytes) (recursion_from_All (λ digit. is_hex_digit digit ≡ true) (encode_lower bytes) digits);
+      utf8 = IsUtf8-from_ascii (encode_lower bytes) (IsAscii-encode_with lower_digits bytes (graphic_ascii lower_digits refl));
+    })
+
 stream_writable : (told : Option (List ℕ)) (field : List ℕ) → SpellsStream told field → IsWritable field
 stream_writable None field spelled = subst IsWritable (sym spelled) (IsWritable-word (codes "-") refl)
-stream_writable (Some bytes) field spelled = absurd spelled
+stream_writable (Some bytes) field spelled = hex_writable bytes field spelled
 
 output_writable : (told : RecordOutput) (out err : List ℕ) → SpellsOutput told out err → IsWritable out × IsWritable err
 output_writable (wrote.Streams first second) out err spelled = (stream_writable first out spelled.0, stream_writable second err spelled.1)
-output_writable (wrote.Message message) out err spelled = absurd spelled
+output_writable (wrote.Message message) out err spelled = (hex_writable message out spelled.1, subst IsWritable (sym spelled.2) (IsWritable-word (codes "-") refl))
 
 pub record_writable : (told : Record) (fields : List (List ℕ)) → SpellsRecord told fields → AllByRecursion IsWritable fields
 record_writable told fields spelled =
@@ -189,30 +206,36 @@ signal_spellable signal name is = (
   (λ spellable. spellable.1.1),
 )
 
--- two streams have a spelling just where none was captured
-pub streams_spellable : (out err : Option (List ℕ)) → is_some out ≡ false → (none : Bool) → is_some err ≡ not none → IsTrue none ↔ IsSpellable (SpellsBothStreams (wrote.Streams out err))
-streams_spellable (Some x) err no_out none no_err = absurd cc
-streams_spellable None None no_out true no_err = ((λ _. (codes "-\t-", (codes "-", codes "-", (refl, refl), refl))), (λ _. refl))
-streams_spellable None None no_out false no_err = absurd cc
-streams_spellable None (Some y) no_out true no_err = absurd cc
-streams_spellable None (Some y) no_out false no_err = ((λ yes. absurd cc), (λ spellable. absurd spellable.1.2.1))
+-- what could not be started has a spelling
+pub exec_fail_spellable : IsTrue true ↔ IsSpellable (SpellsResult ended.ExecFail)
+exec_fail_spellable = ((λ _. (codes "exec-fail", refl)), (λ _. refl))
+
+pub stream_spellable : (told : Option (List ℕ)) → IfSome told IsBytes → IsSpellable (SpellsStream told)
+stream_spellable None fits = (codes "-", refl)
+stream_spellable (Some bytes) fits = (encode_lower bytes, (fits, refl))
+
+pub streams_spellable : (out err : Option (List ℕ)) → IsSpellable (SpellsStream out) → IsSpellable (SpellsStream err) → IsSpellable (SpellsBothStreams (wrote.Streams out err))
+streams_spellable out err first second = (first.0 ++ 9 ∷ second.0, (first.0, second.0, (first.1, second.1), refl))
+
+pub message_spellable : (message : List ℕ) → IsUtf8 message → IsBytes message → IsSpellable (SpellsBothStreams (wrote.Message message))
+message_spellable message utf8 fits = (encode_lower message ++ 9 ∷ codes "-", (encode_lower message, codes "-", (utf8, (fits, refl), refl), refl))
 
 slow_text : (told : Bool) → (field : List ℕ) × SpellsSlow told field
 slow_text true = (codes "slow", refl)
 slow_text false = (codes "-", refl)
 
 -- a record has a spelling where its result and its output have
-pub record_spellable : (told : Record) → told.nanos < 2 ^ 64 → IsSpellable (SpellsResult told.result) → IsSpellable (SpellsBothStreams told.output) → IsSpellable (SpellsRecordText told)
-record_spellable told small ends wrote_both =
+pub record_spellable : (told : Record) → told.nanos < 2 ^ 64 → IsSpellable (SpellsResult told.result) → IsSpellable (SpellsBothStreams told.output) → Pairs told.result told.output → IsSpellable (SpellsRecordText told)
+record_spellable told small ends wrote_both pairs =
     let slow = slow_text told.slow in
     let streams = wrote_both.1 in
     let fields : List (List ℕ) = ends.0 ∷ slow.0 ∷ decimal told.nanos ∷ streams.0 ∷ streams.1 ∷ [] in
-    (joined fields, (fields, (ends.1, slow.1, (small, refl), streams.2), refl))
+    (joined fields, (fields, (ends.1, slow.1, (small, refl), streams.2, pairs), refl))
 
-pub record_parts : (told : Record) → IsSpellable (SpellsRecordText told) → IsSpellable (SpellsResult told.result) × IsSpellable (SpellsBothStreams told.output)
+pub record_parts : (told : Record) → IsSpellable (SpellsRecordText told) → IsSpellable (SpellsResult told.result) × Pairs told.result told.output
 record_parts told spellable =
     let five = five_fields told spellable.1.0 spellable.1.1 in
-    ((five.result, five.spells_result), (five.out ++ 9 ∷ five.err, (five.out, five.err, five.spells_output, refl)))
+    ((five.result, five.spells_result), five.pairs)
 
 -- ---- an event
 
@@ -271,17 +294,23 @@ three_parts : (a b c : List ℕ) → (a ++ 9 ∷ b) ++ 9 ∷ c ≡ a ++ 9 ∷ (b
 three_parts a b c = append_assoc a (9 ∷ b) (9 ∷ c)
 
 -- the fields of a record, written one after another
-pub record_printed : (told : Record) (old a b c new : List ℕ) → told.nanos < 2 ^ 64 → Appends (SpellsResult told.result) old a → Appends (SpellsSlow told.slow) a b
+pub record_printed : (told : Record) (old a b c new : List ℕ) → Pairs told.result told.output → told.nanos < 2 ^ 64 → Appends (SpellsResult told.result) old a → Appends (SpellsSlow told.slow) a b
     → c ≡ b ++ 9 ∷ decimal told.nanos → Appends (SpellsBothStreams told.output) c new → Appends (SpellsRecordText told) old new
-record_printed told old a b c new small result slow nanos output =
+record_printed told old a b c new pairs small result slow nanos output =
     let fields : List (List ℕ) = result.0 ∷ slow.0 ∷ decimal told.nanos ∷ output.1.0 ∷ output.1.1 ∷ [] in (
       joined fields,
-      (fields, (result.1, slow.1, (small, refl), output.1.2), refl),
+      (fields, (result.1, slow.1, (small, refl), output.1.2, pairs), refl),
       rw (output.2, output.1.3, nanos, slow.2, result.2) (
           three_parts ((old ++ 9 ∷ result.0) ++ 9 ∷ slow.0) (decimal told.nanos) (output.1.0 ++ 9 ∷ output.1.1)
           ∙ three_parts (old ++ 9 ∷ result.0) slow.0 (decimal told.nanos ++ 9 ∷ (output.1.0 ++ 9 ∷ output.1.1))
           ∙ three_parts old result.0 (slow.0 ++ 9 ∷ (decimal told.nanos ++ 9 ∷ (output.1.0 ++ 9 ∷ output.1.1)))),
     )
+
+pub script_printed : (id : List ℕ) (told : Record) (fields : List (List ℕ)) (bytes : List ℕ) → HasSpelling (line.Script id told) → SpellsRecord told fields
+    → bytes ≡ (codes "script" ++ 9 ∷ id) ++ 9 ∷ joined fields → Spells (line.Script id told) bytes
+script_printed id told fields bytes has spelled is =
+    spells_joined (line.Script id told) (codes "script" ∷ id ∷ fields) bytes has (refl, refl, spelled)
+    (is ∙ three_parts (codes "script") id (joined fields) ∙ ap (λ (rest : List ℕ). codes "script" ++ 9 ∷ rest) (sym (joined_behind id told fields spelled)))
 
 pub end_printed : (binary name : List ℕ) (told : Record) (fields : List (List ℕ)) (bytes : List ℕ) → HasSpelling (line.End binary name told) → SpellsRecord told fields
     → bytes ≡ ((codes "end" ++ 9 ∷ binary) ++ 9 ∷ name) ++ 9 ∷ joined fields → Spells (line.End binary name told) bytes

@@ -1,5 +1,6 @@
 pub mod Spelling
 pub mod Fields
+pub mod Hex
 pub mod Lent
 pub mod Faults
 pub mod Reading

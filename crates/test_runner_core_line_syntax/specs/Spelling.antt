@@ -4,6 +4,7 @@ use Rattle.std.specs.Fmt.{signed_decimal}
 use Rattle.std.specs.Int.{w32}
 use Rattle.std.specs.List.{AllByRecursion}
 use Rattle.std.specs.Str.{IsUtf8}
+use Rattle.hex.specs.Hex.{IsBytes, encode_lower}
 use Rattle.nextest_config_elements_plain.specs.declared.timeouts.LeakTimeoutResult as leak_judged
 use Rattle.nextest_config_elements_plain.specs.declared.timeouts.SlowTimeoutResult as timeout_judged
 use Rattle.nextest_run_events_results.specs.Cancel.{is_inner}
@@ -48,12 +49,12 @@ SpellsFailure (failed_by.Abort (aborted_by.UnixSignal signal name)) text =
 SpellsFailure (failed_by.Abort (aborted_by.WindowsNtStatus code message)) text = ⊥
 SpellsFailure (failed_by.Abort aborted_by.WindowsJobObject) text = ⊥
 
--- RESULT: `pass`, a leak or a timeout as it is judged, or a failure, with `:leaked` where handles were left open too
+-- RESULT: `pass`, a leak or a timeout as it is judged, a failure, with `:leaked` where handles were left open too, or `exec-fail`
 abbrev pub SpellsResult : ExecutionResultDescription → List ℕ → Type 0
 SpellsResult ended.Pass field = field ≡ codes "pass"
 SpellsResult (ended.Leak judged) field = field ≡ codes "leak:" ++ leak_word judged
 SpellsResult (ended.Fail failure leaked) field = (text : List ℕ) × SpellsFailure failure text × (field ≡ text ++ leaked_suffix leaked)
-SpellsResult ended.ExecFail field = ⊥
+SpellsResult ended.ExecFail field = field ≡ codes "exec-fail"
 SpellsResult (ended.Timeout judged) field = field ≡ codes "timeout:" ++ timeout_word judged
 
 -- SLOW: `slow` or `-`
@@ -65,19 +66,40 @@ SpellsSlow false field = field ≡ codes "-"
 abbrev pub SpellsNanos : ℕ → List ℕ → Type 0
 SpellsNanos nanos field = (nanos < 2 ^ 64) × (field ≡ decimal nanos)
 
--- OUT and ERR: `-` for a stream that was not captured
+-- bytes in lower-case hex: two digits a byte, the high one first
+abbrev pub SpellsHex : List ℕ → List ℕ → Type 0
+SpellsHex bytes field = IsBytes bytes × (field ≡ encode_lower bytes)
+
+-- what a stream wrote, or `-` for a stream that was not captured
 abbrev pub SpellsStream : Option (List ℕ) → List ℕ → Type 0
 SpellsStream None field = field ≡ codes "-"
-SpellsStream (Some bytes) field = ⊥
+SpellsStream (Some bytes) field = SpellsHex bytes field
 
+-- OUT and ERR: a stream each, or a message in OUT and `-` in ERR
 abbrev pub SpellsOutput : RecordOutput → List ℕ → List ℕ → Type 0
 SpellsOutput (wrote.Streams out err) first second = SpellsStream out first × SpellsStream err second
-SpellsOutput (wrote.Message message) first second = ⊥
+SpellsOutput (wrote.Message message) first second = IsUtf8 message × SpellsHex message first × (second ≡ codes "-")
+
+abbrev pub is_exec_fail : ExecutionResultDescription → Bool
+is_exec_fail ended.Pass = false
+is_exec_fail (ended.Leak judged) = false
+is_exec_fail (ended.Fail failure leaked) = false
+is_exec_fail ended.ExecFail = true
+is_exec_fail (ended.Timeout judged) = false
+
+abbrev pub has_message : RecordOutput → Bool
+has_message (wrote.Streams out err) = false
+has_message (wrote.Message message) = true
+
+-- a message goes with what could not be started, and with no other result
+abbrev pub Pairs : ExecutionResultDescription → RecordOutput → Type 0
+Pairs result output = is_exec_fail result ≡ has_message output
 
 -- RESULT SLOW NANOS OUT ERR
 abbrev pub SpellsRecord : Record → List (List ℕ) → Type 0
 SpellsRecord told (result ∷ slow ∷ nanos ∷ out ∷ err ∷ []) =
-    SpellsResult told.result result × SpellsSlow told.slow slow × SpellsNanos told.nanos nanos × SpellsOutput told.output out err
+    SpellsResult told.result result × SpellsSlow told.slow slow × SpellsNanos told.nanos nanos
+    × SpellsOutput told.output out err × Pairs told.result told.output
 SpellsRecord told _ = ⊥
 
 -- a reason in kebab case

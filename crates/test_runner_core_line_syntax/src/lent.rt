@@ -1,8 +1,10 @@
 // An event whose texts still stand in their line, so that it takes no memory.
 ghost use Rattle.std.specs.Prelude.{◌≡◌, IfOk, IsErr};
-ghost use Rattle.test_runner_core_line_syntax.specs.Lent.{stream_meant, record_meant, line_meant};
+ghost use Rattle.test_runner_core_line_syntax.specs.Lent.{stream_meant, output_meant, record_meant, line_meant};
 ghost use Rattle.test_runner_core_line_syntax.specs.Reading.{HasTexts, LendsLine};
 
+use super::hex_digits::HexDigits;
+use super::hex_text::HexText;
 use super::log_line::LogLine;
 use super::reading::lent_of;
 use super::spelling_error::SpellingError;
@@ -14,24 +16,38 @@ use std::alloc::{AllocError, Global};
 
 /// What an OUT or an ERR field says.
 #[derive(Clone, Copy)]
-pub enum LentStream {
+pub enum LentStream<'a> {
     /// The stream was not captured.
     NotCaptured,
+    /// The stream was captured: its bytes.
+    Captured(HexDigits<'a>),
+}
+
+/// What OUT and ERR say together.
+#[derive(Clone, Copy)]
+pub enum LentOutput<'a> {
+    /// What was written.
+    Streams {
+        /// To standard output.
+        out: LentStream<'a>,
+        /// To standard error.
+        err: LentStream<'a>,
+    },
+    /// Why it could not be started.
+    Message(HexText<'a>),
 }
 
 /// What the fields of a record say.
 #[derive(Clone, Copy)]
-pub struct LentRecord {
+pub struct LentRecord<'a> {
     /// How it ended.
     pub result: ExecutionResult,
     /// Whether it was slow.
     pub slow: bool,
     /// How long it took, in nanoseconds.
     pub nanos: u64,
-    /// Its standard output.
-    pub out: LentStream,
-    /// Its standard error.
-    pub err: LentStream,
+    /// What it wrote, or why it could not be started.
+    pub output: LentOutput<'a>,
 }
 
 /// What a line says, its texts lent.
@@ -42,7 +58,7 @@ pub enum LentLine<'a> {
         /// The script's id.
         id: &'a str,
         /// How it ended.
-        record: LentRecord,
+        record: LentRecord<'a>,
     },
     /// An attempt of a test started.
     Start {
@@ -58,7 +74,7 @@ pub enum LentLine<'a> {
         /// The test's name.
         name: &'a str,
         /// How it ended.
-        record: LentRecord,
+        record: LentRecord<'a>,
     },
     /// The run was told to stop.
     Stop {
@@ -67,30 +83,43 @@ pub enum LentLine<'a> {
     },
 }
 
-impl LentStream {
-    /// The stream that is meant.
-    pub fn own(self) -> Option<Listing<u8>>
-        ensures { result ≡ stream_meant self }
+impl LentStream<'_> {
+    /// The stream that is meant. It fails only on allocation.
+    pub fn own(self, alloc: Global) -> Result<Option<Listing<u8>>, AllocError>
+        ensures { IfOk result (λ stream. stream ≡ stream_meant self.entry) }
     {
         match self {
-            LentStream::NotCaptured => None,
+            LentStream::NotCaptured => Ok(None),
+            LentStream::Captured(hex) => Ok(Some(Listing::from(hex.decode(alloc)?))),
         }
     }
 }
 
-impl LentRecord {
+impl LentOutput<'_> {
+    /// The output that is meant. It fails only on allocation.
+    pub fn own(self, alloc: Global) -> Result<RecordOutput, AllocError>
+        ensures { IfOk result (λ output. output ≡ output_meant self.entry) }
+    {
+        match self {
+            LentOutput::Streams { out, err } => Ok(RecordOutput::Streams {
+                out: out.own(alloc)?,
+                err: err.own(alloc)?,
+            }),
+            LentOutput::Message(text) => Ok(RecordOutput::Message(text.decode(alloc)?)),
+        }
+    }
+}
+
+impl LentRecord<'_> {
     /// The record that is meant. It fails only on allocation.
     pub fn own(self, alloc: Global) -> Result<Record, AllocError>
-        ensures { IfOk result (λ told. told ≡ record_meant self) }
+        ensures { IfOk result (λ told. told ≡ record_meant self.entry) }
     {
         Ok(Record {
             result: ExecutionResultDescription::from_result(alloc, self.result)?,
             slow: self.slow,
             nanos: self.nanos,
-            output: RecordOutput::Streams {
-                out: self.out.own(),
-                err: self.err.own(),
-            },
+            output: self.output.own(alloc)?,
         })
     }
 }

@@ -100,7 +100,7 @@ impl LogLine {
             LogLine::Script { id, record } => {
                 let mut line = String::from_str(alloc, "script")?;
                 push_field(&mut line, id.as_str())?;
-                push_record(&mut line, record)?;
+                push_record(alloc, &mut line, record)?;
                 Ok(line)
             }
             LogLine::Start { binary, name } => {
@@ -117,7 +117,7 @@ impl LogLine {
                 let mut line = String::from_str(alloc, "end")?;
                 push_field(&mut line, binary.as_str())?;
                 push_field(&mut line, name.as_str())?;
-                push_record(&mut line, record)?;
+                push_record(alloc, &mut line, record)?;
                 Ok(line)
             }
             LogLine::Stop { reason } => {

@@ -1,13 +1,15 @@
 // Reading an event from its line, field by field, with no memory.
-ghost use Rattle.std.specs.Prelude.{◌≡◌, [], ◌∷◌, List, ℕ, codes, MatchOption};
+ghost use Rattle.std.specs.Prelude.{◌≡◌, [], ◌∷◌, List, ℕ, codes, MatchOption, true, false};
 ghost use Rattle.nextest_run_events_results.specs.declared.result.ExecutionResultDescription.TheVariants as ended;
 ghost use Rattle.nextest_run_events_results.specs.Described.{described, described_failure};
-ghost use Rattle.test_runner_core_line_syntax.specs.Spelling.{SpellsFailure, SpellsResult, SpellsSlow, SpellsNanos, SpellsStream, SpellsRecord, SpellsReason, SpellsFields, Spells, reason_word};
+ghost use Rattle.test_runner_core_line_syntax.specs.Spelling.{SpellsFailure, SpellsResult, SpellsSlow, SpellsNanos, SpellsStream, SpellsOutput, Pairs, is_exec_fail, has_message, SpellsRecord, SpellsReason, SpellsFields, Spells, reason_word};
 ghost use Rattle.test_runner_core_line_syntax.specs.Fields.{fields_of, Reads};
 ghost use Rattle.test_runner_core_line_syntax.specs.Reading.{LendsLine};
-ghost use Rattle.test_runner_core_line_syntax.specs.Lent.{failed_meant, stream_meant, record_meant, line_meant};
+ghost use Rattle.test_runner_core_line_syntax.specs.Lent.{failed_meant, stream_meant, output_meant, record_meant, line_meant};
 
-use super::lent::{LentLine, LentRecord, LentStream};
+use super::hex_digits::HexDigits;
+use super::hex_text::HexText;
+use super::lent::{LentLine, LentOutput, LentRecord, LentStream};
 use super::signals::is_signal;
 use super::spelling_error::SpellingError;
 use memchr::memchr;
@@ -72,6 +74,7 @@ fn result_of(field: &str) -> Option<ExecutionResult>
 {
     match field {
         "pass" => Some(ExecutionResult::Pass),
+        "exec-fail" => Some(ExecutionResult::ExecFail),
         "leak:pass" => Some(ExecutionResult::Leak {
             result: LeakTimeoutResult::Pass,
         }),
@@ -110,17 +113,59 @@ fn nanos_of(field: &str) -> Option<u64>
     u64_of_decimal(field)
 }
 
-fn stream_of(field: &str) -> Option<LentStream>
+fn stream_of(field: &str) -> Option<LentStream<'_>>
     ensures { Reads stream_meant (λ told. SpellsStream told field.now) result }
 {
-    match field {
-        "-" => Some(LentStream::NotCaptured),
-        _ => None,
+    if field == "-" {
+        return Some(LentStream::NotCaptured);
+    }
+    Some(LentStream::Captured(HexDigits::parse(field)?))
+}
+
+// Whether the result is that of what could not be started.
+fn is_exec_fail(told: ExecutionResult) -> bool
+    ensures { result ≡ is_exec_fail (described told) }
+{
+    match told {
+        ExecutionResult::ExecFail => true,
+        ExecutionResult::Pass => false,
+        ExecutionResult::Leak { .. } => false,
+        ExecutionResult::Fail { .. } => false,
+        ExecutionResult::Timeout { .. } => false,
+    }
+}
+
+fn message_of<'a>(out: &'a str, err: &'a str) -> Option<LentOutput<'a>>
+    ensures { Reads output_meant (λ told. SpellsOutput told out.now err.now × (true ≡ has_message told)) result }
+{
+    if err != "-" {
+        return None;
+    }
+    Some(LentOutput::Message(HexText::parse(out)?))
+}
+
+fn streams_of<'a>(out: &'a str, err: &'a str) -> Option<LentOutput<'a>>
+    ensures { Reads output_meant (λ told. SpellsOutput told out.now err.now × (false ≡ has_message told)) result }
+{
+    Some(LentOutput::Streams {
+        out: stream_of(out)?,
+        err: stream_of(err)?,
+    })
+}
+
+// What OUT and ERR say beside this result.
+fn output_of<'a>(told: ExecutionResult, out: &'a str, err: &'a str) -> Option<LentOutput<'a>>
+    ensures { Reads output_meant (λ output. SpellsOutput output out.now err.now × Pairs (described told) output) result }
+{
+    if is_exec_fail(told) {
+        message_of(out, err)
+    } else {
+        streams_of(out, err)
     }
 }
 
 // The record that ends a line.
-fn record_of(rest: &str) -> Option<LentRecord>
+fn record_of(rest: &str) -> Option<LentRecord<'_>>
     ensures { Reads record_meant (λ told. SpellsRecord told (fields_of rest.now)) result }
 {
     let (result_field, after_result) = next_field(rest)?;
@@ -128,12 +173,12 @@ fn record_of(rest: &str) -> Option<LentRecord>
     let (nanos_field, after_nanos) = next_field(after_slow)?;
     let (out_field, after_out) = next_field(after_nanos)?;
     let err_field = last_field(after_out)?;
+    let told = result_of(result_field)?;
     Some(LentRecord {
-        result: result_of(result_field)?,
+        result: told,
         slow: slow_of(slow_field)?,
         nanos: nanos_of(nanos_field)?,
-        out: stream_of(out_field)?,
-        err: stream_of(err_field)?,
+        output: output_of(told, out_field, err_field)?,
     })
 }
 

@@ -21,7 +21,7 @@ fn spelled(alloc: Global, event: &LogLine) -> Result<String, AllocError> {
 fn script_spelled(
     alloc: Global,
     ended: ExecutionResultDescription,
-    out: Option<Listing<u8>>,
+    output: RecordOutput,
 ) -> Result<String, AllocError> {
     let event = LogLine::Script {
         id: Text::from_str(alloc, "s")?,
@@ -29,10 +29,23 @@ fn script_spelled(
             result: ended,
             slow: true,
             nanos: 7,
-            output: RecordOutput::Streams { out, err: None },
+            output,
         },
     };
     spelled(alloc, &event)
+}
+
+// The output of what was not captured.
+fn not_captured() -> RecordOutput {
+    RecordOutput::Streams {
+        out: None,
+        err: None,
+    }
+}
+
+// Why something could not be started.
+fn message(alloc: Global) -> Result<RecordOutput, AllocError> {
+    Ok(RecordOutput::Message(Text::from_str(alloc, "no ï")?))
 }
 
 // The line of a script that failed so.
@@ -44,7 +57,7 @@ fn failure_spelled(
     script_spelled(
         alloc,
         ExecutionResultDescription::Fail { failure, leaked },
-        None,
+        not_captured(),
     )
 }
 
@@ -106,18 +119,54 @@ fn signals_are_spelled_under_their_names(rt: HostRuntime) -> Result<(), Fail> {
 }
 
 #[test]
-fn what_no_log_of_today_tells_is_not_spelled(rt: HostRuntime) -> Result<(), Fail> {
-    let alloc = rt.alloc();
-    let abort = AbortDescription::WindowsJobObject;
-    let job = failure_spelled(alloc, FailureDescription::Abort { abort }, false)?;
-    let captured = Some(Listing::new(alloc));
-    let captured = script_spelled(alloc, ExecutionResultDescription::Pass, captured)?;
+fn a_timeout_is_spelled_as_it_is_judged(rt: HostRuntime) -> Result<(), Fail> {
     let timeout = ExecutionResultDescription::Timeout {
         result: SlowTimeoutResult::Pass,
     };
-    let told = script_spelled(alloc, timeout, None)?;
-    assert!(rt; job.is_empty() && captured.is_empty());
+    let told = script_spelled(rt.alloc(), timeout, not_captured())?;
     assert_eq!(rt; told.as_str(), "script\ts\ttimeout:pass\tslow\t7\t-\t-");
+    Ok(())
+}
+
+#[test]
+fn streams_are_spelled_in_hex(rt: HostRuntime) -> Result<(), Fail> {
+    let alloc = rt.alloc();
+    let output = RecordOutput::Streams {
+        out: Some(Listing::from(vec![in alloc; 0, 9, 10, 171, 255]?)),
+        err: Some(Listing::new(alloc)),
+    };
+    let told = script_spelled(alloc, ExecutionResultDescription::Pass, output)?;
+    assert_eq!(rt; told.as_str(), "script\ts\tpass\tslow\t7\t00090aabff\t");
+    Ok(())
+}
+
+#[test]
+fn a_message_is_spelled_beside_exec_fail(rt: HostRuntime) -> Result<(), Fail> {
+    let alloc = rt.alloc();
+    let told = script_spelled(alloc, ExecutionResultDescription::ExecFail, message(alloc)?)?;
+    assert_eq!(rt;
+        told.as_str(),
+        "script\ts\texec-fail\tslow\t7\t6e6f20c3af\t-"
+    );
+    Ok(())
+}
+
+#[test]
+fn no_other_pair_of_result_and_output_is_spelled(rt: HostRuntime) -> Result<(), Fail> {
+    let alloc = rt.alloc();
+    let message = message(alloc)?;
+    let of_message = script_spelled(alloc, ExecutionResultDescription::Pass, message)?;
+    let streams = not_captured();
+    let of_streams = script_spelled(alloc, ExecutionResultDescription::ExecFail, streams)?;
+    assert!(rt; of_message.is_empty() && of_streams.is_empty());
+    Ok(())
+}
+
+#[test]
+fn an_end_by_a_job_object_is_not_spelled(rt: HostRuntime) -> Result<(), Fail> {
+    let abort = AbortDescription::WindowsJobObject;
+    let told = failure_spelled(rt.alloc(), FailureDescription::Abort { abort }, false)?;
+    assert!(rt; told.is_empty());
     Ok(())
 }
 

@@ -6,6 +6,6 @@ pub returns-then-result_is_spellable : goal.returns-then-result_is_spellable
 returns-then-result_is_spellable c =
     let told = c.args.told.now in
     let small : told.nanos < 2 ^ 64 = search rules in (
-      (λ yes. record_spellable told small (c.result_is_spellable.ensures.0 c.if-result_is_spellable.true) (c.output_is_spellable.ensures.0 yes)),
-      (λ spellable. c.output_is_spellable.ensures.1 (record_parts told spellable).1),
+      (λ yes. record_spellable told small (c.result_is_spellable.ensures.0 c.if-result_is_spellable.true) c.output_fits.ensures (c.is_paired.ensures.0 yes)),
+      (λ spellable. c.is_paired.ensures.1 (record_parts told spellable).1),
     )

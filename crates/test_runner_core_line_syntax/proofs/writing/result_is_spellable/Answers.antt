@@ -1,6 +1,6 @@
 use Rattle.std.proofs.Common.{refl}
 use Rattle.std.specs.Prelude.{codes}
-use Rattle.test_runner_core_line_syntax.proofs.Writable.{leak_spellable, timeout_spellable, fail_spellable}
+use Rattle.test_runner_core_line_syntax.proofs.Writable.{exec_fail_spellable, leak_spellable, timeout_spellable, fail_spellable}
 use Rattle.test_runner_core_line_syntax.proofs.writing.result_is_spellable.Goals as goal
 
 pub returns-in-Pass : goal.returns-in-Pass
@@ -17,3 +17,6 @@ returns-in-Fail c =
 
 pub returns-in-Timeout : goal.returns-in-Timeout
 returns-in-Timeout c = rw c.in-Timeout.is (timeout_spellable c.in-Timeout.result)
+
+pub returns-in-ExecFail : goal.returns-in-ExecFail
+returns-in-ExecFail c = rw c.in-ExecFail.is exec_fail_spellable
