@@ -1,8 +1,9 @@
 -- The lines of an output, one behind the other.
-use Rattle.std.proofs.Common.{◌≡◌, ◌+◌, ◌<◌, ◌≤◌, ℕ, zero, suc, List, [], ◌∷◌, ◌++◌, length, take, drop, slice_index_or, get_or, length-append, length-drop, take-append-drop, append_assoc, codes, refl, sym, ap, subst, ◌∙◌, inl, inr, arith}
+use Rattle.std.proofs.Common.{◌≡◌, ◌+◌, ◌<◌, ◌≤◌, ℕ, zero, suc, true, false, Option, Some, None, is_some, List, [], ◌∷◌, ◌++◌, length, take, drop, slice_index_or, get_or, length-append, length-drop, take-append-drop, append_assoc, codes, refl, sym, ap, subst, ◌∙◌, inl, inr, arith}
 use Rattle.std.specs.List.{concat}
-use Rattle.std.proofs.lemmas.Bool.{cases_eq}
+use Rattle.std.proofs.lemmas.Bool.{cases_eq, false≢true}
 use Rattle.std.proofs.lemmas.List.{append-nil, take_more, get_or_default}
+use Rattle.bstr.specs.Find.{FindsNeedle}
 use Rattle.bstr.specs.Text.{Contains, lines_of, line_len, without_terminator}
 use Rattle.bstr.proofs.lemmas.LineLemmas.{lines-step, lines-nil, line_len-bounds}
 use Rattle.nextest_run_events_slices.specs.Notes.{HasNote, IsNote}
@@ -61,3 +62,12 @@ module _ (output : List ℕ) (n start : ℕ) (line : List ℕ) (inside : n < len
     begins = begins;
     reads = e ∙ ap without_terminator here;
   }
+
+-- what a search for a needle tells
+pub has_found : (text needle : List ℕ) (r : Option ℕ) → FindsNeedle text needle 0 r → is_some r ≡ true → Contains text needle
+has_found text needle None h e = absurd (false≢true e)
+has_found text needle (Some place) h e = (place, h.1)
+
+pub has_not_found : (text needle : List ℕ) (r : Option ℕ) → FindsNeedle text needle 0 r → is_some r ≡ false → ¬ (Contains text needle)
+has_not_found text needle None h e contains = h contains.0 (omega arith) (omega (arith, contains.1.fits)) contains.1
+has_not_found text needle (Some place) h e contains = absurd (false≢true (sym e))

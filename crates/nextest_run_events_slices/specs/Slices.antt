@@ -60,18 +60,20 @@ IsWithin stdout stderr (PanicMessage part) = IsPartOf stderr part
 IsWithin stdout stderr (ErrorStr part) = IsPartOf stderr part
 IsWithin stdout stderr (ShouldPanic part) = IsPartOf stdout part
 
--- the part of standard error, of standard output, and of either
+-- the part
+abbrev pub part_of : TestOutputErrorSlice → ByteSubslice
+part_of (PanicMessage part) = part
+part_of (ErrorStr part) = part
+part_of (ShouldPanic part) = part
+
+-- the part, if it is of standard error
 abbrev pub stderr_part : TestOutputErrorSlice → Option ByteSubslice
 stderr_part (PanicMessage part) = Some part
 stderr_part (ErrorStr part) = Some part
 stderr_part (ShouldPanic part) = None
 
+-- the part, if it is of standard output
 abbrev pub stdout_part : TestOutputErrorSlice → Option ByteSubslice
 stdout_part (PanicMessage part) = None
 stdout_part (ErrorStr part) = None
 stdout_part (ShouldPanic part) = Some part
-
-abbrev pub combined_part : TestOutputErrorSlice → Option ByteSubslice
-combined_part (PanicMessage part) = Some part
-combined_part (ErrorStr part) = Some part
-combined_part (ShouldPanic part) = Some part

@@ -3,7 +3,7 @@ ghost use Rattle.std.specs.Prelude.{◌≡◌, MatchOption};
 ghost use Rattle.bstr.specs.Text.{no_cr, without_terminator};
 ghost use Rattle.nextest_run_events_slices.specs.Notes.{HasNoNote, IsNote};
 
-use bstr::ByteSlice;
+use bstr::{ByteSlice, Finder};
 
 /// What the line says.
 const NOTE: &[u8] = b"note: test did not panic as expected";
@@ -32,10 +32,11 @@ fn line_text(line: &[u8]) -> &[u8]
 pub fn first_note(output: &[u8]) -> Option<(usize, &[u8])>
     ensures { MatchOption result (HasNoNote output.now) (λ found. IsNote output.now found.0 found.1.now) }
 {
+    let note = Finder::new(NOTE);
     let mut start = 0;
     for line in output.lines_with_terminator() {
         let text = line_text(line);
-        if text.contains_str(NOTE) {
+        if note.find(text).is_some() {
             return Some((start, text));
         }
         start += line.len();

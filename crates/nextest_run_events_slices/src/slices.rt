@@ -1,11 +1,12 @@
 //! The part of a test's output that tells of its error.
 ghost use Rattle.std.specs.Prelude.{◌≡◌, ◌≤◌, length, MatchOption, IfSome, option_copied};
-ghost use Rattle.nextest_run_events_slices.specs.Slices.{captured, HasNoPanic, HasNoError, HasNoNote, IsPartFrom, IsPanicSlice, IsErrorSlice, IsNoteSlice, IsSlice, IsWithin, stderr_part, stdout_part, combined_part};
+ghost use Rattle.nextest_run_events_slices.specs.Slices.{captured, HasNoPanic, HasNoError, HasNoNote, IsPartFrom, IsPanicSlice, IsErrorSlice, IsNoteSlice, IsSlice, IsWithin, stderr_part, stdout_part, part_of};
 
 use crate::errors::first_error;
 use crate::notes::first_note;
 use crate::panics::{last_panic, panic_slice_start};
 use bstr::ByteSlice;
+use std::fmt;
 
 /// A part of an output.
 #[derive(Clone, Copy, Debug, PartialEq, Eq)]
@@ -120,12 +121,39 @@ impl<'a> TestOutputErrorSlice<'a> {
 
     /// The part, whichever output it is of: where both were captured as one, it is of that.
     pub fn combined_subslice(&self) -> Option<ByteSubslice<'a>>
-        ensures { result ≡ combined_part self.now }
+        ensures { result ≡ Some (part_of self.now) }
+    {
+        Some(self.part())
+    }
+
+    /// The part.
+    fn part(&self) -> ByteSubslice<'a>
+        ensures { result ≡ part_of self.now }
     {
         match self {
-            TestOutputErrorSlice::PanicMessage { stderr_subslice }
-            | TestOutputErrorSlice::ErrorStr { stderr_subslice } => Some(*stderr_subslice),
-            TestOutputErrorSlice::ShouldPanic { stdout_subslice } => Some(*stdout_subslice),
+            TestOutputErrorSlice::PanicMessage {
+                stderr_subslice: part,
+            }
+            | TestOutputErrorSlice::ErrorStr {
+                stderr_subslice: part,
+            }
+            | TestOutputErrorSlice::ShouldPanic {
+                stdout_subslice: part,
+            } => *part,
         }
+    }
+}
+
+/// Writes the part as text, with U+FFFD in place of what is no UTF-8.
+impl fmt::Display for TestOutputErrorSlice<'_> {
+    ghost use Rattle.std.specs.Prelude.{Some};
+    ghost use Rattle.std.specs.Str.{encode_utf8_all};
+    ghost use Rattle.bstr.specs.Utf8.{lossy_chars};
+    ghost use Rattle.nextest_run_events_slices.specs.Slices.{part_of};
+
+    ghost output = { λ it. Some (encode_utf8_all (lossy_chars (part_of it).slice.now)) };
+
+    fn fmt<W: fmt::Write>(&self, f: &mut fmt::Formatter<W>) -> fmt::Result {
+        fmt::Display::fmt(&self.part().slice.as_bstr(), f)
     }
 }

@@ -1,19 +1,19 @@
 use Rattle.std.proofs.Common.{◌≡◌, ◌+◌, ◌<◌, ◌≤◌, ℕ, length, take, codes, sym, subst, ◌∙◌, arith, rules}
 use Rattle.std.specs.List.{concat}
-use Rattle.std.proofs.lemmas.Bool.{false≢true}
 use Rattle.std.proofs.lemmas.Iterator.Consumers.{YieldsList-from_first, YieldsList-turn, YieldsList-end}
 use Rattle.std.proofs.lemmas.List.{length_push}
 use Rattle.bstr.specs.Text.{Contains, lines_of}
 use Rattle.nextest_run_events_slices.specs.Notes.{HasNote}
-use Rattle.nextest_run_events_slices.proofs.NoteLines.{onward, bounded, none_more, found}
+use Rattle.nextest_run_events_slices.proofs.NoteLines.{onward, bounded, none_more, found, has_found, has_not_found}
 use Rattle.nextest_run_events_slices.proofs.notes.first_note.Goals as goal
 
-pub returns-then-contains_str : goal.returns-then-contains_str
-returns-then-contains_str c =
+pub returns-then-is_some : goal.returns-then-is_some
+returns-then-is_some c =
     let output = c.args.output.now in
     let turn = YieldsList-turn (YieldsList-from_first (λ x. x.now) (λ rest. rest) (lines_of output) cc) c.loop-line.yielded _ c.loop-line.yielded_by _ _ c.in-Some.line c.in-Some.is c.next.ensures.steps in
     found output (length c.loop-line.yielded) c.loop-line.start c.in-Some.line.now turn.0 turn.1 c.loop-line.invariant.0 c.loop-line.invariant.1 c.line_text-text.result.now c.line_text-text.ensures
-    (c.contains_str.ensures.0 c.if-contains_str.true)
+    (subst (Contains c.line_text-text.result.now) c.new-note.ensures
+    (has_found c.line_text-text.result.now c.new-note.result c.find.result c.find.ensures (sym c.is_some.ensures ∙ c.if-is_some.true)))
 
 pub overflow_add-start : goal.overflow_add-start
 overflow_add-start c =
@@ -30,7 +30,9 @@ loop-line-preserved c =
     subst (λ (m : ℕ). (c.loop-line.start + length c.in-Some.line.now ≡ length (concat (take m (lines_of output)))) × ((k : ℕ) → k < m → ¬ (HasNote output k))) (sym (length_push c.loop-line.yielded c.in-Some.line)) (
       onward output n c.loop-line.start c.in-Some.line.now turn.0 turn.1 c.loop-line.invariant.0,
       none_more output n c.loop-line.start c.in-Some.line.now turn.0 turn.1 c.loop-line.invariant.0 c.loop-line.invariant.1
-          (λ contains. false≢true (sym c.if-contains_str.false ∙ c.contains_str.ensures.1 (subst (λ l. Contains l (codes "note: test did not panic as expected")) (sym c.line_text-text.ensures) contains))),
+          (subst (λ l. ¬ (Contains l (codes "note: test did not panic as expected"))) c.line_text-text.ensures
+          (subst (λ needle. ¬ (Contains c.line_text-text.result.now needle)) c.new-note.ensures
+          (has_not_found c.line_text-text.result.now c.new-note.result c.find.result c.find.ensures (sym c.is_some.ensures ∙ c.if-is_some.false)))),
     )
 
 pub returns : goal.returns
