@@ -1,6 +1,6 @@
 // The first line of a log that is refused whatever the plan.
 ghost use Rattle.std.specs.Prelude.{◌≡◌, ◌+◌, ◌^◌, ◌<◌, ◌≤◌, IfOk, IfSome};
-ghost use Rattle.test_runner_core_log_reader.specs.declared.limits.TheConstants.{LOG_LIMIT};
+ghost use Rattle.test_runner_core_log_reader.specs.Limits.{log_reads};
 ghost use Rattle.test_runner_core_log_reader.specs.Items.{items};
 ghost use Rattle.test_runner_core_log_reader.specs.Calls.{TellsFailure};
 ghost use Rattle.test_runner_core.specs.Check.{FirstRefused, IsReading};
@@ -20,7 +20,7 @@ pub fn first_refused<R: LogReader>(
     requires calls_fit { R.calls reader.old < 2 ^ 62 }
     requires failures_fit { R.failures reader.old < 2 ^ 62 }
     ensures found { IfOk result (λ found. IfSome (R.left reader.old) (λ log. FirstRefused 1 (items 0 log) found)) }
-    ensures reads { R.calls reader.new ≤ R.calls reader.old + LOG_LIMIT + 1 }
+    ensures reads { R.calls reader.new ≤ R.calls reader.old + log_reads }
     ensures failures { TellsFailure result (R.failures reader.old) (R.failures reader.new) (R.last_failed reader.new) }
 {
     let mut lines = LogLines::new(alloc);

@@ -1,7 +1,6 @@
 // The two ways to judge a run: of inputs and a log, and of one stream that has both.
 ghost use Rattle.std.specs.Prelude.{◌≡◌, ◌+◌, ◌^◌, ◌<◌, ◌≤◌, IfOk, IfSome, Err};
-ghost use Rattle.test_runner_core_log_reader.specs.declared.limits.TheConstants.{FIRST_LINE_LIMIT, LOG_LIMIT};
-ghost use Rattle.test_runner_core_log_reader.specs.Limits.{first_line_reads};
+ghost use Rattle.test_runner_core_log_reader.specs.Limits.{first_line_reads, log_reads};
 ghost use Rattle.test_runner_core_log_reader.specs.Calls.{TellsFailure};
 ghost use Rattle.test_runner_core_log_reader.specs.Cursor.{items_ahead};
 ghost use Rattle.test_runner_core_inputs.specs.Reading.{read_inputs};
@@ -45,7 +44,7 @@ pub fn judge<L: Lister, R: LogReader, W: ReportWriter>(
     ensures stays { (other : Binary) → L.answer lister.new other ≡ L.answer lister.old other }
     ensures asks { AsksFor (lacks_memory result) (L.asked lister.old) (asked_for (L.answer lister.old) inputs.now (wanted_in inputs.now)) (L.asked lister.new) }
     ensures unread { (refusal : PlanFault) → planned (L.answer lister.old) inputs.now ≡ Err refusal → R.calls log.new ≡ R.calls log.old }
-    ensures reads { R.calls log.new ≤ R.calls log.old + LOG_LIMIT + 1 }
+    ensures reads { R.calls log.new ≤ R.calls log.old + log_reads }
     ensures read_failures { TellsRead result (R.failures log.old) (R.failures log.new) (R.last_failed log.new) }
     ensures write_failures { TellsWrite result (W.failures report.old) (W.failures report.new) (W.last_failed report.new) }
 {
@@ -67,7 +66,7 @@ pub fn judge_stream<R: LogReader, W: ReportWriter>(
     ensures reports { Reports result (λ it. IfSome (R.left input.old) (λ bytes. StreamOutcome bytes it)) (W.taken report.old) (W.taken report.new) }
     ensures due { IfOk result (λ code. IfSome (R.left input.old) (λ bytes. IsStreamDue bytes code)) }
     ensures unread { IfSome (R.left input.old) (λ bytes. HasNoPlan (read_inputs (before_feed bytes)) → R.calls input.new ≤ R.calls input.old + first_line_reads) }
-    ensures reads { R.calls input.new ≤ R.calls input.old + FIRST_LINE_LIMIT + 1 + LOG_LIMIT + 1 }
+    ensures reads { R.calls input.new ≤ R.calls input.old + first_line_reads + log_reads }
     ensures read_failures { TellsRead result (R.failures input.old) (R.failures input.new) (R.last_failed input.new) }
     ensures write_failures { TellsWrite result (W.failures report.old) (W.failures report.new) (W.last_failed report.new) }
 {
@@ -81,7 +80,7 @@ fn judgement_of<R: LogReader>(alloc: Global, input: &mut R) -> Result<Judgement,
     requires failures_fit { R.failures input.old < 2 ^ 62 }
     ensures outcome { IfOk result (λ it. IfSome (R.left input.old) (λ bytes. StreamOutcome bytes it)) }
     ensures unread { IfSome (R.left input.old) (λ bytes. HasNoPlan (read_inputs (before_feed bytes)) → R.calls input.new ≤ R.calls input.old + first_line_reads) }
-    ensures reads { R.calls input.new ≤ R.calls input.old + FIRST_LINE_LIMIT + 1 + LOG_LIMIT + 1 }
+    ensures reads { R.calls input.new ≤ R.calls input.old + first_line_reads + log_reads }
     ensures failures { TellsFailure result (R.failures input.old) (R.failures input.new) (R.last_failed input.new) }
 {
     let Some(mut lines) = LogLines::behind_first_line(alloc, input)? else {
@@ -105,7 +104,7 @@ fn judgement_by_table<R: LogReader>(
     requires failures_fit { R.failures log.old < 2 ^ 62 }
     ensures outcome { IfOk result (λ it. IfSome (R.left log.old) (λ left. Outcome (table_of inputs) inputs (items_ahead lines.old left) it)) }
     ensures unread { (refusal : PlanFault) → planned (table_of inputs) inputs ≡ Err refusal → R.calls log.new ≡ R.calls log.old }
-    ensures reads { R.calls log.new ≤ R.calls log.old + LOG_LIMIT + 1 }
+    ensures reads { R.calls log.new ≤ R.calls log.old + log_reads }
     ensures failures { TellsFailure result (R.failures log.old) (R.failures log.new) (R.last_failed log.new) }
 {
     match plan_by_table(alloc, inputs) {

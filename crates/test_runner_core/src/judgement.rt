@@ -1,6 +1,6 @@
 // What a run of inputs and a log comes to.
 ghost use Rattle.std.specs.Prelude.{◌≡◌, ◌+◌, ◌^◌, ◌<◌, ◌≤◌, IfOk, IfSome, Err};
-ghost use Rattle.test_runner_core_log_reader.specs.declared.limits.TheConstants.{LOG_LIMIT};
+ghost use Rattle.test_runner_core_log_reader.specs.Limits.{log_reads};
 ghost use Rattle.test_runner_core_log_reader.specs.Calls.{TellsFailure};
 ghost use Rattle.test_runner_core_log_reader.specs.Cursor.{items_ahead};
 ghost use Rattle.test_runner_core.specs.Outcome.{IsWithoutPlan, Outcome, PlanOutcome, wants_memory};
@@ -57,7 +57,7 @@ impl Judgement {
         ensures stays { (other : Binary) → L.answer lister.new other ≡ L.answer lister.old other }
         ensures asks { AsksFor (wants_memory result) (L.asked lister.old) (asked_for (L.answer lister.old) inputs.now (wanted_in inputs.now)) (L.asked lister.new) }
         ensures unread { (refusal : PlanFault) → planned (L.answer lister.old) inputs.now ≡ Err refusal → R.calls log.new ≡ R.calls log.old }
-        ensures reads { R.calls log.new ≤ R.calls log.old + LOG_LIMIT + 1 }
+        ensures reads { R.calls log.new ≤ R.calls log.old + log_reads }
         ensures failures { TellsFailure result (R.failures log.old) (R.failures log.new) (R.last_failed log.new) }
     {
         match Plan::build(alloc, inputs, lister) {
@@ -97,7 +97,7 @@ pub(crate) fn judgement_by_plan<R: LogReader>(
     requires calls_fit { R.calls log.old + 2 ^ 32 ≤ 2 ^ 63 }
     requires failures_fit { R.failures log.old < 2 ^ 62 }
     ensures outcome { IfOk result (λ it. IfSome (R.left log.old) (λ left. PlanOutcome plan.now (items_ahead lines.old left) it)) }
-    ensures reads { R.calls log.new ≤ R.calls log.old + LOG_LIMIT + 1 }
+    ensures reads { R.calls log.new ≤ R.calls log.old + log_reads }
     ensures failures { TellsFailure result (R.failures log.old) (R.failures log.new) (R.last_failed log.new) }
 {
     let mut session = Session::new(alloc, plan)?;

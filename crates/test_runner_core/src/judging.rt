@@ -1,6 +1,6 @@
 // How a run goes by the lines of a log.
 ghost use Rattle.std.specs.Prelude.{◌≡◌, ◌+◌, ◌^◌, ◌<◌, ◌≤◌, IfErr, IfOk, IfSome, OnErr};
-ghost use Rattle.test_runner_core_log_reader.specs.declared.limits.TheConstants.{LOG_LIMIT};
+ghost use Rattle.test_runner_core_log_reader.specs.Limits.{log_reads};
 ghost use Rattle.test_runner_core_log_reader.specs.Calls.{TellsFailure};
 ghost use Rattle.test_runner_core_log_reader.specs.Cursor.{items_ahead};
 ghost use Rattle.test_runner_core_line_syntax.specs.Lent.{line_meant};
@@ -29,7 +29,7 @@ pub fn judge_lines<R: LogReader>(
     requires failures_fit { R.failures reader.old < 2 ^ 62 }
     ensures judged { IfOk result (λ found. IfSome (R.left reader.old) (λ left. judging.Judges 1 session.old (items_ahead lines.old left) found session.new)) }
     ensures taken { IfErr result (λ _. IfSome (R.left reader.old) (λ left. judging.HasTaken session.old (items_ahead lines.old left) session.new)) }
-    ensures reads { R.calls reader.new ≤ R.calls reader.old + LOG_LIMIT + 1 }
+    ensures reads { R.calls reader.new ≤ R.calls reader.old + log_reads }
     ensures failures { TellsFailure result (R.failures reader.old) (R.failures reader.new) (R.last_failed reader.new) }
 {
     let mut number = 1;
