@@ -78,7 +78,7 @@ pub record IsErrorLineAbove (bytes : List ℕ) (at start : ℕ) : Type 0 where
   pub feed : slice_index bytes (start - 1) ≡ 10
   pub begins : OccursAt bytes (codes "Error:") start
   pub stop : ℕ
-  pub holds : start + 6 ≤ stop
+  pub holds : start + length (codes "Error:") ≤ stop
   pub above : stop ≤ at
   pub line : (k : ℕ) → start ≤ k → k < stop → slice_index bytes k ≢ 10
   pub ends : (k : ℕ) → stop ≤ k → k < at → (slice_index bytes k ≡ 10) ⊎ (slice_index bytes k ≡ 13)

@@ -5,7 +5,7 @@ use Rattle.bstr.specs.Trim.{trim_end_by}
 use Rattle.nextest_run_events_slices.specs.declared.slices.ByteSubslice.{ByteSubslice}
 use Rattle.nextest_run_events_slices.specs.declared.slices.TestOutputErrorSlice.{TestOutputErrorSlice}
 use Rattle.nextest_run_events_slices.specs.declared.slices.TestOutputErrorSlice.TheVariants.{PanicMessage, ErrorStr, ShouldPanic}
-pub use Rattle.nextest_run_events_slices.specs.Notes.{HasNoNote, IsNote}
+use Rattle.nextest_run_events_slices.specs.Notes.{HasNoNote, IsNote}
 use Rattle.nextest_run_events_slices.specs.Places.{Span, IsPanic, IsLastPanic, IsPanicStart, IsErrorPlace, IsFirstError}
 
 -- the bytes of an output: one that was not captured has none

@@ -27,9 +27,7 @@ fn is_name(text: &[u8]) -> bool
 fn behind_name(text: &[u8]) -> Option<&[u8]>
     ensures { MatchOption result ((rest : List ℕ) → ¬ (BeginsWith IsName text.now (39 ∷ rest))) (λ rest. BeginsWith IsName text.now (39 ∷ rest.now)) }
 {
-    let Some(end) = text.find_byte(b'\'') else {
-        return None;
-    };
+    let end = text.find_byte(b'\'')?;
     if is_name(&text[..end]) {
         return Some(&text[end + 1..]);
     }
@@ -70,9 +68,7 @@ fn is_number(text: &[u8]) -> bool
 fn behind_number(text: &[u8]) -> Option<&[u8]>
     ensures { MatchOption result ((rest : List ℕ) → ¬ (BeginsWith IsNumber text.now (codes ") " ++ rest))) (λ rest. BeginsWith IsNumber text.now (codes ") " ++ rest.now)) }
 {
-    let Some(end) = text.find_byteset(b")\n") else {
-        return None;
-    };
+    let end = text.find_byteset(b")\n")?;
     if is_number(&text[..end]) {
         return behind(&text[end..], b") ");
     }

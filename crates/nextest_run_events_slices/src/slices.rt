@@ -1,6 +1,7 @@
 //! The part of a test's output that tells of its error.
 ghost use Rattle.std.specs.Prelude.{◌≡◌, ◌≤◌, length, MatchOption, IfSome, option_copied};
-ghost use Rattle.nextest_run_events_slices.specs.Slices.{captured, HasNoPanic, HasNoError, HasNoNote, IsPartFrom, IsPanicSlice, IsErrorSlice, IsNoteSlice, IsSlice, IsWithin, stderr_part, stdout_part, part_of};
+ghost use Rattle.nextest_run_events_slices.specs.Notes.{HasNoNote};
+ghost use Rattle.nextest_run_events_slices.specs.Slices.{captured, HasNoPanic, HasNoError, IsPartFrom, IsPanicSlice, IsErrorSlice, IsNoteSlice, IsSlice, IsWithin, stderr_part, stdout_part, part_of};
 
 use crate::errors::first_error;
 use crate::notes::first_note;
