@@ -14,7 +14,7 @@ before it took for so many times the bytes (1.0 is in proportion).
 With `colliding` or `colliding N` as arguments it times these alone, of N names of 32 bytes each, 20000 where no N is given, a half and
 a quarter of them. They cost as ordinary ones do; the time of a program with a table that they are aimed at grows with the square of N.
 
-  ordinary N       names that come one after another
+  ordinary N       names that come one after another, which fall, as all of these do: names that rise need no table
   listing N        names of one hash in the set of a binary's names, if that were a table that is given no hasher
   session N        the same for the map from a binary's id and a name to a test
   near listing N   names that lie close together in that set, if it were given std's hasher with no key
@@ -153,7 +153,7 @@ def one_by_one(_before, count):
 def colliding(count):
     def load(names_of, before):
         def make(size):
-            names = names_of(before, size)
+            names = sorted(names_of(before, size), reverse=True)
             return run_of(names, names)
 
         return make

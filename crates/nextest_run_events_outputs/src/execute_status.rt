@@ -46,14 +46,14 @@ impl Drop for OutputErrorSlice {
 /// One attempt of a test.
 #[derive_where(Clone, Debug, PartialEq, Eq; S::ChildOutputDesc)]
 pub struct ExecuteStatus<S: OutputSpec> {
+    /// When it started, if that is known.
+    pub start_time: Option<EventTime>,
     /// Which attempt it is.
     pub retry_data: RetryData,
     /// What came of running it.
     pub output: ChildExecutionOutputDescription<S>,
     /// How it ended.
     pub result: ExecutionResultDescription,
-    /// When it started, if that is known.
-    pub start_time: Option<EventTime>,
     /// How long it took.
     pub time_taken: Duration,
     /// Whether it counts as slow.
@@ -70,10 +70,10 @@ pub struct ExecuteStatus<S: OutputSpec> {
 impl<S: OutputSpec> Drop for ExecuteStatus<S> {
     fn drop(self) {
         let Self {
+            start_time: _,
             retry_data: _,
             output: _,
             result: _,
-            start_time: _,
             time_taken: _,
             is_slow: _,
             delay_before_start: _,
