@@ -1,43 +1,34 @@
 -- The counters, as tests finish one after another.
-use Rattle.std.specs.Prelude.{◌≡◌, ◌+◌, List, count_by}
+use Rattle.std.specs.Prelude.{◌≡◌, ℕ, ◌+◌, Bool, List, count_by}
 use Rattle.std.specs.Int.{from_bool}
 use Rattle.nextest_run_events_counters.specs.Rows as rows
 use Rattle.nextest_run_events_counters.specs.declared.run_stats.RunStats.{RunStats}
 use Rattle.test_runner_core_runs.specs.State.{TestState, counts, is_finished}
 
+-- the counters of tests, each grown by a number that its row tells
+abbrev pub with_numbers : ((TestState → Bool) → ℕ) → RunStats → RunStats
+with_numbers many stats =
+    record stats {
+      finished_count = stats.finished_count + many is_finished;
+      passed = stats.passed + many (counts rows.passed);
+      passed_slow = stats.passed_slow + many (counts rows.passed_slow);
+      passed_timed_out = stats.passed_timed_out + many (counts rows.passed_timed_out);
+      flaky = stats.flaky + many (counts rows.flaky);
+      failed = stats.failed + many (counts rows.failed);
+      failed_slow = stats.failed_slow + many (counts rows.failed_slow);
+      failed_timed_out = stats.failed_timed_out + many (counts rows.failed_timed_out);
+      leaky = stats.leaky + many (counts rows.leaky);
+      leaky_failed = stats.leaky_failed + many (counts rows.leaky_failed);
+      exec_failed = stats.exec_failed + many (counts rows.exec_failed);
+    }
+
 -- a test counted in each row, where it is finished
 abbrev pub with_finished : TestState → RunStats → RunStats
-with_finished test stats =
-    record stats {
-      finished_count = stats.finished_count + from_bool (is_finished test);
-      passed = stats.passed + from_bool (counts rows.passed test);
-      passed_slow = stats.passed_slow + from_bool (counts rows.passed_slow test);
-      passed_timed_out = stats.passed_timed_out + from_bool (counts rows.passed_timed_out test);
-      flaky = stats.flaky + from_bool (counts rows.flaky test);
-      failed = stats.failed + from_bool (counts rows.failed test);
-      failed_slow = stats.failed_slow + from_bool (counts rows.failed_slow test);
-      failed_timed_out = stats.failed_timed_out + from_bool (counts rows.failed_timed_out test);
-      leaky = stats.leaky + from_bool (counts rows.leaky test);
-      leaky_failed = stats.leaky_failed + from_bool (counts rows.leaky_failed test);
-      exec_failed = stats.exec_failed + from_bool (counts rows.exec_failed test);
-    }
+with_finished test = with_numbers (λ row. from_bool (row test))
 
 -- all tests counted in each row
 abbrev pub with_tests : List TestState → RunStats → RunStats
-with_tests tests stats =
-    record stats {
-      finished_count = stats.finished_count + count_by is_finished tests;
-      passed = stats.passed + count_by (counts rows.passed) tests;
-      passed_slow = stats.passed_slow + count_by (counts rows.passed_slow) tests;
-      passed_timed_out = stats.passed_timed_out + count_by (counts rows.passed_timed_out) tests;
-      flaky = stats.flaky + count_by (counts rows.flaky) tests;
-      failed = stats.failed + count_by (counts rows.failed) tests;
-      failed_slow = stats.failed_slow + count_by (counts rows.failed_slow) tests;
-      failed_timed_out = stats.failed_timed_out + count_by (counts rows.failed_timed_out) tests;
-      leaky = stats.leaky + count_by (counts rows.leaky) tests;
-      leaky_failed = stats.leaky_failed + count_by (counts rows.leaky_failed) tests;
-      exec_failed = stats.exec_failed + count_by (counts rows.exec_failed) tests;
-    }
+with_tests tests = with_numbers (λ row. count_by row tests)
 
 -- no test is counted yet
 pub record CountsNoTest (stats : RunStats) : Type 0 where
