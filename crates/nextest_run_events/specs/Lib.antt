@@ -34,6 +34,16 @@ pub use Rattle.nextest_config_elements_plain.specs.Display
 pub use Rattle.nextest_config_elements_plain.specs.Levels
 pub use Rattle.nextest_run_events_visibility.specs.Laws as VisibilityLaws
 pub use Rattle.nextest_run_events_visibility.specs.Visibility
+-- the part of an output that tells of its error
+pub use Rattle.nextest_run_events_slices.specs.Laws as SliceLaws
+pub use Rattle.nextest_run_events_slices.specs.Notes
+pub use Rattle.nextest_run_events_slices.specs.Places
+pub use Rattle.nextest_run_events_slices.specs.Slices
+-- what went wrong with an attempt
+pub use Rattle.nextest_run_events_errors.specs.Collected
+pub use Rattle.nextest_run_events_errors.specs.Errors
+pub use Rattle.nextest_run_events_errors.specs.Lists as ErrorLists
+pub use Rattle.nextest_run_events_errors.specs.Texts as ErrorTexts
 -- clones of lists
 pub use Rattle.nextest_text.specs.Clones
 -- types
@@ -102,3 +112,9 @@ pub use Rattle.nextest_run_events_json.specs.declared.json_error.JsonError
 pub use Rattle.nextest_run_events_visibility.specs.declared.visibility.OutputOnTestFinished
 pub use Rattle.nextest_run_events_visibility.specs.declared.visibility.OutputStoreFinal
 pub use Rattle.nextest_run_events_visibility.specs.declared.visibility.StatusLevels
+pub use Rattle.nextest_run_events_slices.specs.declared.slices.ByteSubslice
+pub use Rattle.nextest_run_events_slices.specs.declared.slices.TestOutputErrorSlice
+pub use Rattle.nextest_run_events_errors.specs.declared.described.DescribedError
+pub use Rattle.nextest_run_events_errors.specs.declared.described.UnitAbortDescription
+pub use Rattle.nextest_run_events_errors.specs.declared.list.DescribedErrorList
+pub use Rattle.nextest_run_events_errors.specs.declared.unit_error.UnitErrorDescription

@@ -3,7 +3,8 @@
 //!
 //! A runner describes how a process ended by `ExecutionResultDescription`, keeps a test's attempts as `ExecutionStatuses`,
 //! and counts each test and setup script that finishes in `RunStats`. A reporter asks attempts for their
-//! `ExecutionDescription`, counters for their `FinalRunStats`, and `StatusLevels` for what is shown of a test that finishes.
+//! `ExecutionDescription`, counters for their `FinalRunStats`, `StatusLevels` for what is shown of a test that finishes, and
+//! `UnitErrorDescription` for what went wrong with an attempt.
 #![tactic(auto)]
 
 pub mod laws;
@@ -15,6 +16,9 @@ pub use nextest_config_elements_plain::{
 pub use nextest_run_events_counters::{
     EmptyStatuses, ExecutionDescription, ExecutionStatuses, FinalRunStats, RunFailureStep,
     RunStats, RunStatsFailureKind,
+};
+pub use nextest_run_events_errors::{
+    DescribedError, DescribedErrorList, DescribedErrors, UnitAbortDescription, UnitErrorDescription,
 };
 pub use nextest_run_events_json::{JsonError, JsonForm};
 pub use nextest_run_events_outcomes::{
@@ -34,6 +38,7 @@ pub use nextest_run_events_results::{
     ExitStatus, FailureDescription, FailureStatus, OwnedTestInstanceId, SIGTERM, TestInstanceId,
     signal_name,
 };
+pub use nextest_run_events_slices::{ByteSubslice, TestOutputErrorSlice};
 pub use nextest_run_events_units::{
     TestInfoResponse, TestList, TestsNotSeen, UnitKind, UnitState, UnitTerminateMethod,
     UnitTerminateReason, UnitTerminateSignal, UnitTerminatingState,

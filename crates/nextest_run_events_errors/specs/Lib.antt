@@ -1,0 +1,4 @@
+pub mod Collected
+pub mod Errors
+pub mod Lists
+pub mod Texts
