@@ -10,8 +10,10 @@ mod errors;
 mod json_forms;
 mod outcomes;
 mod run_modes;
+mod slices;
 mod summaries;
 mod tool_names;
+mod visibility;
 
 use anyhow::Result;
 use attempts::{Attempts, Scripts};
@@ -21,9 +23,11 @@ use errors::Errors;
 use json_forms::{JsonForms, Texts};
 use outcomes::Outcomes;
 use run_modes::RunModes;
+use slices::Slices;
 use std::process::ExitCode;
 use summaries::Summaries;
 use tool_names::ToolNames;
+use visibility::Visibility;
 use worked_tables::rows_hold;
 
 fn main(rt: HostRuntime) -> Result<ExitCode> {
@@ -41,6 +45,8 @@ fn main(rt: HostRuntime) -> Result<ExitCode> {
         rows_hold(&rt, &Outcomes)?,
         rows_hold(&rt, &Errors)?,
         rows_hold(&rt, &RunModes)?,
+        rows_hold(&rt, &Slices)?,
+        rows_hold(&rt, &Visibility)?,
     ];
     Ok(if all.iter().all(|holds| *holds) {
         ExitCode::SUCCESS
