@@ -2,6 +2,7 @@
 //! that the faces hand on.
 #![tactic(auto)]
 
+mod errors;
 mod filters;
 mod listers;
 mod logs;
@@ -9,6 +10,7 @@ mod outcomes;
 mod runs;
 mod shows;
 
+pub use errors::error_of;
 pub use filters::read_filterset;
 pub use listers::Suite;
 pub use logs::interrupted;

@@ -5,6 +5,8 @@
 #[cfg(test)]
 mod configuration;
 #[cfg(test)]
+mod errors;
+#[cfg(test)]
 mod orders;
 #[cfg(test)]
 mod outputs;
