@@ -1,9 +1,8 @@
 // Which events have a spelling, and how they are printed.
-use nextest_config_elements_plain::SlowTimeoutResult;
 use nextest_run_events_results::{
     AbortDescription, CancelReason, ExecutionResultDescription, FailureDescription,
 };
-use nextest_text::{Listing, Text};
+use nextest_text::Text;
 use std::alloc::{AllocError, Global};
 use std::test::Fail;
 use test_runner_core::{LogLine, Record, RecordOutput, reason_word};
@@ -115,39 +114,6 @@ fn signals_are_spelled_under_their_names(rt: HostRuntime) -> Result<(), Fail> {
         let line = signal_spelled(rt.alloc(), signal, name)?;
         assert_eq!(rt; line.as_str(), want);
     }
-    Ok(())
-}
-
-#[test]
-fn a_timeout_is_spelled_as_it_is_judged(rt: HostRuntime) -> Result<(), Fail> {
-    let timeout = ExecutionResultDescription::Timeout {
-        result: SlowTimeoutResult::Pass,
-    };
-    let told = script_spelled(rt.alloc(), timeout, not_captured())?;
-    assert_eq!(rt; told.as_str(), "script\ts\ttimeout:pass\tslow\t7\t-\t-");
-    Ok(())
-}
-
-#[test]
-fn streams_are_spelled_in_hex(rt: HostRuntime) -> Result<(), Fail> {
-    let alloc = rt.alloc();
-    let output = RecordOutput::Streams {
-        out: Some(Listing::from(vec![in alloc; 0, 9, 10, 171, 255]?)),
-        err: Some(Listing::new(alloc)),
-    };
-    let told = script_spelled(alloc, ExecutionResultDescription::Pass, output)?;
-    assert_eq!(rt; told.as_str(), "script\ts\tpass\tslow\t7\t00090aabff\t");
-    Ok(())
-}
-
-#[test]
-fn a_message_is_spelled_beside_exec_fail(rt: HostRuntime) -> Result<(), Fail> {
-    let alloc = rt.alloc();
-    let told = script_spelled(alloc, ExecutionResultDescription::ExecFail, message(alloc)?)?;
-    assert_eq!(rt;
-        told.as_str(),
-        "script\ts\texec-fail\tslow\t7\t6e6f20c3af\t-"
-    );
     Ok(())
 }
 
