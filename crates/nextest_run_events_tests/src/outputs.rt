@@ -3,9 +3,9 @@ use nextest_run_events::{
     AbortDescription, Boxed, ChildError, ChildErrorDescription, ChildExecutionOutput,
     ChildExecutionOutputDescription, ChildFdError, ChildOutput, ChildOutputDescription,
     ChildSingleOutput, ChildSplitOutput, ChildStartError, ChildStartErrorDescription, ErrorChain,
-    ErrorList, ExecuteStatus, ExecutionResult, ExecutionResultDescription,
-    ExecutionStatuses, FailureDescription, FlakyResult, JsonError, LiveSpec, OutputSpec, RetryData,
-    SerializableError, TestInstanceId,
+    ErrorList, ExecuteStatus, ExecutionResult, ExecutionResultDescription, ExecutionStatuses,
+    FailureDescription, FlakyResult, JsonError, LiveSpec, OutputSpec, RetryData, SerializableError,
+    TestInstanceId,
 };
 use nextest_text::{Listing, Text};
 use std::alloc::{AllocError, Global};

@@ -66,11 +66,11 @@ pub new_name : (names : List (List ℕ)) (i : ℕ) (name : List ℕ) → IsStric
     → is_among (take i names) name ≡ false
 new_name names i name rise within is =
     list_any_none (bytes_eq name) (take i names) (λ k d inside.
-        let below : k < i = omega (arith, inside, length-take-le i names (omega (arith, within))) in
-        let text = get_or names k d in
-        let less : slice_cmp nat_cmp text (get_or names i d) ≡ Less = Less-from_sorted (slice_cmp nat_cmp) names k i d rise below within in
-        let same : get_or names i d ≡ name = get_or_default names i d name within ∙ sym is in
-        ap (bytes_eq name) (get_or-take i names k d below)
-        ∙ nat_list_eq_equiv.symm name text
-        ∙ sym (is_eq-slice_cmp text name)
-        ∙ ap is_eq (subst (λ (y : List ℕ). slice_cmp nat_cmp text y ≡ Less) same less))
+    let below : k < i = omega (arith, inside, length-take-le i names (omega (arith, within))) in
+    let text = get_or names k d in
+    let less : slice_cmp nat_cmp text (get_or names i d) ≡ Less = Less-from_sorted (slice_cmp nat_cmp) names k i d rise below within in
+    let same : get_or names i d ≡ name = get_or_default names i d name within ∙ sym is in
+    ap (bytes_eq name) (get_or-take i names k d below)
+    ∙ nat_list_eq_equiv.symm name text
+    ∙ sym (is_eq-slice_cmp text name)
+    ∙ ap is_eq (subst (λ (y : List ℕ). slice_cmp nat_cmp text y ≡ Less) same less))

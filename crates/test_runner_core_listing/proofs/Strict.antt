@@ -22,8 +22,8 @@ strictly cmp total (x ∷ []) each = (tt, tt)
 strictly cmp total (x ∷ y ∷ xs) each =
     let first : cmp x y ≡ Less = each 0 x (omega arith) in
     let rest = strictly cmp total (y ∷ xs) (λ k d inside.
-        let next : suc k + 1 ≡ suc (k + 1) = omega arith in
-        subst (λ (n : ℕ). cmp (get_or (y ∷ xs) k d) (get_or (x ∷ y ∷ xs) n d) ≡ Less) next (each (suc k) d (omega (arith, inside)))) in
+    let next : suc k + 1 ≡ suc (k + 1) = omega arith in
+    subst (λ (n : ℕ). cmp (get_or (y ∷ xs) k d) (get_or (x ∷ y ∷ xs) n d) ≡ Less) next (each (suc k) d (omega (arith, inside)))) in
     ((first, all (λ z below. total.trans x y z first below) xs rest.0), rest)
 
 -- one more pair of neighbours
@@ -33,11 +33,11 @@ one_more {X = X} R xs n x y before some within is_x is_y related = λ k d inside
     elim (cases_lt (k + 1) n) [
       | inl below ↦ before k d below
       | inr last ↦
-        let at : n - 1 ≡ k = omega (arith, inside, last, some) in
-        let next : n ≡ k + 1 = omega (arith, inside, last) in
-        let left : x ≡ get_or xs k d = is_x ∙ get_or_default xs (n - 1) x d (omega (arith, within)) ∙ ap (λ (i : ℕ). get_or xs i d) at in
-        let right : y ≡ get_or xs (k + 1) d = is_y ∙ get_or_default xs n y d within ∙ ap (λ (i : ℕ). get_or xs i d) next in
-        subst (λ (b : X). R (get_or xs k d) b) right (subst (λ (a : X). R a y) left related)
+          let at : n - 1 ≡ k = omega (arith, inside, last, some) in
+          let next : n ≡ k + 1 = omega (arith, inside, last) in
+          let left : x ≡ get_or xs k d = is_x ∙ get_or_default xs (n - 1) x d (omega (arith, within)) ∙ ap (λ (i : ℕ). get_or xs i d) at in
+          let right : y ≡ get_or xs (k + 1) d = is_y ∙ get_or_default xs n y d within ∙ ap (λ (i : ℕ). get_or xs i d) next in
+          subst (λ (b : X). R (get_or xs k d) b) right (subst (λ (a : X). R a y) left related)
     ]
 
 -- an order that is not at most the other way round

@@ -111,8 +111,8 @@ stands tests id name place rise = found (slice_get tests place) refl
         let at : get_or tests place test ≡ test = get_or_from_slice_get tests place test test is in
         let here : has id name (get_or tests place test) ≡ true = ap (has id name) at ∙ h in
         let first = first_from (has id name) tests 0 place test within here
-            (λ j below. below_it id name (get_or tests j test)
-                (before_named id name (get_or tests j test) (get_or tests place test) here (rising tests j place test rise below within))) in
+        (λ j below. below_it id name (get_or tests j test)
+        (before_named id name (get_or tests j test) (get_or tests place test) here (rising tests j place test rise below within))) in
         let zero_more : 0 + place ≡ place = omega arith in
         sym (ap (λ (o : Option ℕ). unwrap_or o (length (names tests))) (by_name id name tests 0 ∙ first ∙ ap (λ (n : ℕ). Some n) zero_more))
 
@@ -130,17 +130,17 @@ stands_nowhere tests id name place rise under over missing =
         elim (cases_lt j place) [
           | inl below ↦ below_it id name (get_or tests j d) (is_less _ (under j d (omega arith) below))
           | inr from ↦ elim (cases_lt place j) [
-              | inl behind ↦ elim (cases_Bool (has id name (get_or tests j d))) [
-                  | inl it ↦
-                    let less = before_named id name (get_or tests place d) (get_or tests j d) it (rising tests place j d rise behind inside) in
-                    absurd (false≢true (sym (over place d (omega arith) (omega (arith, behind, inside))) ∙ ap is_lt less))
-                  | inr apart ↦ apart
-                ]
-              | inr same ↦
+            | inl behind ↦ elim (cases_Bool (has id name (get_or tests j d))) [
+              | inl it ↦
+                  let less = before_named id name (get_or tests place d) (get_or tests j d) it (rising tests place j d rise behind inside) in
+                  absurd (false≢true (sym (over place d (omega arith) (omega (arith, behind, inside))) ∙ ap is_lt less))
+              | inr apart ↦ apart
+            ]
+            | inr same ↦
                 let is : place ≡ j = omega (arith, from, same) in
                 let at : slice_get tests j ≡ Some (get_or tests j d) = slice_get-get_or tests j d inside in
                 sym (ap (λ (o : Option PlanTest). option_map_or (has id name) o false) at) ∙ subst (λ (n : ℕ). option_map_or (has id name) (slice_get tests n) false ≡ false) is missing
-            ]
+          ]
         ]
 
 -- the tests before the place of a name are those that are less
@@ -151,8 +151,8 @@ is_parted tests id name rise i j d upto inside less =
     elim (cases_lt i j) [
       | inl below ↦ ap is_lt (instance_total.trans (get_or tests i d).instance (get_or tests j d).instance (one id name) (rising tests i j d rise below inside) (is_less _ less))
       | inr from ↦
-        let is : j ≡ i = omega (arith, upto, from) in
-        subst (λ (n : ℕ). is_lt (instance_cmp (get_or tests n d).instance (one id name)) ≡ true) is less
+          let is : j ≡ i = omega (arith, upto, from) in
+          subst (λ (n : ℕ). is_lt (instance_cmp (get_or tests n d).instance (one id name)) ≡ true) is less
     ]
 
 -- tests whose names rise one after another

@@ -104,9 +104,11 @@ fn place_among(tests: &[PlanTest], last: usize, test: TestInstanceId<'_>) -> usi
     if is_at(tests, next, test) {
         return next;
     }
-    let place = tests.partition_point(|planned: &PlanTest| -> bool
+    let place = tests.partition_point(
+        |planned: &PlanTest| -> bool
             ensures { result ≡ is_lt (instance_cmp planned.now.instance (name_of test.entry)) }
-        { planned.instance.as_ref() < test });
+        { planned.instance.as_ref() < test },
+    );
     if is_at(tests, place, test) {
         return place;
     }

@@ -21,5 +21,5 @@ returns c =
     let id = c.args.test.binary_id.now in
     let name = c.args.test.test_name.now in
     let parted = IsPartitionPoint-from_clause (λ (t : PlanTest). is_lt (instance_cmp t.instance (one id name))) tests c.partition_point-place.result c.partition_point-place.ensures.partitioned
-        (is_parted tests id name c.requires) (λ a r f k. search (rules, of_calls)) in
+    (is_parted tests id name c.requires) (λ a r f k. search (rules, of_calls)) in
     stands_nowhere tests id name c.partition_point-place.result c.requires parted.0 parted.1 (sym c.is_at-3.ensures ∙ c.if-is_at-3.false)
