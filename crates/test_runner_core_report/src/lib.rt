@@ -1,0 +1,10 @@
+//! What a report says of tests: the lines that are written as a test finishes, and its lines in the final text.
+#![tactic(auto)]
+
+mod fate;
+mod lines;
+mod told_test;
+mod writing;
+
+pub use fate::Fate;
+pub use told_test::ToldTest;
