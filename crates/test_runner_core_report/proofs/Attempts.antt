@@ -1,5 +1,5 @@
 -- What statuses tell of the test that has them.
-use Rattle.std.proofs.Common.{◌≡◌, ℕ, Bool, List, [], ◌∷◌, Some, length, map, refl, sym, ap, ◌∙◌}
+use Rattle.std.proofs.Common.{◌≡◌, ℕ, Bool, List, [], ◌∷◌, Option, Some, length, map, refl, sym, ap, ◌∙◌}
 use Rattle.std.specs.Prelude.{◌-◌, zero, suc, slice_get, nat_lt, if◌then◌else◌}
 use Rattle.std.specs.Option.{option_map}
 use Rattle.nextest_config_elements_plain.specs.declared.timeouts.FlakyResult.{FlakyResult}
@@ -11,12 +11,12 @@ use Rattle.test_runner_core_progress.specs.Statuses.{Status, record_of}
 use Rattle.test_runner_core_runs.specs.State as states
 use Rattle.test_runner_core_runs.specs.declared.mark.Mark.{Mark}
 use Rattle.test_runner_core_runs.specs.declared.run_test.RunTest.{RunTest}
-use Rattle.test_runner_core_report.specs.Texts.{fate_of, fate_by, fate_after}
+use Rattle.nextest_run_events_results.specs.declared.cancel_reason.CancelReason.{CancelReason}
+use Rattle.test_runner_core_runs.specs.declared.mark.Mark.TheVariants as marks
+use Rattle.test_runner_core_report.specs.Due.{due_after, due_by, due_of}
+use Rattle.test_runner_core_report.specs.declared.shows.Shows.{Shows}
+use Rattle.test_runner_core_report.specs.Texts.{test_with, fate_of, fate_by, fate_after}
 use Rattle.test_runner_core_report.specs.declared.fate.Fate.TheVariants as fates
-
--- a test with these attempts
-abbrev pub test_with : RunTest → Mark → Attempts Status → states.TestState
-test_with plan mark attempts = record { plan = plan; records = map record_of attempts.statuses; mark = mark }
 
 get_map : {X Y : Type 0} (f : X → Y) (xs : List X) (i : ℕ) → slice_get (map f xs) i ≡ option_map f (slice_get xs i)
 get_map f [] i = refl
@@ -45,3 +45,10 @@ pub fate_told : (plan : RunTest) (mark : Mark) (attempts : Attempts Status) (fin
 fate_told plan mark attempts final rule found =
     ap (fate_by (test_with plan mark attempts)) (last_told attempts.statuses final found)
     ∙ ap (λ (f : Finished). if states.is_finished_mark mark then fate_after f else fates.Unfinished) (finished_told plan mark attempts final rule)
+
+-- what is due of it
+pub due_told : (shows : Shows) (plan : RunTest) (reason : Option CancelReason) (attempts : Attempts Status) (final : Status) → attempts.flaky_result ≡ plan.flaky → last attempts.statuses ≡ Some final
+    → due_of shows (test_with plan (marks.Finished reason) attempts) ≡ Some (due_after shows reason (finished_as attempts final))
+due_told shows plan reason attempts final rule found =
+    ap (due_by shows (test_with plan (marks.Finished reason) attempts) (marks.Finished reason)) (last_told attempts.statuses final found)
+    ∙ ap (λ (f : Finished). Some (due_after shows reason f)) (finished_told plan (marks.Finished reason) attempts final rule)

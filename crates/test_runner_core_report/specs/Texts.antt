@@ -1,7 +1,8 @@
 -- The lines that a report has of a test.
-use Rattle.std.specs.Prelude.{◌≡◌, ℕ, ◌+◌, Bool, true, false, not, List, [], ◌∷◌, ◌++◌, Option, Some, None, length, codes, decimal, map, if◌then◌else◌}
+use Rattle.std.specs.Prelude.{◌≡◌, ℕ, ◌+◌, Bool, true, false, not, List, [], ◌∷◌, ◌++◌, Option, Some, None, length, codes, decimal, map, if◌then◌else◌, ◌||◌}
 use Rattle.std.specs.Fmt.{signed_decimal}
 use denote.Ref.{Bor}
+use Rattle.hex.specs.Hex.{encode_lower}
 use Rattle.nextest_config_elements_plain.specs.declared.timeouts.FlakyResult.{FlakyResult}
 use Rattle.nextest_config_elements_plain.specs.declared.timeouts.FlakyResult.TheVariants as flaky_rule
 use Rattle.nextest_run_events_counters.specs.Attempts.{Attempts}
@@ -9,6 +10,8 @@ use Rattle.nextest_run_events_counters.specs.Rows.{Finished}
 use Rattle.nextest_run_events_results.specs.Result.{is_success}
 use Rattle.nextest_run_events_results.specs.declared.instance.OwnedTestInstanceId.{OwnedTestInstanceId}
 use Rattle.nextest_run_events_results.specs.declared.record.Record.{Record}
+use Rattle.nextest_run_events_results.specs.declared.record.RecordOutput.{RecordOutput}
+use Rattle.nextest_run_events_results.specs.declared.record.RecordOutput.TheVariants as wrote
 use Rattle.nextest_run_events_results.specs.declared.result.AbortDescription.TheVariants as aborted_by
 use Rattle.nextest_run_events_results.specs.declared.result.FailureDescription.{FailureDescription}
 use Rattle.nextest_run_events_results.specs.declared.result.FailureDescription.TheVariants as failed_by
@@ -17,8 +20,19 @@ use Rattle.nextest_run_events_results.specs.declared.result.ExecutionResultDescr
 use Rattle.test_runner_core_line_syntax.specs.Spelling.{joined, leak_word, timeout_word, leaked_suffix}
 use Rattle.test_runner_core_progress.specs.Statuses.{Status, record_of}
 use Rattle.test_runner_core_runs.specs.State.{TestState, finished_as, is_finished, last_record}
+use Rattle.test_runner_core_runs.specs.declared.mark.Mark.{Mark}
+use Rattle.test_runner_core_runs.specs.declared.run_test.RunTest.{RunTest}
+use Rattle.nextest_run_events_slices.specs.Slices.{IsSlice, captured}
+use Rattle.nextest_run_events_slices.specs.declared.slices.ByteSubslice.{ByteSubslice}
+use Rattle.nextest_run_events_slices.specs.declared.slices.TestOutputErrorSlice.{TestOutputErrorSlice}
+use Rattle.nextest_run_events_slices.specs.declared.slices.TestOutputErrorSlice.TheVariants.{PanicMessage, ErrorStr, ShouldPanic}
+use Rattle.nextest_run_events_visibility.specs.declared.visibility.OutputOnTestFinished.{OutputOnTestFinished}
+use Rattle.nextest_run_events_visibility.specs.declared.visibility.OutputStoreFinal.{OutputStoreFinal}
+use Rattle.nextest_run_events_visibility.specs.declared.visibility.OutputStoreFinal.TheVariants as kept
+use Rattle.test_runner_core_report.specs.Due.{due_of}
 use Rattle.test_runner_core_report.specs.declared.fate.Fate.{Fate}
 use Rattle.test_runner_core_report.specs.declared.fate.Fate.TheVariants as fates
+use Rattle.test_runner_core_report.specs.declared.shows.Shows.{Shows}
 
 -- a test by its name, and how far it is
 pub record NamedTest : Type 0 where
@@ -29,6 +43,10 @@ pub record NamedTest : Type 0 where
 abbrev pub records_in : Option (Bor (Attempts Status)) → List Record
 records_in None = []
 records_in (Some attempts) = map record_of attempts.now.statuses
+
+-- a test with these attempts
+abbrev pub test_with : RunTest → Mark → Attempts Status → TestState
+test_with plan mark attempts = record { plan = plan; records = map record_of attempts.statuses; mark = mark }
 
 -- the attempts go by this flaky rule
 abbrev pub GoesBy : FlakyResult → Option (Bor (Attempts Status)) → Type 0
@@ -109,3 +127,78 @@ try_line number told = line (codes "try" ∷ decimal number ∷ end_text told �
 abbrev pub try_lines : ℕ → List Record → List ℕ
 try_lines number [] = []
 try_lines number (told ∷ records) = try_line number told ++ try_lines (number + 1) records
+
+-- what a stream wrote, behind its word, where it was captured
+abbrev pub stream_line : List ℕ → Option (List ℕ) → List ℕ
+stream_line word None = []
+stream_line word (Some bytes) = line (word ∷ encode_lower bytes ∷ [])
+
+-- why an attempt could not be started
+abbrev pub message_line : RecordOutput → List ℕ
+message_line (wrote.Streams out err) = []
+message_line (wrote.Message message) = line (codes "error" ∷ encode_lower message ∷ [])
+
+-- what it wrote to standard output, where that was captured
+abbrev pub out_of : RecordOutput → Option (List ℕ)
+out_of (wrote.Streams out err) = out
+out_of (wrote.Message message) = None
+
+-- and to standard error
+abbrev pub err_of : RecordOutput → Option (List ℕ)
+err_of (wrote.Streams out err) = err
+err_of (wrote.Message message) = None
+
+-- all that it wrote, or why it could not be started
+abbrev pub written_text : RecordOutput → List ℕ
+written_text output = stream_line (codes "out") (out_of output) ++ (stream_line (codes "err") (err_of output) ++ message_line output)
+
+-- where a part of an output stands
+abbrev pub part_line : List ℕ → ByteSubslice → List ℕ
+part_line kind part = line (codes "slice" ∷ kind ∷ decimal part.start ∷ decimal (length part.slice.now) ∷ [])
+
+abbrev pub slice_line : Option TestOutputErrorSlice → List ℕ
+slice_line None = []
+slice_line (Some (PanicMessage part)) = part_line (codes "panic") part
+slice_line (Some (ErrorStr part)) = part_line (codes "error") part
+slice_line (Some (ShouldPanic part)) = part_line (codes "should-panic") part
+
+-- the part of an output that tells of the error; none of a success
+abbrev pub IsToldSlice : Bool → RecordOutput → Option TestOutputErrorSlice → Type 0
+IsToldSlice true output slice = slice ≡ None
+IsToldSlice false output slice = IsSlice (captured (out_of output)) (captured (err_of output)) slice
+
+-- the outputs of an attempt
+abbrev pub IsOutputs : Record → List ℕ → Type 0
+IsOutputs told text = (slice : Option TestOutputErrorSlice) × IsToldSlice (is_success told.result) told.output slice × (text ≡ written_text told.output ++ slice_line slice)
+
+-- those of a last attempt, if there is one, where they are shown
+abbrev pub IsShownOutputs : Bool → Option Record → List ℕ → Type 0
+IsShownOutputs true (Some told) text = IsOutputs told text
+IsShownOutputs _ _ text = text ≡ []
+
+-- what is written as a test finishes, by what is due then
+abbrev pub IsDoneBy : Option OutputOnTestFinished → NamedTest → List ℕ → Type 0
+IsDoneBy None test text = text ≡ []
+IsDoneBy (Some due) test text =
+    (outputs : List ℕ) × IsShownOutputs due.show_immediate (last_record test.state.records) outputs
+    × (text ≡ (if due.write_status_line || due.show_immediate then test_line (codes "done") test else []) ++ outputs)
+
+-- what is written as a test finishes: nothing where nothing is due
+abbrev pub IsDone : Shows → NamedTest → List ℕ → Type 0
+IsDone shows test text = IsDoneBy (due_of shows test.state) test text
+
+-- what of a test the final text has: of a finished one what is kept, and of any other its lines
+abbrev pub kept_of : Option OutputOnTestFinished → OutputStoreFinal
+kept_of None = kept.Yes false
+kept_of (Some due) = due.store_final
+
+-- the part of a test in the final text, by what it has of it
+abbrev pub IsShownBy : OutputStoreFinal → NamedTest → List ℕ → Type 0
+IsShownBy kept.No test text = text ≡ []
+IsShownBy (kept.Yes display_output) test text =
+    (outputs : List ℕ) × IsShownOutputs display_output (last_record test.state.records) outputs
+    × (text ≡ test_line (codes "test") test ++ (try_lines 1 test.state.records ++ outputs))
+
+-- the part of a test in the final text
+abbrev pub IsShown : Shows → NamedTest → List ℕ → Type 0
+IsShown shows test text = IsShownBy (kept_of (due_of shows test.state)) test text

@@ -3,8 +3,13 @@
 
 mod fate;
 mod lines;
+mod outputs;
+mod report;
+mod shows;
 mod told_test;
 mod writing;
 
 pub use fate::Fate;
+pub use report::{push_done, push_shown};
+pub use shows::Shows;
 pub use told_test::ToldTest;

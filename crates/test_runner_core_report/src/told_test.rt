@@ -2,14 +2,18 @@
 ghost use Rattle.std.specs.Prelude.{◌≡◌, length, if◌then◌else◌};
 ghost use Rattle.nextest_run_events_counters.specs.Counting.{finished_as};
 ghost use Rattle.test_runner_core_runs.specs.State.{is_finished_mark};
-ghost use Rattle.test_runner_core_report.specs.Texts.{GoesBy, fate_after, fate_of, records_in};
+ghost use Rattle.test_runner_core_runs.specs.declared.run_test.RunTest.{RunTest as Plan};
+ghost use Rattle.test_runner_core_report.specs.Due.{due_of};
+ghost use Rattle.test_runner_core_report.specs.Texts.{test_with, GoesBy, fate_after, fate_of, records_in};
 ghost use Rattle.test_runner_core_report.specs.declared.fate.Fate.TheVariants as fates;
 
 use crate::fate::Fate;
+use crate::shows::Shows;
 use nextest_config_elements_plain::FlakyResult;
 use nextest_run_events_counters::ExecutionStatuses;
 use nextest_run_events_outputs::{ExecuteStatus, LiveSpec};
 use nextest_run_events_results::TestInstanceId;
+use nextest_run_events_visibility::OutputOnTestFinished;
 use std::marker::Model;
 use test_runner_core_runs::{Mark, RunTest};
 
@@ -87,6 +91,22 @@ impl<'a> ToldTest<'a> {
         }
     }
 
+    /// Its ended attempts; `None` where none ended.
+    pub fn attempts(&self) -> Option<&'a ExecutionStatuses<LiveSpec>>
+        ensures records { records_in result ≡ self.now.state.records }
+        ensures rule { GoesBy self.now.state.plan.flaky result }
+    {
+        self.attempts
+    }
+
+    /// What is due of it, where it is finished: by the reason under which it finished, whatever reason stands now.
+    pub fn due(&self, shows: &Shows) -> Option<OutputOnTestFinished>
+        ensures { result ≡ due_of shows.now self.now.state }
+    {
+        let attempts = self.attempts?;
+        due_by(shows, self.mark, attempts)
+    }
+
     /// What became of it.
     pub fn fate(&self) -> Fate
         ensures { result ≡ fate_of self.now.state }
@@ -95,6 +115,24 @@ impl<'a> ToldTest<'a> {
             Some(attempts) => fate_by(self.mark, attempts, attempts.last_status()),
             None => Fate::NotRun,
         }
+    }
+}
+
+// What is due of a test with these ended attempts.
+fn due_by(
+    shows: &Shows,
+    mark: Mark,
+    attempts: &ExecutionStatuses<LiveSpec>,
+) -> Option<OutputOnTestFinished>
+    ensures { (plan : Plan) → attempts.now.flaky_result ≡ plan.flaky → result ≡ due_of shows.now (test_with plan mark attempts.now) }
+{
+    match mark {
+        Mark::Finished(reason) => {
+            Some(shows.due_after(reason, attempts, attempts.last_status()))
+        }
+        Mark::Waiting => None,
+        Mark::Running => None,
+        Mark::Between => None,
     }
 }
 
