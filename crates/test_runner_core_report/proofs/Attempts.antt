@@ -1,13 +1,14 @@
 -- What statuses tell of the test that has them.
-use Rattle.std.proofs.Common.{◌≡◌, ℕ, Bool, List, [], ◌∷◌, Option, Some, length, map, refl, sym, ap, ◌∙◌}
+use Rattle.std.proofs.Common.{◌≡◌, ℕ, Bool, List, [], ◌∷◌, Option, Some, length, map, refl, sym, ap, ◌∙◌, None, Bor, ◌+◌}
 use Rattle.std.specs.Prelude.{◌-◌, zero, suc, slice_get, nat_lt, if◌then◌else◌}
 use Rattle.std.specs.Option.{option_map}
 use Rattle.nextest_config_elements_plain.specs.declared.timeouts.FlakyResult.{FlakyResult}
 use Rattle.nextest_run_events_counters.specs.Attempts.{Attempts, last}
 use Rattle.nextest_run_events_counters.specs.Counting.{finished_as}
 use Rattle.nextest_run_events_counters.specs.Rows.{Finished}
-use Rattle.test_runner_core_progress.proofs.Kept.{length_map}
-use Rattle.test_runner_core_progress.specs.Statuses.{Status, record_of}
+use Rattle.nextest_run_events_results.specs.declared.record.Record.{Record}
+use Rattle.test_runner_core_progress.proofs.Kept.{length_map, record_back}
+use Rattle.test_runner_core_progress.specs.Statuses.{Status, AreStatusesFrom, IsAttempts, record_of}
 use Rattle.test_runner_core_runs.specs.State as states
 use Rattle.test_runner_core_runs.specs.declared.mark.Mark.{Mark}
 use Rattle.test_runner_core_runs.specs.declared.run_test.RunTest.{RunTest}
@@ -15,7 +16,7 @@ use Rattle.nextest_run_events_results.specs.declared.cancel_reason.CancelReason.
 use Rattle.test_runner_core_runs.specs.declared.mark.Mark.TheVariants as marks
 use Rattle.test_runner_core_report.specs.Due.{due_after, due_by, due_of}
 use Rattle.test_runner_core_report.specs.declared.shows.Shows.{Shows}
-use Rattle.test_runner_core_report.specs.Texts.{test_with, fate_of, fate_by, fate_after}
+use Rattle.test_runner_core_report.specs.Texts.{test_with, fate_of, fate_by, fate_after, records_in}
 use Rattle.test_runner_core_report.specs.declared.fate.Fate.TheVariants as fates
 
 get_map : {X Y : Type 0} (f : X → Y) (xs : List X) (i : ℕ) → slice_get (map f xs) i ≡ option_map f (slice_get xs i)
@@ -52,3 +53,17 @@ pub due_told : (shows : Shows) (plan : RunTest) (reason : Option CancelReason) (
 due_told shows plan reason attempts final rule found =
     ap (due_by shows (test_with plan (marks.Finished reason) attempts) (marks.Finished reason)) (last_told attempts.statuses final found)
     ∙ ap (λ (f : Finished). Some (due_after shows reason f)) (finished_told plan (marks.Finished reason) attempts final rule)
+
+-- the records that statuses were made of come back
+records_back : (number total : ℕ) (records : List Record) (statuses : List Status) → AreStatusesFrom number total records statuses → map record_of statuses ≡ records
+records_back number total [] [] made = refl
+records_back number total [] (status ∷ statuses) made = absurd made
+records_back number total (told ∷ records) [] made = absurd made
+records_back number total (told ∷ records) (status ∷ statuses) made =
+    ap (λ (first : Record). first ∷ map record_of statuses) (record_back number total told status made.0)
+    ∙ ap (λ (rest : List Record). told ∷ rest) (records_back (number + 1) total records statuses made.1)
+
+-- the records of a test's attempts are the test's
+pub records_told : (test : states.TestState) (attempts : Option (Bor (Attempts Status))) → IsAttempts (Some test) attempts → records_in attempts ≡ test.records
+records_told test None kept = sym kept
+records_told test (Some attempts) kept = records_back 1 test.plan.tries test.records attempts.now.statuses kept.statuses

@@ -13,6 +13,7 @@ use Rattle.nextest_run_events_outputs.specs.declared.output.LiveSpec.{LiveSpec}
 use Rattle.nextest_run_events_results.specs.Result.{is_success}
 use Rattle.test_runner_core_progress.specs.Statuses.{Status}
 use Rattle.test_runner_core_report.specs.Due.{level_of_test, final_level_of_test}
+use Rattle.test_runner_core_report.specs.Laws.{HasLevels}
 
 abbrev pub Told : Type 0
 Told = Description LiveSpec ChildOutputDescription
@@ -52,3 +53,8 @@ describes (first ∷ retries) rule final told made found =
     let whole = made ∙ ap (option_map (λ (end : Status). told_as (is_success end.result) first retries rule end)) found in
     let is : told ≡ told_as (is_success final.result) first retries rule final = ap (λ (o : Option Told). unwrap_or o told) whole in
     subst (λ (t : Told). Describes (finished_by (length (first ∷ retries)) rule final) final t) (sym is) (by_result (is_success final.result) first retries rule final refl)
+
+pub levels_are_described : HasLevels
+levels_are_described attempts final told found made =
+    let it = describes attempts.statuses attempts.flaky_result final told (sym made) found in
+    record { level = it.level; final_level = it.final_level; success = it.success }

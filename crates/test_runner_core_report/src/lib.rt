@@ -2,6 +2,7 @@
 #![tactic(auto)]
 
 mod fate;
+pub mod laws;
 mod lines;
 mod outputs;
 mod report;

@@ -3,7 +3,8 @@ ghost use Rattle.std.specs.Prelude.{◌≡◌, ◌||◌, true, [], ◌++◌, OnO
 ghost use Rattle.nextest_run_events_visibility.specs.declared.visibility.OutputStoreFinal.TheVariants.{Yes};
 ghost use Rattle.test_runner_core_runs.specs.State.{last_record};
 ghost use Rattle.test_runner_core_report.specs.Due.{due_of};
-ghost use Rattle.test_runner_core_report.specs.Texts.{IsDone, IsDoneBy, IsShown, IsShownBy, IsShownOutputs, kept_of, test_line, try_lines};
+ghost use Rattle.test_runner_core_report.specs.Report.{IsDone, IsDoneBy, IsShown, IsShownBy, IsShownOutputs, kept_of};
+ghost use Rattle.test_runner_core_report.specs.Texts.{test_line, try_lines};
 ghost use Rattle.test_runner_core_report.specs.Writing.{Adds, Extends};
 
 use crate::lines::{push_attempts, push_test_line};

@@ -1,7 +1,8 @@
 // A test as a report tells of it.
-ghost use Rattle.std.specs.Prelude.{◌≡◌, length, if◌then◌else◌};
+ghost use Rattle.std.specs.Prelude.{◌≡◌, Some, length, if◌then◌else◌};
 ghost use Rattle.nextest_run_events_counters.specs.Counting.{finished_as};
-ghost use Rattle.test_runner_core_runs.specs.State.{is_finished_mark};
+ghost use Rattle.test_runner_core_progress.specs.Statuses.{IsAttempts};
+ghost use Rattle.test_runner_core_runs.specs.State.{TestState, is_finished_mark};
 ghost use Rattle.test_runner_core_runs.specs.declared.run_test.RunTest.{RunTest as Plan};
 ghost use Rattle.test_runner_core_report.specs.Due.{due_of};
 ghost use Rattle.test_runner_core_report.specs.Texts.{test_with, GoesBy, fate_after, fate_of, records_in};
@@ -51,6 +52,7 @@ impl<'a> ToldTest<'a> {
         ensures binary { result.name.binary_id ≡ name.entry.binary_id.now }
         ensures name { result.name.test_name ≡ name.entry.test_name.now }
         ensures state { result.state ≡ record { plan = plan; records = records_in attempts.entry; mark = mark } }
+        ensures told { (test : TestState) → test.plan ≡ plan → test.mark ≡ mark → IsAttempts (Some test) attempts.entry → result.state ≡ test }
     {
         ToldTest {
             name,

@@ -1,7 +1,7 @@
 use Rattle.std.proofs.Common.{Option, sym, subst, ◌∙◌, string_bytes}
 use Rattle.std.specs.Prelude.{OnOk}
 use Rattle.nextest_run_events_visibility.specs.declared.visibility.OutputOnTestFinished.{OutputOnTestFinished}
-use Rattle.test_runner_core_report.specs.Texts.{IsDoneBy}
+use Rattle.test_runner_core_report.specs.Report.{IsDoneBy}
 use Rattle.test_runner_core_report.specs.Writing.{Adds}
 use Rattle.test_runner_core_report.proofs.report.push_done.Goals as goal
 

@@ -1,7 +1,7 @@
 use Rattle.std.proofs.Common.{string_bytes}
 use Rattle.std.proofs.lemmas.Result.{on_ok_weaker}
 use Rattle.test_runner_core_runs.specs.State.{last_record}
-use Rattle.test_runner_core_report.specs.Texts.{IsShownOutputs}
+use Rattle.test_runner_core_report.specs.Report.{IsShownOutputs}
 use Rattle.test_runner_core_report.proofs.Tries.{added_behind}
 use Rattle.test_runner_core_report.proofs.report.push_due.Goals as goal
 

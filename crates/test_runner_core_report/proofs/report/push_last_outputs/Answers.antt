@@ -4,7 +4,8 @@ use Rattle.nextest_run_events_counters.specs.Attempts.{Attempts}
 use Rattle.nextest_run_events_results.specs.declared.record.Record.{Record}
 use Rattle.test_runner_core_progress.specs.Statuses.{Status}
 use Rattle.test_runner_core_runs.specs.State.{last_record}
-use Rattle.test_runner_core_report.specs.Texts.{IsShownOutputs, records_in}
+use Rattle.test_runner_core_report.specs.Report.{IsShownOutputs}
+use Rattle.test_runner_core_report.specs.Texts.{records_in}
 use Rattle.test_runner_core_report.specs.Writing.{Adds}
 use Rattle.test_runner_core_report.proofs.Attempts.{last_told}
 use Rattle.test_runner_core_report.proofs.report.push_last_outputs.Goals as goal

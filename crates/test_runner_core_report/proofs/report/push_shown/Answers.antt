@@ -1,7 +1,7 @@
 use Rattle.std.proofs.Common.{sym, subst, ap, ◌∙◌, string_bytes}
 use Rattle.std.specs.Prelude.{OnOk}
 use Rattle.nextest_run_events_visibility.specs.declared.visibility.OutputStoreFinal.{OutputStoreFinal}
-use Rattle.test_runner_core_report.specs.Texts.{IsShownBy, kept_of}
+use Rattle.test_runner_core_report.specs.Report.{IsShownBy, kept_of}
 use Rattle.test_runner_core_report.specs.Writing.{Adds}
 use Rattle.test_runner_core_report.proofs.report.push_shown.Goals as goal
 
