@@ -1,0 +1,25 @@
+-- What stands in front of a text stays there.
+use Rattle.std.proofs.Common.{◌≡◌, ℕ, List, [], ◌∷◌, ◌++◌, refl, sym, ap, ◌∙◌, append_assoc}
+use Rattle.std.specs.Prelude.{◌/◌, ◌%◌, slice_index}
+use Rattle.hex.specs.Hex.{encode_with, encode_lower, lower_digits}
+use Rattle.test_runner_core_report.specs.Writing.{Extends}
+
+pub extends_then : (old middle new : List ℕ) → Extends old middle → Extends middle new → Extends old new
+extends_then old middle new first second =
+    record { more = first.more ++ second.more; grown = second.grown ∙ ap (λ (t : List ℕ). t ++ second.more) first.grown ∙ append_assoc old first.more second.more }
+
+-- the hex of two parts
+pub hex_append : (table front rest : List ℕ) → encode_with table (front ++ rest) ≡ encode_with table front ++ encode_with table rest
+unfolding encode_with
+hex_append table [] rest = refl
+hex_append table (byte ∷ front) rest =
+    ap (λ (t : List ℕ). slice_index table (byte / 16) ∷ slice_index table (byte % 16) ∷ t) (hex_append table front rest)
+
+-- one more part of the bytes is written
+pub hex_more : (rest front behind whole old new : List ℕ) → rest ≡ front ++ behind → new ≡ old ++ encode_lower front → old ++ encode_lower rest ≡ whole
+    → new ++ encode_lower behind ≡ whole
+hex_more rest front behind whole old new split grown so_far =
+    ap (λ (t : List ℕ). t ++ encode_lower behind) grown
+    ∙ append_assoc old (encode_lower front) (encode_lower behind)
+    ∙ ap (λ (t : List ℕ). old ++ t) (sym (ap encode_lower split ∙ hex_append lower_digits front behind))
+    ∙ so_far

@@ -1,0 +1,6 @@
+pub mod Fronts
+pub mod Attempts
+pub mod Tries
+pub mod Levels
+pub mod Spelled
+pub mod OneText

@@ -1,0 +1,5 @@
+use Rattle.test_runner_core_report.proofs.OneText.{one_done}
+use Rattle.test_runner_core_report.proofs.laws.one_done.Goals as goal
+
+pub returns : goal.returns
+returns c = one_done

@@ -1,0 +1,5 @@
+pub mod Writing
+pub mod Due
+pub mod Texts
+pub mod Report
+pub mod Laws

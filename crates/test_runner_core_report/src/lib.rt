@@ -1,0 +1,16 @@
+//! What a report says of tests: the lines that are written as a test finishes, and its lines in the final text.
+#![tactic(auto)]
+
+mod fate;
+pub mod laws;
+mod lines;
+mod outputs;
+mod report;
+mod shows;
+mod told_test;
+mod writing;
+
+pub use fate::Fate;
+pub use report::{push_done, push_shown};
+pub use shows::Shows;
+pub use told_test::ToldTest;
