@@ -9,6 +9,7 @@ mod plans;
 mod refused_lines;
 mod runs;
 mod settings;
+mod told_tests;
 
 use anyhow::Result;
 use changes::Changed;
@@ -21,6 +22,7 @@ use runs::Runs;
 use settings::SettingsTexts;
 use std::fs;
 use std::process::ExitCode;
+use told_tests::ToldTests;
 use worked_tables::{cases_hold, rows_hold};
 
 fn main(rt: HostRuntime) -> Result<ExitCode> {
@@ -36,6 +38,7 @@ fn main(rt: HostRuntime) -> Result<ExitCode> {
         rows_hold(&rt, &Filters)?,
         rows_hold(&rt, &Plans(Changed::of(workspace)))?,
         cases_hold(&rt, &Runs)?,
+        rows_hold(&rt, &ToldTests)?,
     ];
     Ok(if all.iter().all(|holds| *holds) {
         ExitCode::SUCCESS
