@@ -7,6 +7,9 @@ pub use Rattle.nextest_config_elements_plain.specs.MaxFail
 pub use Rattle.nextest_config_elements_plain.specs.RunMode
 -- names of tools
 pub use Rattle.nextest_config_elements_identifiers.specs.Identifier
+-- durations
+pub use Rattle.nextest_config_elements_durations.specs.Duration
+pub use Rattle.nextest_config_elements_durations.specs.Laws as DurationLaws
 -- types
 pub use Rattle.nextest_config_elements_plain.specs.declared.timeouts.FlakyResult
 pub use Rattle.nextest_config_elements_plain.specs.declared.timeouts.LeakTimeoutResult
@@ -18,3 +21,4 @@ pub use Rattle.nextest_config_elements_plain.specs.declared.output_display.TestO
 pub use Rattle.nextest_config_elements_plain.specs.declared.max_fail.MaxFail as MaxFailType
 pub use Rattle.nextest_config_elements_plain.specs.declared.max_fail.TerminateMode
 pub use Rattle.nextest_config_elements_identifiers.specs.declared.invalid_identifier.InvalidIdentifier
+pub use Rattle.nextest_config_elements_durations.specs.declared.parse.BadDuration

@@ -3,6 +3,7 @@
 
 pub mod laws;
 
+pub use nextest_config_elements_durations::{BadDuration, parse_duration};
 pub use nextest_config_elements_identifiers::{InvalidIdentifier, ToolName};
 pub use nextest_config_elements_plain::{
     FinalStatusLevel, FlakyResult, LeakTimeoutResult, MaxFail, NextestRunMode, SlowTimeoutResult,

@@ -1,0 +1,6 @@
+pub mod Fronts
+pub mod Meanings
+pub mod Numbers
+pub mod Parts
+pub mod Sums
+pub mod Words

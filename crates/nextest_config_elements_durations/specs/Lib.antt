@@ -1,0 +1,4 @@
+pub mod Ahead
+pub mod Class
+pub mod Duration
+pub mod Laws
