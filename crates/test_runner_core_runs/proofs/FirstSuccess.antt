@@ -88,7 +88,7 @@ FitsMark attempt tries ended_tries marks.Between = (ended_tries < tries) × (fir
 FitsMark attempt tries ended_tries (marks.Finished reason) =
     ((first_success attempt ended_tries ≡ Some ended_tries) × (ended_tries ≤ tries)) ⊎ ((first_success attempt ended_tries ≡ None) × (ended_tries ≡ tries))
 
--- a test that no stop finished: its records are those of the first tries
+-- a test whose records are those of the first tries, and that is as far as they say
 pub record Fits (attempt : ℕ → Record) (test : TestState) : Type 0 where
   pub tries : 0 < test.plan.tries
   pub records : test.records ≡ tried attempt (length test.records)

@@ -25,7 +25,7 @@ use Rattle.test_runner_core_runs.proofs.TestStates.{AllBeside, beside_at, beside
 use Rattle.test_runner_core_runs.proofs.Scripts.{guard_ok, ok_is}
 use Rattle.test_runner_core_runs.proofs.Keeping.{Keeps, keeps_initial, keeps_stopped, keeps_script, keeps_set, script_shows, start_shows, end_shows}
 
--- a test of any run: no stop finished it, or it counts as failing
+-- a test of any run: its records are those of its first tries and it is as far as they say, or it counts as failing
 abbrev pub Fares : (ℕ → Record) → TestState → Type 0
 Fares attempt test = Fits attempt test ⊎ (counts fails_test test ≡ true)
 
@@ -107,7 +107,7 @@ fares_after attempt state test told fits running agrees = by_reason state.reason
         by_success true s = inl (fits_after attempt state test told fits running (inr s) same)
         by_success false s = inr (lost_fails state test told (ap is_some e) s)
 
--- what holds after each event of a run that agrees
+-- what holds after each event of a run that agrees: its scripts, its plan, and each test beside its assignment
 pub record Holds (plan : RunPlan) (assigned : Assignment) (state : State) : Type 0 where
   pub keeps : Keeps plan assigned state
   pub fare : AllBeside Fares state.tests assigned.attempt
