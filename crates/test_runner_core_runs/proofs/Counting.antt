@@ -1,7 +1,7 @@
 -- Whether a count or a sum is above 0, and when a count is that of all.
-use Rattle.std.proofs.Common.{suc, ◌≡◌, ℕ, ◌+◌, ◌<◌, Bool, true, false, cond, ltb, ◌||◌, ◌&&◌, List, [], ◌∷◌, length, refl, arith, count_by, sum_by}
+use Rattle.std.proofs.Common.{suc, ◌≡◌, ℕ, ◌+◌, ◌<◌, ◌≤◌, Bool, true, false, cond, ltb, ◌||◌, ◌&&◌, List, [], ◌∷◌, length, refl, arith, count_by, sum_by}
 use Rattle.std.specs.List.{list_any, list_all}
-use Rattle.std.proofs.lemmas.List.Sums.{sum_by-cons}
+use Rattle.std.proofs.lemmas.List.Sums.{sum_by-cons, count_by-le-length}
 use Rattle.std.proofs.lemmas.Bool.Decides.{nat_tests}
 
 -- the same of three counts
@@ -27,6 +27,15 @@ counts_all p (x ∷ xs) h = rw (sum_by-cons (λ y. cond (p y) 1 0) x xs) (by_fir
     by_first : (first more : Bool) (n m : ℕ) → (first && more) ≡ true → (more ≡ true → n ≡ m) → cond first 1 0 + n ≡ suc m
     by_first true more n m h rest = let e : n ≡ m = rest h in omega arith
     by_first false more n m h rest = cc
+
+-- and only there
+pub all_counted : {X : Type 0} (p : X → Bool) (xs : List X) → ltb (count_by p xs) (length xs) ≡ false → list_all p xs ≡ true
+all_counted p [] h = refl
+all_counted p (x ∷ xs) h = by_first (p x) (list_all p xs) _ _ (rw (sum_by-cons (λ y. cond (p y) 1 0) x xs) at h) (count_by-le-length p xs) (all_counted p xs)
+  where
+    by_first : (first more : Bool) (n m : ℕ) → ltb (cond first 1 0 + n) (suc m) ≡ false → n ≤ m → (ltb n m ≡ false → more ≡ true) → (first && more) ≡ true
+    by_first true more n m h within rest = rest (grind (arith, nat_tests))
+    by_first false more n m h within rest = absurd (grind (arith, nat_tests))
 
 -- a sum over the elements that pass is above 0 only where one passes
 pub weighs_some : {X : Type 0} (p : X → Bool) (w : X → ℕ) (xs : List X) → 0 < sum_by (λ x. cond (p x) (w x) 0) xs → list_any p xs ≡ true

@@ -29,6 +29,7 @@ use Rattle.test_runner_core_runs.specs.Laws.{EndsWithDueStatus}
 use Rattle.test_runner_core_runs.proofs.Counting.{three_count_some, counts_all}
 use Rattle.test_runner_core_runs.proofs.Scripts.{any_first, some_script-more}
 use Rattle.test_runner_core_runs.proofs.TestStates.{plan_of, finished_is_due}
+use Rattle.test_runner_core_runs.proofs.Keeping.{Keeps}
 use Rattle.test_runner_core_runs.proofs.Tracking.{Tracks, Standing, Going, Failing, stops, tracks_initial, run_tracks}
 
 -- tests that answer alike find alike
@@ -67,14 +68,14 @@ counts_three p q r test = by_finished (is_finished test) (last_record test.recor
     by_finished true (Some told) = refl
     by_finished false last = refl
 
-abbrev fails_told : Record → Bool
+abbrev pub fails_told : Record → Bool
 fails_told told = fails_script told.result
 
 -- the status by its five tests
-abbrev status_by : Bool → Bool → Bool → Bool → Bool → ℕ
+abbrev pub status_by : Bool → Bool → Bool → Bool → Bool → ℕ
 status_by script pending test unfinished nothing = cond script 105 (cond pending 105 (cond test 100 (cond unfinished 100 (cond nothing 4 0))))
 
-status_is : (state : State)
+pub status_is : (state : State)
     → status state ≡ status_by (list_any fails_told state.scripts) (ltb (length state.scripts) state.planned_scripts) (list_any (counts fails_test) state.tests)
     (ltb (count_by is_finished state.tests) (length state.tests)) (eqb (count_by is_finished state.tests) 0)
 status_is state =
@@ -110,31 +111,31 @@ status_is state =
     by_tests false false false false false = refl
 
 -- the due status by its three tests
-abbrev due_by : Bool → Bool → Bool → ℕ
+abbrev pub due_by : Bool → Bool → Bool → ℕ
 due_by empty script test = cond empty 4 (cond script 105 (cond test 100 0))
 
 not_empty : (tests : List RunTest) (attempt : ℕ → ℕ → Record) → some_test_fails tests attempt ≡ true → eqb (length tests) 0 ≡ false
 not_empty [] attempt h = cc
 not_empty (test ∷ tests) attempt h = grind (arith, nat_tests)
 
-is_empty : (tests : List RunTest) → eqb (length tests) 0 ≡ true → tests ≡ []
+pub is_empty : {X : Type 0} (xs : List X) → eqb (length xs) 0 ≡ true → xs ≡ []
 is_empty [] h = refl
-is_empty (test ∷ tests) h = absurd (grind (arith, nat_tests))
+is_empty (x ∷ xs) h = absurd (grind (arith, nat_tests))
 
 -- where all scripts ended, those of the run are those of the assignment
-ended_scripts : (plan : RunPlan) (assigned : Assignment) (state : State) → Tracks plan assigned state → length state.scripts ≡ state.planned_scripts
+pub ended_scripts : (plan : RunPlan) (assigned : Assignment) (state : State) → Keeps plan assigned state → length state.scripts ≡ state.planned_scripts
     → list_any fails_told state.scripts ≡ some_script fails_told assigned.script plan.scripts
-ended_scripts plan assigned state tracks over =
-    ap (list_any fails_told) tracks.scripts ∙ any_first fails_told assigned.script (length state.scripts)
-    ∙ ap (some_script fails_told assigned.script) (over ∙ tracks.planned)
+ended_scripts plan assigned state keeps over =
+    ap (list_any fails_told) keeps.scripts ∙ any_first fails_told assigned.script (length state.scripts)
+    ∙ ap (some_script fails_told assigned.script) (over ∙ keeps.planned)
 
 -- a script that counts as failing makes 105 due
-script_due : (plan : RunPlan) (assigned : Assignment) (state : State) → IsPlan plan → Tracks plan assigned state → list_any fails_told state.scripts ≡ true
+pub script_due : (plan : RunPlan) (assigned : Assignment) (state : State) → IsPlan plan → Keeps plan assigned state → list_any fails_told state.scripts ≡ true
     → due_status plan assigned ≡ 105
-script_due plan assigned state ok tracks some =
+script_due plan assigned state ok keeps some =
     let here : some_script fails_told assigned.script (length state.scripts) ≡ true =
-    sym (ap (list_any fails_told) tracks.scripts ∙ any_first fails_told assigned.script (length state.scripts)) ∙ some in
-    let few : length state.scripts ≤ plan.scripts = subst (λ (n : ℕ). length state.scripts ≤ n) tracks.planned tracks.within in
+    sym (ap (list_any fails_told) keeps.scripts ∙ any_first fails_told assigned.script (length state.scripts)) ∙ some in
+    let few : length state.scripts ≤ plan.scripts = subst (λ (n : ℕ). length state.scripts ≤ n) keeps.planned keeps.within in
     let there = some_script-more fails_told assigned.script (length state.scripts) plan.scripts few here in
     by_empty (eqb (length plan.tests) 0) refl there
   where
@@ -145,14 +146,14 @@ script_due plan assigned state ok tracks some =
         ∙ ap (λ (b : Bool). due_by false b (some_test_fails plan.tests assigned.attempt)) there
 
 -- a run with a failing script has status 105, wherever it is
-script_status : (state : State) → list_any fails_told state.scripts ≡ true → status state ≡ 105
+pub script_status : (state : State) → list_any fails_told state.scripts ≡ true → status state ≡ 105
 script_status state some =
     status_is state
     ∙ ap (λ (b : Bool). status_by b (ltb (length state.scripts) state.planned_scripts) (list_any (counts fails_test) state.tests)
     (ltb (count_by is_finished state.tests) (length state.tests)) (eqb (count_by is_finished state.tests) 0)) some
 
 -- where all scripts ended well, the status goes by the tests
-tests_status : (state : State) → list_any fails_told state.scripts ≡ false → length state.scripts ≡ state.planned_scripts
+pub tests_status : (state : State) → list_any fails_told state.scripts ≡ false → length state.scripts ≡ state.planned_scripts
     → status state ≡ status_by false false (list_any (counts fails_test) state.tests) (ltb (count_by is_finished state.tests) (length state.tests)) (eqb (count_by is_finished state.tests) 0)
 tests_status state none over =
     let pending : ltb (length state.scripts) state.planned_scripts ≡ false = grind (arith, nat_tests) in
@@ -162,7 +163,7 @@ tests_status state none over =
     ∙ ap (λ (b : Bool). status_by false b (list_any (counts fails_test) state.tests)
     (ltb (count_by is_finished state.tests) (length state.tests)) (eqb (count_by is_finished state.tests) 0)) pending
 
-due_of_tests : (plan : RunPlan) (assigned : Assignment) → some_script fails_told assigned.script plan.scripts ≡ false
+pub due_of_tests : (plan : RunPlan) (assigned : Assignment) → some_script fails_told assigned.script plan.scripts ≡ false
     → due_status plan assigned ≡ due_by (eqb (length plan.tests) 0) false (some_test_fails plan.tests assigned.attempt)
 due_of_tests plan assigned none = ap (λ (b : Bool). due_by (eqb (length plan.tests) 0) b (some_test_fails plan.tests assigned.attempt)) none
 
@@ -171,11 +172,11 @@ failing_ends : (plan : RunPlan) (assigned : Assignment) (state : State) → IsPl
 failing_ends plan assigned state ok tracks h = by_script (list_any fails_told state.scripts) refl
   where
     by_script : (some : Bool) → list_any fails_told state.scripts ≡ some → status state ≡ due_status plan assigned
-    by_script true e = script_status state e ∙ sym (script_due plan assigned state ok tracks e)
+    by_script true e = script_status state e ∙ sym (script_due plan assigned state ok tracks.keeps e)
     by_script false e =
         tests_status state e h.ended
         ∙ ap (λ (b : Bool). status_by false false b (ltb (count_by is_finished state.tests) (length state.tests)) (eqb (count_by is_finished state.tests) 0)) h.failed
-        ∙ sym (due_of_tests plan assigned (sym (ended_scripts plan assigned state tracks h.ended) ∙ e)
+        ∙ sym (due_of_tests plan assigned (sym (ended_scripts plan assigned state tracks.keeps h.ended) ∙ e)
         ∙ ap (λ (b : Bool). due_by b false (some_test_fails plan.tests assigned.attempt)) (not_empty plan.tests assigned.attempt h.due)
         ∙ ap (due_by false false) h.due)
 
@@ -188,10 +189,10 @@ going_ends plan assigned state ok tracks now over all = by_script (list_any fail
     count = counts_all is_finished state.tests all
 
     number : length state.tests ≡ length plan.tests
-    number = sym (length-map state.tests plan_of) ∙ ap length tracks.plans
+    number = sym (length-map state.tests plan_of) ∙ ap length tracks.keeps.plans
 
     same : list_any (counts fails_test) state.tests ≡ some_test_fails plan.tests assigned.attempt
-    same = finished_is_due state.tests assigned.attempt now.fit all ∙ ap (λ (ps : List RunTest). some_test_fails ps assigned.attempt) tracks.plans
+    same = finished_is_due state.tests assigned.attempt now.fit all ∙ ap (λ (ps : List RunTest). some_test_fails ps assigned.attempt) tracks.keeps.plans
 
     by_test : (some : Bool) → some_test_fails plan.tests assigned.attempt ≡ some
         → status_by false false (list_any (counts fails_test) state.tests) (ltb (count_by is_finished state.tests) (length state.tests)) (eqb (count_by is_finished state.tests) 0)
@@ -207,11 +208,11 @@ going_ends plan assigned state ok tracks now over all = by_script (list_any fail
         ∙ sym (ap (due_by (eqb (length plan.tests) 0) false) e)
 
     by_script : (some : Bool) → list_any fails_told state.scripts ≡ some → status state ≡ due_status plan assigned
-    by_script true e = script_status state e ∙ sym (script_due plan assigned state ok tracks e)
+    by_script true e = script_status state e ∙ sym (script_due plan assigned state ok tracks.keeps e)
     by_script false e =
         tests_status state e over
         ∙ by_test (some_test_fails plan.tests assigned.attempt) refl
-        ∙ sym (due_of_tests plan assigned (sym (ended_scripts plan assigned state tracks over) ∙ e))
+        ∙ sym (due_of_tests plan assigned (sym (ended_scripts plan assigned state tracks.keeps over) ∙ e))
 
 -- what complete says where no reason stands
 complete_going : (state : State) → state.reason ≡ None → is_complete state ≡ true → (length state.scripts ≡ state.planned_scripts) × (list_all is_finished state.tests ≡ true)
@@ -236,7 +237,7 @@ tracked_ends plan assigned state ok tracks complete = by_reason state.reason ref
     by_reason None e = let over = complete_going state e complete in going_ends plan assigned state ok tracks (was None e) over.0 over.1
     by_reason (Some why.SetupScriptFailure) e =
         let some = any_implies stops fails_told state.scripts (λ told. stop_fails told.result) (was (Some why.SetupScriptFailure) e) in
-        script_status state some ∙ sym (script_due plan assigned state ok tracks some)
+        script_status state some ∙ sym (script_due plan assigned state ok tracks.keeps some)
     by_reason (Some why.TestFailure) e = failing_ends plan assigned state ok tracks (was (Some why.TestFailure) e)
     by_reason (Some why.TestFailureImmediate) e = failing_ends plan assigned state ok tracks (was (Some why.TestFailureImmediate) e)
     by_reason (Some why.ReportError) e = absurd (was (Some why.ReportError) e)

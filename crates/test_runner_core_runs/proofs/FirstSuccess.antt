@@ -84,11 +84,11 @@ first_success-stays attempt tries (suc all) number within h =
 abbrev pub FitsMark : (ℕ → Record) → ℕ → ℕ → Mark → Type 0
 FitsMark attempt tries ended_tries marks.Waiting = (ended_tries < tries) × (first_success attempt ended_tries ≡ None)
 FitsMark attempt tries ended_tries marks.Running = (ended_tries < tries) × (first_success attempt ended_tries ≡ None)
-FitsMark attempt tries ended_tries marks.Between = (ended_tries < tries) × (first_success attempt ended_tries ≡ None)
+FitsMark attempt tries ended_tries marks.Between = (ended_tries < tries) × (first_success attempt ended_tries ≡ None) × (0 < ended_tries)
 FitsMark attempt tries ended_tries (marks.Finished reason) =
     ((first_success attempt ended_tries ≡ Some ended_tries) × (ended_tries ≤ tries)) ⊎ ((first_success attempt ended_tries ≡ None) × (ended_tries ≡ tries))
 
--- a test in a run that nothing stopped: its records are those of the first tries
+-- a test whose records are those of the first tries, and that is as far as they say
 pub record Fits (attempt : ℕ → Record) (test : TestState) : Type 0 where
   pub tries : 0 < test.plan.tries
   pub records : test.records ≡ tried attempt (length test.records)

@@ -2,6 +2,9 @@ pub mod Counting
 pub mod FirstSuccess
 pub mod TestStates
 pub mod Scripts
+pub mod Keeping
 pub mod Tracking
 pub mod DueStatus
 pub mod Taken
+pub mod Holding
+pub mod NoMilder

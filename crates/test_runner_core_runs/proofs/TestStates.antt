@@ -1,5 +1,5 @@
 -- The tests of a run, each beside its assignment.
-use Rattle.std.proofs.Common.{suc, zero, ◌≡◌, ℕ, ◌+◌, ◌<◌, Bool, true, false, cond, leb, ◌||◌, ◌&&◌, List, [], ◌∷◌, ◌++◌, length, Option, Some, None, map, refl, sym, ap, ◌∙◌, subst, arith, inl, inr, length-append}
+use Rattle.std.proofs.Common.{suc, zero, ◌≡◌, ℕ, ◌+◌, ◌<◌, Bool, true, false, cond, leb, ◌||◌, ◌&&◌, List, [], ◌∷◌, ◌++◌, length, Option, Some, None, map, refl, sym, ap, ◌∙◌, subst, arith, ◌⊎◌, inl, inr, length-append}
 use Rattle.std.specs.Prelude.{slice_get, slice_set, is_some}
 use Rattle.std.specs.Bool.{⊤}
 use Rattle.std.specs.List.{list_any, list_all, AllByRecursion}
@@ -19,24 +19,28 @@ use Rattle.test_runner_core_runs.proofs.FirstSuccess.{Fits, FitsMark, tried, fin
 abbrev pub plan_of : TestState → RunTest
 plan_of test = test.plan
 
--- each test fits its assignment
-abbrev pub AllFit : List TestState → (ℕ → ℕ → Record) → Type 0
-AllFit [] attempt = ⊤
-AllFit (test ∷ tests) attempt = Fits (attempt 0) test × AllFit tests (λ place. attempt (suc place))
+-- what a test may be beside its assignment
+abbrev pub Beside : Type 1
+Beside = (ℕ → Record) → TestState → Type 0
 
--- a test that is at a place fits the assignment of that place
-pub fit_at : (tests : List TestState) (attempt : ℕ → ℕ → Record) (place : ℕ) (test : TestState)
-    → AllFit tests attempt → slice_get tests place ≡ Some test → Fits (attempt place) test
-fit_at [] attempt place test fits found = cc
-fit_at (first ∷ tests) attempt zero test fits found = let e : first ≡ test = cc in subst (Fits (attempt 0)) e fits.0
-fit_at (first ∷ tests) attempt (suc place) test fits found = fit_at tests (λ p. attempt (suc p)) place test fits.1 found
+-- each test is so beside its assignment
+abbrev pub AllBeside : Beside → List TestState → (ℕ → ℕ → Record) → Type 0
+AllBeside P [] attempt = ⊤
+AllBeside P (test ∷ tests) attempt = P (attempt 0) test × AllBeside P tests (λ place. attempt (suc place))
 
--- another test that fits may take its place
-pub fit_set : (tests : List TestState) (attempt : ℕ → ℕ → Record) (place : ℕ) (test : TestState)
-    → AllFit tests attempt → Fits (attempt place) test → AllFit (slice_set tests place test) attempt
-fit_set [] attempt place test fits new = tt
-fit_set (first ∷ tests) attempt zero test fits new = (new, fits.1)
-fit_set (first ∷ tests) attempt (suc place) test fits new = (fits.0, fit_set tests (λ p. attempt (suc p)) place test fits.1 new)
+-- a test that is at a place is so beside the assignment of that place
+pub beside_at : (P : Beside) (tests : List TestState) (attempt : ℕ → ℕ → Record) (place : ℕ) (test : TestState)
+    → AllBeside P tests attempt → slice_get tests place ≡ Some test → P (attempt place) test
+beside_at P [] attempt place test all found = cc
+beside_at P (first ∷ tests) attempt zero test all found = let e : first ≡ test = cc in subst (P (attempt 0)) e all.0
+beside_at P (first ∷ tests) attempt (suc place) test all found = beside_at P tests (λ p. attempt (suc p)) place test all.1 found
+
+-- another test that is so may take its place
+pub beside_set : (P : Beside) (tests : List TestState) (attempt : ℕ → ℕ → Record) (place : ℕ) (test : TestState)
+    → AllBeside P tests attempt → P (attempt place) test → AllBeside P (slice_set tests place test) attempt
+beside_set P [] attempt place test all new = tt
+beside_set P (first ∷ tests) attempt zero test all new = (new, all.1)
+beside_set P (first ∷ tests) attempt (suc place) test all new = (all.0, beside_set P tests (λ p. attempt (suc p)) place test all.1 new)
 
 -- a test with the same plan in its place changes no plan
 pub plans_set : (tests : List TestState) (place : ℕ) (old new : TestState)
@@ -70,7 +74,7 @@ plans_stopped reason [] = refl
 plans_stopped reason (test ∷ tests) = ap (λ (ps : List RunTest). test.plan ∷ ps) (plans_stopped reason tests)
 
 -- a test that counts in a row still does after a stop
-counts_stopped : (row : Finished → Bool) (reason : CancelReason) (test : TestState) → counts row test ≡ true → counts row (finished_by reason test) ≡ true
+pub counts_stopped : (row : Finished → Bool) (reason : CancelReason) (test : TestState) → counts row test ≡ true → counts row (finished_by reason test) ≡ true
 counts_stopped row reason test h = by_mark test.mark refl
   where
     by_mark : (mark : Mark) → test.mark ≡ mark → counts row (finished_by reason test) ≡ true
@@ -93,7 +97,7 @@ any_stopped row reason (test ∷ tests) some =
     by_first false more false h first go = go h
 
 -- where a finished test counts as failing, a test of the assignment fails
-pub failed_is_due : (tests : List TestState) (attempt : ℕ → ℕ → Record) → AllFit tests attempt
+pub failed_is_due : (tests : List TestState) (attempt : ℕ → ℕ → Record) → AllBeside Fits tests attempt
     → list_any (counts fails_test) tests ≡ true → some_test_fails (map plan_of tests) attempt ≡ true
 failed_is_due [] attempt fits some = some
 failed_is_due (test ∷ tests) attempt fits some =
@@ -120,7 +124,7 @@ failed_is_due (test ∷ tests) attempt fits some =
         by_either false m h' = h'
 
 -- where all tests finished, one counts as failing exactly if one of the assignment fails
-pub finished_is_due : (tests : List TestState) (attempt : ℕ → ℕ → Record) → AllFit tests attempt → list_all is_finished tests ≡ true
+pub finished_is_due : (tests : List TestState) (attempt : ℕ → ℕ → Record) → AllBeside Fits tests attempt → list_all is_finished tests ≡ true
     → list_any (counts fails_test) tests ≡ some_test_fails (map plan_of tests) attempt
 finished_is_due [] attempt fits all = refl
 finished_is_due (test ∷ tests) attempt fits all =
@@ -134,28 +138,28 @@ finished_is_due (test ∷ tests) attempt fits all =
         let rest = go h in cc
     by_first false e more h go = cc
 
--- how far a test is after one more try, in a run that nothing stopped
+-- how far a test is after one more try that was a success, or that ended while no reason stood
 mark_after : (attempt : ℕ → Record) (tries number : ℕ) (told : Record) (reason : Option CancelReason)
-    → told ≡ attempt (suc number) → reason ≡ None → number < tries → first_success attempt number ≡ None
+    → told ≡ attempt (suc number) → (reason ≡ None) ⊎ (is_success told.result ≡ true) → number < tries → first_success attempt number ≡ None
     → FitsMark attempt tries (suc number) (cond (is_success told.result || leb tries (number + 1) || is_some reason) (marks.Finished reason) marks.Between)
-mark_after attempt tries number told reason same going less none =
-    subst (λ (r : Option CancelReason). FitsMark attempt tries (suc number) (cond (is_success told.result || leb tries (number + 1) || is_some r) (marks.Finished r) marks.Between)) (sym going)
-    (by_tests (is_success told.result) (leb tries (number + 1)) (ap (λ (r : Record). is_success r.result) (sym same)) refl)
+mark_after attempt tries number told reason same regular less none =
+    by_tests reason (is_success told.result) (leb tries (number + 1)) (ap (λ (r : Record). is_success r.result) (sym same)) refl regular
   where
-    by_tests : (succeeds last : Bool) → is_success (attempt (suc number)).result ≡ succeeds → leb tries (number + 1) ≡ last
-        → FitsMark attempt tries (suc number) (cond (succeeds || last || false) (marks.Finished None) marks.Between)
-    by_tests true last s l =
+    by_tests : (reason : Option CancelReason) (succeeds last : Bool) → is_success (attempt (suc number)).result ≡ succeeds → leb tries (number + 1) ≡ last
+        → (reason ≡ None) ⊎ (succeeds ≡ true) → FitsMark attempt tries (suc number) (cond (succeeds || last || is_some reason) (marks.Finished reason) marks.Between)
+    by_tests reason true last s l regular =
         inl (ap (λ (o : Option ℕ). found_or o (is_success (attempt (suc number)).result) (suc number)) none ∙ ap (λ (b : Bool). found_or None b (suc number)) s, omega arith)
-    by_tests false true s l =
+    by_tests None false true s l regular =
         inr (ap (λ (o : Option ℕ). found_or o (is_success (attempt (suc number)).result) (suc number)) none ∙ ap (λ (b : Bool). found_or None b (suc number)) s, grind (arith, nat_tests))
-    by_tests false false s l =
-        (grind (arith, nat_tests), ap (λ (o : Option ℕ). found_or o (is_success (attempt (suc number)).result) (suc number)) none ∙ ap (λ (b : Bool). found_or None b (suc number)) s)
+    by_tests None false false s l regular =
+        (grind (arith, nat_tests), ap (λ (o : Option ℕ). found_or o (is_success (attempt (suc number)).result) (suc number)) none ∙ ap (λ (b : Bool). found_or None b (suc number)) s, omega arith)
+    by_tests (Some given) false last s l regular = elim regular [ inl e ↦ cc | inr e ↦ cc ]
 
--- an attempt that ran and agrees leaves the test fitting, where nothing stopped the run
+-- an attempt that ran as it was assigned leaves the test fitting, where it is a success or no reason stands
 pub fits_after : (attempt : ℕ → Record) (state : State) (test : TestState) (told : Record)
-    → Fits attempt test → test.mark ≡ marks.Running → state.reason ≡ None → told ≡ attempt (length test.records + 1)
+    → Fits attempt test → test.mark ≡ marks.Running → (state.reason ≡ None) ⊎ (is_success told.result ≡ true) → told ≡ attempt (length test.records + 1)
     → Fits attempt (after_attempt state test told)
-fits_after attempt state test told fits running going same =
+fits_after attempt state test told fits running regular same =
     let number = length test.records in
     let open_still = subst (FitsMark attempt test.plan.tries number) running fits.marked in
     let next : number + 1 ≡ suc number = omega arith in
@@ -165,7 +169,7 @@ fits_after attempt state test told fits running going same =
       tries = fits.tries;
       records = ap (λ (xs : List Record). xs ++ told ∷ []) fits.records ∙ ap (λ (r : Record). tried attempt number ++ r ∷ []) same_next ∙ sym (ap (tried attempt) count);
       marked = subst (λ (m : ℕ). FitsMark attempt test.plan.tries m (cond (finishes state test told) (marks.Finished state.reason) marks.Between)) (sym count)
-          (mark_after attempt test.plan.tries number told state.reason same_next going open_still.0 open_still.1);
+          (mark_after attempt test.plan.tries number told state.reason same_next regular open_still.0 open_still.1);
     }
 
 -- a test that starts fits as before
@@ -177,11 +181,11 @@ fits_started attempt test fits open_still =
         → FitsMark attempt test.plan.tries (length test.records) marks.Running
     by_mark marks.Waiting o h = h
     by_mark marks.Running o h = h
-    by_mark marks.Between o h = h
+    by_mark marks.Between o h = (h.0, h.1)
     by_mark (marks.Finished kept) o h = cc
 
 -- all tests fit in the state in which nothing ended
-pub fits_initial : (tests : List RunTest) (attempt : ℕ → ℕ → Record) → AllByRecursion (λ test. 0 < test.tries) tests → AllFit (map waiting tests) attempt
+pub fits_initial : (tests : List RunTest) (attempt : ℕ → ℕ → Record) → AllByRecursion (λ test. 0 < test.tries) tests → AllBeside Fits (map waiting tests) attempt
 fits_initial [] attempt tries = tt
 fits_initial (test ∷ tests) attempt tries =
     (record { tries = tries.0; records = refl; marked = (tries.0, refl) }, fits_initial tests (λ p. attempt (suc p)) tries.1)

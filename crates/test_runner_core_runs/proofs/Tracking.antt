@@ -1,6 +1,6 @@
 -- What holds of every run that agrees with an assignment and that nobody told to stop.
-use Rattle.std.proofs.Common.{suc, zero, ◌≡◌, ℕ, ◌+◌, ◌<◌, ◌≤◌, Bool, true, false, cond, ltb, leb, eqb, not, ◌||◌, ◌&&◌, List, [], ◌∷◌, ◌++◌, length, Option, Some, None, Ok, map, refl, sym, ap, ◌∙◌, subst, arith, ◌⊎◌, inl, inr, length-append}
-use Rattle.std.specs.Prelude.{slice_get, slice_set, is_some}
+use Rattle.std.proofs.Common.{suc, zero, ◌≡◌, ℕ, ◌+◌, ◌<◌, Bool, true, false, cond, leb, not, ◌||◌, ◌&&◌, List, [], ◌∷◌, ◌++◌, length, Option, Some, None, Ok, map, refl, sym, ap, ◌∙◌, subst, arith, ◌⊎◌, inl, inr}
+use Rattle.std.specs.Prelude.{slice_get, is_some}
 use Rattle.std.specs.Option.{option_map_or}
 use Rattle.std.specs.List.{list_any, list_all, AllByRecursion}
 use Rattle.std.proofs.lemmas.Bool.Decides.{nat_tests}
@@ -17,18 +17,18 @@ use Rattle.nextest_run_events_results.specs.declared.record.Record.{Record}
 use Rattle.test_runner_core_runs.specs.RunPlan.{RunPlan, IsPlan, IsLimit, weight}
 use Rattle.test_runner_core_runs.specs.declared.run_test.RunTest.{RunTest}
 use Rattle.test_runner_core_runs.specs.Assignment.{Assignment, some_test_fails}
-use Rattle.test_runner_core_runs.specs.State.{TestState, State, initial, waiting, counts, is_finished, is_finished_mark, failed_weight}
-use Rattle.test_runner_core_runs.specs.Step.{step, script_ended, after_script, started, start_of, start_from, attempt_ended, end_from, with_test, after_attempt, finishes, limited, limit_reason, stopped_by}
+use Rattle.test_runner_core_runs.specs.State.{TestState, State, initial, waiting, counts, is_finished_mark, failed_weight}
+use Rattle.test_runner_core_runs.specs.Step.{step, script_ended, after_script, started, attempt_ended, with_test, after_attempt, finishes, limited, limit_reason, stopped_by}
 use Rattle.test_runner_core_runs.specs.Runs.{Run, Agrees, AgreesWith, EventAgrees, IsNoStop, try_at}
 use Rattle.test_runner_core_runs.specs.declared.mark.Mark.{Mark}
 use Rattle.test_runner_core_runs.specs.declared.mark.Mark.TheVariants as marks
 use Rattle.test_runner_core_runs.specs.declared.event.Event.{Event}
 use Rattle.test_runner_core_runs.specs.declared.event.Event.TheVariants as events
-use Rattle.test_runner_core_runs.specs.declared.step_refusal.StepRefusal.TheVariants as refused
 use Rattle.test_runner_core_runs.proofs.Counting.{weighs_some}
-use Rattle.test_runner_core_runs.proofs.FirstSuccess.{unfinished_counts}
-use Rattle.test_runner_core_runs.proofs.TestStates.{plan_of, AllFit, fit_at, fit_set, plans_set, any_set, plans_stopped, any_stopped, failed_is_due, fits_after, fits_started, fits_initial, plans_initial}
-use Rattle.test_runner_core_runs.proofs.Scripts.{first_scripts, any_push, guard_ok, found_ok, ok_is}
+use Rattle.test_runner_core_runs.proofs.FirstSuccess.{Fits, unfinished_counts}
+use Rattle.test_runner_core_runs.proofs.TestStates.{AllBeside, beside_at, beside_set, any_set, any_stopped, failed_is_due, fits_after, fits_started, fits_initial}
+use Rattle.test_runner_core_runs.proofs.Scripts.{any_push}
+use Rattle.test_runner_core_runs.proofs.Keeping.{Keeps, keeps_initial, keeps_stopped, keeps_script, keeps_set, script_shows, start_shows, end_shows}
 
 abbrev pub stops : Record → Bool
 stops told = not (is_success told.result)
@@ -44,7 +44,7 @@ is_waiting test = is_waiting_mark test.mark
 
 -- while no reason stands
 pub record Going (assigned : Assignment) (state : State) : Type 0 where
-  pub fit : AllFit state.tests assigned.attempt
+  pub fit : AllBeside Fits state.tests assigned.attempt
   pub succeeded : list_any stops state.scripts ≡ false
   pub order : (list_all is_waiting state.tests ≡ true) ⊎ (length state.scripts ≡ state.planned_scripts)
 
@@ -66,16 +66,8 @@ Standing plan assigned state (Some why.Interrupt) = ⊥
 Standing plan assigned state (Some why.SecondSignal) = ⊥
 
 pub record Tracks (plan : RunPlan) (assigned : Assignment) (state : State) : Type 0 where
-  pub plans : map plan_of state.tests ≡ plan.tests
-  pub planned : state.planned_scripts ≡ plan.scripts
-  pub limit : state.limit ≡ plan.limit
-  pub scripts : state.scripts ≡ first_scripts assigned.script (length state.scripts)
-  pub within : length state.scripts ≤ state.planned_scripts
+  pub keeps : Keeps plan assigned state
   pub standing : Standing plan assigned state state.reason
-
-none_of : (o : Option CancelReason) → is_some o ≡ false → o ≡ None
-none_of None h = refl
-none_of (Some reason) h = cc
 
 all_waiting : (tests : List RunTest) → list_all is_waiting (map waiting tests) ≡ true
 all_waiting [] = refl
@@ -84,78 +76,46 @@ all_waiting (test ∷ tests) = all_waiting tests
 pub tracks_initial : (plan : RunPlan) (assigned : Assignment) → IsPlan plan → Tracks plan assigned (initial plan)
 tracks_initial plan assigned ok =
     record {
-      plans = plans_initial plan.tests;
-      planned = refl;
-      limit = refl;
-      scripts = refl;
-      within = omega arith;
+      keeps = keeps_initial plan assigned;
       standing = record { fit = fits_initial plan.tests assigned.attempt ok.tries; succeeded = refl; order = inl (all_waiting plan.tests) };
     }
 
 -- a script ends
 
-not_true : (b : Bool) → not b ≡ false → b ≡ true
-not_true true h = refl
-not_true false h = cc
-
-tracks_script : (plan : RunPlan) (assigned : Assignment) (old : State) (script : ℕ) (told : Record) → Tracks plan assigned old
+tracks_script : (plan : RunPlan) (assigned : Assignment) (old : State) (told : Record) → Tracks plan assigned old
     → length old.scripts < old.planned_scripts → old.reason ≡ None → told ≡ assigned.script (length old.scripts)
     → Tracks plan assigned (after_script old told)
-tracks_script plan assigned old script told tracks less going same = by_success (is_success told.result) refl
+tracks_script plan assigned old told tracks less going same =
+    record { keeps = keeps_script plan assigned old told tracks.keeps less same; standing = by_success (is_success told.result) refl }
   where
     now : Going assigned old
     now = subst (Standing plan assigned old) going tracks.standing
-
-    count : length (old.scripts ++ told ∷ []) ≡ suc (length old.scripts)
-    count = omega (arith, length-append old.scripts (told ∷ []))
-
-    scripts_after : old.scripts ++ told ∷ [] ≡ first_scripts assigned.script (length (old.scripts ++ told ∷ []))
-    scripts_after =
-        ap (λ (xs : List Record). xs ++ told ∷ []) tracks.scripts
-        ∙ ap (λ (r : Record). first_scripts assigned.script (length old.scripts) ++ r ∷ []) same
-        ∙ sym (ap (first_scripts assigned.script) count)
 
     waits : (list_all is_waiting old.tests ≡ true) ⊎ (length old.scripts ≡ old.planned_scripts) → list_all is_waiting old.tests ≡ true
     waits (inl all) = all
     waits (inr ended) = absurd (omega arith)
 
+    stands : State → Type 0
+    stands state = Standing plan assigned state state.reason
+
     by_success : (succeeds : Bool) → is_success told.result ≡ succeeds
-        → Tracks plan assigned (cond succeeds (record old { scripts = old.scripts ++ told ∷ [] }) (stopped_by why.SetupScriptFailure (record old { scripts = old.scripts ++ told ∷ [] })))
+        → stands (cond succeeds (record old { scripts = old.scripts ++ told ∷ [] }) (stopped_by why.SetupScriptFailure (record old { scripts = old.scripts ++ told ∷ [] })))
     by_success true s =
-        record {
-          plans = tracks.plans;
-          planned = tracks.planned;
-          limit = tracks.limit;
-          scripts = scripts_after;
-          within = omega (arith, count);
-          standing = subst (Standing plan assigned (record old { scripts = old.scripts ++ told ∷ [] })) (sym going)
-              (record {
-                fit = now.fit;
-                succeeded = any_push stops old.scripts told ∙ ap (λ (b : Bool). b || stops told) now.succeeded ∙ ap not s;
-                order = inl (waits now.order);
-              });
-        }
-    by_success false s =
-        record {
-          plans = plans_stopped why.SetupScriptFailure old.tests ∙ tracks.plans;
-          planned = tracks.planned;
-          limit = tracks.limit;
-          scripts = scripts_after;
-          within = omega (arith, count);
-          standing = any_push stops old.scripts told ∙ ap (λ (b : Bool). b || stops told) now.succeeded ∙ ap not s;
-        }
+        subst (Standing plan assigned (record old { scripts = old.scripts ++ told ∷ [] })) (sym going)
+        (record {
+          fit = now.fit;
+          succeeded = any_push stops old.scripts told ∙ ap (λ (b : Bool). b || stops told) now.succeeded ∙ ap not s;
+          order = inl (waits now.order);
+        })
+    by_success false s = any_push stops old.scripts told ∙ ap (λ (b : Bool). b || stops told) now.succeeded ∙ ap not s
 
 step_script : (plan : RunPlan) (assigned : Assignment) (old new : State) (script : ℕ) (told : Record) → Tracks plan assigned old
     → script_ended old script told ≡ Ok new → AgreesWith old.reason (assigned.script script) told → Tracks plan assigned new
 step_script plan assigned old new script told tracks happens agrees =
-    let known = guard_ok (leb old.planned_scripts script) _ _ new happens in
-    let free = guard_ok (is_some old.reason) _ _ new known.1 in
-    let next = guard_ok (not (eqb script (length old.scripts))) _ _ new free.1 in
-    let going = none_of old.reason free.0 in
-    let place : script ≡ length old.scripts = let e = not_true (eqb script (length old.scripts)) next.0 in grind (arith, nat_tests) in
-    let same : told ≡ assigned.script (length old.scripts) = subst (λ (r : Option CancelReason). AgreesWith r (assigned.script script) told) going agrees ∙ ap assigned.script place in
-    let less : length old.scripts < old.planned_scripts = let e = known.0 in grind (arith, nat_tests) in
-    subst (Tracks plan assigned) (sym (ok_is (after_script old told) new next.1)) (tracks_script plan assigned old script told tracks less going same)
+    let shows = script_shows old new script told happens in
+    let same : told ≡ assigned.script (length old.scripts) =
+    subst (λ (r : Option CancelReason). AgreesWith r (assigned.script script) told) shows.going agrees ∙ ap assigned.script shows.next in
+    subst (Tracks plan assigned) (sym shows.is) (tracks_script plan assigned old told tracks shows.less shows.going same)
 
 -- an attempt starts
 
@@ -170,38 +130,22 @@ any_waiting (first ∷ tests) (suc place) test found not_it = and_false (is_wait
 
 step_start : (plan : RunPlan) (assigned : Assignment) (old new : State) (place : ℕ) → Tracks plan assigned old → started old place ≡ Ok new → Tracks plan assigned new
 step_start plan assigned old new place tracks happens =
-    let found = found_ok (start_of old place) (slice_get old.tests place) refused.UnknownTest new happens in
-    let test = found.0 in
-    let free = guard_ok (is_some old.reason) refused.Stopped _ new found.2 in
-    let ended = guard_ok (ltb (length old.scripts) old.planned_scripts) refused.ScriptsPending _ new free.1 in
-    by_mark test found.1 (none_of old.reason free.0) ended.0 test.mark refl ended.1
-  where
-    goes : (test : TestState) → slice_get old.tests place ≡ Some test → old.reason ≡ None → ltb (length old.scripts) old.planned_scripts ≡ false → is_finished test ≡ false
-        → Tracks plan assigned (with_test old place (record test { mark = marks.Running }))
-    goes test at going ended open_still =
-        let now = subst (Standing plan assigned old) going tracks.standing in
-        let within = tracks.within in
-        record {
-          plans = plans_set old.tests place test (record test { mark = marks.Running }) at refl ∙ tracks.plans;
-          planned = tracks.planned;
-          limit = tracks.limit;
-          scripts = tracks.scripts;
-          within = tracks.within;
-          standing = subst (Standing plan assigned (with_test old place (record test { mark = marks.Running }))) (sym going)
-              (record {
-                fit = fit_set old.tests assigned.attempt place (record test { mark = marks.Running }) now.fit
-                    (fits_started (assigned.attempt place) test (fit_at old.tests assigned.attempt place test now.fit at) open_still);
-                succeeded = now.succeeded;
-                order = inr (grind (arith, nat_tests));
-              });
-        }
-
-    by_mark : (test : TestState) → slice_get old.tests place ≡ Some test → old.reason ≡ None → ltb (length old.scripts) old.planned_scripts ≡ false
-        → (mark : Mark) → test.mark ≡ mark → start_from old place test mark ≡ Ok new → Tracks plan assigned new
-    by_mark test at going ended marks.Waiting m happens' = subst (Tracks plan assigned) (sym (ok_is _ new happens')) (goes test at going ended (ap is_finished_mark m))
-    by_mark test at going ended marks.Running m happens' = cc
-    by_mark test at going ended marks.Between m happens' = subst (Tracks plan assigned) (sym (ok_is _ new happens')) (goes test at going ended (ap is_finished_mark m))
-    by_mark test at going ended (marks.Finished kept) m happens' = cc
+    let shows = start_shows old new place happens in
+    let running = record shows.test { mark = marks.Running } in
+    let now = subst (Standing plan assigned old) shows.going tracks.standing in
+    let within = tracks.keeps.within in
+    let over = shows.over in
+    subst (Tracks plan assigned) (sym shows.is)
+    (record {
+      keeps = keeps_set plan assigned old place shows.test running tracks.keeps shows.found refl;
+      standing = subst (Standing plan assigned (with_test old place running)) (sym shows.going)
+          (record {
+            fit = beside_set Fits old.tests assigned.attempt place running now.fit
+                (fits_started (assigned.attempt place) shows.test (beside_at Fits old.tests assigned.attempt place shows.test now.fit shows.found) shows.unfinished);
+            succeeded = now.succeeded;
+            order = inr (grind (arith, nat_tests));
+          });
+    })
 
 -- an attempt ends
 
@@ -227,19 +171,15 @@ tracks_limited plan assigned state finished ok tracks going ended =
     stop : (mode : TerminateMode) → mode_at state.limit (failed_weight state.tests) ≡ Some mode → Tracks plan assigned (stopped_by (limit_reason mode) state)
     stop mode reached =
         let now = subst (Standing plan assigned state) going tracks.standing in
-        let limit_ok : IsLimit state.limit = subst IsLimit (sym tracks.limit) ok in
+        let limit_ok : IsLimit state.limit = subst IsLimit (sym tracks.keeps.limit) ok in
         let failed = weighs_some (counts fails_test) (λ test. weight test.plan) state.tests (reaches state.limit (failed_weight state.tests) mode limit_ok reached) in
         record {
-          plans = plans_stopped (limit_reason mode) state.tests ∙ tracks.plans;
-          planned = tracks.planned;
-          limit = tracks.limit;
-          scripts = tracks.scripts;
-          within = tracks.within;
+          keeps = keeps_stopped plan assigned state (limit_reason mode) tracks.keeps;
           standing = by_limit plan assigned (stopped_by (limit_reason mode) state) mode
               (record {
                 ended = ended;
                 failed = any_stopped fails_test (limit_reason mode) state.tests failed;
-                due = subst (λ (ps : List RunTest). some_test_fails ps assigned.attempt ≡ true) tracks.plans (failed_is_due state.tests assigned.attempt now.fit failed);
+                due = subst (λ (ps : List RunTest). some_test_fails ps assigned.attempt ≡ true) tracks.keeps.plans (failed_is_due state.tests assigned.attempt now.fit failed);
               });
         }
 
@@ -257,8 +197,8 @@ tracks_end plan assigned old place told test ok tracks at running agrees = by_re
     new : State
     new = with_test old place (after_attempt old test told)
 
-    plans_after : map plan_of (slice_set old.tests place (after_attempt old test told)) ≡ plan.tests
-    plans_after = plans_set old.tests place test (after_attempt old test told) at refl ∙ tracks.plans
+    keeps_after : Keeps plan assigned new
+    keeps_after = keeps_set plan assigned old place test (after_attempt old test told) tracks.keeps at refl
 
     uncounted : counts fails_test test ≡ false
     uncounted = unfinished_counts fails_test test (ap is_finished_mark running)
@@ -268,11 +208,7 @@ tracks_end plan assigned old place told test ok tracks at running agrees = by_re
         subst (Tracks plan assigned) (sym (ap (λ (b : Bool). cond b (option_map_or (λ mode. stopped_by (limit_reason mode) new) (mode_at new.limit (failed_weight new.tests)) new) new)
         (ap (λ (r : Option CancelReason). finishes old test told && not (is_some r)) e ∙ and_false (finishes old test told))))
         (record {
-          plans = plans_after;
-          planned = tracks.planned;
-          limit = tracks.limit;
-          scripts = tracks.scripts;
-          within = tracks.within;
+          keeps = keeps_after;
           standing = subst (Standing plan assigned new) (sym e) standing;
         })
       where
@@ -297,15 +233,11 @@ tracks_end plan assigned old place told test ok tracks at running agrees = by_re
         ] in
         tracks_limited plan assigned new (finishes old test told) ok
         (record {
-          plans = plans_after;
-          planned = tracks.planned;
-          limit = tracks.limit;
-          scripts = tracks.scripts;
-          within = tracks.within;
+          keeps = keeps_after;
           standing = subst (Standing plan assigned new) (sym e)
               (record {
-                fit = fit_set old.tests assigned.attempt place (after_attempt old test told) now.fit
-                    (fits_after (assigned.attempt place) old test told (fit_at old.tests assigned.attempt place test now.fit at) running e same);
+                fit = beside_set Fits old.tests assigned.attempt place (after_attempt old test told) now.fit
+                    (fits_after (assigned.attempt place) old test told (beside_at Fits old.tests assigned.attempt place test now.fit at) running (inl e) same);
                 succeeded = now.succeeded;
                 order = inr ended;
               });
@@ -323,16 +255,9 @@ tracks_end plan assigned old place told test ok tracks at running agrees = by_re
 step_end : (plan : RunPlan) (assigned : Assignment) (old new : State) (place : ℕ) (told : Record) → IsLimit plan.limit → Tracks plan assigned old
     → attempt_ended old place told ≡ Ok new → AgreesWith old.reason (assigned.attempt place (try_at old.tests place)) told → Tracks plan assigned new
 step_end plan assigned old new place told ok tracks happens agrees =
-    let found = found_ok (λ (t : TestState). end_from old place told t t.mark) (slice_get old.tests place) refused.UnknownTest new happens in
-    let tried = subst (λ (o : Option TestState). AgreesWith old.reason (assigned.attempt place (option_map_or (λ t. length t.records + 1) o 1)) told) found.1 agrees in
-    by_mark found.0 found.1 tried (found.0).mark refl found.2
-  where
-    by_mark : (test : TestState) → slice_get old.tests place ≡ Some test → AgreesWith old.reason (assigned.attempt place (length test.records + 1)) told
-        → (mark : Mark) → test.mark ≡ mark → end_from old place told test mark ≡ Ok new → Tracks plan assigned new
-    by_mark test at agrees' marks.Waiting m happens' = cc
-    by_mark test at agrees' marks.Running m happens' = subst (Tracks plan assigned) (sym (ok_is _ new happens')) (tracks_end plan assigned old place told test ok tracks at m agrees')
-    by_mark test at agrees' marks.Between m happens' = cc
-    by_mark test at agrees' (marks.Finished kept) m happens' = cc
+    let shows = end_shows old new place told happens in
+    let agrees_here = subst (λ (o : Option TestState). AgreesWith old.reason (assigned.attempt place (option_map_or (λ t. length t.records + 1) o 1)) told) shows.found agrees in
+    subst (Tracks plan assigned) (sym shows.is) (tracks_end plan assigned old place told shows.test ok tracks shows.found shows.running agrees_here)
 
 -- each step of such a run, and so the whole run
 
