@@ -1,12 +1,29 @@
 -- What stands in front of a text stays there.
-use Rattle.std.proofs.Common.{◌≡◌, ℕ, List, [], ◌∷◌, ◌++◌, refl, sym, ap, ◌∙◌, append_assoc}
+use Rattle.std.proofs.Common.{◌≡◌, ℕ, List, [], ◌∷◌, ◌++◌, length, take, refl, String, string_bytes, sym, subst, ap, ◌∙◌, append_assoc}
 use Rattle.std.specs.Prelude.{◌/◌, ◌%◌, slice_index}
+use Rattle.std.proofs.Math.Seq.{take-append_seam}
+use Rattle.std.specs.Str.{IsUtf8}
+use Rattle.std.specs.String.{string_len}
+use Rattle.std.proofs.lemmas.Str.{IsUtf8-string_bytes}
 use Rattle.hex.specs.Hex.{encode_with, encode_lower, lower_digits}
 use Rattle.test_runner_core_report.specs.Writing.{Extends}
 
 pub extends_then : (old middle new : List ℕ) → Extends old middle → Extends middle new → Extends old new
 extends_then old middle new first second =
     record { more = first.more ++ second.more; grown = second.grown ∙ ap (λ (t : List ℕ). t ++ second.more) first.grown ∙ append_assoc old first.more second.more }
+
+-- the front of so many bytes is the old text
+pub front_taken : (old new : List ℕ) (length_old : ℕ) → length_old ≡ length old → Extends old new → take length_old new ≡ old
+front_taken old new length_old count kept =
+    ap (λ (n : ℕ). take n new) count ∙ ap (λ (t : List ℕ). take (length old) t) kept.grown ∙ take-append_seam old kept.more
+
+-- a text has as many bytes as it says
+pub length_known : {Z : Type 0} (s : String Z) → string_len s ≡ length (string_bytes s)
+length_known s = s.bytes.ok.0
+
+-- the old text is UTF-8
+pub front_utf8 : {Z : Type 0} (s : String Z) (new : List ℕ) (length_old : ℕ) → length_old ≡ length (string_bytes s) → Extends (string_bytes s) new → IsUtf8 (take length_old new)
+front_utf8 s new length_old count kept = subst IsUtf8 (sym (front_taken (string_bytes s) new length_old count kept)) (IsUtf8-string_bytes s)
 
 -- the hex of two parts
 pub hex_append : (table front rest : List ℕ) → encode_with table (front ++ rest) ≡ encode_with table front ++ encode_with table rest

@@ -23,7 +23,7 @@ ResultIsSpelled = (result : ExecutionResultDescription) (field : List ℕ) → S
 abbrev pub EndIsSpelled : Type 0
 EndIsSpelled = (told : Record) (result slow nanos out err : List ℕ) → SpellsRecord told (result ∷ slow ∷ nanos ∷ out ∷ err ∷ []) → end_text told ≡ joined (result ∷ slow ∷ nanos ∷ [])
 
--- a test that attempts describe, and what is asked of the description where something is shown of it
+-- the levels of a finished test, and whether its last attempt is a success, by the description of its attempts
 pub record IsDescribed (attempts : Attempts Status) (final : Status) (told : Description LiveSpec ChildOutputDescription) : Type 0 where
   pub level : level_of told ≡ level_of_test (finished_as attempts final)
   pub final_level : final_level_of told ≡ final_level_of_test (finished_as attempts final)

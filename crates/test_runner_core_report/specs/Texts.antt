@@ -3,31 +3,31 @@ use Rattle.std.specs.Prelude.{◌≡◌, ℕ, ◌+◌, Bool, true, false, not, L
 use Rattle.std.specs.Fmt.{signed_decimal}
 use denote.Ref.{Bor}
 use Rattle.hex.specs.Hex.{encode_lower}
-use Rattle.nextest_config_elements_plain.specs.declared.timeouts.FlakyResult.{FlakyResult}
 use Rattle.nextest_config_elements_plain.specs.declared.timeouts.FlakyResult.TheVariants as flaky_rule
+use Rattle.nextest_config_elements_plain.specs.declared.timeouts.FlakyResult.{FlakyResult}
 use Rattle.nextest_run_events_counters.specs.Attempts.{Attempts}
 use Rattle.nextest_run_events_counters.specs.Rows.{Finished}
 use Rattle.nextest_run_events_results.specs.Result.{is_success}
 use Rattle.nextest_run_events_results.specs.declared.instance.OwnedTestInstanceId.{OwnedTestInstanceId}
 use Rattle.nextest_run_events_results.specs.declared.record.Record.{Record}
-use Rattle.nextest_run_events_results.specs.declared.record.RecordOutput.{RecordOutput}
 use Rattle.nextest_run_events_results.specs.declared.record.RecordOutput.TheVariants as wrote
+use Rattle.nextest_run_events_results.specs.declared.record.RecordOutput.{RecordOutput}
 use Rattle.nextest_run_events_results.specs.declared.result.AbortDescription.TheVariants as aborted_by
-use Rattle.nextest_run_events_results.specs.declared.result.FailureDescription.{FailureDescription}
-use Rattle.nextest_run_events_results.specs.declared.result.FailureDescription.TheVariants as failed_by
-use Rattle.nextest_run_events_results.specs.declared.result.ExecutionResultDescription.{ExecutionResultDescription}
 use Rattle.nextest_run_events_results.specs.declared.result.ExecutionResultDescription.TheVariants as ended
+use Rattle.nextest_run_events_results.specs.declared.result.ExecutionResultDescription.{ExecutionResultDescription}
+use Rattle.nextest_run_events_results.specs.declared.result.FailureDescription.TheVariants as failed_by
+use Rattle.nextest_run_events_results.specs.declared.result.FailureDescription.{FailureDescription}
+use Rattle.nextest_run_events_slices.specs.Slices.{IsSlice, captured}
+use Rattle.nextest_run_events_slices.specs.declared.slices.ByteSubslice.{ByteSubslice}
+use Rattle.nextest_run_events_slices.specs.declared.slices.TestOutputErrorSlice.TheVariants.{PanicMessage, ErrorStr, ShouldPanic}
+use Rattle.nextest_run_events_slices.specs.declared.slices.TestOutputErrorSlice.{TestOutputErrorSlice}
 use Rattle.test_runner_core_line_syntax.specs.Spelling.{joined, leak_word, timeout_word, leaked_suffix}
 use Rattle.test_runner_core_progress.specs.Statuses.{Status, record_of}
 use Rattle.test_runner_core_runs.specs.State.{TestState, finished_as, is_finished, last_record}
 use Rattle.test_runner_core_runs.specs.declared.mark.Mark.{Mark}
 use Rattle.test_runner_core_runs.specs.declared.run_test.RunTest.{RunTest}
-use Rattle.nextest_run_events_slices.specs.Slices.{IsSlice, captured}
-use Rattle.nextest_run_events_slices.specs.declared.slices.ByteSubslice.{ByteSubslice}
-use Rattle.nextest_run_events_slices.specs.declared.slices.TestOutputErrorSlice.{TestOutputErrorSlice}
-use Rattle.nextest_run_events_slices.specs.declared.slices.TestOutputErrorSlice.TheVariants.{PanicMessage, ErrorStr, ShouldPanic}
-use Rattle.test_runner_core_report.specs.declared.fate.Fate.{Fate}
 use Rattle.test_runner_core_report.specs.declared.fate.Fate.TheVariants as fates
+use Rattle.test_runner_core_report.specs.declared.fate.Fate.{Fate}
 
 -- a test by its name, and how far it is
 pub record NamedTest : Type 0 where

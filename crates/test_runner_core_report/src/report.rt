@@ -1,5 +1,5 @@
 // What a report says of a test: as it finishes, and in the final text.
-ghost use Rattle.std.specs.Prelude.{◌≡◌, ◌||◌, true, [], ◌++◌, OnOk, Some, codes, if◌then◌else◌, string_bytes};
+ghost use Rattle.std.specs.Prelude.{◌≡◌, ◌||◌, true, [], ◌++◌, OnOk, OnErr, Some, codes, if◌then◌else◌, string_bytes};
 ghost use Rattle.nextest_run_events_visibility.specs.declared.visibility.OutputStoreFinal.TheVariants.{Yes};
 ghost use Rattle.test_runner_core_runs.specs.State.{last_record};
 ghost use Rattle.test_runner_core_report.specs.Due.{due_of};
@@ -11,13 +11,46 @@ use crate::lines::{push_attempts, push_test_line};
 use crate::outputs::push_outputs;
 use crate::shows::Shows;
 use crate::told_test::ToldTest;
+use crate::writing::take_back;
 use nextest_run_events_visibility::{OutputOnTestFinished, OutputStoreFinal};
 use std::alloc::AllocError;
 
 /// Adds what is written as a test finishes: its line, if the line or its outputs are due at once, and then its
 /// outputs, if they are. It adds nothing where nothing is due, or where the test isn't finished. It fails only on
-/// allocation: then a part of it may stand behind the text, of which nothing is lost.
+/// allocation, and then the text stays as it was.
 pub fn push_done(text: &mut String, shows: &Shows, test: &ToldTest<'_>) -> Result<(), AllocError>
+    ensures ok { OnOk result (Adds (IsDone shows.now test.now) (string_bytes text.old) (string_bytes text.new)) }
+    ensures err { OnErr result (string_bytes text.new ≡ string_bytes text.old) }
+{
+    let length = text.len();
+    match push_if_due(text, shows, test) {
+        Ok(()) => Ok(()),
+        Err(error) => {
+            take_back(text, length);
+            Err(error)
+        }
+    }
+}
+
+/// Adds the part of a test in the final text: its line, a line for each of its ended attempts and then its outputs,
+/// if they are to stand there. Of a finished test of which nothing is kept it adds nothing. It fails only on
+/// allocation, and then the text stays as it was.
+pub fn push_shown(text: &mut String, shows: &Shows, test: &ToldTest<'_>) -> Result<(), AllocError>
+    ensures ok { OnOk result (Adds (IsShown shows.now test.now) (string_bytes text.old) (string_bytes text.new)) }
+    ensures err { OnErr result (string_bytes text.new ≡ string_bytes text.old) }
+{
+    let length = text.len();
+    match push_if_kept(text, shows, test) {
+        Ok(()) => Ok(()),
+        Err(error) => {
+            take_back(text, length);
+            Err(error)
+        }
+    }
+}
+
+// Adds what is due of a test as it finishes, if anything is.
+fn push_if_due(text: &mut String, shows: &Shows, test: &ToldTest<'_>) -> Result<(), AllocError>
     ensures ok { OnOk result (Adds (IsDone shows.now test.now) (string_bytes text.old) (string_bytes text.new)) }
     ensures kept { Extends (string_bytes text.old) (string_bytes text.new) }
 {
@@ -27,10 +60,8 @@ pub fn push_done(text: &mut String, shows: &Shows, test: &ToldTest<'_>) -> Resul
     }
 }
 
-/// Adds the part of a test in the final text: its line, a line for each of its ended attempts and then its outputs,
-/// if they are to stand there. Of a finished test of which nothing is kept it adds nothing. It fails only on allocation: then a
-/// part of it may stand behind the text, of which nothing is lost.
-pub fn push_shown(text: &mut String, shows: &Shows, test: &ToldTest<'_>) -> Result<(), AllocError>
+// Adds the part of a test in the final text, if it has one.
+fn push_if_kept(text: &mut String, shows: &Shows, test: &ToldTest<'_>) -> Result<(), AllocError>
     ensures ok { OnOk result (Adds (IsShown shows.now test.now) (string_bytes text.old) (string_bytes text.new)) }
     ensures kept { Extends (string_bytes text.old) (string_bytes text.new) }
 {

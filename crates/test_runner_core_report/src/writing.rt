@@ -1,5 +1,6 @@
 // Writing to a text.
-ghost use Rattle.std.specs.Prelude.{◌≡◌, ◌≤◌, [], ◌∷◌, ◌++◌, OnOk, length, string_bytes};
+ghost use Rattle.std.specs.Prelude.{◌≡◌, ◌≤◌, [], ◌∷◌, ◌++◌, OnOk, length, string_bytes, take};
+ghost use Rattle.std.specs.Str.{IsUtf8};
 ghost use Rattle.hex.specs.Hex.{encode_lower};
 ghost use Rattle.test_runner_core_report.specs.Writing.{Extends};
 
@@ -63,4 +64,12 @@ fn push_chunk(text: &mut String, bytes: &[u8]) -> Result<(), AllocError>
         Ok(digits) => push_text(text, digits),
         Err(_) => unreachable!(),
     }
+}
+
+// Takes back what stands behind the first bytes of the text, so many, that were the whole text before.
+pub(crate) fn take_back(text: &mut String, length: usize)
+    requires { IsUtf8 (take length (string_bytes text.old)) }
+    ensures { string_bytes text.new ≡ take length (string_bytes text.old) }
+{
+    text.truncate(length);
 }

@@ -1,11 +1,6 @@
-use Rattle.std.proofs.Common.{Option, sym, subst, ◌∙◌, string_bytes}
-use Rattle.std.specs.Prelude.{OnOk}
-use Rattle.nextest_run_events_visibility.specs.declared.visibility.OutputOnTestFinished.{OutputOnTestFinished}
-use Rattle.test_runner_core_report.specs.Report.{IsDoneBy}
-use Rattle.test_runner_core_report.specs.Writing.{Adds}
+use Rattle.std.proofs.Common.{string_bytes, ◌∙◌}
+use Rattle.test_runner_core_report.proofs.Fronts.{front_utf8, length_known}
 use Rattle.test_runner_core_report.proofs.report.push_done.Goals as goal
 
-pub returns-in-Some-clause-ok : goal.returns-in-Some-clause-ok
-returns-in-Some-clause-ok c =
-    subst (λ (due : Option OutputOnTestFinished). OnOk c.push_due.result (Adds (IsDoneBy due c.args.test.now) (string_bytes c.args.text.now) (string_bytes c.push_due.new.text)))
-    (sym c.in-Some.is ∙ c.due.ensures) c.push_due.ensures.ok
+pub take_back-requires : goal.take_back-requires
+take_back-requires c = front_utf8 c.args.text.now (string_bytes c.push_if_due.new.text) c.len-length.result (c.len-length.ensures ∙ length_known c.args.text.now) c.push_if_due.ensures.kept

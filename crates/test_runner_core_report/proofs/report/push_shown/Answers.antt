@@ -1,11 +1,6 @@
-use Rattle.std.proofs.Common.{sym, subst, ap, ◌∙◌, string_bytes}
-use Rattle.std.specs.Prelude.{OnOk}
-use Rattle.nextest_run_events_visibility.specs.declared.visibility.OutputStoreFinal.{OutputStoreFinal}
-use Rattle.test_runner_core_report.specs.Report.{IsShownBy, kept_of}
-use Rattle.test_runner_core_report.specs.Writing.{Adds}
+use Rattle.std.proofs.Common.{string_bytes, ◌∙◌}
+use Rattle.test_runner_core_report.proofs.Fronts.{front_utf8, length_known}
 use Rattle.test_runner_core_report.proofs.report.push_shown.Goals as goal
 
-pub returns-in-Yes-clause-ok : goal.returns-in-Yes-clause-ok
-returns-in-Yes-clause-ok c =
-    subst (λ (kept : OutputStoreFinal). OnOk c.push_kept.result (Adds (IsShownBy kept c.args.test.now) (string_bytes c.args.text.now) (string_bytes c.push_kept.new.text)))
-    (sym c.in-Yes.is ∙ c.kept_of.ensures ∙ ap kept_of c.due.ensures) c.push_kept.ensures.ok
+pub take_back-requires : goal.take_back-requires
+take_back-requires c = front_utf8 c.args.text.now (string_bytes c.push_if_kept.new.text) c.len-length.result (c.len-length.ensures ∙ length_known c.args.text.now) c.push_if_kept.ensures.kept
