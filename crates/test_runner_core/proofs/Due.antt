@@ -44,12 +44,12 @@ use Rattle.test_runner_core_workspace.specs.declared.record.Binary.{Binary}
 use Rattle.test_runner_core.specs.Judging.{event_of, Judges}
 use Rattle.test_runner_core.specs.Outcome.{LogAgrees, TellsNoStop}
 
--- events that lead from one state to another, agree with an assignment and are no stops
-pub record Told (assigned : Assignment) (old new : State) : Type 0 where
+-- the events of a log, which lead from one state to another and agree with an assignment, and are no stops where the log tells none
+pub record Told (assigned : Assignment) (log : List Item) (old new : State) : Type 0 where
   pub events : List Event
   pub run : Run old events new
   pub agrees : Agrees assigned old events
-  pub unstopped : AllByRecursion IsNoStop events
+  pub unstopped : TellsNoStop log → AllByRecursion IsNoStop events
 
 -- a line that spells no stop has an event that is none
 no_stop : (state : SessionState) (line : LogLine) (bytes : List ℕ) → Spells line bytes → ((reason : CancelReason) → Spells (lines.Stop reason) bytes → ⊥)
@@ -60,15 +60,17 @@ no_stop state (lines.End binary name told) bytes spells quiet = tt
 no_stop state (lines.Stop reason) bytes spells quiet = quiet reason spells
 
 pub events_told : (assigned : Assignment) (number : ℕ) (old new : SessionState) (log : List Item)
-    → Judges number old log None new → LogAgrees assigned old log → TellsNoStop log → Told assigned old.run new.run
-events_told assigned number old new [] judged agrees quiet =
-    record { events = []; run = ap (λ (s : SessionState). s.run) judged; agrees = tt; unstopped = tt }
-events_told assigned number old new (Line bytes ∷ more) (inl (mid, inl (empty, same), judged)) agrees quiet =
+    → Judges number old log None new → LogAgrees assigned old log → Told assigned log old.run new.run
+events_told assigned number old new [] judged agrees =
+    record { events = []; run = ap (λ (s : SessionState). s.run) judged; agrees = tt; unstopped = λ quiet. tt }
+events_told assigned number old new (Line bytes ∷ more) (inl (mid, inl (empty, same), judged)) agrees =
+    let rest =
     events_told assigned (number + 1) old new more
-    (subst (λ (s : SessionState). Judges (number + 1) s more None new) same judged) (agrees.0 empty) quiet.1
-events_told assigned number old new (Line bytes ∷ more) (inl (mid, inr (line, spells, follows), judged)) agrees quiet =
+    (subst (λ (s : SessionState). Judges (number + 1) s more None new) same judged) (agrees.0 empty) in
+    record { events = rest.events; run = rest.run; agrees = rest.agrees; unstopped = λ quiet. rest.unstopped quiet.1 }
+events_told assigned number old new (Line bytes ∷ more) (inl (mid, inr (line, spells, follows), judged)) agrees =
     let here = agrees.1 line spells in
-    let rest = events_told assigned (number + 1) mid new more judged (here.1 mid follows) quiet.1 in
+    let rest = events_told assigned (number + 1) mid new more judged (here.1 mid follows) in
     record {
       events = event_of old line ∷ rest.events;
       run = (mid.run, follows.taken, rest.run);
@@ -77,10 +79,10 @@ events_told assigned number old new (Line bytes ∷ more) (inl (mid, inr (line, 
         λ (s : State) (e : step old.run (event_of old line) ≡ Ok s).
             subst (λ (t : State). Agrees assigned t rest.events) (let taken = follows.taken in cc) rest.agrees,
       );
-      unstopped = (no_stop old line bytes spells quiet.0, rest.unstopped);
+      unstopped = λ quiet. (no_stop old line bytes spells quiet.0, rest.unstopped quiet.1);
     }
-events_told assigned number old new (Line bytes ∷ more) (inr (refusal, refuses, found, same)) agrees quiet = absurd (cc)
-events_told assigned number old new (Refused fault ∷ more) judged agrees quiet = absurd (let e = judged.0 in cc)
+events_told assigned number old new (Line bytes ∷ more) (inr (refusal, refuses, found, same)) agrees = absurd (cc)
+events_told assigned number old new (Refused fault ∷ more) judged agrees = absurd (let e = judged.0 in cc)
 
 -- what holds of each value that is given
 abbrev Holds : {A : Type 0} → Result A PlanFault → (A → Type 0) → Type 0

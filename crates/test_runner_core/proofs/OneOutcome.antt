@@ -1,19 +1,20 @@
 -- A run comes to one judgement, and an unrefused one to the status that is due.
-use Rattle.std.proofs.Common.{◌≡◌, List, Option, Some, None, Err, true, refl, sym, ap, ◌∙◌, subst}
+use Rattle.std.proofs.Common.{◌≡◌, ℕ, List, Option, Some, None, Err, true, refl, sym, ap, ◌∙◌, subst}
 use Rattle.test_runner_core_inputs.specs.declared.inputs.Inputs.{Inputs}
 use Rattle.test_runner_core_log_reader.specs.Items.{Item}
 use Rattle.test_runner_core_plan.specs.Plan.{planned}
 use Rattle.test_runner_core_plan.specs.declared.plan.Plan.{Plan}
 use Rattle.test_runner_core_plan.specs.declared.plan_fault.PlanFault.{PlanFault}
 use Rattle.test_runner_core_runs.proofs.DueStatus.{ends_with_due_status}
+use Rattle.test_runner_core_runs.proofs.NoMilder.{ends_no_milder}
 use Rattle.test_runner_core_runs.specs.Assignment.{Assignment, due_status}
 use Rattle.test_runner_core_runs.specs.Counters.{status}
-use Rattle.test_runner_core_runs.specs.Runs.{is_complete}
+use Rattle.test_runner_core_runs.specs.Runs.{IsNoMilder, is_complete}
 use Rattle.test_runner_core_session.specs.Session.{SessionState, run_plan, session_of}
 use Rattle.test_runner_core_workspace.specs.Lister.{Answer}
 use Rattle.test_runner_core_workspace.specs.declared.record.Binary.{Binary}
 use Rattle.test_runner_core.specs.Judging.{Judges}
-use Rattle.test_runner_core.specs.Laws.{EndsWithDueStatus, OneOutcome}
+use Rattle.test_runner_core.specs.Laws.{EndsNoMilder, EndsWithDueStatus, OneOutcome}
 use Rattle.test_runner_core.specs.Outcome.{LogAgrees, TellsNoStop, Ran, end_of}
 use Rattle.test_runner_core.specs.Report.{exit_status}
 use Rattle.test_runner_core.specs.declared.judgement.Judgement.TheVariants as it
@@ -26,9 +27,18 @@ run_is_due : (answer : Binary → Answer) (inputs : Inputs) (assigned : Assignme
     (ran : Ran answer inputs log None last) → LogAgrees assigned (session_of ran.plan) log → TellsNoStop log → is_complete last.run ≡ true
     → status last.run ≡ due_status (run_plan ran.plan) assigned
 run_is_due answer inputs assigned log last ran agrees quiet complete =
-    let told = events_told assigned 1 (session_of ran.plan) last log ran.judged agrees quiet in
+    let told = events_told assigned 1 (session_of ran.plan) last log ran.judged agrees in
     let is_plan = built_is_plan answer inputs ran.built.0 ran.plan ran.built.1 ran.built.2 in
-    ends_with_due_status (run_plan ran.plan) assigned told.events last.run is_plan told.run told.agrees told.unstopped complete
+    ends_with_due_status (run_plan ran.plan) assigned told.events last.run is_plan told.run told.agrees (told.unstopped quiet) complete
+
+-- and one that is cut, or is told to stop, with that or a graver one
+run_is_no_milder : (answer : Binary → Answer) (inputs : Inputs) (assigned : Assignment) (log : List Item) (last : SessionState)
+    (ran : Ran answer inputs log None last) → LogAgrees assigned (session_of ran.plan) log
+    → IsNoMilder (status last.run) (due_status (run_plan ran.plan) assigned)
+run_is_no_milder answer inputs assigned log last ran agrees =
+    let told = events_told assigned 1 (session_of ran.plan) last log ran.judged agrees in
+    let is_plan = built_is_plan answer inputs ran.built.0 ran.plan ran.built.1 ran.built.2 in
+    ends_no_milder (run_plan ran.plan) assigned told.events last.run is_plan told.run told.agrees
 
 -- two runs of the same inputs and log end alike
 pub ran_once : (answer : Binary → Answer) (inputs : Inputs) (log : List Item) (one other : Option RefusedLine) (a b : SessionState)
@@ -67,3 +77,8 @@ pub outcome_is_due : EndsWithDueStatus
 outcome_is_due answer inputs log judgement comes assigned last ran agrees quiet complete =
     ap exit_status (one_outcome answer inputs log judgement (it.Ended (end_of last.run)) comes (last, ran, refl))
     ∙ run_is_due answer inputs assigned log last ran agrees quiet complete
+
+pub outcome_is_no_milder : EndsNoMilder
+outcome_is_no_milder answer inputs log judgement comes assigned last ran agrees =
+    let same = ap exit_status (one_outcome answer inputs log judgement (it.Ended (end_of last.run)) comes (last, ran, refl)) in
+    subst (λ (code : ℕ). IsNoMilder code (due_status (run_plan ran.plan) assigned)) (sym same) (run_is_no_milder answer inputs assigned log last ran agrees)

@@ -14,13 +14,13 @@ use Rattle.test_runner_core_plan.specs.declared.plan_fault.PlanFault.{PlanFault}
 use Rattle.test_runner_core_workspace.specs.Lister.{Answer}
 use Rattle.test_runner_core_workspace.specs.declared.record.Binary.{Binary}
 use Rattle.test_runner_core.specs.Faults.{lacks_memory}
-use Rattle.test_runner_core.specs.Outcome.{HasNoPlan, IsDue, IsStreamDue, LineOutcome, Outcome, StreamOutcome, table_of}
+use Rattle.test_runner_core.specs.Outcome.{HasNoPlan, IsDue, IsNoMilderThanDue, IsStreamDue, IsStreamNoMilder, LineOutcome, Outcome, StreamOutcome, table_of}
 use Rattle.test_runner_core.specs.Report.{Reports, Writes}
 use Rattle.test_runner_core.specs.declared.judge_fault.JudgeFault.{JudgeFault}
 use Rattle.test_runner_core.specs.declared.judge_fault.JudgeFault.TheVariants as fault
 use Rattle.test_runner_core.specs.declared.judgement.Judgement.{Judgement}
 use Rattle.test_runner_core.specs.declared.judgement.Judgement.TheVariants as it
-use Rattle.test_runner_core.proofs.OneOutcome.{outcome_is_due}
+use Rattle.test_runner_core.proofs.OneOutcome.{outcome_is_due, outcome_is_no_milder}
 
 -- all were asked for, whatever came after
 pub asks_all : (result : Result ℕ JudgeFault) (old ids new : List (List ℕ)) → new ≡ old ++ ids → AsksFor (lacks_memory result) old ids new
@@ -53,6 +53,15 @@ status_is_due answer inputs judgement (Some bytes) (Ok code) before after comes 
     subst (λ (n : ℕ). IsDue answer inputs (items 0 bytes) n) (sym writes.0) (outcome_is_due answer inputs (items 0 bytes) judgement comes)
 status_is_due answer inputs judgement left (Err e) before after comes writes = tt
 
+-- and no milder than what is due
+pub status_is_no_milder : (answer : Binary → Answer) (inputs : Inputs) (judgement : Judgement) (left : Option (List ℕ)) (result : Result ℕ JudgeFault)
+    (before after : Option (List ℕ)) → IfSome left (λ bytes. Outcome answer inputs (items 0 bytes) judgement) → Writes result judgement before after
+    → IfOk result (λ code. IfSome left (λ bytes. IsNoMilderThanDue answer inputs (items 0 bytes) code))
+status_is_no_milder answer inputs judgement None (Ok code) before after comes writes = tt
+status_is_no_milder answer inputs judgement (Some bytes) (Ok code) before after comes writes =
+    subst (λ (n : ℕ). IsNoMilderThanDue answer inputs (items 0 bytes) n) (sym writes.0) (outcome_is_no_milder answer inputs (items 0 bytes) judgement comes)
+status_is_no_milder answer inputs judgement left (Err e) before after comes writes = tt
+
 -- the same of a stream
 pub stream_status_is_due : (judgement : Judgement) (left : Option (List ℕ)) (result : Result ℕ JudgeFault) (before after : Option (List ℕ))
     → IfSome left (λ bytes. StreamOutcome bytes judgement) → Writes result judgement before after
@@ -64,6 +73,17 @@ stream_status_is_due judgement (Some bytes) (Ok code) before after comes writes 
     let outcome : Outcome (table_of inputs) inputs log judgement = subst (λ (r : Result Inputs InputsRefusal). LineOutcome r log judgement) read comes in
     subst (λ (n : ℕ). IsDue (table_of inputs) inputs log n) (sym writes.0) (outcome_is_due (table_of inputs) inputs log judgement outcome)
 stream_status_is_due judgement left (Err e) before after comes writes = tt
+
+pub stream_status_is_no_milder : (judgement : Judgement) (left : Option (List ℕ)) (result : Result ℕ JudgeFault) (before after : Option (List ℕ))
+    → IfSome left (λ bytes. StreamOutcome bytes judgement) → Writes result judgement before after
+    → IfOk result (λ code. IfSome left (λ bytes. IsStreamNoMilder bytes code))
+stream_status_is_no_milder judgement None (Ok code) before after comes writes = tt
+stream_status_is_no_milder judgement (Some bytes) (Ok code) before after comes writes =
+    λ inputs read.
+    let log = items 0 (behind_feed bytes) in
+    let outcome : Outcome (table_of inputs) inputs log judgement = subst (λ (r : Result Inputs InputsRefusal). LineOutcome r log judgement) read comes in
+    subst (λ (n : ℕ). IsNoMilderThanDue (table_of inputs) inputs log n) (sym writes.0) (outcome_is_no_milder (table_of inputs) inputs log judgement outcome)
+stream_status_is_no_milder judgement left (Err e) before after comes writes = tt
 
 -- what the parts of a stream come to
 pub parts_come_to : (judgement : Judgement) (left rest : Option (List ℕ)) (lines : Cursor) → IfSome left (λ bytes. PartsAtFirst bytes (Some lines) rest)

@@ -13,7 +13,7 @@ use Rattle.test_runner_core_runs.specs.RunPlan.{IsPlan}
 use Rattle.test_runner_core_session.specs.Session.{run_plan}
 use Rattle.test_runner_core_workspace.specs.Lister.{Answer}
 use Rattle.test_runner_core_workspace.specs.declared.record.Binary.{Binary}
-use Rattle.test_runner_core.specs.Outcome.{IsDue, Outcome}
+use Rattle.test_runner_core.specs.Outcome.{IsDue, IsNoMilderThanDue, Outcome}
 use Rattle.test_runner_core.specs.Report.{exit_status}
 use Rattle.test_runner_core.specs.declared.judgement.Judgement.{Judgement}
 
@@ -28,6 +28,12 @@ abbrev pub EndsWithDueStatus : Type 0
 EndsWithDueStatus =
     (answer : Binary → Answer) (inputs : Inputs) (log : List Item) (it : Judgement) → Outcome answer inputs log it
     → IsDue answer inputs log (exit_status it)
+
+-- and no milder than what is due, where the log is cut or tells the run to stop
+abbrev pub EndsNoMilder : Type 0
+EndsNoMilder =
+    (answer : Binary → Answer) (inputs : Inputs) (log : List Item) (it : Judgement) → Outcome answer inputs log it
+    → IsNoMilderThanDue answer inputs log (exit_status it)
 
 -- a plan that was built is one in the sense of the laws over runs: each test has a try, a limit is one at least, and no script
 -- is to run without a test

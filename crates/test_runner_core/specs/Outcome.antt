@@ -17,7 +17,7 @@ use Rattle.test_runner_core_plan.specs.declared.plan_fault.PlanFault.{PlanFault}
 use Rattle.test_runner_core_plan.specs.declared.plan_fault.PlanFault.TheVariants as none
 use Rattle.test_runner_core_runs.specs.Assignment.{Assignment, due_status}
 use Rattle.test_runner_core_runs.specs.Counters.{counters, summary}
-use Rattle.test_runner_core_runs.specs.Runs.{EventAgrees, is_complete}
+use Rattle.test_runner_core_runs.specs.Runs.{EventAgrees, IsNoMilder, is_complete}
 use Rattle.test_runner_core_runs.specs.State.{State}
 use Rattle.test_runner_core_session.specs.Session.{SessionState, run_plan, session_of}
 use Rattle.test_runner_core_workspace.specs.Lister.{Answer, table_answer}
@@ -82,6 +82,13 @@ IsDue answer inputs log code =
     (assigned : Assignment) (last : SessionState) (ran : Ran answer inputs log None last) → LogAgrees assigned (session_of ran.plan) log
     → TellsNoStop log → is_complete last.run ≡ true → code ≡ due_status (run_plan ran.plan) assigned
 
+-- an exit status is no milder than what is due: wherever no line of the log is refused and the log agrees with an assignment,
+-- wherever it is cut and whoever told the run to stop, it is the status that is due to that assignment or a graver one
+abbrev pub IsNoMilderThanDue : (Binary → Answer) → Inputs → List Item → ℕ → Type 0
+IsNoMilderThanDue answer inputs log code =
+    (assigned : Assignment) (last : SessionState) (ran : Ran answer inputs log None last) → LogAgrees assigned (session_of ran.plan) log
+    → IsNoMilder code (due_status (run_plan ran.plan) assigned)
+
 -- what a binary answers by the inputs' own table
 abbrev pub table_of : Inputs → Binary → Answer
 table_of inputs binary = table_answer inputs.workspace binary.id
@@ -104,6 +111,12 @@ StreamOutcome bytes = LineOutcome (read_inputs (before_feed bytes)) (items 0 (be
 abbrev pub IsStreamDue : List ℕ → ℕ → Type 0
 IsStreamDue bytes code =
     (inputs : Inputs) → read_inputs (before_feed bytes) ≡ Ok inputs → IsDue (table_of inputs) inputs (items 0 (behind_feed bytes)) code
+
+-- and no milder than what is due
+abbrev pub IsStreamNoMilder : List ℕ → ℕ → Type 0
+IsStreamNoMilder bytes code =
+    (inputs : Inputs) → read_inputs (before_feed bytes) ≡ Ok inputs
+    → IsNoMilderThanDue (table_of inputs) inputs (items 0 (behind_feed bytes)) code
 
 -- whether memory was wanting
 abbrev pub wants_memory : {A : Type 0} → Result A LogFault → Bool

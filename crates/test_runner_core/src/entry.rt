@@ -7,7 +7,7 @@ ghost use Rattle.test_runner_core_inputs.specs.Reading.{read_inputs};
 ghost use Rattle.test_runner_core_log_reader.specs.Feeds.{before_feed};
 ghost use Rattle.test_runner_core_log_reader.specs.Items.{items};
 ghost use Rattle.test_runner_core.specs.Faults.{TellsRead, TellsWrite, lacks_memory};
-ghost use Rattle.test_runner_core.specs.Outcome.{HasNoPlan, IsDue, IsStreamDue, Outcome, StreamOutcome, table_of};
+ghost use Rattle.test_runner_core.specs.Outcome.{HasNoPlan, IsDue, IsNoMilderThanDue, IsStreamDue, IsStreamNoMilder, Outcome, StreamOutcome, table_of};
 ghost use Rattle.test_runner_core.specs.Report.{Reports, Writes};
 ghost use Rattle.test_runner_core_listing.specs.Listing.{AsksFor};
 ghost use Rattle.test_runner_core_plan.specs.Plan.{Builds, asked_for, wanted_in, planned};
@@ -27,8 +27,9 @@ use test_runner_core_workspace::{Lister, TableLister};
 /// listed binary, in the workspace's order, up to the first whose answer is refused, and for none where the inputs are
 /// refused before; nothing of the log is read where the inputs have no plan. A failed read or write is never tried
 /// again. Where no line is refused, the log agrees with an assignment and tells no stop, and the run is complete, the
-/// status is that assignment's due status. Where there is no memory the lister was asked for a front of these binaries.
-/// After any fault the report is cut: nothing of it is written where the reader or memory failed, else a front.
+/// status is that assignment's due status; where the log is cut, or tells a stop, it is that or a graver one. Where
+/// there is no memory the lister was asked for a front of these binaries. After any fault the report is cut: nothing of
+/// it is written where the reader or memory failed, else a front.
 pub fn judge<L: Lister, R: LogReader, W: ReportWriter>(
     alloc: Global,
     inputs: &Inputs,
@@ -41,6 +42,7 @@ pub fn judge<L: Lister, R: LogReader, W: ReportWriter>(
     requires writes_fit { W.failures report.old < 2 ^ 62 }
     ensures reports { Reports result (λ it. IfSome (R.left log.old) (λ bytes. Outcome (L.answer lister.old) inputs.now (items 0 bytes) it)) (W.taken report.old) (W.taken report.new) }
     ensures due { IfOk result (λ code. IfSome (R.left log.old) (λ bytes. IsDue (L.answer lister.old) inputs.now (items 0 bytes) code)) }
+    ensures no_milder { IfOk result (λ code. IfSome (R.left log.old) (λ bytes. IsNoMilderThanDue (L.answer lister.old) inputs.now (items 0 bytes) code)) }
     ensures stays { (other : Binary) → L.answer lister.new other ≡ L.answer lister.old other }
     ensures asks { AsksFor (lacks_memory result) (L.asked lister.old) (asked_for (L.answer lister.old) inputs.now (wanted_in inputs.now)) (L.asked lister.new) }
     ensures unread { (refusal : PlanFault) → planned (L.answer lister.old) inputs.now ≡ Err refusal → R.calls log.new ≡ R.calls log.old }
@@ -65,6 +67,7 @@ pub fn judge_stream<R: LogReader, W: ReportWriter>(
     requires writes_fit { W.failures report.old < 2 ^ 62 }
     ensures reports { Reports result (λ it. IfSome (R.left input.old) (λ bytes. StreamOutcome bytes it)) (W.taken report.old) (W.taken report.new) }
     ensures due { IfOk result (λ code. IfSome (R.left input.old) (λ bytes. IsStreamDue bytes code)) }
+    ensures no_milder { IfOk result (λ code. IfSome (R.left input.old) (λ bytes. IsStreamNoMilder bytes code)) }
     ensures unread { IfSome (R.left input.old) (λ bytes. HasNoPlan (read_inputs (before_feed bytes)) → R.calls input.new ≤ R.calls input.old + first_line_reads) }
     ensures reads { R.calls input.new ≤ R.calls input.old + first_line_reads + log_reads }
     ensures read_failures { TellsRead result (R.failures input.old) (R.failures input.new) (R.last_failed input.new) }

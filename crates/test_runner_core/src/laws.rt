@@ -1,5 +1,5 @@
 //! What holds of every run that a log tells. Each function does nothing, and its contract is the law.
-ghost use Rattle.test_runner_core.specs.Laws.{BuiltIsPlan, EndsWithDueStatus, HasExactlyTheWanted, OneOutcome};
+ghost use Rattle.test_runner_core.specs.Laws.{BuiltIsPlan, EndsNoMilder, EndsWithDueStatus, HasExactlyTheWanted, OneOutcome};
 
 /// Whatever the lister answers, inputs and a log come to one judgement.
 pub fn one_outcome()
@@ -10,6 +10,12 @@ pub fn one_outcome()
 /// run is complete, the exit status of what they come to is that assignment's due status.
 pub fn due_status()
     ensures { EndsWithDueStatus }
+{}
+
+/// Whatever the inputs: where no line of a log is refused and the log agrees with an assignment, cut after any line and with stops
+/// anywhere, the exit status of what they come to is that assignment's due status or a graver one.
+pub fn no_milder()
+    ensures { EndsNoMilder }
 {}
 
 /// A plan that was built is a plan of the laws over runs, so these hold of each session of it.
