@@ -215,7 +215,7 @@ going_ends plan assigned state ok tracks now over all = by_script (list_any fail
         ∙ sym (due_of_tests plan assigned (sym (ended_scripts plan assigned state tracks.keeps over) ∙ e))
 
 -- what complete says where no reason stands
-complete_going : (state : State) → state.reason ≡ None → is_complete state ≡ true → (length state.scripts ≡ state.planned_scripts) × (list_all is_finished state.tests ≡ true)
+pub complete_going : (state : State) → state.reason ≡ None → is_complete state ≡ true → (length state.scripts ≡ state.planned_scripts) × (list_all is_finished state.tests ≡ true)
 complete_going state going complete =
     by_tests (eqb (length state.scripts) state.planned_scripts) (list_all is_finished state.tests) (is_some state.reason) _ refl refl (ap is_some going) complete
   where

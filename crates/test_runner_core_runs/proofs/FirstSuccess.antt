@@ -13,6 +13,7 @@ use Rattle.nextest_run_events_counters.specs.Rows.{Finished, fails_test, forbids
 use Rattle.nextest_run_events_results.specs.declared.record.Record.{Record}
 use Rattle.test_runner_core_runs.specs.declared.run_test.RunTest.{RunTest}
 use Rattle.test_runner_core_runs.specs.Assignment.{first_success, found_or, fails, fails_by_first}
+use Rattle.test_runner_core_runs.specs.Ends.{tried}
 use Rattle.test_runner_core_runs.specs.State.{TestState, counts, is_finished, is_finished_mark, last_record, finished_as}
 use Rattle.test_runner_core_runs.specs.declared.mark.Mark.{Mark}
 use Rattle.test_runner_core_runs.specs.declared.mark.Mark.TheVariants as marks
@@ -42,11 +43,6 @@ failure_fails (ended.Fail failure leaked) slow late flaky h = refl
 failure_fails ended.ExecFail slow late flaky h = refl
 failure_fails (ended.Timeout timeout_judged.Pass) slow late flaky h = cc
 failure_fails (ended.Timeout timeout_judged.Fail) slow late flaky h = refl
-
--- the records of the first tries
-abbrev pub tried : (ℕ → Record) → ℕ → List Record
-tried attempt zero = []
-tried attempt (suc tries) = tried attempt tries ++ attempt (suc tries) ∷ []
 
 -- the element behind others
 slice_get-last : (xs : List Record) (x : Record) → slice_get (xs ++ x ∷ []) (length xs) ≡ Some x

@@ -12,6 +12,7 @@ use Rattle.nextest_run_events_counters.specs.Rows.{fails_test}
 use Rattle.nextest_run_events_results.specs.declared.record.Record.{Record}
 use Rattle.test_runner_core_runs.specs.RunPlan.{RunPlan, IsPlan}
 use Rattle.test_runner_core_runs.specs.Assignment.{Assignment, first_success, found_or}
+use Rattle.test_runner_core_runs.specs.Ends.{tried}
 use Rattle.test_runner_core_runs.specs.State.{TestState, State, initial, counts, is_finished, is_finished_mark, last_record, finished_as, failed_weight}
 use Rattle.test_runner_core_runs.specs.Step.{step, with_test, after_attempt, finishes, finished_by, stopped_mark, limited, limit_reason, stopped_by}
 use Rattle.test_runner_core_runs.specs.Runs.{Run, Agrees, AgreesWith, EventAgrees}
@@ -20,7 +21,7 @@ use Rattle.test_runner_core_runs.specs.declared.mark.Mark.TheVariants as marks
 use Rattle.test_runner_core_runs.specs.declared.event.Event.{Event}
 use Rattle.test_runner_core_runs.specs.declared.event.Event.TheVariants as events
 use Rattle.test_runner_core_runs.specs.declared.step_refusal.StepRefusal.TheVariants as refused
-use Rattle.test_runner_core_runs.proofs.FirstSuccess.{Fits, FitsMark, tried, failure_fails, last_record-push, unfinished_counts}
+use Rattle.test_runner_core_runs.proofs.FirstSuccess.{Fits, FitsMark, failure_fails, last_record-push, unfinished_counts}
 use Rattle.test_runner_core_runs.proofs.TestStates.{AllBeside, beside_at, beside_set, counts_stopped, fits_after, fits_started, fits_initial}
 use Rattle.test_runner_core_runs.proofs.Scripts.{guard_ok, ok_is}
 use Rattle.test_runner_core_runs.proofs.Keeping.{Keeps, keeps_initial, keeps_stopped, keeps_script, keeps_set, script_shows, start_shows, end_shows}

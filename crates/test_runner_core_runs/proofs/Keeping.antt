@@ -8,13 +8,14 @@ use Rattle.nextest_run_events_results.specs.Result.{is_success}
 use Rattle.nextest_run_events_results.specs.declared.record.Record.{Record}
 use Rattle.test_runner_core_runs.specs.RunPlan.{RunPlan}
 use Rattle.test_runner_core_runs.specs.Assignment.{Assignment}
-use Rattle.test_runner_core_runs.specs.State.{TestState, State, initial, is_finished, is_finished_mark}
+use Rattle.test_runner_core_runs.specs.Ends.{first_scripts}
+use Rattle.test_runner_core_runs.specs.State.{TestState, State, initial, is_finished, is_finished_mark, is_running, is_running_mark}
 use Rattle.test_runner_core_runs.specs.Step.{script_ended, after_script, started, start_of, start_from, attempt_ended, end_from, with_test, after_attempt, finishes, limited, stopped_by}
 use Rattle.test_runner_core_runs.specs.declared.mark.Mark.{Mark}
 use Rattle.test_runner_core_runs.specs.declared.mark.Mark.TheVariants as marks
 use Rattle.test_runner_core_runs.specs.declared.step_refusal.StepRefusal.TheVariants as refused
 use Rattle.test_runner_core_runs.proofs.TestStates.{plan_of, plans_set, plans_stopped, plans_initial}
-use Rattle.test_runner_core_runs.proofs.Scripts.{first_scripts, guard_ok, found_ok, ok_is}
+use Rattle.test_runner_core_runs.proofs.Scripts.{guard_ok, found_ok, ok_is}
 
 none_of : (o : Option CancelReason) → is_some o ≡ false → o ≡ None
 none_of None h = refl
@@ -40,13 +41,14 @@ script_shows old new script told happens =
     let e = known.0 in
     record { going = none_of old.reason free.0; next = place; less = grind (arith, nat_tests); is = ok_is (after_script old told) new in_order.1 }
 
--- a test that started: no reason stood, all scripts had ended, and it wasn't finished
+-- a test that started: no reason stood, all scripts had ended, and it neither ran nor was finished
 pub record StartShows (old new : State) (place : ℕ) : Type 0 where
   pub test : TestState
   pub found : slice_get old.tests place ≡ Some test
   pub going : old.reason ≡ None
   pub over : ltb (length old.scripts) old.planned_scripts ≡ false
   pub unfinished : is_finished test ≡ false
+  pub idle : is_running test ≡ false
   pub is : new ≡ with_test old place (record test { mark = marks.Running })
 
 pub start_shows : (old new : State) (place : ℕ) → started old place ≡ Ok new → StartShows old new place
@@ -59,10 +61,10 @@ start_shows old new place happens =
     by_mark : (test : TestState) → slice_get old.tests place ≡ Some test → old.reason ≡ None → ltb (length old.scripts) old.planned_scripts ≡ false
         → (mark : Mark) → test.mark ≡ mark → start_from old place test mark ≡ Ok new → StartShows old new place
     by_mark test at none ended marks.Waiting m happens' =
-        record { test = test; found = at; going = none; over = ended; unfinished = ap is_finished_mark m; is = ok_is _ new happens' }
+        record { test = test; found = at; going = none; over = ended; unfinished = ap is_finished_mark m; idle = ap is_running_mark m; is = ok_is _ new happens' }
     by_mark test at none ended marks.Running m happens' = cc
     by_mark test at none ended marks.Between m happens' =
-        record { test = test; found = at; going = none; over = ended; unfinished = ap is_finished_mark m; is = ok_is _ new happens' }
+        record { test = test; found = at; going = none; over = ended; unfinished = ap is_finished_mark m; idle = ap is_running_mark m; is = ok_is _ new happens' }
     by_mark test at none ended (marks.Finished kept) m happens' = cc
 
 -- an attempt that ended: its test ran

@@ -8,3 +8,9 @@ pub mod DueStatus
 pub mod Taken
 pub mod Holding
 pub mod NoMilder
+pub mod Finishing
+pub mod Reasons
+pub mod WholeRuns
+pub mod OneEnd
+pub mod Spending
+pub mod GoingOn

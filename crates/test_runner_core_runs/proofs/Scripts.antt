@@ -6,11 +6,7 @@ use Rattle.std.proofs.lemmas.Bool.{cases_lt}
 use Rattle.std.proofs.lemmas.List.Folds.{list_any-append}
 use Rattle.nextest_run_events_results.specs.declared.record.Record.{Record}
 use Rattle.test_runner_core_runs.specs.Assignment.{some_script}
-
--- the records of the first scripts
-abbrev pub first_scripts : (ℕ → Record) → ℕ → List Record
-first_scripts script zero = []
-first_scripts script (suc scripts) = first_scripts script scripts ++ script scripts ∷ []
+use Rattle.test_runner_core_runs.specs.Ends.{first_scripts}
 
 pub any_push : (test : Record → Bool) (told : List Record) (last : Record) → list_any test (told ++ last ∷ []) ≡ (list_any test told || test last)
 any_push test told last = list_any-append test told (last ∷ []) ∙ ap (λ (b : Bool). list_any test told || b) (or_false (test last))

@@ -10,11 +10,12 @@ use Rattle.nextest_run_events_counters.specs.Rows.{Finished, fails_test}
 use Rattle.nextest_run_events_results.specs.declared.record.Record.{Record}
 use Rattle.test_runner_core_runs.specs.declared.run_test.RunTest.{RunTest}
 use Rattle.test_runner_core_runs.specs.Assignment.{first_success, found_or, fails, some_test_fails}
+use Rattle.test_runner_core_runs.specs.Ends.{tried}
 use Rattle.test_runner_core_runs.specs.State.{TestState, State, waiting, counts, is_finished, is_finished_mark}
 use Rattle.test_runner_core_runs.specs.Step.{finished_by, stopped_mark, after_attempt, finishes}
 use Rattle.test_runner_core_runs.specs.declared.mark.Mark.{Mark}
 use Rattle.test_runner_core_runs.specs.declared.mark.Mark.TheVariants as marks
-use Rattle.test_runner_core_runs.proofs.FirstSuccess.{Fits, FitsMark, tried, finished_counts, unfinished_counts}
+use Rattle.test_runner_core_runs.proofs.FirstSuccess.{Fits, FitsMark, finished_counts, unfinished_counts}
 
 abbrev pub plan_of : TestState → RunTest
 plan_of test = test.plan

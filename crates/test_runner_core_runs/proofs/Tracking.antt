@@ -150,7 +150,7 @@ step_start plan assigned old new place tracks happens =
 -- an attempt ends
 
 -- where a limit that is one is reached, something weighs
-reaches : (limit : MaxFail) (weighed : ℕ) (mode : TerminateMode) → IsLimit limit → mode_at limit weighed ≡ Some mode → 0 < weighed
+pub reaches : (limit : MaxFail) (weighed : ℕ) (mode : TerminateMode) → IsLimit limit → mode_at limit weighed ≡ Some mode → 0 < weighed
 reaches (limits.Count max_fail terminate) weighed mode ok h = by_test (leb max_fail weighed) refl h
   where
     by_test : (b : Bool) → leb max_fail weighed ≡ b → cond b (Some terminate) None ≡ Some mode → 0 < weighed
@@ -261,7 +261,7 @@ step_end plan assigned old new place told ok tracks happens agrees =
 
 -- each step of such a run, and so the whole run
 
-step_tracks : (plan : RunPlan) (assigned : Assignment) (old new : State) (event : Event) → IsLimit plan.limit → Tracks plan assigned old
+pub step_tracks : (plan : RunPlan) (assigned : Assignment) (old new : State) (event : Event) → IsLimit plan.limit → Tracks plan assigned old
     → step old event ≡ Ok new → EventAgrees assigned old event → IsNoStop event → Tracks plan assigned new
 step_tracks plan assigned old new (events.ScriptEnded script told) ok tracks happens agrees plain = step_script plan assigned old new script told tracks happens agrees
 step_tracks plan assigned old new (events.Started test) ok tracks happens agrees plain = step_start plan assigned old new test tracks happens

@@ -4,6 +4,8 @@ pub mod State
 pub mod Counters
 pub mod Step
 pub mod Runs
+pub mod Finishing
 pub mod Decisions
+pub mod Ends
 pub mod Laws
 pub mod WorkedRows

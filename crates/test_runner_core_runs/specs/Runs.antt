@@ -1,10 +1,11 @@
 -- Whole runs: what they are, when they are complete, and when they agree with an assignment.
-use Rattle.std.specs.Prelude.{◌≡◌, ℕ, ◌+◌, ◌==◌, Bool, false, ◌&&◌, ◌||◌, not, length, List, [], ◌∷◌, Option, None, Some, Ok, is_some, slice_get, ⊤, ◌⊎◌}
+use Rattle.std.specs.Prelude.{◌≡◌, ℕ, ◌+◌, ◌*◌, ◌==◌, Bool, true, false, ◌&&◌, ◌||◌, not, length, List, [], ◌∷◌, Option, None, Some, Ok, is_some, slice_get, sum_by, ⊤, ◌⊎◌}
 use Rattle.std.specs.List.{list_all}
 use Rattle.std.specs.Option.{option_map_or}
 use Rattle.nextest_run_events_results.specs.Result.{is_success}
 use Rattle.nextest_run_events_results.specs.declared.cancel_reason.CancelReason.{CancelReason}
 use Rattle.nextest_run_events_results.specs.declared.record.Record.{Record}
+use Rattle.test_runner_core_runs.specs.RunPlan.{RunPlan}
 use Rattle.test_runner_core_runs.specs.Assignment.{Assignment}
 use Rattle.test_runner_core_runs.specs.State.{TestState, State, is_finished, is_running}
 use Rattle.test_runner_core_runs.specs.Step.{step}
@@ -49,6 +50,17 @@ IsNoStop (events.ScriptEnded script told) = ⊤
 IsNoStop (events.Started test) = ⊤
 IsNoStop (events.Ended test told) = ⊤
 IsNoStop (events.Stopped reason) = ⊥
+
+-- an event is no stop
+abbrev pub is_no_stop : Event → Bool
+is_no_stop (events.ScriptEnded script told) = true
+is_no_stop (events.Started test) = true
+is_no_stop (events.Ended test told) = true
+is_no_stop (events.Stopped reason) = false
+
+-- so many events other than stops a run has at most: one for each script, and two for each try of a test
+abbrev pub most_events : RunPlan → ℕ
+most_events plan = plan.scripts + 2 * sum_by (λ test. test.tries) plan.tests
 
 -- a status is graver than another: 100 than 0, 105 than both; 4 is comparable with itself alone
 abbrev pub IsGraver : ℕ → ℕ → Type 0

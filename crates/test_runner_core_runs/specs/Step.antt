@@ -1,5 +1,5 @@
 -- The step that an event takes, or why it takes none.
-use Rattle.std.specs.Prelude.{ℕ, ◌+◌, ◌==◌, Bool, true, false, ◌&&◌, ◌||◌, not, length, [], ◌∷◌, ◌++◌, Some, Result, Ok, Err, map, is_some, nat_lt, nat_le, slice_get, slice_set, if◌then◌else◌}
+use Rattle.std.specs.Prelude.{ℕ, ◌+◌, ◌==◌, Bool, ◌&&◌, ◌||◌, not, length, [], ◌∷◌, ◌++◌, Some, Result, Ok, Err, map, is_some, nat_lt, nat_le, slice_get, slice_set, if◌then◌else◌}
 use Rattle.std.specs.Option.{option_map_or}
 use Rattle.nextest_config_elements_plain.specs.MaxFail.{mode_at}
 use Rattle.nextest_config_elements_plain.specs.declared.max_fail.TerminateMode.{TerminateMode}
