@@ -5,8 +5,9 @@ use Rattle.test_runner_core_workspace.specs.declared.record.Binary.{Binary}
 use Rattle.test_runner_core_listing.specs.Listing.{◌>>=◌, accepted, asked_of, asked_after, Adds, Asks}
 use Rattle.test_runner_core_listing.specs.declared.filter.Filter.{Filter}
 use Rattle.test_runner_core_listing.specs.declared.selection.Selection.{Selection}
+use Rattle.test_runner_core_listing.specs.declared.listing_error.ListingError.{ListingError}
+use Rattle.test_runner_core_listing.specs.declared.listing_error.ListingError.TheVariants as errors
 use Rattle.test_runner_core_listing.specs.declared.listing_fault.ListingFault.{ListingFault}
-use Rattle.test_runner_core_listing.specs.declared.listing_fault.ListingFault.TheVariants as refused
 
 -- what was found so far, and then what the rest gives
 abbrev pub behind : Selection → Result Selection ListingFault → Result Selection ListingFault
@@ -20,20 +21,14 @@ known_end answer binary more refusal initial walked old new all known asked befo
     ahead ∙ ap (λ (read : Result (List (List ℕ)) ListingFault). walked ++ binary.id ∷ asked_after read (asked_of answer more)) known in
     asked ∙ ap (λ (ids : List (List ℕ)). ids ++ binary.id ∷ []) before ∙ append_assoc initial walked (binary.id ∷ []) ∙ ap (λ (ids : List (List ℕ)). initial ++ ids) (sym last)
 
--- what was asked for, where a binary is refused
-pub asks_refused : (refusal : ListingFault) (answer : Binary → Answer) (chosen : Filter) (binary : Binary) (more : List Binary) (found new_found : Selection) (initial walked old new all : List (List ℕ))
-    → Adds {T = Unit {0}} (Err refusal) (accepted (answer binary)) chosen binary found new_found → Asks {T = Unit {0}} (Err refusal) old (binary.id ∷ []) new
+-- what was asked for, where a binary is refused or memory was wanting
+pub asks_refused : (error : ListingError) (answer : Binary → Answer) (chosen : Filter) (binary : Binary) (more : List Binary) (found new_found : Selection) (initial walked old new all : List (List ℕ))
+    → Adds {T = Unit {0}} (Err error) (accepted (answer binary)) chosen binary found new_found → Asks {T = Unit {0}} (Err error) old (binary.id ∷ []) new
     → old ≡ initial ++ walked → all ≡ walked ++ asked_of answer (binary ∷ more)
-    → Asks {T = Selection} (Err refusal) initial all new
-asks_refused (refused.ListFault cause) answer chosen binary more found new_found initial walked old new all adds asks before ahead =
-    known_end answer binary more (refused.ListFault cause) initial walked old new all adds asks before ahead
-asks_refused refused.EmptyTestName answer chosen binary more found new_found initial walked old new all adds asks before ahead =
-    known_end answer binary more refused.EmptyTestName initial walked old new all adds asks before ahead
-asks_refused refused.BadTestName answer chosen binary more found new_found initial walked old new all adds asks before ahead =
-    known_end answer binary more refused.BadTestName initial walked old new all adds asks before ahead
-asks_refused refused.RepeatedTest answer chosen binary more found new_found initial walked old new all adds asks before ahead =
-    known_end answer binary more refused.RepeatedTest initial walked old new all adds asks before ahead
-asks_refused refused.OutOfMemory answer chosen binary more found new_found initial walked old new all adds asks before ahead =
+    → Asks {T = Selection} (Err error) initial all new
+asks_refused (errors.Refused refusal) answer chosen binary more found new_found initial walked old new all adds asks before ahead =
+    known_end answer binary more refusal initial walked old new all adds asks before ahead
+asks_refused errors.OutOfMemory answer chosen binary more found new_found initial walked old new all adds asks before ahead =
     let tail = asked_after (accepted (answer binary)) (asked_of answer more) in
     let front = asks.0 in
     let rest = asks.1.0 in (

@@ -1,5 +1,5 @@
 -- What the listed binaries answer, and which of their tests are selected.
-use Rattle.std.specs.Prelude.{◌≡◌, ℕ, ◌==◌, Bool, true, false, not, length, List, [], ◌∷◌, ◌++◌, Option, None, Some, Result, Ok, Err, map, filter, if◌then◌else◌}
+use Rattle.std.specs.Prelude.{◌≡◌, ℕ, ◌==◌, Bool, true, false, not, length, List, [], ◌∷◌, ◌++◌, Option, None, Some, Result, Ok, Err, ⊤, map, filter, if◌then◌else◌}
 use Rattle.std.specs.Ordering.{nat_cmp, ordering_then}
 use Rattle.std.specs.declared.cmp.Ordering.{Ordering}
 use Rattle.std.specs.Cmp.Lexicographic.{slice_cmp}
@@ -10,6 +10,8 @@ use Rattle.test_runner_core_workspace.specs.Workspace.{is_among, has_separator}
 use Rattle.test_runner_core_workspace.specs.declared.record.Binary.{Binary}
 use Rattle.test_runner_core_listing.specs.Filter.{holds, may_hold}
 use Rattle.test_runner_core_listing.specs.declared.filter.Filter.{Filter}
+use Rattle.test_runner_core_listing.specs.declared.listing_error.ListingError.{ListingError}
+use Rattle.test_runner_core_listing.specs.declared.listing_error.ListingError.TheVariants as error
 use Rattle.test_runner_core_listing.specs.declared.listing_fault.ListingFault.{ListingFault}
 use Rattle.test_runner_core_listing.specs.declared.listing_fault.ListingFault.TheVariants as refused
 use Rattle.test_runner_core_listing.specs.declared.selection.Selection.{Selection}
@@ -33,10 +35,10 @@ accepted (Ok names) = accepted_names names (refused_name [] names)
 accepted (Err cause) = Err (refused.ListFault cause)
 
 -- a call gives the names that are accepted; want of memory says nothing
-abbrev pub Accepts : Result (List (List ℕ)) ListingFault → Result (List (List ℕ)) ListingFault → Type 0
+abbrev pub Accepts : Result (List (List ℕ)) ListingError → Result (List (List ℕ)) ListingFault → Type 0
 Accepts (Ok names) given = given ≡ Ok names
-Accepts (Err refused.OutOfMemory) given = Unit {0}
-Accepts (Err refusal) given = given ≡ Err refusal
+Accepts (Err (error.Refused refusal)) given = given ≡ Err refusal
+Accepts (Err error.OutOfMemory) given = ⊤
 
 -- the listed binaries: those of which some test may be selected
 abbrev pub listed_of : Filter → List Binary → List Binary
@@ -77,17 +79,17 @@ asked_of answer [] = []
 asked_of answer (binary ∷ binaries) = binary.id ∷ asked_after (accepted (answer binary)) (asked_of answer binaries)
 
 -- one binary's tests are added to what was found; want of memory says nothing
-abbrev pub Adds : {T : Type 0} → Result T ListingFault → Result (List (List ℕ)) ListingFault → Filter → Binary → Selection → Selection → Type 0
+abbrev pub Adds : {T : Type 0} → Result T ListingError → Result (List (List ℕ)) ListingFault → Filter → Binary → Selection → Selection → Type 0
 Adds (Ok done) answered chosen binary old new =
     (names : List (List ℕ)) × (answered ≡ Ok names) × (new.tests ≡ old.tests ++ selected_in chosen binary names) × (new.skipped ≡ old.skipped ++ skipped_in chosen binary names)
-Adds (Err refused.OutOfMemory) answered chosen binary old new = Unit {0}
-Adds (Err refusal) answered chosen binary old new = answered ≡ Err refusal
+Adds (Err (error.Refused refusal)) answered chosen binary old new = answered ≡ Err refusal
+Adds (Err error.OutOfMemory) answered chosen binary old new = ⊤
 
 -- a call lists these binaries; want of memory says nothing
-abbrev pub Lists : Result Selection ListingFault → Result Selection ListingFault → Type 0
+abbrev pub Lists : Result Selection ListingError → Result Selection ListingFault → Type 0
 Lists (Ok found) given = given ≡ Ok found
-Lists (Err refused.OutOfMemory) given = Unit {0}
-Lists (Err refusal) given = given ≡ Err refusal
+Lists (Err (error.Refused refusal)) given = given ≡ Err refusal
+Lists (Err error.OutOfMemory) given = ⊤
 
 -- tests rise by binary id, and then by name, by bytes
 abbrev pub instance_cmp : OwnedTestInstanceId → OwnedTestInstanceId → Ordering
@@ -100,10 +102,10 @@ pub record Selects (listed : Selection) (selection : Selection) : Type 0 where
   pub skipped : selection.skipped ≡ listed.skipped
 
 -- a call gives what the listed binaries give; want of memory says nothing
-abbrev pub Gives : Result Selection ListingFault → Result Selection ListingFault → Type 0
+abbrev pub Gives : Result Selection ListingError → Result Selection ListingFault → Type 0
 Gives (Ok selection) found = (listed : Selection) × (found ≡ Ok listed) × Selects listed selection
-Gives (Err refused.OutOfMemory) found = Unit {0}
-Gives (Err refusal) found = found ≡ Err refusal
+Gives (Err (error.Refused refusal)) found = found ≡ Err refusal
+Gives (Err error.OutOfMemory) found = ⊤
 
 -- the list of ids asked for grows by these; where memory was wanting by a front of them
 abbrev pub AsksFor : Bool → List (List ℕ) → List (List ℕ) → List (List ℕ) → Type 0
@@ -111,6 +113,7 @@ AsksFor false old ids new = new ≡ old ++ ids
 AsksFor true old ids new =
     (front : List (List ℕ)) × ((rest : List (List ℕ)) × ((new ≡ old ++ front) × (ids ≡ front ++ rest)))
 
-abbrev pub Asks : {T : Type 0} → Result T ListingFault → List (List ℕ) → List (List ℕ) → List (List ℕ) → Type 0
-Asks (Err refused.OutOfMemory) old ids new = AsksFor true old ids new
-Asks result old ids new = AsksFor false old ids new
+abbrev pub Asks : {T : Type 0} → Result T ListingError → List (List ℕ) → List (List ℕ) → List (List ℕ) → Type 0
+Asks (Ok done) old ids new = AsksFor false old ids new
+Asks (Err (error.Refused refusal)) old ids new = AsksFor false old ids new
+Asks (Err error.OutOfMemory) old ids new = AsksFor true old ids new

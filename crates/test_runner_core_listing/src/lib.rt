@@ -4,6 +4,7 @@
 mod filter;
 mod keyed_state;
 mod listing;
+mod listing_error;
 mod listing_fault;
 mod names;
 mod selection;
@@ -11,5 +12,6 @@ mod selection;
 pub use filter::Filter;
 pub use keyed_state::{KeyedState, TextsDigest};
 pub use listing::select;
+pub use listing_error::ListingError;
 pub use listing_fault::ListingFault;
 pub use selection::Selection;

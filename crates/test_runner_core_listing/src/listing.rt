@@ -5,6 +5,7 @@ ghost use Rattle.test_runner_core_listing.specs.Listing as words;
 ghost use Rattle.test_runner_core_workspace.specs.declared.record.Binary.{Binary};
 
 use crate::filter::Filter;
+use crate::listing_error::ListingError;
 use crate::listing_fault::ListingFault;
 use crate::names::refusal;
 use crate::selection::Selection;
@@ -18,18 +19,20 @@ fn names_of<L: Lister>(
     alloc: Global,
     binary: &Binary,
     lister: &mut L,
-) -> Result<Listing<Text>, ListingFault>
+) -> Result<Listing<Text>, ListingError>
     ensures names { words.Accepts result (words.accepted (L.answer lister.old binary.now)) }
     ensures stays { (other : Binary) → L.answer lister.new other ≡ L.answer lister.old other }
     ensures asks { words.Asks result (L.asked lister.old) (binary.now.id ∷ []) (L.asked lister.new) }
 {
     let names = match lister.list(binary) {
         Ok(names) => names,
-        Err(ListFault::Cause(cause)) => return Err(ListingFault::ListFault(cause)),
-        Err(ListFault::OutOfMemory) => return Err(ListingFault::OutOfMemory),
+        Err(ListFault::Cause(cause)) => {
+            return Err(ListingError::Refused(ListingFault::ListFault(cause)));
+        }
+        Err(ListFault::OutOfMemory) => return Err(ListingError::OutOfMemory),
     };
     match refusal(alloc, names.as_slice())? {
-        Some(refused) => Err(refused),
+        Some(refused) => Err(ListingError::Refused(refused)),
         None => Ok(names),
     }
 }
@@ -66,7 +69,7 @@ fn list_one<L: Lister>(
     filter: &Filter,
     lister: &mut L,
     found: &mut Selection,
-) -> Result<(), ListingFault>
+) -> Result<(), ListingError>
     ensures adds { words.Adds result (words.accepted (L.answer lister.old binary.now)) filter.now binary.now found.old found.new }
     ensures stays { (other : Binary) → L.answer lister.new other ≡ L.answer lister.old other }
     ensures asks { words.Asks result (L.asked lister.old) (binary.now.id ∷ []) (L.asked lister.new) }
@@ -82,7 +85,7 @@ fn list_each<L: Lister>(
     binaries: &[Binary],
     filter: &Filter,
     lister: &mut L,
-) -> Result<Selection, ListingFault>
+) -> Result<Selection, ListingError>
     ensures lists { words.Lists result (words.listing (L.answer lister.old) filter.now binaries.now) }
     ensures stays { (other : Binary) → L.answer lister.new other ≡ L.answer lister.old other }
     ensures asks { words.Asks result (L.asked lister.old) (words.asked_of (L.answer lister.old) binaries.now) (L.asked lister.new) }
@@ -106,7 +109,7 @@ pub fn select<L: Lister>(
     binaries: &[Binary],
     filter: &Filter,
     lister: &mut L,
-) -> Result<Selection, ListingFault>
+) -> Result<Selection, ListingError>
     ensures selects { words.Gives result (words.listing (L.answer lister.old) filter.now (words.listed_of filter.now binaries.now)) }
     ensures stays { (other : Binary) → L.answer lister.new other ≡ L.answer lister.old other }
     ensures asks { words.Asks result (L.asked lister.old) (words.asked_of (L.answer lister.old) (words.listed_of filter.now binaries.now)) (L.asked lister.new) }

@@ -1,6 +1,5 @@
-// Why tests weren't listed.
+// Why tests are refused.
 use nextest_text::Text;
-use std::alloc::{AllocError, AllocFailed};
 use thiserror::Error;
 
 /// Why the tests of a binary weren't listed.
@@ -18,29 +17,4 @@ pub enum ListingFault {
     /// Two tests of the binary have one name.
     #[error("two tests of a binary have one name")]
     RepeatedTest,
-    /// There was no memory, which says nothing of the binary.
-    #[error("out of memory")]
-    OutOfMemory,
-}
-
-impl From<AllocError> for ListingFault {
-    ghost use Rattle.std.specs.Prelude.{◌≡◌};
-    ghost use Rattle.test_runner_core_listing.specs.declared.listing_fault.ListingFault.TheVariants.{OutOfMemory};
-
-    ghost from_gives = { λ _ fault. fault ≡ OutOfMemory };
-
-    fn from(_error: AllocError) -> ListingFault {
-        ListingFault::OutOfMemory
-    }
-}
-
-impl<T: Drop> From<AllocFailed<T>> for ListingFault {
-    ghost use Rattle.std.specs.Prelude.{◌≡◌};
-    ghost use Rattle.test_runner_core_listing.specs.declared.listing_fault.ListingFault.TheVariants.{OutOfMemory};
-
-    ghost from_gives = { λ _ fault. fault ≡ OutOfMemory };
-
-    fn from(_error: AllocFailed<T>) -> ListingFault {
-        ListingFault::OutOfMemory
-    }
 }

@@ -13,6 +13,8 @@ use Rattle.test_runner_core_workspace.specs.declared.record.Binary.{Binary}
 use Rattle.test_runner_core_plan.specs.Plan.{◌>>=◌, wanted_in, listed_in, found_by, has_too_many, Planned, planned, asked_for, plan_test, with_tries, tries_of, Gives, Asks}
 use Rattle.test_runner_core_plan.specs.declared.wanted.Wanted.{Wanted}
 use Rattle.test_runner_core_plan.specs.declared.plan.Plan.{Plan}
+use Rattle.test_runner_core_plan.specs.declared.plan_error.PlanError.{PlanError}
+use Rattle.test_runner_core_plan.specs.declared.plan_error.PlanError.TheVariants as errors
 use Rattle.test_runner_core_plan.specs.declared.plan_fault.PlanFault.{PlanFault}
 use Rattle.test_runner_core_plan.specs.declared.plan_fault.PlanFault.TheVariants as refused
 
@@ -20,22 +22,10 @@ nothing : (answer : Binary → Answer) (inputs : Inputs) (refusal : PlanFault) (
 nothing answer inputs refusal old given e = sym (ap (λ (g : Result Wanted PlanFault). old ++ asked_for answer inputs g) e ∙ append-nil old)
 
 -- nobody is asked where the inputs are refused before
-pub asks_nothing : (answer : Binary → Answer) (inputs : Inputs) (refusal : PlanFault) (old : List (List ℕ)) → Gives {A = Wanted} (Err refusal) (wanted_in inputs)
-    → Asks {A = Plan} (Err refusal) old (asked_for answer inputs (wanted_in inputs)) old
-asks_nothing answer inputs refused.RepeatedPackage old g = nothing answer inputs refused.RepeatedPackage old (wanted_in inputs) g
-asks_nothing answer inputs refused.UnknownLink old g = nothing answer inputs refused.UnknownLink old (wanted_in inputs) g
-asks_nothing answer inputs refused.RepeatedBinary old g = nothing answer inputs refused.RepeatedBinary old (wanted_in inputs) g
-asks_nothing answer inputs refused.UnknownPackage old g = nothing answer inputs refused.UnknownPackage old (wanted_in inputs) g
-asks_nothing answer inputs refused.BadId old g = nothing answer inputs refused.BadId old (wanted_in inputs) g
-asks_nothing answer inputs refused.VersionSource old g = nothing answer inputs refused.VersionSource old (wanted_in inputs) g
-asks_nothing answer inputs (refused.Load fault) old g = nothing answer inputs (refused.Load fault) old (wanted_in inputs) g
-asks_nothing answer inputs refused.NotYet old g = nothing answer inputs refused.NotYet old (wanted_in inputs) g
-asks_nothing answer inputs (refused.ListFault cause) old g = nothing answer inputs (refused.ListFault cause) old (wanted_in inputs) g
-asks_nothing answer inputs refused.EmptyTestName old g = nothing answer inputs refused.EmptyTestName old (wanted_in inputs) g
-asks_nothing answer inputs refused.BadTestName old g = nothing answer inputs refused.BadTestName old (wanted_in inputs) g
-asks_nothing answer inputs refused.RepeatedTest old g = nothing answer inputs refused.RepeatedTest old (wanted_in inputs) g
-asks_nothing answer inputs refused.RetriesTooMany old g = nothing answer inputs refused.RetriesTooMany old (wanted_in inputs) g
-asks_nothing answer inputs refused.OutOfMemory old g = ([], (asked_for answer inputs (wanted_in inputs), (sym (append-nil old), refl)))
+pub asks_nothing : (answer : Binary → Answer) (inputs : Inputs) (error : PlanError) (old : List (List ℕ)) → Gives {A = Wanted} (Err error) (wanted_in inputs)
+    → Asks {A = Plan} (Err error) old (asked_for answer inputs (wanted_in inputs)) old
+asks_nothing answer inputs (errors.Refused refusal) old g = nothing answer inputs refusal old (wanted_in inputs) g
+asks_nothing answer inputs errors.OutOfMemory old g = ([], (asked_for answer inputs (wanted_in inputs), (sym (append-nil old), refl)))
 
 -- what is planned once all tests are listed
 abbrev pub finished : Wanted → Selection → Result Planned PlanFault

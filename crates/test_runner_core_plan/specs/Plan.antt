@@ -1,5 +1,5 @@
 -- Which inputs have a plan, and which: what is refused is looked for in this order.
-use Rattle.std.specs.Prelude.{◌≡◌, ℕ, ◌+◌, ◌==◌, Bool, true, false, ◌&&◌, ◌||◌, not, length, List, [], ◌∷◌, min, codes, Option, None, Some, Result, Ok, Err, map, is_some, nat_lt, if◌then◌else◌}
+use Rattle.std.specs.Prelude.{◌≡◌, ℕ, ◌+◌, ◌==◌, Bool, true, false, ◌&&◌, ◌||◌, not, length, List, [], ◌∷◌, min, codes, Option, None, Some, Result, Ok, Err, ⊤, map, is_some, nat_lt, if◌then◌else◌}
 use Rattle.std.specs.Option.{option_map_or}
 use Rattle.std.specs.Str.{bytes_eq}
 use Rattle.nextest_config_elements_plain.specs.declared.timeouts.FlakyResult.TheVariants as flaky
@@ -23,11 +23,13 @@ use Rattle.test_runner_core_workspace.specs.Lister.{Answer}
 use Rattle.test_runner_core_workspace.specs.Workspace.{refusal_of}
 use Rattle.test_runner_core_workspace.specs.declared.record.Binary.{Binary}
 use Rattle.test_runner_core_workspace.specs.declared.record.WorkspaceRecord.{WorkspaceRecord}
-use Rattle.test_runner_core_workspace.specs.declared.workspace_error.WorkspaceError.{WorkspaceError}
+use Rattle.test_runner_core_workspace.specs.declared.workspace_fault.WorkspaceFault.{WorkspaceFault}
 use Rattle.test_runner_core_plan.specs.Refusals.{of_workspace, of_settings, of_listing}
 use Rattle.test_runner_core_plan.specs.declared.wanted.Wanted.{Wanted}
 use Rattle.test_runner_core_plan.specs.declared.plan.Plan.{Plan}
 use Rattle.test_runner_core_plan.specs.declared.plan.PlanTest.{PlanTest}
+use Rattle.test_runner_core_plan.specs.declared.plan_error.PlanError.{PlanError}
+use Rattle.test_runner_core_plan.specs.declared.plan_error.PlanError.TheVariants as error
 use Rattle.test_runner_core_plan.specs.declared.plan_fault.PlanFault.{PlanFault}
 use Rattle.test_runner_core_plan.specs.declared.plan_fault.PlanFault.TheVariants as refused
 
@@ -37,7 +39,7 @@ Ok x >>= next = next x
 Err refusal >>= next = Err refusal
 
 -- the workspace, unless it is refused
-abbrev pub workspace_of : WorkspaceRecord → Option WorkspaceError → Result WorkspaceRecord PlanFault
+abbrev pub workspace_of : WorkspaceRecord → Option WorkspaceFault → Result WorkspaceRecord PlanFault
 workspace_of workspace None = Ok workspace
 workspace_of workspace (Some refusal) = Err (of_workspace refusal)
 
@@ -120,21 +122,22 @@ pub record IsPlanOf (inputs : Inputs) (it : Planned) (plan : Plan) : Type 0 wher
   pub scripts : plan.scripts ≡ []
 
 -- a call builds the plan, or refuses as is written; want of memory says nothing
-abbrev pub Builds : (Binary → Answer) → Inputs → Result Plan PlanFault → Type 0
+abbrev pub Builds : (Binary → Answer) → Inputs → Result Plan PlanError → Type 0
 Builds answer inputs (Ok plan) = (it : Planned) × (planned answer inputs ≡ Ok it) × IsPlanOf inputs it plan
-Builds answer inputs (Err refused.OutOfMemory) = Unit {0}
-Builds answer inputs (Err refusal) = planned answer inputs ≡ Err refusal
+Builds answer inputs (Err (error.Refused refusal)) = planned answer inputs ≡ Err refusal
+Builds answer inputs (Err error.OutOfMemory) = ⊤
 
 -- a call answers what a part of this gives; want of memory says nothing
-abbrev pub Gives : {A : Type 0} → Result A PlanFault → Result A PlanFault → Type 0
+abbrev pub Gives : {A : Type 0} → Result A PlanError → Result A PlanFault → Type 0
 Gives (Ok x) given = given ≡ Ok x
-Gives (Err refused.OutOfMemory) given = Unit {0}
-Gives (Err refusal) given = given ≡ Err refusal
+Gives (Err (error.Refused refusal)) given = given ≡ Err refusal
+Gives (Err error.OutOfMemory) given = ⊤
 
 -- the list of ids asked for grows by those that the lister is asked for; where there was no memory by a front of them
-abbrev pub Asks : {A : Type 0} → Result A PlanFault → List (List ℕ) → List (List ℕ) → List (List ℕ) → Type 0
-Asks (Err refused.OutOfMemory) old ids new = AsksFor true old ids new
-Asks result old ids new = AsksFor false old ids new
+abbrev pub Asks : {A : Type 0} → Result A PlanError → List (List ℕ) → List (List ℕ) → List (List ℕ) → Type 0
+Asks (Ok done) old ids new = AsksFor false old ids new
+Asks (Err (error.Refused refusal)) old ids new = AsksFor false old ids new
+Asks (Err error.OutOfMemory) old ids new = AsksFor true old ids new
 
 -- how many attempts a test has: what can't be counted is refused before
 abbrev pub tries_of : Settings → ℕ

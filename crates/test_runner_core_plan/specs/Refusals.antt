@@ -1,32 +1,49 @@
--- The refusals of the parts, as refusals of the whole.
+-- The refusals and errors of the parts, as those of the whole.
+use Rattle.test_runner_core_listing.specs.declared.listing_error.ListingError.{ListingError}
+use Rattle.test_runner_core_listing.specs.declared.listing_error.ListingError.TheVariants as listing_error
 use Rattle.test_runner_core_listing.specs.declared.listing_fault.ListingFault.{ListingFault}
 use Rattle.test_runner_core_listing.specs.declared.listing_fault.ListingFault.TheVariants as listed
+use Rattle.test_runner_core_settings.specs.declared.settings_error.SettingsError.{SettingsError}
+use Rattle.test_runner_core_settings.specs.declared.settings_error.SettingsError.TheVariants as settings_error
 use Rattle.test_runner_core_settings.specs.declared.settings_fault.SettingsFault.{SettingsFault}
 use Rattle.test_runner_core_settings.specs.declared.settings_fault.SettingsFault.TheVariants as set
 use Rattle.test_runner_core_workspace.specs.declared.workspace_error.WorkspaceError.{WorkspaceError}
-use Rattle.test_runner_core_workspace.specs.declared.workspace_error.WorkspaceError.TheVariants as workspace
+use Rattle.test_runner_core_workspace.specs.declared.workspace_error.WorkspaceError.TheVariants as workspace_error
+use Rattle.test_runner_core_workspace.specs.declared.workspace_fault.WorkspaceFault.{WorkspaceFault}
+use Rattle.test_runner_core_workspace.specs.declared.workspace_fault.WorkspaceFault.TheVariants as workspace
+use Rattle.test_runner_core_plan.specs.declared.plan_error.PlanError.{PlanError}
+use Rattle.test_runner_core_plan.specs.declared.plan_error.PlanError.TheVariants as error
 use Rattle.test_runner_core_plan.specs.declared.plan_fault.LoadFault.TheVariants as load
 use Rattle.test_runner_core_plan.specs.declared.plan_fault.PlanFault.{PlanFault}
 use Rattle.test_runner_core_plan.specs.declared.plan_fault.PlanFault.TheVariants as fault
 
-abbrev pub of_workspace : WorkspaceError → PlanFault
+abbrev pub of_workspace : WorkspaceFault → PlanFault
 of_workspace workspace.RepeatedPackage = fault.RepeatedPackage
 of_workspace workspace.UnknownLink = fault.UnknownLink
 of_workspace workspace.RepeatedBinary = fault.RepeatedBinary
 of_workspace workspace.UnknownPackage = fault.UnknownPackage
 of_workspace workspace.BadId = fault.BadId
-of_workspace workspace.OutOfMemory = fault.OutOfMemory
 
 abbrev pub of_settings : SettingsFault → PlanFault
 of_settings set.Syntax = fault.VersionSource
 of_settings set.VersionNotYet = fault.NotYet
 of_settings set.BadValue = fault.Load load.BadValue
 of_settings set.NotYet = fault.NotYet
-of_settings set.OutOfMemory = fault.OutOfMemory
 
 abbrev pub of_listing : ListingFault → PlanFault
 of_listing (listed.ListFault cause) = fault.ListFault cause
 of_listing listed.EmptyTestName = fault.EmptyTestName
 of_listing listed.BadTestName = fault.BadTestName
 of_listing listed.RepeatedTest = fault.RepeatedTest
-of_listing listed.OutOfMemory = fault.OutOfMemory
+
+abbrev pub error_of_workspace : WorkspaceError → PlanError
+error_of_workspace (workspace_error.Refused refusal) = error.Refused (of_workspace refusal)
+error_of_workspace workspace_error.OutOfMemory = error.OutOfMemory
+
+abbrev pub error_of_settings : SettingsError → PlanError
+error_of_settings (settings_error.Refused refusal) = error.Refused (of_settings refusal)
+error_of_settings settings_error.OutOfMemory = error.OutOfMemory
+
+abbrev pub error_of_listing : ListingError → PlanError
+error_of_listing (listing_error.Refused refusal) = error.Refused (of_listing refusal)
+error_of_listing listing_error.OutOfMemory = error.OutOfMemory

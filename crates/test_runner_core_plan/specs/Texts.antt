@@ -1,5 +1,5 @@
--- The names of refusals.
-use Rattle.std.specs.Prelude.{ℕ, List, ◌++◌, codes}
+-- The names of refusals, and the exit statuses of runs that are so refused.
+use Rattle.std.specs.Prelude.{ℕ, List, codes}
 use Rattle.test_runner_core_plan.specs.declared.plan_fault.LoadFault.TheVariants as load
 use Rattle.test_runner_core_plan.specs.declared.plan_fault.PlanFault.{PlanFault}
 use Rattle.test_runner_core_plan.specs.declared.plan_fault.PlanFault.TheVariants as fault
@@ -18,4 +18,7 @@ name_of fault.EmptyTestName = codes "EmptyTestName"
 name_of fault.BadTestName = codes "BadTestName"
 name_of fault.RepeatedTest = codes "RepeatedTest"
 name_of fault.RetriesTooMany = codes "RetriesTooMany"
-name_of fault.OutOfMemory = codes "OutOfMemory"
+
+-- 96; a refusal by the version's verdict, which isn't read yet, will have 92
+abbrev pub status_of : PlanFault → ℕ
+status_of refusal = 96

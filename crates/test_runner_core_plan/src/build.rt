@@ -5,6 +5,7 @@ ghost use Rattle.test_runner_core_plan.specs.Plan as words;
 ghost use Rattle.test_runner_core_workspace.specs.declared.record.Binary.{Binary};
 
 use crate::plan::{Plan, PlanSettings, PlanTest};
+use crate::plan_error::PlanError;
 use crate::plan_fault::PlanFault;
 use crate::wanted::{Wanted, wanted_in};
 use nextest_config_elements_plain::FlakyResult;
@@ -24,7 +25,7 @@ impl Plan {
         alloc: Global,
         inputs: &Inputs,
         lister: &mut L,
-    ) -> Result<Plan, PlanFault>
+    ) -> Result<Plan, PlanError>
         ensures builds { words.Builds (L.answer lister.old) inputs.now result }
         ensures stays { (other : Binary) → L.answer lister.new other ≡ L.answer lister.old other }
         ensures asks { words.Asks result (L.asked lister.old) (words.asked_for (L.answer lister.old) inputs.now (words.wanted_in inputs.now)) (L.asked lister.new) }
@@ -33,7 +34,7 @@ impl Plan {
         let binaries = inputs.workspace.binaries.as_slice();
         let selection = select(alloc, binaries, &wanted.filter, lister)?;
         if has_too_many(&wanted, &selection) {
-            return Err(PlanFault::RetriesTooMany);
+            return Err(PlanError::Refused(PlanFault::RetriesTooMany));
         }
         Ok(plan_of(alloc, binaries, wanted, selection)?)
     }

@@ -3,8 +3,10 @@
 
 mod build;
 mod plan;
+mod plan_error;
 mod plan_fault;
 mod wanted;
 
 pub use plan::{Plan, PlanSettings, PlanTest};
+pub use plan_error::PlanError;
 pub use plan_fault::{LoadFault, PlanFault};

@@ -1,10 +1,12 @@
 // Why inputs have no plan.
 use nextest_text::Text;
-use std::alloc::{AllocError, AllocFailed};
 use test_runner_core_listing::ListingFault;
 use test_runner_core_settings::SettingsFault;
-use test_runner_core_workspace::WorkspaceError;
+use test_runner_core_workspace::WorkspaceFault;
 use thiserror::Error;
+
+// The exit status of a run whose inputs are refused.
+const REFUSED: u8 = 96;
 
 /// Why a configuration isn't loaded.
 #[derive(Clone, Copy, Debug, PartialEq, Eq, Hash, Error)]
@@ -56,9 +58,6 @@ pub enum PlanFault {
     /// A selected test has 4294967295 retries.
     #[error("RetriesTooMany")]
     RetriesTooMany,
-    /// There was no memory, which says nothing of the inputs.
-    #[error("OutOfMemory")]
-    OutOfMemory,
 }
 
 // One call drops it, whoever holds it.
@@ -78,14 +77,13 @@ impl Drop for PlanFault {
             Self::BadTestName => {}
             Self::RepeatedTest => {}
             Self::RetriesTooMany => {}
-            Self::OutOfMemory => {}
         }
     }
 }
 
 impl PlanFault {
     ghost use Rattle.std.specs.Prelude.{◌≡◌};
-    ghost use Rattle.test_runner_core_plan.specs.Texts.{name_of};
+    ghost use Rattle.test_runner_core_plan.specs.Texts.{name_of, status_of};
 
     /// The name that a report tells.
     pub fn name(&self) -> &'static str
@@ -105,47 +103,30 @@ impl PlanFault {
             PlanFault::BadTestName => "BadTestName",
             PlanFault::RepeatedTest => "RepeatedTest",
             PlanFault::RetriesTooMany => "RetriesTooMany",
-            PlanFault::OutOfMemory => "OutOfMemory",
         }
     }
-}
 
-impl From<AllocError> for PlanFault {
-    ghost use Rattle.std.specs.Prelude.{◌≡◌};
-    ghost use Rattle.test_runner_core_plan.specs.declared.plan_fault.PlanFault.TheVariants.{OutOfMemory};
-
-    ghost from_gives = { λ _ fault. fault ≡ OutOfMemory };
-
-    fn from(_error: AllocError) -> PlanFault {
-        PlanFault::OutOfMemory
+    /// The exit status of a run whose inputs are so refused.
+    pub fn status(&self) -> u8
+        ensures { result ≡ status_of self.now }
+    {
+        REFUSED
     }
 }
 
-impl<T: Drop> From<AllocFailed<T>> for PlanFault {
-    ghost use Rattle.std.specs.Prelude.{◌≡◌};
-    ghost use Rattle.test_runner_core_plan.specs.declared.plan_fault.PlanFault.TheVariants.{OutOfMemory};
-
-    ghost from_gives = { λ _ fault. fault ≡ OutOfMemory };
-
-    fn from(_error: AllocFailed<T>) -> PlanFault {
-        PlanFault::OutOfMemory
-    }
-}
-
-impl From<WorkspaceError> for PlanFault {
+impl From<WorkspaceFault> for PlanFault {
     ghost use Rattle.std.specs.Prelude.{◌≡◌};
     ghost use Rattle.test_runner_core_plan.specs.Refusals.{of_workspace};
 
-    ghost from_gives = { λ error fault. fault ≡ of_workspace error };
+    ghost from_gives = { λ part fault. fault ≡ of_workspace part };
 
-    fn from(error: WorkspaceError) -> PlanFault {
-        match error {
-            WorkspaceError::RepeatedPackage => PlanFault::RepeatedPackage,
-            WorkspaceError::UnknownLink => PlanFault::UnknownLink,
-            WorkspaceError::RepeatedBinary => PlanFault::RepeatedBinary,
-            WorkspaceError::UnknownPackage => PlanFault::UnknownPackage,
-            WorkspaceError::BadId => PlanFault::BadId,
-            WorkspaceError::OutOfMemory => PlanFault::OutOfMemory,
+    fn from(fault: WorkspaceFault) -> PlanFault {
+        match fault {
+            WorkspaceFault::RepeatedPackage => PlanFault::RepeatedPackage,
+            WorkspaceFault::UnknownLink => PlanFault::UnknownLink,
+            WorkspaceFault::RepeatedBinary => PlanFault::RepeatedBinary,
+            WorkspaceFault::UnknownPackage => PlanFault::UnknownPackage,
+            WorkspaceFault::BadId => PlanFault::BadId,
         }
     }
 }
@@ -154,15 +135,14 @@ impl From<SettingsFault> for PlanFault {
     ghost use Rattle.std.specs.Prelude.{◌≡◌};
     ghost use Rattle.test_runner_core_plan.specs.Refusals.{of_settings};
 
-    ghost from_gives = { λ error fault. fault ≡ of_settings error };
+    ghost from_gives = { λ part fault. fault ≡ of_settings part };
 
-    fn from(error: SettingsFault) -> PlanFault {
-        match error {
+    fn from(fault: SettingsFault) -> PlanFault {
+        match fault {
             SettingsFault::Syntax => PlanFault::VersionSource,
             SettingsFault::VersionNotYet => PlanFault::NotYet,
             SettingsFault::BadValue => PlanFault::Load(LoadFault::BadValue),
             SettingsFault::NotYet => PlanFault::NotYet,
-            SettingsFault::OutOfMemory => PlanFault::OutOfMemory,
         }
     }
 }
@@ -171,15 +151,14 @@ impl From<ListingFault> for PlanFault {
     ghost use Rattle.std.specs.Prelude.{◌≡◌};
     ghost use Rattle.test_runner_core_plan.specs.Refusals.{of_listing};
 
-    ghost from_gives = { λ error fault. fault ≡ of_listing error };
+    ghost from_gives = { λ part fault. fault ≡ of_listing part };
 
-    fn from(error: ListingFault) -> PlanFault {
-        match error {
+    fn from(fault: ListingFault) -> PlanFault {
+        match fault {
             ListingFault::ListFault(cause) => PlanFault::ListFault(cause),
             ListingFault::EmptyTestName => PlanFault::EmptyTestName,
             ListingFault::BadTestName => PlanFault::BadTestName,
             ListingFault::RepeatedTest => PlanFault::RepeatedTest,
-            ListingFault::OutOfMemory => PlanFault::OutOfMemory,
         }
     }
 }

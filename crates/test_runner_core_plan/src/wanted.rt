@@ -2,6 +2,7 @@
 ghost use Rattle.std.specs.Prelude.{◌≡◌, IfOk};
 ghost use Rattle.test_runner_core_plan.specs.Plan as words;
 
+use crate::plan_error::PlanError;
 use crate::plan_fault::PlanFault;
 use nextest_text::Text;
 use std::alloc::Global;
@@ -26,25 +27,25 @@ impl Drop for Wanted {
 }
 
 // What the sources set.
-fn settings_in(alloc: Global, sources: &[ConfigSource]) -> Result<Settings, PlanFault>
+fn settings_in(alloc: Global, sources: &[ConfigSource]) -> Result<Settings, PlanError>
     ensures { words.Gives result (words.settings_in sources.now) }
 {
     match sources {
         [] => Ok(Settings::default()),
         [source] => settings_by(alloc, source),
-        _ => Err(PlanFault::NotYet),
+        _ => Err(PlanError::Refused(PlanFault::NotYet)),
     }
 }
 
 // What one source sets.
-fn settings_by(alloc: Global, source: &ConfigSource) -> Result<Settings, PlanFault>
+fn settings_by(alloc: Global, source: &ConfigSource) -> Result<Settings, PlanError>
     ensures { words.Gives result (words.settings_by source.now.kind source.now.outcome) }
 {
     match (&source.kind, &source.outcome) {
         (ConfigSourceKind::ExplicitRepository, ConfigSourceOutcome::Text(text)) => {
             Ok(Settings::from_toml(alloc, text.as_str())?)
         }
-        _ => Err(PlanFault::NotYet),
+        _ => Err(PlanError::Refused(PlanFault::NotYet)),
     }
 }
 
@@ -59,7 +60,7 @@ fn asks_for_more(inputs: &Inputs) -> bool
 }
 
 // The filter in force.
-fn filter_in(alloc: Global, filterset: &Option<Text>) -> Result<Filter, PlanFault>
+fn filter_in(alloc: Global, filterset: &Option<Text>) -> Result<Filter, PlanError>
     ensures { words.Gives result (words.filter_in filterset.now) }
 {
     let Some(text) = filterset else {
@@ -67,18 +68,18 @@ fn filter_in(alloc: Global, filterset: &Option<Text>) -> Result<Filter, PlanFaul
     };
     match Filter::from_text(alloc, text.as_str())? {
         Some(filter) => Ok(filter),
-        None => Err(PlanFault::NotYet),
+        None => Err(PlanError::Refused(PlanFault::NotYet)),
     }
 }
 
 // What inputs ask for.
-pub(crate) fn wanted_in(alloc: Global, inputs: &Inputs) -> Result<Wanted, PlanFault>
+pub(crate) fn wanted_in(alloc: Global, inputs: &Inputs) -> Result<Wanted, PlanError>
     ensures { words.Gives result (words.wanted_in inputs.now) }
 {
     inputs.workspace.check(alloc)?;
     let settings = settings_in(alloc, inputs.sources.as_slice())?;
     if asks_for_more(inputs) {
-        return Err(PlanFault::NotYet);
+        return Err(PlanError::Refused(PlanFault::NotYet));
     }
     let filter = filter_in(alloc, &inputs.filterset)?;
     Ok(Wanted { settings, filter })

@@ -1,5 +1,5 @@
 -- What a configuration's text sets.
-use Rattle.std.specs.Prelude.{◌≡◌, ℕ, ◌^◌, pos, Bool, false, not, ◌||◌, nat_lt, is_some, codes, List, [], ◌∷◌, Option, Some, Result, Ok, Err, if◌then◌else◌}
+use Rattle.std.specs.Prelude.{◌≡◌, ℕ, ◌^◌, pos, Bool, false, not, ◌||◌, nat_lt, is_some, codes, List, [], ◌∷◌, Option, Some, Result, Ok, Err, ⊤, if◌then◌else◌}
 use Rattle.std.specs.Option.{option_map_or}
 use Rattle.toml.specs.Data.{Data, integer, boolean, table}
 use Rattle.toml.specs.Parse.{parse_document}
@@ -8,6 +8,8 @@ use Rattle.nextest_config_elements_plain.specs.declared.max_fail.MaxFail.TheVari
 use Rattle.nextest_config_elements_plain.specs.declared.max_fail.TerminateMode.TheVariants.{Wait}
 use Rattle.test_runner_core_settings.specs.Values.{value_at, has_other_key, is_table, is_no_table}
 use Rattle.test_runner_core_settings.specs.declared.settings.Settings.{Settings}
+use Rattle.test_runner_core_settings.specs.declared.settings_error.SettingsError.{SettingsError}
+use Rattle.test_runner_core_settings.specs.declared.settings_error.SettingsError.TheVariants as error
 use Rattle.test_runner_core_settings.specs.declared.settings_fault.SettingsFault.{SettingsFault}
 use Rattle.test_runner_core_settings.specs.declared.settings_fault.SettingsFault.TheVariants as refused
 
@@ -96,7 +98,7 @@ abbrev pub settings_of : List ℕ → Result Settings SettingsFault
 settings_of text = option_map_or (λ top. set_in (table top)) (parse_document text) (Err refused.Syntax)
 
 -- a result is what the text sets, or why it isn't read; want of memory says nothing
-abbrev pub ReadsSettings : List ℕ → Result Settings SettingsFault → Type 0
+abbrev pub ReadsSettings : List ℕ → Result Settings SettingsError → Type 0
 ReadsSettings text (Ok settings) = settings_of text ≡ Ok settings
-ReadsSettings text (Err refused.OutOfMemory) = Unit {0}
-ReadsSettings text (Err fault) = settings_of text ≡ Err fault
+ReadsSettings text (Err (error.Refused refusal)) = settings_of text ≡ Err refusal
+ReadsSettings text (Err error.OutOfMemory) = ⊤

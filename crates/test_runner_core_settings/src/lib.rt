@@ -5,8 +5,10 @@
 mod places;
 mod refusals;
 mod settings;
+mod settings_error;
 mod settings_fault;
 mod values;
 
 pub use settings::Settings;
+pub use settings_error::SettingsError;
 pub use settings_fault::SettingsFault;

@@ -6,6 +6,7 @@ ghost use Rattle.test_runner_core_settings.specs.Settings as setting;
 
 use crate::places::{demands_version, fail_fast, retries};
 use crate::refusals::{has_bad_value, has_more};
+use crate::settings_error::SettingsError;
 use crate::settings_fault::SettingsFault;
 use crate::values::{max_fail_of, retries_of};
 use nextest_config_elements_plain::{MaxFail, TerminateMode};
@@ -44,26 +45,26 @@ impl Settings {
     /// What `text`, a configuration, sets. An `Err` says why it isn't read, each reason being looked for in the whole
     /// text before the next, or that there was no memory, which says nothing of the text. A text of white space and
     /// comments is always read.
-    pub fn from_toml(alloc: Global, text: &str) -> Result<Settings, SettingsFault>
+    pub fn from_toml(alloc: Global, text: &str) -> Result<Settings, SettingsError>
         ensures exact { ReadsSettings text.now result }
         ensures blank { IsBlank text.now → result ≡ Ok default_settings }
     {
-        set_in(&top_of(alloc, text)?)
+        set_in(&top_of(alloc, text)?).map_err(SettingsError::Refused)
     }
 }
 
 // The top table of a text, which sets what the text does.
 #[tactic(auto, using(crate::proofs::Blank::blank_sets, crate::proofs::Blank::blank_is_read))]
-fn top_of(alloc: Global, text: &str) -> Result<Value, SettingsFault>
+fn top_of(alloc: Global, text: &str) -> Result<Value, SettingsError>
     ensures exact { IfOk result (λ top. setting.settings_of text.now ≡ setting.set_in (view top)) }
-    ensures refused { IfErr result (λ fault. setting.ReadsSettings text.now (Err fault)) }
+    ensures refused { IfErr result (λ error. setting.ReadsSettings text.now (Err error)) }
     ensures blank { IsBlank text.now
         → IsOkAnd result (λ top. setting.set_in (view top) ≡ Ok setting.default_settings) }
 {
     match toml::table_from_str(alloc, text) {
         Ok(top) => Ok(Value::Table(top)),
-        Err(error) if error.is_memory() => Err(SettingsFault::OutOfMemory),
-        Err(_) => Err(SettingsFault::Syntax),
+        Err(error) if error.is_memory() => Err(SettingsError::OutOfMemory),
+        Err(_) => Err(SettingsError::Refused(SettingsFault::Syntax)),
     }
 }
 

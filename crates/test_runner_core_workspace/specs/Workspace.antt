@@ -1,11 +1,13 @@
 -- Which records of a workspace are accepted.
-use Rattle.std.specs.Prelude.{◌≡◌, ℕ, ◌==◌, Bool, false, not, ◌&&◌, ◌||◌, length, List, [], ◌∷◌, Option, None, Some, Result, Ok, Err, map, if◌then◌else◌}
+use Rattle.std.specs.Prelude.{◌≡◌, ℕ, ◌==◌, Bool, false, not, ◌&&◌, ◌||◌, length, List, [], ◌∷◌, Option, None, Some, Result, Ok, Err, ⊤, map, if◌then◌else◌}
 use Rattle.std.specs.List.{list_any, list_all}
 use Rattle.std.specs.Str.{bytes_eq}
 use Rattle.test_runner_core_workspace.specs.declared.record.Link.{Link}
 use Rattle.test_runner_core_workspace.specs.declared.record.WorkspaceRecord.{WorkspaceRecord}
 use Rattle.test_runner_core_workspace.specs.declared.workspace_error.WorkspaceError.{WorkspaceError}
-use Rattle.test_runner_core_workspace.specs.declared.workspace_error.WorkspaceError.TheVariants as refused
+use Rattle.test_runner_core_workspace.specs.declared.workspace_error.WorkspaceError.TheVariants as error
+use Rattle.test_runner_core_workspace.specs.declared.workspace_fault.WorkspaceFault.{WorkspaceFault}
+use Rattle.test_runner_core_workspace.specs.declared.workspace_fault.WorkspaceFault.TheVariants as refused
 
 -- a text is among texts
 abbrev pub is_among : List (List ℕ) → List ℕ → Bool
@@ -35,7 +37,7 @@ abbrev pub is_bad_id : List ℕ → Bool
 is_bad_id id = length id == 0 || has_separator id
 
 -- why a record whose packages have ids of their own is refused, if it is, by which ids are known
-abbrev pub refusal_by : (List ℕ → Bool) → WorkspaceRecord → Option WorkspaceError
+abbrev pub refusal_by : (List ℕ → Bool) → WorkspaceRecord → Option WorkspaceFault
 refusal_by is_known workspace =
     if not (list_all (is_known_link is_known) workspace.links) then Some refused.UnknownLink
     else if has_repeat (binary_ids workspace) then Some refused.RepeatedBinary
@@ -44,7 +46,7 @@ refusal_by is_known workspace =
     else None
 
 -- why a record is refused, if it is: each reason is looked for in the whole record before the next
-abbrev pub refusal_of : WorkspaceRecord → Option WorkspaceError
+abbrev pub refusal_of : WorkspaceRecord → Option WorkspaceFault
 refusal_of workspace =
     if has_repeat (package_ids workspace) then Some refused.RepeatedPackage
     else refusal_by (is_among (package_ids workspace)) workspace
@@ -52,11 +54,11 @@ refusal_of workspace =
 -- a check passes where nothing refuses the record, and else tells the reason; want of memory says nothing
 abbrev pub Checks : {T : Type 0} → WorkspaceRecord → Result T WorkspaceError → Type 0
 Checks given (Ok done) = refusal_of given ≡ None
-Checks given (Err refused.OutOfMemory) = Unit {0}
-Checks given (Err refusal) = refusal_of given ≡ Some refusal
+Checks given (Err (error.Refused refusal)) = refusal_of given ≡ Some refusal
+Checks given (Err error.OutOfMemory) = ⊤
 
 -- a read gives the record itself where nothing refuses it, and else the reason; want of memory says nothing
 abbrev pub Reads : WorkspaceRecord → Result WorkspaceRecord WorkspaceError → Type 0
 Reads given (Ok workspace) = (workspace ≡ given) × (refusal_of given ≡ None)
-Reads given (Err refused.OutOfMemory) = Unit {0}
-Reads given (Err refusal) = refusal_of given ≡ Some refusal
+Reads given (Err (error.Refused refusal)) = refusal_of given ≡ Some refusal
+Reads given (Err error.OutOfMemory) = ⊤

@@ -8,6 +8,7 @@ mod record;
 mod table_lister;
 mod workspace;
 mod workspace_error;
+mod workspace_fault;
 
 pub use ids::has_separator;
 pub use list_fault::ListFault;
@@ -16,3 +17,4 @@ pub use record::{Binary, BinaryKind, BinaryTests, BuildPlatform, Link, Package, 
 pub use table_lister::TableLister;
 pub use workspace::Workspace;
 pub use workspace_error::WorkspaceError;
+pub use workspace_fault::WorkspaceFault;

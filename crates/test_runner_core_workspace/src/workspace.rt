@@ -9,6 +9,7 @@ use crate::ids::{
 };
 use crate::record::WorkspaceRecord;
 use crate::workspace_error::WorkspaceError;
+use crate::workspace_fault::WorkspaceFault;
 use std::alloc::{AllocError, Global};
 use std::collections::BTreeSet;
 use std::marker::Model;
@@ -66,19 +67,19 @@ impl WorkspaceRecord {
         ensures exact { Checks self.now result }
     {
         match refusal(alloc, self)? {
-            Some(refused) => Err(refused),
+            Some(refused) => Err(WorkspaceError::Refused(refused)),
             None => Ok(()),
         }
     }
 }
 
 // Why a record is no workspace, if it is none.
-fn refusal(alloc: Global, record: &WorkspaceRecord) -> Result<Option<WorkspaceError>, AllocError>
+fn refusal(alloc: Global, record: &WorkspaceRecord) -> Result<Option<WorkspaceFault>, AllocError>
     ensures { IfOk result (λ refused. refused ≡ refusal_of «record».now) }
 {
     let packages = ids_of_packages(alloc, record.packages.as_slice())?;
     if has_repeated(alloc, packages.as_slice())? {
-        return Ok(Some(WorkspaceError::RepeatedPackage));
+        return Ok(Some(WorkspaceFault::RepeatedPackage));
     }
     let known = set_of(alloc, packages.as_slice())?;
     refusal_behind(alloc, &known, record)
@@ -90,21 +91,21 @@ fn refusal_behind(
     alloc: Global,
     known: &BTreeSet<&str>,
     record: &WorkspaceRecord,
-) -> Result<Option<WorkspaceError>, AllocError>
+) -> Result<Option<WorkspaceFault>, AllocError>
     ensures { IfOk result (λ refused. refused ≡ refusal_by (has_text known.now) «record».now) }
 {
     if !links_are_known(known, record.links.as_slice()) {
-        return Ok(Some(WorkspaceError::UnknownLink));
+        return Ok(Some(WorkspaceFault::UnknownLink));
     }
     let binaries = ids_of_binaries(alloc, record.binaries.as_slice())?;
     if has_repeated(alloc, binaries.as_slice())? {
-        return Ok(Some(WorkspaceError::RepeatedBinary));
+        return Ok(Some(WorkspaceFault::RepeatedBinary));
     }
     if !packages_are_known(known, record.binaries.as_slice()) {
-        return Ok(Some(WorkspaceError::UnknownPackage));
+        return Ok(Some(WorkspaceFault::UnknownPackage));
     }
     if has_bad(binaries.as_slice()) {
-        return Ok(Some(WorkspaceError::BadId));
+        return Ok(Some(WorkspaceFault::BadId));
     }
     Ok(None)
 }

@@ -1,25 +1,14 @@
-// Why a record of a workspace is refused.
+// Why a record wasn't taken for a workspace.
+use crate::workspace_fault::WorkspaceFault;
 use std::alloc::{AllocError, AllocFailed};
 use thiserror::Error;
 
-/// Why a record is no workspace. Each reason is looked for in the whole record before the next, in this order.
+/// Why a record is no workspace, or why that isn't known.
 #[derive(Clone, Copy, Debug, PartialEq, Eq, Hash, Error)]
 pub enum WorkspaceError {
-    /// Two packages have one id.
-    #[error("two packages have one id")]
-    RepeatedPackage,
-    /// An end of a link is the id of no package.
-    #[error("a link has an end that is no package")]
-    UnknownLink,
-    /// Two binaries have one id.
-    #[error("two binaries have one id")]
-    RepeatedBinary,
-    /// A binary's package is the id of no package.
-    #[error("a binary is of no package")]
-    UnknownPackage,
-    /// A binary's id is empty, or contains a tab, a line feed or a carriage return.
-    #[error("a binary's id is empty or has a tab or a line end in it")]
-    BadId,
+    /// It is refused.
+    #[error(transparent)]
+    Refused(WorkspaceFault),
     /// There was no memory for the check, which says nothing of the record.
     #[error("out of memory")]
     OutOfMemory,

@@ -3,7 +3,7 @@ use denote.Ref.{Bor}
 use Rattle.test_runner_core_workspace.specs.Ids.{lent, has_text}
 use Rattle.test_runner_core_workspace.specs.Workspace.{is_among, has_repeat, package_ids, refusal_of, refusal_by}
 use Rattle.test_runner_core_workspace.specs.declared.record.WorkspaceRecord.{WorkspaceRecord}
-use Rattle.test_runner_core_workspace.specs.declared.workspace_error.WorkspaceError.{WorkspaceError}
+use Rattle.test_runner_core_workspace.specs.declared.workspace_fault.WorkspaceFault.{WorkspaceFault}
 use Rattle.test_runner_core_workspace.proofs.Repeats.{behind_no_repeat}
 use Rattle.test_runner_core_workspace.proofs.workspace.refusal.Goals as goal
 
@@ -17,4 +17,4 @@ returns c =
     = λ text. rw (← c.as_slice-3.ensures.value) (c.in_ok-known.ensures text) in
     let reason : refusal_by (has_text c.in_ok-known.known) workspace ≡ refusal_of workspace
     = behind_no_repeat workspace packages c.in_ok-known.known of_packages once same in
-    subst (λ (o : Option WorkspaceError). IfOk c.refusal_behind.result (λ refused. refused ≡ o)) reason c.refusal_behind.ensures
+    subst (λ (o : Option WorkspaceFault). IfOk c.refusal_behind.result (λ refused. refused ≡ o)) reason c.refusal_behind.ensures
