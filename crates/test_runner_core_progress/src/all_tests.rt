@@ -63,6 +63,14 @@ impl AllTests {
         self.running == 0
     }
 
+    // What is planned of the test at a place.
+    pub(crate) fn planned(&self, place: usize) -> Option<RunTest>
+        ensures { result ≡ option_map (λ test. test.plan) (slice_get self.now place) }
+    {
+        let test = self.tests.as_slice().get(place)?;
+        Some(test.planned())
+    }
+
     // How far the test at a place is.
     pub(crate) fn mark(&self, place: usize) -> Option<Mark>
         ensures { result ≡ option_map (λ test. test.mark) (slice_get self.now place) }

@@ -253,6 +253,20 @@ impl Progress {
         exit_status(self.summary())
     }
 
+    /// Whether the run is stopped.
+    pub fn is_stopped(&self) -> bool
+        ensures { result ≡ is_some self.now.reason }
+    {
+        self.stats.cancel_reason.is_some()
+    }
+
+    /// How many attempts the test at a place has at most, and its flaky rule; `None` where the plan has no such place.
+    pub fn planned(&self, test: usize) -> Option<RunTest>
+        ensures { result ≡ option_map (λ t. t.plan) (slice_get self.now.tests test) }
+    {
+        self.tests.planned(test)
+    }
+
     /// How far the test at a place is; `None` where the plan has no such place.
     pub fn mark(&self, test: usize) -> Option<Mark>
         ensures { result ≡ option_map (λ t. t.mark) (slice_get self.now.tests test) }

@@ -50,6 +50,13 @@ impl TestProgress {
         }
     }
 
+    // What is planned of it.
+    pub(crate) fn planned(&self) -> RunTest
+        ensures { result ≡ self.now.plan }
+    {
+        self.plan
+    }
+
     // How far it is.
     pub(crate) fn mark(&self) -> Mark
         ensures { result ≡ self.now.mark }

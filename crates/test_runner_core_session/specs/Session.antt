@@ -10,11 +10,18 @@ use Rattle.test_runner_core_progress.specs.Statuses.{IsAttempts}
 use Rattle.test_runner_core_session.specs.Names.{place_of}
 use Rattle.test_runner_core_session.specs.declared.session.Fate.{Fate}
 
--- the names of scripts and tests by their places, and the state of the run
+-- a plan, and the state of its run
 pub record SessionState : Type 0 where
-  pub scripts : List (List ℕ)
-  pub tests : List OwnedTestInstanceId
+  pub plan : Plan
   pub run : State
+
+-- the names of a plan's tests, by their places
+abbrev pub names_of : Plan → List OwnedTestInstanceId
+names_of plan = map (λ test. test.instance) plan.tests
+
+-- the place of the first test of a name in a plan, or one past the end
+abbrev pub place_in : Plan → List ℕ → List ℕ → ℕ
+place_in plan id name = place_of (names_of plan) id name
 
 abbrev pub run_test : PlanTest → RunTest
 run_test test = record { tries = test.tries; flaky = test.settings.flaky_result }
@@ -25,15 +32,16 @@ run_plan plan = record { scripts = length plan.scripts; tests = map run_test pla
 
 -- the run of a plan in which nothing ended
 abbrev pub session_of : Plan → SessionState
-session_of plan = record { scripts = plan.scripts; tests = map (λ test. test.instance) plan.tests; run = initial (run_plan plan) }
+session_of plan = record { plan = plan; run = initial (run_plan plan) }
 
 -- the test of a name, where the plan has it
 abbrev pub test_of : SessionState → List ℕ → List ℕ → Option TestState
-test_of session id name = slice_get session.run.tests (place_of session.tests id name)
+test_of session id name = slice_get session.run.tests (place_in session.plan id name)
 
--- what is told of a test is how far it is, and its ended attempts; nothing where there is no such test
+-- what is told of a test is how far it is, what is planned of it, and its ended attempts; nothing where there is no such
+-- test
 abbrev pub IsFate : Option TestState → Option Fate → Type 0
 IsFate None None = ⊤
 IsFate None (Some fate) = ⊥
 IsFate (Some test) None = ⊥
-IsFate (Some test) (Some fate) = (fate.mark ≡ test.mark) × IsAttempts (Some test) fate.attempts
+IsFate (Some test) (Some fate) = (fate.mark ≡ test.mark) × (fate.plan ≡ test.plan) × IsAttempts (Some test) fate.attempts

@@ -1,11 +1,11 @@
 // A run of a plan.
-ghost use Rattle.std.specs.Prelude.{◌≡◌, IfOk, map};
+ghost use Rattle.std.specs.Prelude.{◌≡◌, IfOk, is_some, map, slice_get};
 ghost use Rattle.test_runner_core_progress.specs.Progress.{Takes, Starts};
 ghost use Rattle.test_runner_core_runs.specs.Counters as counters;
 ghost use Rattle.test_runner_core_runs.specs.Runs as runs;
 ghost use Rattle.test_runner_core_runs.specs.declared.event.Event.TheVariants as events;
-ghost use Rattle.test_runner_core_session.specs.Names.{place_of, script_place};
-ghost use Rattle.test_runner_core_session.specs.Session.{session_of, run_test, test_of, IsFate};
+ghost use Rattle.test_runner_core_session.specs.Names.{script_place};
+ghost use Rattle.test_runner_core_session.specs.Session.{place_in, session_of, run_test, test_of, IsFate};
 
 use crate::places::Places;
 use nextest_run_events_counters::{ExecutionStatuses, FinalRunStats, RunStats};
@@ -18,19 +18,20 @@ use test_runner_core_plan::{Plan, PlanTest};
 use test_runner_core_progress::{Progress, StartFault};
 use test_runner_core_runs::{Mark, RunTest, StepRefusal};
 
-/// How far a test is.
+/// How far a test is, and what is planned of it.
 #[derive(Clone, Copy)]
 pub struct Fate<'s> {
     /// Whether it waits, runs, is between two attempts or is finished.
     pub mark: Mark,
+    /// How many attempts it has at most, and its flaky rule.
+    pub plan: RunTest,
     /// Its ended attempts; `None` where none ended.
     pub attempts: Option<&'s ExecutionStatuses<LiveSpec>>,
 }
 
-/// A run of a plan, which is lent. In a clause it is the names of the plan's scripts and tests by their places, and the
-/// state of the run.
+/// A run of a plan, which is lent. In a clause it is the plan, and the state of the run.
 pub struct Session<'a> {
-    scripts: &'a [Text],
+    plan: &'a Plan,
     places: Places<'a>,
     progress: Progress,
 }
@@ -39,7 +40,7 @@ pub struct Session<'a> {
 impl Drop for Session<'_> {
     fn drop(self) {
         let Self {
-            scripts: _,
+            plan: _,
             places: _,
             progress: _,
         } = self;
@@ -47,11 +48,14 @@ impl Drop for Session<'_> {
 }
 
 impl<'a> Model for Session<'a> {
-    ghost use Rattle.test_runner_core_session.specs.Session.{SessionState};
+    ghost use Rattle.std.specs.Prelude.{◌≡◌};
+    ghost use Rattle.test_runner_core_session.specs.Session.{SessionState, names_of};
 
     ghost Value = { SessionState };
 
-    ghost view = { λ s. record { scripts = s.scripts.now; tests = s.places; run = s.progress } };
+    ghost view = { λ s. record { plan = s.plan.now; run = s.progress } };
+
+    ghost invariant = { λ s. s.places ≡ names_of s.plan.now };
 }
 
 impl<'a> Session<'a> {
@@ -62,13 +66,12 @@ impl<'a> Session<'a> {
     {
         let tests = plan.tests.as_slice();
         let planned = planned_tests(alloc, tests)?;
-        let scripts = plan.scripts.as_slice();
         Ok(Session {
-            scripts,
+            plan,
             places: Places::new(alloc, tests)?,
             progress: Progress::new(
                 alloc,
-                scripts.len(),
+                plan.scripts.len(),
                 planned.as_slice(),
                 plan.limit,
                 plan.skipped.len(),
@@ -79,9 +82,8 @@ impl<'a> Session<'a> {
     /// An attempt of a test starts: reserves the room of its record. An `Err` says why it can't start now, or that there
     /// was no memory, and leaves everything as it was.
     pub fn start(&mut self, test: TestInstanceId<'_>) -> Result<(), StartFault>
-        ensures scripts { self.new.scripts ≡ self.old.scripts }
-        ensures tests { self.new.tests ≡ self.old.tests }
-        ensures step { Starts self.old.run (place_of self.old.tests test.entry.binary_id.now test.entry.test_name.now) result self.new.run }
+        ensures plan { self.new.plan ≡ self.old.plan }
+        ensures step { Starts self.old.run (place_in self.old.plan test.entry.binary_id.now test.entry.test_name.now) result self.new.run }
     {
         let place = self.places.find(test);
         self.progress.start(place)
@@ -94,9 +96,8 @@ impl<'a> Session<'a> {
         test: TestInstanceId<'_>,
         record: Record,
     ) -> Result<(), StepRefusal>
-        ensures scripts { self.new.scripts ≡ self.old.scripts }
-        ensures tests { self.new.tests ≡ self.old.tests }
-        ensures step { Takes self.old.run (events.Ended (place_of self.old.tests test.entry.binary_id.now test.entry.test_name.now) «record») result self.new.run }
+        ensures plan { self.new.plan ≡ self.old.plan }
+        ensures step { Takes self.old.run (events.Ended (place_in self.old.plan test.entry.binary_id.now test.entry.test_name.now) «record») result self.new.run }
     {
         let place = self.places.find(test);
         self.progress.attempt_finished(place, record)
@@ -104,21 +105,33 @@ impl<'a> Session<'a> {
 
     /// A script ended. Takes no memory. An `Err` says why that can't be, and leaves everything as it was.
     pub fn script_finished(&mut self, id: &str, record: Record) -> Result<(), StepRefusal>
-        ensures scripts { self.new.scripts ≡ self.old.scripts }
-        ensures tests { self.new.tests ≡ self.old.tests }
-        ensures step { Takes self.old.run (events.ScriptEnded (script_place self.old.scripts id.now) «record») result self.new.run }
+        ensures plan { self.new.plan ≡ self.old.plan }
+        ensures step { Takes self.old.run (events.ScriptEnded (script_place self.old.plan.scripts id.now) «record») result self.new.run }
     {
-        let place = place_of_script(self.scripts, id);
+        let place = place_of_script(self.plan.scripts.as_slice(), id);
         self.progress.script_finished(place, record)
     }
 
     /// The run was told to stop. Takes no memory. An `Err` says why that can't be, and leaves everything as it was.
     pub fn stop(&mut self, reason: CancelReason) -> Result<(), StepRefusal>
-        ensures scripts { self.new.scripts ≡ self.old.scripts }
-        ensures tests { self.new.tests ≡ self.old.tests }
+        ensures plan { self.new.plan ≡ self.old.plan }
         ensures step { Takes self.old.run (events.Stopped reason) result self.new.run }
     {
         self.progress.stop(reason)
+    }
+
+    /// The plan.
+    pub fn plan(&self) -> &'a Plan
+        ensures { result.now ≡ self.now.plan }
+    {
+        self.plan
+    }
+
+    /// Whether the run is stopped.
+    pub fn is_stopped(&self) -> bool
+        ensures { result ≡ is_some self.now.run.reason }
+    {
+        self.progress.is_stopped()
     }
 
     /// Whether the run is complete: all scripts and tests finished, or it is stopped and nothing runs.
@@ -149,14 +162,30 @@ impl<'a> Session<'a> {
         self.progress.status()
     }
 
+    /// The place of a test in the plan, or the number of its tests where the plan doesn't have it. The test of the last
+    /// event, or the one behind it, is found at once.
+    pub fn place(&self, test: TestInstanceId<'_>) -> usize
+        ensures { result ≡ place_in self.now.plan test.entry.binary_id.now test.entry.test_name.now }
+    {
+        self.places.place(test)
+    }
+
     /// How far a test is; `None` where the plan doesn't have it.
     pub fn fate(&self, test: TestInstanceId<'_>) -> Option<Fate<'_>>
         ensures { IsFate (test_of self.now test.entry.binary_id.now test.entry.test_name.now) result }
     {
-        let place = self.places.place(test);
+        self.fate_at(self.place(test))
+    }
+
+    /// How far the test at a place is; `None` where the plan has no such place.
+    pub fn fate_at(&self, place: usize) -> Option<Fate<'_>>
+        ensures { IsFate (slice_get self.now.run.tests place) result }
+    {
         let mark = self.progress.mark(place)?;
+        let plan = self.progress.planned(place)?;
         Some(Fate {
             mark,
+            plan,
             attempts: self.progress.attempts(place),
         })
     }
