@@ -1,6 +1,8 @@
 -- The first line of a stream, and what stays true while it is looked for.
-use Rattle.std.proofs.Common.{◌≡◌, ℕ, ◌+◌, ◌<◌, ◌≤◌, Bool, not, cond, eqb, List, [], ◌∷◌, ◌++◌, length, take, drop, Option, Some, None, IfSome, sym, ap, ◌∙◌, subst, arith, zero-add, append-nil, append_assoc, length-append}
+use Rattle.std.proofs.Common.{◌≡◌, ◌≢◌, ℕ, ◌+◌, ◌<◌, ◌≤◌, Bool, true, false, inl, inr, not, cond, eqb, List, [], ◌∷◌, ◌++◌, length, take, drop, Option, Some, None, IfSome, sym, ap, ◌∙◌, subst, arith, zero-add, append-nil, append_assoc, length-append}
+use Rattle.std.specs.Prelude.{◌⊎◌}
 use Rattle.std.specs.List.{position_or_len}
+use Rattle.std.proofs.lemmas.Bool.Decides.{eqb_tells}
 use Rattle.std.specs.Option.{unwrap_or}
 use Rattle.std.specs.Io.KnownBytes.{IsAtEnd}
 use Rattle.std.proofs.Math.Seq.{take-append-add, drop-append-add}
@@ -8,7 +10,7 @@ use Rattle.std.proofs.lemmas.List.{take-append-drop, take_all, length-take}
 use Rattle.test_runner_core_log_reader.specs.declared.limits.TheConstants.{FIRST_LINE_LIMIT, LOG_LIMIT}
 use Rattle.test_runner_core_log_reader.specs.Feeds.{IsPlain, IsFirstFeed, before_feed, behind_feed}
 use Rattle.test_runner_core_log_reader.specs.Cursor.{Cursor, received}
-use Rattle.test_runner_core_log_reader.specs.Calls.{Cut, KeepsAhead, PartsAtFirst, WaitsMore}
+use Rattle.test_runner_core_log_reader.specs.Calls.{Cut, GetsPlain, KeepsAhead, PartsAtFirst, WaitsMore}
 use Rattle.test_runner_core_log_reader.proofs.Items.{is_no_feed}
 
 -- where the first line feed stands behind plain bytes
@@ -28,6 +30,36 @@ behind_plain plain more h =
     let n = position_or_len (λ byte. eqb byte 10) more in
     ap (λ (m : ℕ). drop m (plain ++ more)) (ap (λ (m : ℕ). m + 1) (at_plain plain more h) ∙ (let e : length plain + n + 1 ≡ length plain + (n + 1) = omega arith in e))
     ∙ drop-append-add plain more (n + 1)
+
+-- a plain line stands before its line feed, and what follows behind it
+pub before_line : (line more : List ℕ) → IsPlain line → before_feed (line ++ 10 ∷ more) ≡ line
+before_line line more plain = before_plain line (10 ∷ more) plain ∙ append-nil line
+
+pub behind_line : (line more : List ℕ) → IsPlain line → behind_feed (line ++ 10 ∷ more) ≡ more
+behind_line line more plain = behind_plain line (10 ∷ more) plain
+
+-- bytes are plain, or a plain line, its line feed and what follows
+split_feed : (bytes : List ℕ) → IsPlain bytes ⊎ ((line : List ℕ) × ((more : List ℕ) × (IsPlain line × (bytes ≡ line ++ 10 ∷ more))))
+split_feed [] = inl tt
+split_feed (byte ∷ rest) = by_test (eqb_tells byte 10) (split_feed rest)
+  where
+    by_test : ((eqb byte 10 ≡ true) × (byte ≡ 10)) ⊎ ((eqb byte 10 ≡ false) × (byte ≢ 10)) → IsPlain rest ⊎ ((line : List ℕ) × ((more : List ℕ) × (IsPlain line × (rest ≡ line ++ 10 ∷ more))))
+        → IsPlain (byte ∷ rest) ⊎ ((line : List ℕ) × ((more : List ℕ) × (IsPlain line × (byte ∷ rest ≡ line ++ 10 ∷ more))))
+    by_test (inl (test, is)) behind = inr ([], (rest, (tt, ap (λ (b : ℕ). b ∷ rest) is)))
+    by_test (inr (test, apart)) (inl plain) = inl (apart, plain)
+    by_test (inr (test, apart)) (inr (line, (more, (plain, is)))) = inr (byte ∷ line, (more, ((apart, plain), ap (λ (t : List ℕ). byte ∷ t) is)))
+
+-- a stream without a line feed is all before it, and any other is divided there
+pub divides : (bytes : List ℕ) → (IsPlain bytes × (behind_feed bytes ≡ [])) ⊎ (IsPlain (before_feed bytes) × (bytes ≡ before_feed bytes ++ 10 ∷ behind_feed bytes))
+divides bytes = by_feed (split_feed bytes)
+  where
+    by_feed : IsPlain bytes ⊎ ((line : List ℕ) × ((more : List ℕ) × (IsPlain line × (bytes ≡ line ++ 10 ∷ more))))
+        → (IsPlain bytes × (behind_feed bytes ≡ [])) ⊎ (IsPlain (before_feed bytes) × (bytes ≡ before_feed bytes ++ 10 ∷ behind_feed bytes))
+    by_feed (inl plain) = inl (plain, ap behind_feed (sym (append-nil bytes)) ∙ behind_plain bytes [] plain)
+    by_feed (inr (line, (more, (plain, is)))) =
+        let before : before_feed bytes ≡ line = ap before_feed is ∙ before_line line more plain in
+        let behind : behind_feed bytes ≡ more = ap behind_feed is ∙ behind_line line more plain in
+        inr (subst IsPlain (sym before) plain, is ∙ ap (λ (t : List ℕ). t ++ 10 ∷ more) (sym before) ∙ ap (λ (t : List ℕ). before_feed bytes ++ 10 ∷ t) (sym behind))
 
 too_long : (plain more : List ℕ) → IsPlain plain → FIRST_LINE_LIMIT < length plain → FIRST_LINE_LIMIT < length (before_feed (plain ++ more))
 too_long plain more h long =
@@ -59,6 +91,15 @@ pub record ReadingFirst (stream : Option (List ℕ)) (first_calls first_failures
   pub bounded : calls ≤ first_calls + FIRST_LINE_LIMIT + 1
   pub limit : received lines ≤ LOG_LIMIT + 1
   pub unfailed : failures ≡ first_failures
+
+-- what was got where no line feed waited
+pub gets_plain : (stream rest : Option (List ℕ)) (mid last : Cursor) → KeepsAhead beginning stream last rest → IsPlain mid.waiting → WaitsMore mid last 0 → GetsPlain stream rest
+gets_plain None rest mid last ahead plain same = ([], tt, tt)
+gets_plain (Some bytes) None mid last ahead plain same = absurd ahead
+gets_plain (Some bytes) (Some rest) mid last ahead plain same =
+    let size = same.size in
+    let waiting : last.waiting ≡ mid.waiting = sym (take_all (length mid.waiting) last.waiting (omega arith)) ∙ same.front in
+    (last.waiting, sym ahead, subst IsPlain (sym waiting) plain)
 
 -- a line that a line feed ends
 pub parts_at_feed : (stream rest : Option (List ℕ)) (mid new : Cursor) → KeepsAhead beginning stream mid rest → Cut (length new.line) mid new

@@ -13,7 +13,7 @@ pub is_no_feed : (byte : ℕ) → byte ≢ 10 → eqb byte 10 ≡ false
 is_no_feed byte other = grind (arith, nat_tests)
 
 -- a text has a first part
-parts_first : (bytes : List ℕ) → (first : List ℕ) × (more : List (List ℕ)) × (parts bytes ≡ first ∷ more)
+pub parts_first : (bytes : List ℕ) → (first : List ℕ) × (more : List (List ℕ)) × (parts bytes ≡ first ∷ more)
 parts_first [] = ([], [], refl)
 parts_first (byte ∷ bytes) = by_byte (eqb byte 10) (parts_first bytes)
   where
@@ -23,13 +23,13 @@ parts_first (byte ∷ bytes) = by_byte (eqb byte 10) (parts_first bytes)
     by_byte false found = (byte ∷ found.0, found.1, ap (onto_first byte) found.2)
 
 -- plain bytes belong to the first part of what follows
-parts_plain : (plain rest first : List ℕ) (more : List (List ℕ)) → IsPlain plain → parts rest ≡ first ∷ more → parts (plain ++ rest) ≡ (plain ++ first) ∷ more
+pub parts_plain : (plain rest first : List ℕ) (more : List (List ℕ)) → IsPlain plain → parts rest ≡ first ∷ more → parts (plain ++ rest) ≡ (plain ++ first) ∷ more
 parts_plain [] rest first more h e = e
 parts_plain (byte ∷ plain) rest first more h e =
     ap (λ (feed : Bool). cond feed ([] ∷ parts (plain ++ rest)) (onto_first byte (parts (plain ++ rest)))) (is_no_feed byte h.0)
     ∙ ap (onto_first byte) (parts_plain plain rest first more h.1 e)
 
-parts_line : (line rest : List ℕ) → IsPlain line → parts (line ++ 10 ∷ rest) ≡ line ∷ parts rest
+pub parts_line : (line rest : List ℕ) → IsPlain line → parts (line ++ 10 ∷ rest) ≡ line ∷ parts rest
 parts_line line rest h = parts_plain line (10 ∷ rest) [] (parts rest) h refl ∙ ap (λ (l : List ℕ). l ∷ parts rest) (append-nil line)
 
 -- a line that a line feed ends

@@ -22,14 +22,24 @@ pub all_plain : (xs : List ℕ) (start scanned end : ℕ) → start ≤ scanned 
 all_plain xs start scanned end a b before after =
     subst IsPlain (sym (range_join xs start scanned end a b)) (plain-append (slice_range xs start scanned) (slice_range xs scanned end) before after)
 
+-- none before the line feed that was found in the rest
+pub plain_before : (xs : List ℕ) (start scanned end at : ℕ) → start ≤ scanned → scanned ≤ end → end ≤ length xs
+    → IsPlain (slice_range xs start scanned) → IsFirstFeed (slice_range xs scanned end) (Some at) → IsPlain (slice_range xs start (scanned + at))
+plain_before xs start scanned end at a b filled before feed =
+    let size = length-range xs scanned end filled in
+    let within : at ≤ end - scanned = let h = feed.0 in omega arith in
+    all_plain xs start scanned (scanned + at) a (omega arith) before (subst IsPlain (take-range xs scanned end at within) feed.1)
+
 -- a line feed found in the rest
 pub feed_behind : (xs : List ℕ) (start scanned end at : ℕ) → start ≤ scanned → scanned ≤ end → end ≤ length xs
     → IsPlain (slice_range xs start scanned) → IsFirstFeed (slice_range xs scanned end) (Some at)
-    → IsFirstFeed (slice_range xs start end) (Some (scanned - start + at))
+    → IsFirstFeed (slice_range xs start end) (Some (scanned + at - start))
 feed_behind xs start scanned end at a b filled before feed =
-    subst (λ (ys : List ℕ). IsFirstFeed ys (Some (scanned - start + at))) (sym (range_join xs start scanned end a b))
+    let place : scanned - start + at ≡ scanned + at - start = omega arith in
+    subst (λ (n : ℕ). IsFirstFeed (slice_range xs start end) (Some n)) place
+    (subst (λ (ys : List ℕ). IsFirstFeed ys (Some (scanned - start + at))) (sym (range_join xs start scanned end a b))
     (subst (λ (n : ℕ). IsFirstFeed (slice_range xs start scanned ++ slice_range xs scanned end) (Some (n + at)))
-    (length-range xs start scanned (omega arith)) (feed_after (slice_range xs start scanned) (slice_range xs scanned end) at before feed))
+    (length-range xs start scanned (omega arith)) (feed_after (slice_range xs start scanned) (slice_range xs scanned end) at before feed)))
   where
     feed_after : (ys zs : List ℕ) (n : ℕ) → IsPlain ys → IsFirstFeed zs (Some n) → IsFirstFeed (ys ++ zs) (Some (length ys + n))
     feed_after ys zs n plain here = (

@@ -1,5 +1,6 @@
 -- What a call of a reader of lines did.
 use Rattle.std.specs.Prelude.{◌≡◌, ℕ, ◌+◌, ◌<◌, ◌≤◌, Bool, true, length, List, [], ◌∷◌, ◌++◌, Option, None, Some, Result, Ok, Err, ⊤, take}
+use Rattle.std.specs.Io.KnownBytes.{Consumes}
 use Rattle.test_runner_core_log_reader.specs.Items.{Item, Line, Refused, line_fault}
 use Rattle.test_runner_core_log_reader.specs.Cursor.{Cursor, received, items_ahead, Unmoved}
 use Rattle.test_runner_core_log_reader.specs.Feeds.{IsPlain, before_feed, behind_feed}
@@ -27,6 +28,26 @@ Hands old None new rest result = ⊤
 Hands old (Some left) new None result = ⊥
 Hands old (Some left) new (Some rest) result = HandsItem result new (items_ahead old left) (items_ahead new rest)
 
+-- what is ahead, the bytes that wait and those that the reader has left, stays, where the latter are known
+abbrev pub KeepsAhead : Cursor → Option (List ℕ) → Cursor → Option (List ℕ) → Type 0
+KeepsAhead old None new rest = ⊤
+KeepsAhead old (Some left) new None = ⊥
+KeepsAhead old (Some left) new (Some rest) = new.waiting ++ rest ≡ old.waiting ++ left
+
+-- a line and its line feed are the first bytes that were ahead, and the others still are, where the reader's bytes are
+-- known
+abbrev pub TakesLine : Cursor → Option (List ℕ) → Cursor → Option (List ℕ) → Type 0
+TakesLine old None new rest = ⊤
+TakesLine old (Some left) new None = ⊥
+TakesLine old (Some left) new (Some rest) = (old.waiting ++ left ≡ new.line ++ 10 ∷ (new.waiting ++ rest)) × IsPlain new.line
+
+-- the bytes that were ahead lose a line that is handed out, and nothing else
+abbrev pub HandsAhead : Cursor → Option (List ℕ) → Cursor → Option (List ℕ) → Result Next LogFault → Type 0
+HandsAhead old left new rest (Ok found.Line) = TakesLine old left new rest
+HandsAhead old left new rest (Ok (found.Refused fault)) = KeepsAhead old left new rest
+HandsAhead old left new rest (Ok found.End) = KeepsAhead old left new rest
+HandsAhead old left new rest (Err fault) = KeepsAhead old left new rest
+
 -- a line and its line feed are handed out, whatever the reader's bytes; else nothing is
 abbrev pub HandsBytes : Result Next LogFault → Cursor → Cursor → Type 0
 HandsBytes (Ok found.Line) old new = new.handed ≡ old.handed + length new.line + 1
@@ -42,6 +63,15 @@ idle_reads (Ok (found.Refused faults.LogTooLong)) = 0
 idle_reads (Ok (found.Refused faults.NoLineEnd)) = 1
 idle_reads (Ok found.End) = 1
 idle_reads (Err fault) = 1
+
+-- a call didn't fail, and the reader wasn't called
+abbrev pub IsUnread : {T : Type 0} → Result T LogFault → ℕ → ℕ → Type 0
+IsUnread (Ok value) before after = after ≡ before
+IsUnread (Err fault) before after = ⊥
+
+-- no line feed is among the bytes that a reader gave, where its bytes are known
+abbrev pub GetsPlain : Option (List ℕ) → Option (List ℕ) → Type 0
+GetsPlain left rest = (got : List ℕ) × Consumes left rest got × IsPlain got
 
 -- the reader's failed calls rose by one exactly where its failure is answered, and then its last call failed
 abbrev pub TellsFailure : {T : Type 0} → Result T LogFault → ℕ → ℕ → Bool → Type 0
@@ -84,12 +114,6 @@ scan_of None = scanned.Waits
 scan_of (Some faults.LineTooLong) = scanned.Refused faults.LineTooLong
 scan_of (Some faults.LogTooLong) = scanned.Refused faults.LogTooLong
 scan_of (Some faults.NoLineEnd) = scanned.Waits
-
--- what is ahead, the bytes that wait and those that the reader has left, stays, where the latter are known
-abbrev pub KeepsAhead : Cursor → Option (List ℕ) → Cursor → Option (List ℕ) → Type 0
-KeepsAhead old None new rest = ⊤
-KeepsAhead old (Some left) new None = ⊥
-KeepsAhead old (Some left) new (Some rest) = new.waiting ++ rest ≡ old.waiting ++ left
 
 -- so many more bytes wait, behind those that waited
 pub record WaitsMore (old new : Cursor) (count : ℕ) : Type 0 where

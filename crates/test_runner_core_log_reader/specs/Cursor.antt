@@ -1,6 +1,8 @@
 -- Where a reader of lines stands in a log.
-use Rattle.std.specs.Prelude.{◌≡◌, ℕ, ◌+◌, length, List, ◌++◌}
+use Rattle.std.specs.Prelude.{◌≡◌, ℕ, ◌+◌, Bool, ◌||◌, nat_lt, length, List, ◌++◌}
+use Rattle.test_runner_core_log_reader.specs.Feeds.{has_feed}
 use Rattle.test_runner_core_log_reader.specs.Items.{Item, items}
+use Rattle.test_runner_core_log_reader.specs.declared.limits.TheConstants.{LINE_LIMIT, LOG_LIMIT}
 
 -- the line that the last call found, or no bytes; the bytes that were read and not handed out yet; and how many bytes
 -- of the log were handed out, line feeds among them
@@ -12,6 +14,10 @@ pub record Cursor : Type 0 where
 -- how many bytes of the log were read
 abbrev pub received : Cursor → ℕ
 received cursor = cursor.handed + length cursor.waiting
+
+-- the bytes that wait tell what is next: there is a line feed among them, or they are too many whatever follows
+abbrev pub tells_next : Cursor → Bool
+tells_next cursor = has_feed cursor.waiting || nat_lt LINE_LIMIT (length cursor.waiting) || nat_lt LOG_LIMIT (received cursor)
 
 -- the items that are ahead where the reader has these bytes left
 abbrev pub items_ahead : Cursor → List ℕ → List Item

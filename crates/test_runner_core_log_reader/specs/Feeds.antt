@@ -1,10 +1,18 @@
 -- Line feeds in bytes.
-use Rattle.std.specs.Prelude.{◌≡◌, ◌≢◌, ℕ, ◌+◌, ◌<◌, ◌==◌, List, ◌∷◌, Option, None, Some, length, take, drop}
-use Rattle.std.specs.List.{AllByRecursion, before_first, after_first}
+use Rattle.std.specs.Prelude.{◌≡◌, ◌≢◌, ℕ, ◌+◌, ◌<◌, ◌==◌, Bool, List, ◌∷◌, Option, None, Some, length, take, drop}
+use Rattle.std.specs.List.{AllByRecursion, list_any, before_first, after_first}
 
 -- no line feed stands in the bytes
 abbrev pub IsPlain : List ℕ → Type 0
 IsPlain = AllByRecursion (λ byte. byte ≢ 10)
+
+-- no line feed stands in any of the lines
+abbrev pub ArePlain : List (List ℕ) → Type 0
+ArePlain = AllByRecursion IsPlain
+
+-- whether a line feed stands in the bytes
+abbrev pub has_feed : List ℕ → Bool
+has_feed = list_any (λ byte. byte == 10)
 
 -- the first line feed stands at a place, or nowhere
 abbrev pub IsFirstFeed : List ℕ → Option ℕ → Type 0

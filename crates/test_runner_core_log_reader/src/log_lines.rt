@@ -1,15 +1,15 @@
 // The lines of a log, one at a time.
-ghost use Rattle.std.specs.Prelude.{◌≡◌, ◌+◌, ◌-◌, ◌^◌, ◌<◌, ◌≤◌, [], false, Some, IfOk, IfSome, OnErr, length};
+ghost use Rattle.std.specs.Prelude.{◌≡◌, ◌+◌, ◌-◌, ◌^◌, ◌<◌, ◌≤◌, ◌||◌, [], false, true, Some, IfOk, IfSome, OnErr, length, nat_lt};
 ghost use Rattle.std.specs.Io.KnownBytes.{IsAtEnd};
 ghost use Rattle.test_runner_core_log_reader.specs.Items.{line_fault};
 ghost use Rattle.test_runner_core_log_reader.specs.Limits.{first_line_reads, log_reads};
-ghost use Rattle.test_runner_core_log_reader.specs.Cursor.{Unmoved, received};
-ghost use Rattle.test_runner_core_log_reader.specs.Feeds.{IsFirstFeed};
-ghost use Rattle.test_runner_core_log_reader.specs.Calls.{Cut, Hands, HandsBytes, KeepsAhead, PartsAtFirst, Scanned, ScannedFirst, TellsFailure, WaitsMore, end_of, idle_reads, scan_of as scan_told};
+ghost use Rattle.test_runner_core_log_reader.specs.Cursor.{Unmoved, received, tells_next};
+ghost use Rattle.test_runner_core_log_reader.specs.Feeds.{IsFirstFeed, IsPlain};
+ghost use Rattle.test_runner_core_log_reader.specs.Calls.{Cut, GetsPlain, Hands, HandsAhead, HandsBytes, IsUnread, KeepsAhead, PartsAtFirst, Scanned, ScannedFirst, TellsFailure, WaitsMore, end_of, idle_reads, scan_of as scan_told};
 
 use super::buffer::{LONGEST, read_behind, shorten, with_room};
 use super::fault::{LineFault, LogFault, fault_of};
-use super::limits::{FIRST_LINE_LIMIT, LOG_LIMIT};
+use super::limits::{FIRST_LINE_LIMIT, LINE_LIMIT, LOG_LIMIT};
 use super::next::{Next, Scan};
 use memchr::memchr;
 use std::alloc::Global;
@@ -60,7 +60,7 @@ impl LogLines {
     /// At the beginning of a log that stands behind a first line in a stream. It takes that line, up to the first line
     /// feed or the stream's end, off the front, and `line` lends it until the first call of `next`; its memory is given
     /// back as the log is read on. `None` where it has more than `FIRST_LINE_LIMIT` bytes. Where the reader fails or
-    /// there is no memory for the line, what was read is lost.
+    /// there is no memory for the line, what was read is lost; no line feed was among it.
     pub fn behind_first_line<R: LogReader>(
         alloc: Global,
         reader: &mut R,
@@ -69,6 +69,7 @@ impl LogLines {
         requires failures_fit { R.failures reader.old < 2 ^ 63 }
         ensures lines { IfOk result (λ lines. IfSome (R.left reader.old) (λ bytes. PartsAtFirst bytes lines (R.left reader.new))) }
         ensures fresh { IfOk result (λ lines. IfSome lines (λ it. it.handed ≡ 0)) }
+        ensures cut { OnErr result (GetsPlain (R.left reader.old) (R.left reader.new)) }
         ensures reads { R.calls reader.new ≤ R.calls reader.old + first_line_reads }
         ensures failures { TellsFailure result (R.failures reader.old) (R.failures reader.new) (R.last_failed reader.new) }
     {
@@ -94,16 +95,32 @@ impl LogLines {
         &self.buffer[self.line_start..self.line_end]
     }
 
-    /// Finds the next line, and reads as far as that needs. `Line` hands it out, and `line` lends it until the next
-    /// call. A refusal or the end stays ahead, and so does all else where the reader fails or there is no memory for
-    /// the line; the reader is never asked past the first byte that is over the log's limit.
+    /// Whether the next call of `next` needs no read: the bytes that were read tell a line, or that one or the log is
+    /// too long. It forgets the line before.
+    pub fn is_waiting(&mut self) -> bool
+        ensures told { result ≡ tells_next self.old }
+        ensures unmoved { Unmoved self.old self.new }
+    {
+        if self.find_feed().is_some() {
+            return true;
+        }
+        is_over_limit(self.handed, self.end - self.start)
+    }
+
+    /// Finds the next line, and reads as far as that needs: not at all where `is_waiting` answers `true`. `Line` hands
+    /// it out, and `line` lends it until the next call. A refusal or the end stays ahead, and so does all else where the
+    /// reader fails or there is no memory for the line; no whole line was read then. The reader is never asked past the
+    /// first byte that is over the log's limit.
     pub fn next<R: LogReader>(&mut self, reader: &mut R) -> Result<Next, LogFault>
         requires calls_fit { R.calls reader.old + 2 ^ 31 ≤ 2 ^ 63 }
         requires failures_fit { R.failures reader.old < 2 ^ 63 }
         ensures items { Hands self.old (R.left reader.old) self.new (R.left reader.new) result }
+        ensures bytes { HandsAhead self.old (R.left reader.old) self.new (R.left reader.new) result }
         ensures handed { HandsBytes result self.old self.new }
         ensures reads { R.calls reader.new + received self.old ≤ R.calls reader.old + received self.new + idle_reads result }
         ensures limit { received self.new + idle_reads result ≤ log_reads }
+        ensures unread { tells_next self.old ≡ true → IsUnread result (R.calls reader.old) (R.calls reader.new) }
+        ensures cut { OnErr result (IsPlain self.new.waiting) }
         ensures failures { TellsFailure result (R.failures reader.old) (R.failures reader.new) (R.last_failed reader.new) }
     {
         let _within = &self.buffer;
@@ -167,8 +184,8 @@ impl LogLines {
         Scan::Line
     }
 
-    // Where the first line feed stands in the bytes that wait. It is looked for from where the last look ended; the
-    // line before is forgotten.
+    // Where the first line feed stands in the bytes that wait. It is looked for from where the last look ended, which
+    // is where it found the line feed, so that a second look costs nothing; the line before is forgotten.
     fn find_feed(&mut self) -> Option<usize>
         ensures feed { IsFirstFeed self.old.waiting result }
         ensures unmoved { Unmoved self.old self.new }
@@ -179,7 +196,8 @@ impl LogLines {
             self.scanned = self.end;
             return None;
         };
-        Some(self.scanned - self.start + at)
+        self.scanned += at;
+        Some(self.scanned - self.start)
     }
 
     // Cuts the line of this length and its line feed off the bytes that wait.
@@ -248,6 +266,14 @@ fn first_feed(bytes: &[u8]) -> Option<usize>
     ensures { IsFirstFeed bytes.now result }
 {
     memchr(b'\n', bytes)
+}
+
+// Whether so many bytes that wait, behind so many of the log, are too many whatever follows.
+fn is_over_limit(before: usize, waiting: usize) -> bool
+    requires { before + waiting < 2 ^ 63 }
+    ensures { result ≡ (nat_lt LINE_LIMIT waiting || nat_lt LOG_LIMIT (before + waiting)) }
+{
+    waiting > LINE_LIMIT || before + waiting > LOG_LIMIT
 }
 
 // What bytes without a line feed tell, by what would be wrong with them at the log's end.

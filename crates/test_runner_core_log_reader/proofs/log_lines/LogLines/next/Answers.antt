@@ -6,6 +6,7 @@ use Rattle.test_runner_core_log_reader.specs.declared.limits.TheConstants.{LOG_L
 use Rattle.test_runner_core_log_reader.specs.declared.next.Next.{Next}
 use Rattle.test_runner_core_log_reader.proofs.Ranges.{length-range}
 use Rattle.test_runner_core_log_reader.proofs.Reading.{ahead_refl, ahead_unmoved, ahead_then, hands_line, hands_end, end_is_idle}
+use Rattle.test_runner_core_log_reader.proofs.Telling.{tells_unmoved, never_waits}
 use Rattle.test_runner_core_log_reader.proofs.log_lines.LogLines.next.Goals as goal
 
 pub loop-fault-init : goal.loop-fault-init
@@ -22,7 +23,42 @@ loop-fault-init g c =
       grown = omega (arith, size);
       limit = omega (arith, size, within);
       unfailed = refl;
+      unread = λ told. (refl, tells_unmoved c.args.self.now c.give_back.new.self same ∙ told);
     }
+
+pub loop-fault-preserved : goal.loop-fault-preserved
+loop-fault-preserved g c =
+    let left = g.R.LogReader.left in
+    let waits = c.in-Waits.ensures in
+    let before = c.loop-fault.invariant in
+    let more = c.in_ok-count.ensures.ok in
+    let size = more.size in
+    let some = c.if-count-eq0.false in
+    let called = c.in_ok-count.ensures.called in
+    let grown = before.grown in
+    let here = ahead_unmoved c.args.self.now c.loop-fault.self c.scan.new.self (left c.args.reader.now) (left c.loop-fault.reader) before.ahead waits.0.waiting in
+    let handed : c.fill.new.self.handed ≡ c.loop-fault.self.handed = c.in_ok-count.ensures.handed ∙ waits.0.handed in
+    let waiting = ap length waits.0.waiting in
+    record {
+      ahead = ahead_then c.args.self.now c.scan.new.self c.fill.new.self (left c.args.reader.now) (left c.loop-fault.reader) (left c.fill.new.reader) here c.in_ok-count.ensures.ahead;
+      handed = handed ∙ before.handed;
+      grown = omega (arith, waiting);
+      limit = c.in_ok-count.ensures.limit;
+      unfailed = c.in_ok-count.ensures.failures ∙ before.unfailed;
+      unread = λ told. absurd (never_waits c.loop-fault.self c.scan.new.self waits (before.unread told).1);
+    }
+
+pub returns-in-Line-clause-unread : goal.returns-in-Line-clause-unread
+returns-in-Line-clause-unread g c told = (c.loop-fault.invariant.unread told).0
+
+pub returns-in-Refused-clause-unread : goal.returns-in-Refused-clause-unread
+returns-in-Refused-clause-unread g c told = (c.loop-fault.invariant.unread told).0
+
+pub returns-in_err-count-clause-unread : goal.returns-in_err-count-clause-unread
+returns-in_err-count-clause-unread g c told = absurd (never_waits c.loop-fault.self c.scan.new.self c.in-Waits.ensures (c.loop-fault.invariant.unread told).1)
+
+pub returns-then-count-eq0-clause-unread : goal.returns-then-count-eq0-clause-unread
+returns-then-count-eq0-clause-unread g c told = absurd (never_waits c.loop-fault.self c.scan.new.self c.in-Waits.ensures (c.loop-fault.invariant.unread told).1)
 
 pub returns-in-Line-clause-items : goal.returns-in-Line-clause-items
 returns-in-Line-clause-items g c =

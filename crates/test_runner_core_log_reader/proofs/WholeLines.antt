@@ -1,0 +1,81 @@
+-- The whole lines of bytes, and how lines that are handed out one after another make them up.
+use Rattle.std.proofs.Common.{◌≡◌, ℕ, List, [], ◌∷◌, ◌++◌, Option, Some, None, Ok, refl, sym, ap, ◌∙◌, append_assoc, append-nil}
+use Rattle.test_runner_core_log_reader.specs.declared.next.Next.TheVariants as found
+use Rattle.test_runner_core_log_reader.specs.Feeds.{IsPlain, ArePlain}
+use Rattle.test_runner_core_log_reader.specs.Items.{ended_parts, whole_lines, with_feeds}
+use Rattle.test_runner_core_log_reader.specs.Cursor.{Cursor}
+use Rattle.test_runner_core_log_reader.specs.Calls.{HandsAhead, KeepsAhead}
+use Rattle.test_runner_core_log_reader.proofs.Items.{parts_first, parts_plain, parts_line}
+
+-- a line that a line feed ends is the first
+pub whole_line : (line rest : List ℕ) → IsPlain line → whole_lines (line ++ 10 ∷ rest) ≡ line ∷ whole_lines rest
+whole_line line rest plain =
+    let found = parts_first rest in
+    ap ended_parts (parts_line line rest plain) ∙ ap (λ (ps : List (List ℕ)). ended_parts (line ∷ ps)) found.2
+    ∙ ap (λ (ps : List (List ℕ)). line ∷ ended_parts ps) (sym found.2)
+
+-- there is none where no line feed is
+pub whole_none : (bytes : List ℕ) → IsPlain bytes → whole_lines bytes ≡ []
+whole_none bytes plain = ap whole_lines (sym (append-nil bytes)) ∙ ap ended_parts (parts_plain bytes [] [] [] plain refl)
+
+-- lines, each with its line feed, and then bytes without one
+pub whole_lines-with_feeds : (front : List (List ℕ)) (last : List ℕ) → ArePlain front → IsPlain last → whole_lines (with_feeds front ++ last) ≡ front
+whole_lines-with_feeds [] last lines plain = whole_none last plain
+whole_lines-with_feeds (line ∷ front) last lines plain =
+    ap whole_lines (append_assoc line (10 ∷ with_feeds front) last) ∙ whole_line line (with_feeds front ++ last) lines.0
+    ∙ ap (λ (more : List (List ℕ)). line ∷ more) (whole_lines-with_feeds front last lines.1 plain)
+
+pub with_feeds-append : (front back : List (List ℕ)) → with_feeds (front ++ back) ≡ with_feeds front ++ with_feeds back
+with_feeds-append [] back = refl
+with_feeds-append (line ∷ front) back =
+    ap (λ (bytes : List ℕ). line ++ 10 ∷ bytes) (with_feeds-append front back) ∙ sym (append_assoc line (10 ∷ with_feeds front) (with_feeds back))
+
+-- one more line
+pub with_feeds-more : (front : List (List ℕ)) (line : List ℕ) → with_feeds (front ++ line ∷ []) ≡ with_feeds front ++ (line ++ 10 ∷ [])
+with_feeds-more front line = with_feeds-append front (line ∷ [])
+
+pub plain_more : (front : List (List ℕ)) (line : List ℕ) → ArePlain front → IsPlain line → ArePlain (front ++ line ∷ [])
+plain_more [] line lines plain = (plain, tt)
+plain_more (first ∷ front) line lines plain = (lines.0, plain_more front line lines.1 plain)
+
+-- lines and their line feeds are the first bytes that were ahead, and the others still are, where the reader's bytes are
+-- known
+abbrev pub TakesLines : Cursor → Option (List ℕ) → List (List ℕ) → Cursor → Option (List ℕ) → Type 0
+TakesLines old None front new rest = Unit {0}
+TakesLines old (Some left) front new None = ⊥
+TakesLines old (Some left) front new (Some rest) = (old.waiting ++ left ≡ with_feeds front ++ (new.waiting ++ rest)) × ArePlain front
+
+pub takes_none : (cursor : Cursor) (left : Option (List ℕ)) → TakesLines cursor left [] cursor left
+takes_none cursor None = tt
+takes_none cursor (Some left) = (refl, tt)
+
+-- a call that hands out a line
+pub takes_line : (old mid new : Cursor) (left middle rest : Option (List ℕ)) (front : List (List ℕ)) → TakesLines old left front mid middle
+    → HandsAhead mid middle new rest (Ok found.Line) → TakesLines old left (front ++ new.line ∷ []) new rest
+takes_line old mid new None middle rest front before line = tt
+takes_line old mid new (Some left) None rest front before line = absurd before
+takes_line old mid new (Some left) (Some middle) None front before line = absurd line
+takes_line old mid new (Some left) (Some middle) (Some rest) front before line = (
+  before.0 ∙ ap (λ (bytes : List ℕ). with_feeds front ++ bytes) (line.0 ∙ sym (append_assoc new.line (10 ∷ []) (new.waiting ++ rest)))
+      ∙ sym (append_assoc (with_feeds front) (new.line ++ 10 ∷ []) (new.waiting ++ rest))
+      ∙ ap (λ (bytes : List ℕ). bytes ++ (new.waiting ++ rest)) (sym (with_feeds-more front new.line)),
+  plain_more front new.line before.1 line.1,
+)
+
+-- any other call
+pub takes_kept : (old mid new : Cursor) (left middle rest : Option (List ℕ)) (front : List (List ℕ)) → TakesLines old left front mid middle
+    → KeepsAhead mid middle new rest → TakesLines old left front new rest
+takes_kept old mid new None middle rest front before kept = tt
+takes_kept old mid new (Some left) None rest front before kept = absurd before
+takes_kept old mid new (Some left) (Some middle) None front before kept = absurd kept
+takes_kept old mid new (Some left) (Some middle) (Some rest) front before kept =
+    (before.0 ∙ ap (λ (bytes : List ℕ). with_feeds front ++ bytes) (sym kept), before.1)
+
+-- where no line feed waits, the lines that were taken are the whole lines of what was got
+pub got_lines : (old new : Cursor) (left rest : List ℕ) (front : List (List ℕ)) → TakesLines old (Some left) front new (Some rest) → IsPlain new.waiting
+    → (got : List ℕ) × (old.waiting ++ left ≡ got ++ rest) × (whole_lines got ≡ front)
+got_lines old new left rest front taken plain = (
+  with_feeds front ++ new.waiting,
+  taken.0 ∙ sym (append_assoc (with_feeds front) new.waiting rest),
+  whole_lines-with_feeds front new.waiting taken.1 plain,
+)
