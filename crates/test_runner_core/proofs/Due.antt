@@ -1,213 +1,123 @@
--- The events of a log, and that a plan that was built is one.
-use Rattle.std.proofs.Common.{◌≡◌, ℕ, ◌+◌, ◌<◌, List, [], ◌∷◌, Option, Some, None, Result, Ok, Err, Bool, true, false, map, length, refl, ap, sym, subst, inl, inr, arith}
-use Rattle.std.specs.Prelude.{⊤, if◌then◌else◌}
-use Rattle.std.specs.List.{AllByRecursion}
-use Rattle.std.specs.Option.{option_map_or}
-use Rattle.nextest_config_elements_plain.specs.declared.max_fail.MaxFail.{MaxFail}
-use Rattle.toml.specs.Data.{Data, string, integer, float, boolean, datetime, array, table, Members}
+-- The exit status of a report is due, and no milder than what is due.
+use Rattle.std.proofs.Common.{◌≡◌, ℕ, List, [], ◌++◌, map, Option, Some, None, IfOk, IfSome, Result, Ok, Err, refl, sym, ◌∙◌, subst, inr, append-nil}
+use Rattle.test_runner_core_inputs.specs.Reading.{read_inputs}
 use Rattle.test_runner_core_inputs.specs.declared.inputs.Inputs.{Inputs}
-use Rattle.test_runner_core_inputs.specs.declared.source.ConfigSource.{ConfigSource}
-use Rattle.test_runner_core_inputs.specs.declared.source.ConfigSourceKind.{ConfigSourceKind}
-use Rattle.test_runner_core_inputs.specs.declared.source.ConfigSourceKind.TheVariants as kinds
-use Rattle.test_runner_core_inputs.specs.declared.source.ConfigSourceOutcome.{ConfigSourceOutcome}
-use Rattle.test_runner_core_inputs.specs.declared.source.ConfigSourceOutcome.TheVariants as outcomes
-use Rattle.test_runner_core_log_reader.specs.Items.{Item, Line, Refused}
-use Rattle.test_runner_core_line_syntax.specs.Spelling.{Spells}
-use Rattle.test_runner_core_line_syntax.specs.declared.log_line.LogLine.{LogLine}
-use Rattle.test_runner_core_line_syntax.specs.declared.log_line.LogLine.TheVariants as lines
-use Rattle.test_runner_core_listing.specs.Listing.{listing}
-use Rattle.test_runner_core_listing.specs.declared.listing_fault.ListingFault.{ListingFault}
-use Rattle.test_runner_core_listing.specs.declared.selection.Selection.{Selection}
-use Rattle.nextest_run_events_results.specs.declared.cancel_reason.CancelReason.{CancelReason}
-use Rattle.nextest_run_events_results.specs.declared.instance.OwnedTestInstanceId.{OwnedTestInstanceId}
-use Rattle.test_runner_core_plan.specs.Plan.{planned, Planned, IsPlanOf, plan_test, settings_in, settings_by, set_by, wanted_in, asks_for_more, filter_in, listed_in, found_by, has_too_many, workspace_of, ◌>>=◌}
-use Rattle.test_runner_core_plan.specs.declared.plan.Plan.{Plan}
-use Rattle.test_runner_core_plan.specs.declared.plan.PlanTest.{PlanTest}
-use Rattle.test_runner_core_plan.specs.declared.plan_fault.PlanFault.{PlanFault}
-use Rattle.test_runner_core_plan.specs.declared.plan_fault.PlanFault.TheVariants as refused
-use Rattle.test_runner_core_runs.specs.Assignment.{Assignment}
-use Rattle.test_runner_core_runs.specs.RunPlan.{IsPlan, IsLimit}
-use Rattle.test_runner_core_runs.specs.declared.run_test.RunTest.{RunTest}
-use Rattle.test_runner_core_runs.specs.Runs.{Run, Agrees, IsNoStop}
-use Rattle.test_runner_core_runs.specs.State.{State}
-use Rattle.test_runner_core_runs.specs.Step.{step}
-use Rattle.test_runner_core_runs.specs.declared.event.Event.{Event}
-use Rattle.test_runner_core_session.specs.Session.{SessionState, run_plan, run_test}
-use Rattle.test_runner_core_settings.specs.Settings.{settings_of, set_in, max_fail_of, demands_version, has_bad_value, has_more, retries_of, retries, fail_fast}
-use Rattle.test_runner_core_settings.specs.declared.settings.Settings.{Settings}
-use Rattle.test_runner_core_settings.specs.declared.settings_fault.SettingsFault.{SettingsFault}
-use Rattle.test_runner_core_settings.specs.declared.settings_fault.SettingsFault.TheVariants as not_read
-use Rattle.toml.specs.Parse.{parse_document}
+use Rattle.test_runner_core_inputs.specs.declared.inputs_error.InputsRefusal.{InputsRefusal}
+use Rattle.test_runner_core_log_reader.specs.Feeds.{before_feed, behind_feed}
+use Rattle.test_runner_core_log_reader.specs.Items.{Item, Line, items}
+use Rattle.test_runner_core_runs.proofs.DueStatus as runs
+use Rattle.test_runner_core_runs.proofs.NoMilder as cut_runs
+use Rattle.test_runner_core_runs.specs.Assignment.{Assignment, due_status}
+use Rattle.test_runner_core_runs.specs.Counters.{status}
+use Rattle.test_runner_core_runs.specs.Runs.{IsNoMilder}
+use Rattle.test_runner_core_runs.specs.State.{initial}
+use Rattle.test_runner_core_session.specs.Session.{run_plan}
+use Rattle.test_runner_core_telling.specs.Final.{final_parts}
+use Rattle.test_runner_core_telling.specs.Parts.{Part}
+use Rattle.test_runner_core_telling.specs.Steps.{progress}
 use Rattle.test_runner_core_workspace.specs.Lister.{Answer}
-use Rattle.test_runner_core_workspace.specs.Workspace.{refusal_of}
 use Rattle.test_runner_core_workspace.specs.declared.record.Binary.{Binary}
-use Rattle.test_runner_core.specs.Judging.{event_of, Judges}
-use Rattle.test_runner_core.specs.Outcome.{LogAgrees, TellsNoStop}
+use Rattle.test_runner_core.specs.Laws.{EndsNoMilder, EndsWithDueStatus}
+use Rattle.test_runner_core.specs.Outcome.{IsDue, IsNoMilderThanDue, IsRunOf, IsStreamDue, IsStreamNoMilder, LineComposed, StreamComposed, table_of}
+use Rattle.test_runner_core.specs.Report.{Composed, Judged, Reports}
+use Rattle.test_runner_core.specs.declared.judge_fault.JudgeFault.{JudgeFault}
+use Rattle.test_runner_core.proofs.Built.{built_is_plan}
+use Rattle.test_runner_core.proofs.OneReport.{composed_once}
 
--- the events of a log, which lead from one state to another and agree with an assignment, and are no stops where the log tells none
-pub record Told (assigned : Assignment) (log : List Item) (old new : State) : Type 0 where
-  pub events : List Event
-  pub run : Run old events new
-  pub agrees : Agrees assigned old events
-  pub unstopped : TellsNoStop log → AllByRecursion IsNoStop events
-
--- a line that spells no stop has an event that is none
-no_stop : (state : SessionState) (line : LogLine) (bytes : List ℕ) → Spells line bytes → ((reason : CancelReason) → Spells (lines.Stop reason) bytes → ⊥)
-    → IsNoStop (event_of state line)
-no_stop state (lines.Script id told) bytes spells quiet = tt
-no_stop state (lines.Start binary name) bytes spells quiet = tt
-no_stop state (lines.End binary name told) bytes spells quiet = tt
-no_stop state (lines.Stop reason) bytes spells quiet = quiet reason spells
-
-pub events_told : (assigned : Assignment) (number : ℕ) (old new : SessionState) (log : List Item)
-    → Judges number old log None new → LogAgrees assigned old log → Told assigned log old.run new.run
-events_told assigned number old new [] judged agrees =
-    record { events = []; run = ap (λ (s : SessionState). s.run) judged; agrees = tt; unstopped = λ quiet. tt }
-events_told assigned number old new (Line bytes ∷ more) (inl (mid, inl (empty, same), judged)) agrees =
-    let rest =
-    events_told assigned (number + 1) old new more
-    (subst (λ (s : SessionState). Judges (number + 1) s more None new) same judged) (agrees.0 empty) in
-    record { events = rest.events; run = rest.run; agrees = rest.agrees; unstopped = λ quiet. rest.unstopped quiet.1 }
-events_told assigned number old new (Line bytes ∷ more) (inl (mid, inr (line, spells, follows), judged)) agrees =
-    let here = agrees.1 line spells in
-    let rest = events_told assigned (number + 1) mid new more judged (here.1 mid follows) in
+-- a log without a refused line has its run's report
+run_composes : (answer : Binary → Answer) (inputs : Inputs) (log : List Item) (assigned : Assignment) (run : IsRunOf answer inputs log assigned)
+    → Composed answer inputs log (progress run.plan (Ok (initial (run_plan run.plan))) run.events ++ final_parts run.plan run.last) (status run.last)
+run_composes answer inputs log assigned run =
+    let told = progress run.plan (Ok (initial (run_plan run.plan))) run.events in
+    let judged : Judged run.plan log (told ++ final_parts run.plan run.last) (status run.last) =
     record {
-      events = event_of old line ∷ rest.events;
-      run = (mid.run, follows.taken, rest.run);
-      agrees = (
-        here.0,
-        λ (s : State) (e : step old.run (event_of old line) ≡ Ok s).
-            subst (λ (t : State). Agrees assigned t rest.events) (let taken = follows.taken in cc) rest.agrees,
-      );
-      unstopped = λ quiet. (no_stop old line bytes spells quiet.0, rest.unstopped quiet.1);
-    }
-events_told assigned number old new (Line bytes ∷ more) (inr (refusal, refuses, found, same)) agrees = absurd (cc)
-events_told assigned number old new (Refused fault ∷ more) judged agrees = absurd (let e = judged.0 in cc)
+      front = run.lines;
+      rest = [];
+      whole = run.whole ∙ sym (append-nil (map Line run.lines));
+      last = run.last;
+      told = told;
+      so_far = record { events = run.events; leads = run.leads; told = refl };
+      found = None;
+      finds = refl;
+      composed = refl;
+      status = refl;
+    } in
+    inr (run.plan, run.built, judged)
 
--- what holds of each value that is given
-abbrev Holds : {A : Type 0} → Result A PlanFault → (A → Type 0) → Type 0
-Holds (Ok x) P = P x
-Holds (Err refusal) P = ⊤
+-- a report of such a log has its run's exit status
+pub ends_as_its_run : (answer : Binary → Answer) (inputs : Inputs) (log : List Item) (parts : List Part) (code : ℕ) (assigned : Assignment)
+    (run : IsRunOf answer inputs log assigned) → Composed answer inputs log parts code → code ≡ status run.last
+ends_as_its_run answer inputs log parts code assigned run composed =
+    (composed_once answer inputs log parts _ code (status run.last) composed (run_composes answer inputs log assigned run)).1
 
-next_holds : {A B : Type 0} (first : Result A PlanFault) (next : A → Result B PlanFault)
-    (P : A → Type 0) (Q : B → Type 0) → Holds first P → ((x : A) → P x → Holds (next x) Q) → Holds (first >>= next) Q
-next_holds (Ok x) next P Q here there = there x here
-next_holds (Err refusal) next P Q here there = tt
+pub ends_with_due_status : EndsWithDueStatus
+ends_with_due_status answer inputs log parts code composed assigned run quiet complete =
+    let is_plan = built_is_plan answer inputs run.built.0 run.plan run.built.1 run.built.2 in
+    ends_as_its_run answer inputs log parts code assigned run composed
+    ∙ runs.ends_with_due_status (run_plan run.plan) assigned run.events run.last is_plan run.leads.run run.agrees quiet complete
 
-anything : {A : Type 0} (first : Result A PlanFault) → Holds first (λ x. ⊤)
-anything (Ok x) = tt
-anything (Err refusal) = tt
+pub ends_no_milder : EndsNoMilder
+ends_no_milder answer inputs log parts code composed assigned run =
+    let is_plan = built_is_plan answer inputs run.built.0 run.plan run.built.1 run.built.2 in
+    subst (λ (n : ℕ). IsNoMilder n (due_status (run_plan run.plan) assigned)) (sym (ends_as_its_run answer inputs log parts code assigned run composed))
+    (cut_runs.ends_no_milder (run_plan run.plan) assigned run.events run.last is_plan run.leads.run run.agrees)
 
-unless_refused : {A : Type 0} (P : A → Type 0) (refuses : Bool) (refusal : PlanFault) (x : A) → P x
-    → Holds (if refuses then Err refusal else Ok x) P
-unless_refused P true refusal x here = tt
-unless_refused P false refusal x here = here
+-- ---- what a call answers
 
--- the limit that a text sets, or that holds where none is set, is one
-abbrev IsSound : Settings → Type 0
-IsSound settings = IsLimit settings.max_fail
+-- what holds of the exit status of each report holds of one that is answered
+pub status_is : (IsReport : List Part → ℕ → Type 0) (IsGot IsBegun : List Part → Type 0) (P : ℕ → Type 0) (result : Result ℕ JudgeFault) (before after : Option (List ℕ))
+    → Reports result IsReport IsGot IsBegun before after → ((parts : List Part) (code : ℕ) → IsReport parts code → P code) → IfOk result P
+status_is IsReport IsGot IsBegun P (Ok code) before after (parts, is, written) holds = holds parts code is
+status_is IsReport IsGot IsBegun P (Err e) before after reports holds = tt
 
-limit_is_one : (found : Option Data) → IsLimit (max_fail_of found)
-limit_is_one None = grind (arith)
-limit_is_one (Some (string text)) = grind (arith)
-limit_is_one (Some (integer number)) = grind (arith)
-limit_is_one (Some (float number)) = grind (arith)
-limit_is_one (Some (boolean true)) = grind (arith)
-limit_is_one (Some (boolean false)) = tt
-limit_is_one (Some (datetime at)) = grind (arith)
-limit_is_one (Some (array items)) = grind (arith)
-limit_is_one (Some (table members)) = grind (arith)
+-- where the bytes of the log are known, the exit status of a report is due
+pub known_is_due : (answer : Binary → Answer) (inputs : Inputs) (left : Option (List ℕ)) (parts : List Part) (code : ℕ)
+    → IfSome left (λ bytes. Composed answer inputs (items 0 bytes) parts code) → IfSome left (λ bytes. IsDue answer inputs (items 0 bytes) code)
+known_is_due answer inputs None parts code composed = tt
+known_is_due answer inputs (Some bytes) parts code composed = ends_with_due_status answer inputs (items 0 bytes) parts code composed
 
-abbrev Sets : Result Settings SettingsFault → Type 0
-Sets (Ok settings) = IsSound settings
-Sets (Err refusal) = ⊤
+-- and no milder than what is due
+pub known_is_no_milder : (answer : Binary → Answer) (inputs : Inputs) (left : Option (List ℕ)) (parts : List Part) (code : ℕ)
+    → IfSome left (λ bytes. Composed answer inputs (items 0 bytes) parts code) → IfSome left (λ bytes. IsNoMilderThanDue answer inputs (items 0 bytes) code)
+known_is_no_milder answer inputs None parts code composed = tt
+known_is_no_milder answer inputs (Some bytes) parts code composed = ends_no_milder answer inputs (items 0 bytes) parts code composed
 
-sets_one : (top : Data) → Sets (set_in top)
-sets_one top = by_refusals (demands_version top) (has_bad_value top) (has_more top)
-  where
-    by_refusals : (version bad more : Bool) →
-        Sets (if version then Err not_read.VersionNotYet else if bad then Err not_read.BadValue
-        else if more then Err not_read.NotYet
-        else Ok (record { retries = retries_of (retries top); max_fail = max_fail_of (fail_fast top) }))
-    by_refusals true bad more = tt
-    by_refusals false true more = tt
-    by_refusals false false true = tt
-    by_refusals false false false = limit_is_one (fail_fast top)
+-- so is one that is answered
+pub status_is_due : (answer : Binary → Answer) (inputs : Inputs) (left : Option (List ℕ)) (IsGot IsBegun : List Part → Type 0) (result : Result ℕ JudgeFault) (before after : Option (List ℕ))
+    → Reports result (λ parts code. IfSome left (λ bytes. Composed answer inputs (items 0 bytes) parts code)) IsGot IsBegun before after
+    → IfOk result (λ code. IfSome left (λ bytes. IsDue answer inputs (items 0 bytes) code))
+status_is_due answer inputs left IsGot IsBegun result before after reports =
+    status_is _ IsGot IsBegun _ result before after reports (known_is_due answer inputs left)
 
-text_sets_one : (text : List ℕ) → Sets (settings_of text)
-text_sets_one text = by_reading (parse_document text)
-  where
-    by_reading : (read : Option Members) → Sets (option_map_or (λ top. set_in (table top)) read (Err not_read.Syntax))
-    by_reading None = tt
-    by_reading (Some top) = sets_one (table top)
+pub status_is_no_milder : (answer : Binary → Answer) (inputs : Inputs) (left : Option (List ℕ)) (IsGot IsBegun : List Part → Type 0) (result : Result ℕ JudgeFault) (before after : Option (List ℕ))
+    → Reports result (λ parts code. IfSome left (λ bytes. Composed answer inputs (items 0 bytes) parts code)) IsGot IsBegun before after
+    → IfOk result (λ code. IfSome left (λ bytes. IsNoMilderThanDue answer inputs (items 0 bytes) code))
+status_is_no_milder answer inputs left IsGot IsBegun result before after reports =
+    status_is _ IsGot IsBegun _ result before after reports (known_is_no_milder answer inputs left)
 
-set_holds : (set : Result Settings SettingsFault) → Sets set → Holds (set_by set) IsSound
-set_holds (Ok settings) sound = sound
-set_holds (Err refusal) sound = tt
+-- ---- the same of a stream
 
-sources_set_one : (sources : List ConfigSource) → Holds (settings_in sources) IsSound
-sources_set_one [] = grind (arith)
-sources_set_one (source ∷ []) = by_kind source.kind source.outcome
-  where
-    by_kind : (kind : ConfigSourceKind) (outcome : ConfigSourceOutcome) → Holds (settings_by kind outcome) IsSound
-    by_kind kinds.ExplicitRepository (outcomes.Text text) = set_holds (settings_of text) (text_sets_one text)
-    by_kind kinds.ExplicitRepository outcomes.NotFound = tt
-    by_kind kinds.ExplicitRepository (outcomes.Failed cause) = tt
-    by_kind kinds.DiscoveredRepository outcome = tt
-    by_kind (kinds.Tool name) outcome = tt
-sources_set_one (source ∷ other ∷ more) = tt
+-- the report of a stream whose first line is inputs is theirs
+pub stream_composes : (bytes : List ℕ) (inputs : Inputs) (parts : List Part) (code : ℕ) → read_inputs (before_feed bytes) ≡ Ok inputs → StreamComposed bytes parts code
+    → Composed (table_of inputs) inputs (items 0 (behind_feed bytes)) parts code
+stream_composes bytes inputs parts code read composed = subst (λ (r : Result Inputs InputsRefusal). LineComposed r (items 0 (behind_feed bytes)) parts code) read composed
 
--- the settings of what is planned have a limit
-planned_is_sound : (answer : Binary → Answer) (inputs : Inputs)
-    → Holds (planned answer inputs) (λ it. IsSound it.wanted.settings)
-planned_is_sound answer inputs =
-    next_holds (wanted_in inputs) _ (λ asked. IsSound asked.settings) _ asked_is_sound
-    (λ asked sound. next_holds (found_by (listing answer asked.filter (listed_in inputs asked)))
-    _ (λ found. ⊤) _ (anything _)
-    (λ found _. unless_refused _ (has_too_many asked found) _ _ sound))
-  where
-    asked_is_sound : Holds (wanted_in inputs) (λ asked. IsSound asked.settings)
-    asked_is_sound =
-        next_holds (workspace_of inputs.workspace (refusal_of inputs.workspace)) _ (λ workspace. ⊤) _ (anything _)
-        (λ workspace _. next_holds (settings_in inputs.sources) _ IsSound _ (sources_set_one inputs.sources)
-        (λ settings sound. next_holds (if asks_for_more inputs then Err refused.NotYet else Ok settings)
-        _ (λ whole. ⊤) _ (anything _)
-        (λ whole _. next_holds (filter_in inputs.filterset) _ (λ chosen. ⊤) _ (anything _) (λ chosen _. sound))))
+pub stream_is_due : (left : Option (List ℕ)) (parts : List Part) (code : ℕ) → IfSome left (λ bytes. StreamComposed bytes parts code) → IfSome left (λ bytes. IsStreamDue bytes code)
+stream_is_due None parts code composed = tt
+stream_is_due (Some bytes) parts code composed = λ inputs read.
+    ends_with_due_status (table_of inputs) inputs (items 0 (behind_feed bytes)) parts code (stream_composes bytes inputs parts code read composed)
 
--- what is planned is listed
-itself : {A : Type 0} (given : Result A PlanFault) → Holds given (λ x. given ≡ Ok x)
-itself (Ok x) = refl
-itself (Err refusal) = tt
+pub stream_is_no_milder : (left : Option (List ℕ)) (parts : List Part) (code : ℕ) → IfSome left (λ bytes. StreamComposed bytes parts code) → IfSome left (λ bytes. IsStreamNoMilder bytes code)
+stream_is_no_milder None parts code composed = tt
+stream_is_no_milder (Some bytes) parts code composed = λ inputs read.
+    ends_no_milder (table_of inputs) inputs (items 0 (behind_feed bytes)) parts code (stream_composes bytes inputs parts code read composed)
 
-listed_ok : (found : Result Selection ListingFault) (it : Selection) → found_by found ≡ Ok it → found ≡ Ok it
-listed_ok (Ok found) it e = ap Ok (let f = e in cc)
-listed_ok (Err refusal) it e = absurd (let f = e in cc)
+pub stream_status_is_due : (left : Option (List ℕ)) (IsGot IsBegun : List Part → Type 0) (result : Result ℕ JudgeFault) (before after : Option (List ℕ))
+    → Reports result (λ parts code. IfSome left (λ bytes. StreamComposed bytes parts code)) IsGot IsBegun before after
+    → IfOk result (λ code. IfSome left (λ bytes. IsStreamDue bytes code))
+stream_status_is_due left IsGot IsBegun result before after reports = status_is _ IsGot IsBegun _ result before after reports (stream_is_due left)
 
-pub planned_lists : (answer : Binary → Answer) (inputs : Inputs) (it : Planned) → planned answer inputs ≡ Ok it
-    → listing answer it.wanted.filter (listed_in inputs it.wanted) ≡ Ok it.found
-planned_lists answer inputs it planned_it =
-    listed_ok (listing answer it.wanted.filter (listed_in inputs it.wanted)) it.found
-    (subst (λ (result : Result Planned PlanFault). Holds result (λ it. found_by (listing answer it.wanted.filter (listed_in inputs it.wanted)) ≡ Ok it.found)) planned_it
-    (next_holds (wanted_in inputs) _ (λ wanted. ⊤) _ (anything _)
-    (λ wanted _. next_holds (found_by (listing answer wanted.filter (listed_in inputs wanted)))
-    _ (λ found. found_by (listing answer wanted.filter (listed_in inputs wanted)) ≡ Ok found) _ (itself _)
-    (λ found listed. unless_refused _ (has_too_many wanted found) _ _ listed))))
-
-each_has_a_try : (settings : Settings) (tests : List OwnedTestInstanceId)
-    → AllByRecursion (λ (test : RunTest). 0 < test.tries) (map run_test (map (plan_test settings) tests))
-each_has_a_try settings [] = tt
-each_has_a_try settings (test ∷ tests) = (grind (arith), each_has_a_try settings tests)
-
--- a plan that was built is one
-pub built_is_plan : (answer : Binary → Answer) (inputs : Inputs) (it : Planned) (plan : Plan)
-    → planned answer inputs ≡ Ok it → IsPlanOf inputs it plan → IsPlan (run_plan plan)
-built_is_plan answer inputs it plan found built = record {
-  no_lone_script = λ none. ap length built.scripts;
-  tries =
-      subst (λ (tests : List PlanTest). AllByRecursion (λ (test : RunTest). 0 < test.tries) (map run_test tests)) (sym built.tests)
-      (each_has_a_try it.wanted.settings built.selection.tests);
-  limit =
-      subst (λ (limit : MaxFail). IsLimit limit) (sym built.limit)
-      (subst (λ (result : Result Planned PlanFault). Holds result (λ it. IsSound it.wanted.settings)) found
-      (planned_is_sound answer inputs));
-}
+pub stream_status_is_no_milder : (left : Option (List ℕ)) (IsGot IsBegun : List Part → Type 0) (result : Result ℕ JudgeFault) (before after : Option (List ℕ))
+    → Reports result (λ parts code. IfSome left (λ bytes. StreamComposed bytes parts code)) IsGot IsBegun before after
+    → IfOk result (λ code. IfSome left (λ bytes. IsStreamNoMilder bytes code))
+stream_status_is_no_milder left IsGot IsBegun result before after reports = status_is _ IsGot IsBegun _ result before after reports (stream_is_no_milder left)

@@ -1,8 +1,14 @@
-pub mod Walk
-pub mod Due
 pub mod Checking
+pub mod Course
+pub mod Walk
+pub mod NextLine
+pub mod Reported
+pub mod Stream
+pub mod OneStep
 mod OneOrder
-mod OneRun
-pub mod OneOutcome
-pub mod Telling
+pub mod OneRun
+pub mod OneReport
+pub mod Built
 pub mod Selected
+pub mod Due
+mod Whole

@@ -1,22 +1,30 @@
--- Inputs have one plan, and a log leads from a state to one.
-use Rattle.std.proofs.Common.{◌≡◌, ℕ, ◌+◌, List, [], ◌∷◌, Option, Some, None, Result, Ok, Err, refl, sym, ap, ◌∙◌, subst, inl, inr, map}
+-- Inputs have one plan, and lines lead its run one way.
+use Rattle.std.proofs.Common.{◌≡◌, ℕ, ◌+◌, List, [], ◌∷◌, ◌++◌, map, length, Option, Some, Result, Ok, Err, refl, sym, ap, ◌∙◌, subst, inl, inr, arith, append_assoc, append-nil}
+use Rattle.std.proofs.lemmas.List.{length-append}
+use Rattle.std.proofs.lemmas.Str.{IsUtf8-nil}
+use Rattle.std.specs.Str.{IsUtf8}
 use Rattle.nextest_config_elements_plain.specs.declared.max_fail.MaxFail.{MaxFail}
 use Rattle.nextest_run_events_results.specs.declared.instance.OwnedTestInstanceId.{OwnedTestInstanceId}
 use Rattle.test_runner_core_inputs.specs.declared.inputs.Inputs.{Inputs}
 use Rattle.test_runner_core_log_reader.specs.Items.{Item, Line, Refused}
-use Rattle.test_runner_core_line_syntax.proofs.Lines.{one_event, one_reading}
-use Rattle.test_runner_core_line_syntax.specs.Reading.{ReadsLine}
+use Rattle.test_runner_core_line_syntax.proofs.Lines.{nothing_empty, one_event}
+use Rattle.test_runner_core_line_syntax.specs.Spelling.{Spells}
 use Rattle.test_runner_core_line_syntax.specs.declared.log_line.LogLine.{LogLine}
-use Rattle.test_runner_core_line_syntax.specs.declared.parse_line_error.ParseLineError.TheVariants as unread
 use Rattle.test_runner_core_plan.specs.Plan.{Builds, IsPlanOf, Planned, plan_test}
 use Rattle.test_runner_core_plan.specs.declared.plan.Plan.{Plan}
 use Rattle.test_runner_core_plan.specs.declared.plan.PlanTest.{PlanTest}
-use Rattle.test_runner_core_runs.specs.State.{State}
+use Rattle.test_runner_core_runs.specs.Runs.{Run}
+use Rattle.test_runner_core_runs.specs.State.{State, initial}
 use Rattle.test_runner_core_runs.specs.Step.{step}
-use Rattle.test_runner_core_session.specs.Session.{SessionState}
+use Rattle.test_runner_core_runs.specs.declared.event.Event.{Event}
+use Rattle.test_runner_core_runs.specs.declared.step_refusal.StepRefusal.{StepRefusal}
+use Rattle.test_runner_core_session.specs.Session.{run_plan}
+use Rattle.test_runner_core_telling.specs.Parts.{Part}
+use Rattle.test_runner_core_telling.specs.Steps.{parts_after, progress}
 use Rattle.test_runner_core_workspace.specs.Lister.{Answer}
 use Rattle.test_runner_core_workspace.specs.declared.record.Binary.{Binary}
-use Rattle.test_runner_core.specs.Judging.{Accepts, Follows, Judges, Refuses, event_of}
+use Rattle.test_runner_core.specs.Judging.{Finds, Leads, Refuses, TellsEvents, event_of}
+use Rattle.test_runner_core.specs.Report.{SoFar}
 use Rattle.test_runner_core.specs.declared.refused_line.LineRefusal.{LineRefusal}
 use Rattle.test_runner_core.specs.declared.refused_line.LineRefusal.TheVariants as refused
 use Rattle.test_runner_core.specs.declared.refused_line.RefusedLine.{RefusedLine}
@@ -31,6 +39,8 @@ err_once to_x to_y = let e = sym to_x ∙ to_y in cc
 
 pub never_ok_and_err : {A E : Type 0} {result : Result A E} {x : A} {y : E} → result ≡ Ok x → result ≡ Err y → ⊥
 never_ok_and_err to_x to_y = absurd (let e = sym to_x ∙ to_y in cc)
+
+-- ---- plans
 
 -- plans of one selection are the same
 plans_same : (a b : Plan) → a.scripts ≡ b.scripts → a.tests ≡ b.tests → a.listed ≡ b.listed → a.skipped ≡ b.skipped → a.limit ≡ b.limit → a ≡ b
@@ -54,96 +64,222 @@ one_plan answer inputs a b of_a of_b =
     let same : of_a.0 ≡ of_b.0 = ok_once of_a.1 of_b.1 in
     plans_of_one inputs of_b.0 a b (subst (λ (it : Planned). IsPlanOf inputs it a) same of_a.2) of_b.2
 
--- a line leads from a state to one
+-- ---- lines
 
-states_same : (a b : SessionState) → a.scripts ≡ b.scripts → a.tests ≡ b.tests → a.run ≡ b.run → a ≡ b
-states_same a b scripts tests run =
-    ap (λ (x : List (List ℕ)). record { scripts = x; tests = a.tests; run = a.run }) scripts
-    ∙ ap (λ (x : List OwnedTestInstanceId). record { scripts = b.scripts; tests = x; run = a.run }) tests
-    ∙ ap (λ (x : State). record { scripts = b.scripts; tests = b.tests; run = x }) run
+-- lines tell one list of events
+pub tells_once : (plan : Plan) (front : List (List ℕ)) (one other : List Event) → TellsEvents plan front one → TellsEvents plan front other → one ≡ other
+tells_once plan [] [] [] first second = refl
+tells_once plan [] [] (event ∷ told) first second = absurd second
+tells_once plan [] (event ∷ told) other first second = absurd first
+tells_once plan (bytes ∷ more) one other (inl (empty, first)) (inl (also, second)) = tells_once plan more one other first second
+tells_once plan (bytes ∷ more) one other (inl (empty, first)) (inr (line, spells, second)) = absurd (nothing_empty line bytes empty spells)
+tells_once plan (bytes ∷ more) one other (inr (line, spells, first)) (inl (empty, second)) = absurd (nothing_empty line bytes empty spells)
+tells_once plan (bytes ∷ more) one other (inr (line, spells, (rest, is, first))) (inr (same, spells_same, (behind, also, second))) =
+    is ∙ ap (λ (l : LogLine). event_of plan l ∷ rest) (one_event line same bytes spells spells_same)
+    ∙ ap (λ (events : List Event). event_of plan same ∷ events) (tells_once plan more rest behind first second) ∙ sym also
 
-follows_once : (old a b : SessionState) (line : LogLine) → Follows old a line → Follows old b line → a ≡ b
-follows_once old a b line to_a to_b =
-    states_same a b (to_a.scripts ∙ sym to_b.scripts) (to_a.tests ∙ sym to_b.tests)
-    (ok_once to_a.taken to_b.taken)
+-- events lead to one state
+pub run_once : (old a b : State) (told : List Event) → Run old told a → Run old told b → a ≡ b
+run_once old a b [] first second = first ∙ sym second
+run_once old a b (event ∷ more) (mid, step_one, first) (same, step_other, second) =
+    run_once mid a b more first (subst (λ (s : State). Run s more b) (ok_once step_other step_one) second)
 
--- what a whole line is read as, where it is accepted
-accepted_as : (old new : SessionState) (bytes : List ℕ) → Accepts old bytes new → (found : Option LogLine) × ReadsLine bytes (Ok found)
-accepted_as old new bytes (inl (empty, same)) = (None, empty)
-accepted_as old new bytes (inr (line, spells, follows)) = (Some line, spells)
+pub leads_once : (plan : Plan) (front : List (List ℕ)) (one other : List Event) (a b : State) → Leads plan front one a → Leads plan front other b
+    → (one ≡ other) × (a ≡ b)
+leads_once plan front one other a b first second =
+    let same : one ≡ other = tells_once plan front one other first.events second.events in (
+      same,
+      run_once (initial (run_plan plan)) a b one first.run (subst (λ (told : List Event). Run (initial (run_plan plan)) told b) (sym same) second.run),
+    )
 
-accepts_once : (old a b : SessionState) (bytes : List ℕ) → Accepts old bytes a → Accepts old bytes b → a ≡ b
-accepts_once old a b bytes (inl (empty, to_a)) (inl (also, to_b)) = to_a ∙ sym to_b
-accepts_once old a b bytes (inl (empty, to_a)) (inr (line, spells, follows)) =
-    absurd (let e = one_reading bytes (Ok None) (Ok (Some line)) empty spells (λ h. cc) (λ h. cc) in cc)
-accepts_once old a b bytes (inr (line, spells, follows)) (inl (empty, to_b)) =
-    absurd (let e = one_reading bytes (Ok None) (Ok (Some line)) empty spells (λ h. cc) (λ h. cc) in cc)
-accepts_once old a b bytes (inr (line, spells, follows)) (inr (other, spells_other, follows_other)) =
-    follows_once old a b line follows (subst (λ (l : LogLine). Follows old b l) (one_event other line bytes spells_other spells) follows_other)
+-- so lines tell one progress
+pub so_far_once : (plan : Plan) (front : List (List ℕ)) (a b : State) (one other : List Part) → SoFar plan front a one → SoFar plan front b other
+    → (a ≡ b) × (one ≡ other)
+so_far_once plan front a b one other first second =
+    let same = leads_once plan front first.events second.events a b first.leads second.leads in (
+      same.1,
+      first.told ∙ ap (λ (told : List Event). progress plan (Ok (initial (run_plan plan))) told) same.0 ∙ sym second.told,
+    )
 
--- no line is both accepted and refused
-never_both : (old new : SessionState) (bytes : List ℕ) (refusal : LineRefusal) → Accepts old bytes new → Refuses old bytes refusal → ⊥
-never_both old new bytes refused.LineTooLong accepts refuses = refuses
-never_both old new bytes refused.LogTooLong accepts refuses = refuses
-never_both old new bytes refused.NoLineEnd accepts refuses = refuses
-never_both old new bytes refused.NotUtf8 accepts refuses =
-    let read = accepted_as old new bytes accepts in
-    let e = one_reading bytes (Ok read.0) (Err unread.NotUtf8) read.1 refuses (λ h. cc) (λ h. cc) in absurd (cc)
-never_both old new bytes refused.BadLine accepts refuses =
-    let read = accepted_as old new bytes accepts in
-    let e = one_reading bytes (Ok read.0) (Err unread.BadLine) read.1 refuses (λ h. cc) (λ h. cc) in absurd (cc)
-never_both old new bytes (refused.Step refusal) (inl (empty, same)) (line, spells, stepped) =
-    absurd (let e = one_reading bytes (Ok None) (Ok (Some line)) empty spells (λ h. cc) (λ h. cc) in cc)
-never_both old new bytes (refused.Step refusal) (inr (other, spells_other, follows)) (line, spells, stepped) =
-    let taken = subst (λ (l : LogLine). Follows old new l) (one_event other line bytes spells_other spells) follows in
-    never_ok_and_err taken.taken stepped
+-- ---- refused lines
+
+-- an empty line isn't refused
+pub refuses_some : (plan : Plan) (state : State) (bytes : List ℕ) (refusal : LineRefusal) → Refuses plan state bytes refusal → bytes ≡ [] → ⊥
+refuses_some plan state bytes refused.LineTooLong refuses empty = refuses
+refuses_some plan state bytes refused.LogTooLong refuses empty = refuses
+refuses_some plan state bytes refused.NoLineEnd refuses empty = refuses
+refuses_some plan state bytes refused.NotUtf8 refuses empty = refuses (subst IsUtf8 (sym empty) IsUtf8-nil)
+refuses_some plan state bytes refused.BadLine refuses empty = refuses.1 empty
+refuses_some plan state bytes (refused.Step refusal) (line, spells, stepped) empty = nothing_empty line bytes empty spells
+
+-- nor is one whose event takes its step
+pub never_both : (plan : Plan) (state mid : State) (bytes : List ℕ) (line : LogLine) (refusal : LineRefusal) → Refuses plan state bytes refusal
+    → Spells line bytes → step state (event_of plan line) ≡ Ok mid → ⊥
+never_both plan state mid bytes line refused.LineTooLong refuses spells taken = refuses
+never_both plan state mid bytes line refused.LogTooLong refuses spells taken = refuses
+never_both plan state mid bytes line refused.NoLineEnd refuses spells taken = refuses
+never_both plan state mid bytes line refused.NotUtf8 refuses spells taken = refuses spells.utf8
+never_both plan state mid bytes line refused.BadLine refuses spells taken = refuses.2 line spells
+never_both plan state mid bytes line (refused.Step refusal) (other, spells_other, stepped) spells taken =
+    never_ok_and_err (ap (λ (l : LogLine). step state (event_of plan l)) (one_event other line bytes spells_other spells) ∙ taken) stepped
 
 -- a line is refused for one reason
-refuses_once : (old : SessionState) (bytes : List ℕ) (a b : LineRefusal) → Refuses old bytes a → Refuses old bytes b → a ≡ b
-refuses_once old bytes refused.LineTooLong b of_a of_b = absurd of_a
-refuses_once old bytes refused.LogTooLong b of_a of_b = absurd of_a
-refuses_once old bytes refused.NoLineEnd b of_a of_b = absurd of_a
-refuses_once old bytes refused.NotUtf8 refused.LineTooLong of_a of_b = absurd of_b
-refuses_once old bytes refused.NotUtf8 refused.LogTooLong of_a of_b = absurd of_b
-refuses_once old bytes refused.NotUtf8 refused.NoLineEnd of_a of_b = absurd of_b
-refuses_once old bytes refused.BadLine refused.LineTooLong of_a of_b = absurd of_b
-refuses_once old bytes refused.BadLine refused.LogTooLong of_a of_b = absurd of_b
-refuses_once old bytes refused.BadLine refused.NoLineEnd of_a of_b = absurd of_b
-refuses_once old bytes (refused.Step one) refused.LineTooLong of_a of_b = absurd of_b
-refuses_once old bytes (refused.Step one) refused.LogTooLong of_a of_b = absurd of_b
-refuses_once old bytes (refused.Step one) refused.NoLineEnd of_a of_b = absurd of_b
-refuses_once old bytes refused.NotUtf8 refused.NotUtf8 of_a of_b = refl
-refuses_once old bytes refused.BadLine refused.BadLine of_a of_b = refl
-refuses_once old bytes refused.NotUtf8 refused.BadLine of_a of_b =
-    absurd (let e = one_reading bytes (Err unread.NotUtf8) (Err unread.BadLine) of_a of_b (λ h. cc) (λ h. cc) in cc)
-refuses_once old bytes refused.BadLine refused.NotUtf8 of_a of_b =
-    absurd (let e = one_reading bytes (Err unread.BadLine) (Err unread.NotUtf8) of_a of_b (λ h. cc) (λ h. cc) in cc)
-refuses_once old bytes refused.NotUtf8 (refused.Step other) of_a (line, spells, stepped) =
-    absurd (let e = one_reading bytes (Err unread.NotUtf8) (Ok (Some line)) of_a spells (λ h. cc) (λ h. cc) in cc)
-refuses_once old bytes (refused.Step one) refused.NotUtf8 (line, spells, stepped) of_b =
-    absurd (let e = one_reading bytes (Ok (Some line)) (Err unread.NotUtf8) spells of_b (λ h. cc) (λ h. cc) in cc)
-refuses_once old bytes refused.BadLine (refused.Step other) of_a (line, spells, stepped) =
-    absurd (let e = one_reading bytes (Err unread.BadLine) (Ok (Some line)) of_a spells (λ h. cc) (λ h. cc) in cc)
-refuses_once old bytes (refused.Step one) refused.BadLine (line, spells, stepped) of_b =
-    absurd (let e = one_reading bytes (Ok (Some line)) (Err unread.BadLine) spells of_b (λ h. cc) (λ h. cc) in cc)
-refuses_once old bytes (refused.Step one) (refused.Step other) (line, spells, stepped) (same, spells_same, stepped_same) =
-    ap refused.Step (err_once stepped (ap (λ (l : LogLine). step old.run (event_of old l)) (one_event line same bytes spells spells_same) ∙ stepped_same))
+pub refuses_once : (plan : Plan) (state : State) (bytes : List ℕ) (one other : LineRefusal) → Refuses plan state bytes one → Refuses plan state bytes other → one ≡ other
+refuses_once plan state bytes refused.LineTooLong other first second = absurd first
+refuses_once plan state bytes refused.LogTooLong other first second = absurd first
+refuses_once plan state bytes refused.NoLineEnd other first second = absurd first
+refuses_once plan state bytes refused.NotUtf8 refused.LineTooLong first second = absurd second
+refuses_once plan state bytes refused.NotUtf8 refused.LogTooLong first second = absurd second
+refuses_once plan state bytes refused.NotUtf8 refused.NoLineEnd first second = absurd second
+refuses_once plan state bytes refused.NotUtf8 refused.NotUtf8 first second = refl
+refuses_once plan state bytes refused.NotUtf8 refused.BadLine first second = absurd (first second.0)
+refuses_once plan state bytes refused.NotUtf8 (refused.Step refusal) first (line, spells, stepped) = absurd (first spells.utf8)
+refuses_once plan state bytes refused.BadLine refused.LineTooLong first second = absurd second
+refuses_once plan state bytes refused.BadLine refused.LogTooLong first second = absurd second
+refuses_once plan state bytes refused.BadLine refused.NoLineEnd first second = absurd second
+refuses_once plan state bytes refused.BadLine refused.NotUtf8 first second = absurd (second first.0)
+refuses_once plan state bytes refused.BadLine refused.BadLine first second = refl
+refuses_once plan state bytes refused.BadLine (refused.Step refusal) first (line, spells, stepped) = absurd (first.2 line spells)
+refuses_once plan state bytes (refused.Step refusal) refused.LineTooLong first second = absurd second
+refuses_once plan state bytes (refused.Step refusal) refused.LogTooLong first second = absurd second
+refuses_once plan state bytes (refused.Step refusal) refused.NoLineEnd first second = absurd second
+refuses_once plan state bytes (refused.Step refusal) refused.NotUtf8 (line, spells, stepped) second = absurd (second spells.utf8)
+refuses_once plan state bytes (refused.Step refusal) refused.BadLine (line, spells, stepped) second = absurd (second.2 line spells)
+refuses_once plan state bytes (refused.Step refusal) (refused.Step again) (line, spells, stepped) (same, spells_same, stepped_same) =
+    ap refused.Step (err_once stepped (ap (λ (l : LogLine). step state (event_of plan l)) (one_event line same bytes spells spells_same) ∙ stepped_same))
 
--- a log leads from a state to one, and to one refused line
-pub judges_once : (number : ℕ) (old : SessionState) (log : List Item) (one other : Option RefusedLine) (a b : SessionState)
-    → Judges number old log one a → Judges number old log other b → (one ≡ other) × (a ≡ b)
-judges_once number old [] None None a b to_a to_b = (refl, to_a ∙ sym to_b)
-judges_once number old [] None (Some found) a b to_a to_b = absurd to_b
-judges_once number old [] (Some found) other a b to_a to_b = absurd to_a
-judges_once number old (Refused fault ∷ more) one other a b to_a to_b = (to_a.0 ∙ sym to_b.0, to_a.1 ∙ sym to_b.1)
-judges_once number old (Line bytes ∷ more) one other a b (inl (mid, accepts, to_a)) (inl (same, accepts_same, to_b)) =
-    judges_once (number + 1) mid more one other a b to_a
-    (subst (λ (m : SessionState). Judges (number + 1) m more other b) (accepts_once old same mid bytes accepts_same accepts) to_b)
-judges_once number old (Line bytes ∷ more) one other a b (inl (mid, accepts, to_a)) (inr (refusal, refuses, is, same)) =
-    absurd (never_both old mid bytes refusal accepts refuses)
-judges_once number old (Line bytes ∷ more) one other a b (inr (refusal, refuses, is, same)) (inl (mid, accepts, to_b)) =
-    absurd (never_both old mid bytes refusal accepts refuses)
-judges_once number old (Line bytes ∷ more) one other a b (inr (refusal, refuses, is_a, to_a)) (inr (same, refuses_same, is_b, to_b)) = (
-  is_a ∙ ap (λ (r : LineRefusal). Some (record { line = number; refusal = r })) (refuses_once old bytes refusal same refuses refuses_same) ∙ sym is_b,
-  to_a ∙ sym to_b,
-)
+-- one refused line is found
+pub finds_once : (plan : Plan) (state : State) (number : ℕ) (rest : List Item) (one other : Option RefusedLine) → Finds plan state number rest one → Finds plan state number rest other
+    → one ≡ other
+finds_once plan state number [] one other first second = first ∙ sym second
+finds_once plan state number (Line bytes ∷ more) one other (refusal, refuses, is) (again, refuses_again, also) =
+    is ∙ ap (λ (r : LineRefusal). Some (record { line = number; refusal = r })) (refuses_once plan state bytes refusal again refuses refuses_again) ∙ sym also
+finds_once plan state number (Refused fault ∷ more) one other first second = first ∙ sym second
+
+-- ---- divisions of a log
+
+-- what stands behind lines of a log is one
+pub same_rest : (front : List (List ℕ)) (one other : List Item) → map Line front ++ one ≡ map Line front ++ other → one ≡ other
+same_rest [] one other whole = whole
+same_rest (bytes ∷ front) one other whole = same_rest front one other (let e = whole in cc)
+
+-- no line is taken that is the first refused one
+not_taken : (plan : Plan) (state b : State) (number : ℕ) (rest : List Item) (found : Option RefusedLine) (bytes : List ℕ) (more : List (List ℕ)) (behind : List Item) (told : List Event)
+    → rest ≡ Line bytes ∷ behind → Finds plan state number rest found → TellsEvents plan (bytes ∷ more) told → Run state told b → ⊥
+not_taken plan state b number rest found bytes more behind told is finds tells run =
+    by_line tells run (subst (λ (items : List Item). Finds plan state number items found) is finds)
+  where
+    by_line : TellsEvents plan (bytes ∷ more) told → Run state told b → Finds plan state number (Line bytes ∷ behind) found → ⊥
+    by_line (inl (empty, tells)) run (refusal, refuses, is) = refuses_some plan state bytes refusal refuses empty
+    by_line (inr (line, spells, (late, is_told, tells))) run (refusal, refuses, is) =
+        let run_late = subst (λ (events : List Event). Run state events b) is_told run in
+        never_both plan state run_late.0 bytes line refusal refuses spells run_late.1
+
+-- two courses of a run that begin with one line go on from one state
+record GoOn (plan : Plan) (a b : State) (front early : List (List ℕ)) : Type 0 where
+  mid : State
+  late : List Event
+  tells : TellsEvents plan front late
+  run : Run mid late a
+  late_other : List Event
+  tells_other : TellsEvents plan early late_other
+  run_other : Run mid late_other b
+
+go_on : (plan : Plan) (state a b : State) (line : List ℕ) (front early : List (List ℕ)) (one other : List Event)
+    → TellsEvents plan (line ∷ front) one → Run state one a → TellsEvents plan (line ∷ early) other → Run state other b → GoOn plan a b front early
+go_on plan state a b line front early one other (inl (empty, tells)) run (inl (also, tells_other)) run_other =
+    record { mid = state; late = one; tells = tells; run = run; late_other = other; tells_other = tells_other; run_other = run_other }
+go_on plan state a b line front early one other (inl (empty, tells)) run (inr (spelled, spells, tells_other)) run_other = absurd (nothing_empty spelled line empty spells)
+go_on plan state a b line front early one other (inr (spelled, spells, tells)) run (inl (empty, tells_other)) run_other = absurd (nothing_empty spelled line empty spells)
+go_on plan state a b line front early one other (inr (spelled, spells, (late, is, tells))) run (inr (again, spells_again, (late_other, also, tells_other))) run_other =
+    let run_late = subst (λ (events : List Event). Run state events a) is run in
+    let run_again = subst (λ (events : List Event). Run state events b) also run_other in
+    let taken : step state (event_of plan spelled) ≡ Ok run_again.0 =
+    ap (λ (l : LogLine). step state (event_of plan l)) (one_event spelled again line spells spells_again) ∙ run_again.1 in
+    record {
+      mid = run_late.0;
+      late = late;
+      tells = tells;
+      run = run_late.2;
+      late_other = late_other;
+      tells_other = tells_other;
+      run_other = subst (λ (s : State). Run s late_other b) (ok_once taken run_late.1) run_again.2;
+    }
+
+one_more : (line bytes : List ℕ) (front lines : List (List ℕ)) → bytes ≡ line → front ≡ lines → line ∷ front ≡ bytes ∷ lines
+one_more line bytes front lines same rest = ap (λ (l : List ℕ). l ∷ front) (sym same) ∙ ap (λ (more : List (List ℕ)). bytes ∷ more) rest
+
+-- lines that lead a run on stand before the first refused line
+pub stands_before : (plan : Plan) (state a b : State) (number : ℕ) (rest behind : List Item) (found : Option RefusedLine) (front early : List (List ℕ)) (one other : List Event)
+    → map Line front ++ rest ≡ map Line early ++ behind → TellsEvents plan front one → Run state one a → Finds plan a number rest found
+    → TellsEvents plan early other → Run state other b → (more : List (List ℕ)) × (front ≡ early ++ more)
+stands_before plan state a b number rest behind found front [] one other whole tells run finds tells_other run_other = (front, refl)
+stands_before plan state a b number rest behind found [] (bytes ∷ early) [] other whole tells run finds tells_other run_other =
+    absurd (not_taken plan state b number rest found bytes early (map Line early ++ behind) other whole (subst (λ (s : State). Finds plan s number rest found) run finds) tells_other run_other)
+stands_before plan state a b number rest behind found [] (bytes ∷ early) (event ∷ told) other whole tells run finds tells_other run_other = absurd tells
+stands_before plan state a b number rest behind found (line ∷ front) (bytes ∷ early) one other whole tells run finds tells_other run_other =
+    let same : bytes ≡ line = (let e = whole in cc) in
+    let rests : map Line front ++ rest ≡ map Line early ++ behind = (let e = whole in cc) in
+    let on = go_on plan state a b line front early one other tells run (subst (λ (l : List ℕ). TellsEvents plan (l ∷ early) other) same tells_other) run_other in
+    let there = stands_before plan on.mid a b number rest behind found front early on.late on.late_other rests on.tells on.run finds on.tells_other on.run_other in
+    (there.0, one_more line bytes front (early ++ there.0) same there.1)
+
+-- where each of two fronts has the other in front of it, they are the same
+pub fronts_same : (one other more behind : List (List ℕ)) → one ≡ other ++ more → other ≡ one ++ behind → one ≡ other
+fronts_same one other more behind first second =
+    let longer : length one ≡ length other + length more = ap length first ∙ length-append other more in
+    let shorter : length other ≡ length one + length behind = ap length second ∙ length-append one behind in
+    let none : length more ≡ 0 = omega (arith, longer, shorter) in
+    first ∙ ap (λ (lines : List (List ℕ)). other ++ lines) (no_lines more none) ∙ append-nil other
+  where
+    no_lines : (lines : List (List ℕ)) → length lines ≡ 0 → lines ≡ []
+    no_lines [] none = refl
+    no_lines (line ∷ lines) none = absurd (omega (arith, none))
+
+-- ---- fronts of a run
+
+-- the events that the first of these lines tell come first
+record TellsEarly (plan : Plan) (front : List (List ℕ)) (told : List Event) : Type 0 where
+  early : List Event
+  late : List Event
+  whole : told ≡ early ++ late
+  tells : TellsEvents plan front early
+
+early_events : (plan : Plan) (front more : List (List ℕ)) (told : List Event) → TellsEvents plan (front ++ more) told → TellsEarly plan front told
+early_events plan [] more told tells = record { early = []; late = told; whole = refl; tells = tt }
+early_events plan (bytes ∷ front) more told (inl (empty, tells)) =
+    let there = early_events plan front more told tells in
+    record { early = there.early; late = there.late; whole = there.whole; tells = inl (empty, there.tells) }
+early_events plan (bytes ∷ front) more told (inr (line, spells, (rest, is, tells))) =
+    let there = early_events plan front more rest tells in
+    record {
+      early = event_of plan line ∷ there.early;
+      late = there.late;
+      whole = is ∙ ap (λ (events : List Event). event_of plan line ∷ events) there.whole;
+      tells = inr (line, spells, (there.early, refl, there.tells));
+    }
+
+-- what the first events tell comes first
+early_progress : (plan : Plan) (early late : List Event) (state : Result State StepRefusal)
+    → (more : List Part) × (progress plan state (early ++ late) ≡ progress plan state early ++ more)
+early_progress plan early late (Err refusal) = ([], refl)
+early_progress plan [] late (Ok state) = (progress plan (Ok state) late, refl)
+early_progress plan (event ∷ early) late (Ok state) =
+    let there = early_progress plan early late (step state event) in (
+      there.0,
+      ap (λ (parts : List Part). parts_after plan event state (step state event) ++ parts) there.1
+          ∙ sym (append_assoc (parts_after plan event state (step state event)) (progress plan (step state event) early) there.0),
+    )
+
+-- what the first lines tell comes first
+pub early_parts : (plan : Plan) (front more : List (List ℕ)) (a b : State) (parts whole : List Part) → SoFar plan front a parts → SoFar plan (front ++ more) b whole
+    → (behind : List Part) × (whole ≡ parts ++ behind)
+early_parts plan front more a b parts whole so_far to_end =
+    let early = early_events plan front more to_end.events to_end.leads.events in
+    let same : early.early ≡ so_far.events = tells_once plan front early.early so_far.events early.tells so_far.leads.events in
+    let begin : Result State StepRefusal = Ok (initial (run_plan plan)) in
+    let behind = early_progress plan early.early early.late begin in (
+      behind.0,
+      to_end.told ∙ ap (λ (events : List Event). progress plan begin events) early.whole ∙ behind.1
+          ∙ ap (λ (events : List Event). progress plan begin events ++ behind.0) same ∙ ap (λ (told : List Part). told ++ behind.0) (sym so_far.told),
+    )

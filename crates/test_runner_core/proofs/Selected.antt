@@ -13,7 +13,7 @@ use Rattle.test_runner_core_plan.specs.Plan.{listed_in, plan_test}
 use Rattle.test_runner_core_plan.specs.declared.plan.PlanTest.{PlanTest}
 use Rattle.test_runner_core_settings.specs.declared.settings.Settings.{Settings}
 use Rattle.test_runner_core.specs.Laws.{HasExactlyTheWanted}
-use Rattle.test_runner_core.proofs.Due.{planned_lists}
+use Rattle.test_runner_core.proofs.Built.{planned_lists}
 use Rattle.test_runner_core_workspace.specs.Lister.{Answer}
 use Rattle.test_runner_core_workspace.specs.declared.record.Binary.{Binary}
 

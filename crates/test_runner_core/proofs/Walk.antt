@@ -1,104 +1,290 @@
 -- What stays true while the lines of a log are judged.
-use Rattle.std.proofs.Common.{◌≡◌, ℕ, ◌+◌, ◌≤◌, List, [], ◌∷◌, ◌++◌, Option, Some, None, IfSome, Ok, refl, sym, ap, ◌∙◌, subst, inl, inr, append_assoc}
-use Rattle.test_runner_core_log_reader.specs.declared.limits.TheConstants.{LOG_LIMIT}
-use Rattle.test_runner_core_log_reader.specs.declared.next.Next.TheVariants as found_is
-use Rattle.test_runner_core_log_reader.specs.Items.{Item, Line, Refused}
+use Rattle.std.proofs.Common.{◌≡◌, ℕ, ◌+◌, ◌≤◌, List, [], ◌∷◌, ◌++◌, length, map, Option, Some, None, Result, Ok, Err, refl, sym, ap, ◌∙◌, subst, inl, inr, append_assoc, append-nil, arith}
+use Rattle.std.specs.Io.KnownBytes.{Appends}
+use Rattle.std.specs.Result.{IsErrAnd}
+use Rattle.std.proofs.lemmas.Result.{err_from_is_err_and}
+use Rattle.std.proofs.lemmas.List.{map-append, length-append}
+use Rattle.test_runner_core_log_reader.proofs.WholeLines.{TakesLines, got_lines, takes_kept, takes_line}
+use Rattle.test_runner_core_log_reader.specs.Calls.{Hands, HandsAhead, KeepsAhead}
 use Rattle.test_runner_core_log_reader.specs.Cursor.{Cursor, received, items_ahead}
-use Rattle.test_runner_core_log_reader.specs.Calls.{Hands}
-use Rattle.test_runner_core_session.specs.Session.{SessionState}
-use Rattle.nextest_run_events_results.specs.declared.instance.OwnedTestInstanceId.{OwnedTestInstanceId}
+use Rattle.test_runner_core_log_reader.specs.Feeds.{IsPlain}
+use Rattle.test_runner_core_log_reader.specs.Items.{Item, Line, Refused}
+use Rattle.test_runner_core_log_reader.specs.declared.limits.TheConstants.{LOG_LIMIT}
+use Rattle.test_runner_core_log_reader.specs.declared.fault.LineFault.{LineFault}
+use Rattle.test_runner_core_log_reader.specs.declared.next.Next.TheVariants as found_is
+use Rattle.test_runner_core_plan.specs.declared.plan.Plan.{Plan}
 use Rattle.test_runner_core_runs.specs.State.{State}
-use Rattle.test_runner_core.specs.Judging.{Accepts, HasTaken, Judges, JudgesLine}
-use Rattle.test_runner_core.specs.declared.refused_line.LineRefusal.{LineRefusal}
+use Rattle.test_runner_core_session.specs.Session.{SessionState}
+use Rattle.test_runner_core_telling.specs.Parts.{Part}
+use Rattle.test_runner_core_telling.specs.Steps.{step_parts}
+use Rattle.test_runner_core_telling.specs.Telling.{MovesOn, TellsAll, TellsFront}
+use Rattle.test_runner_core_telling.specs.declared.fault.TellFault.{TellFault}
+use Rattle.test_runner_core_telling.specs.declared.fault.TellFault.TheVariants as untold
+use Rattle.test_runner_core_telling.proofs.Told.{all_then, front_then, moves_then}
+use Rattle.test_runner_core.specs.Faults.{fault_of_telling}
+use Rattle.test_runner_core.specs.Inside.{BegunLines, GotLines, HandsNext, IsGotOf, IsLogOf, JudgedLines, JudgesLine, JudgesLines}
+use Rattle.test_runner_core.specs.declared.judge_fault.JudgeFault.{JudgeFault}
+use Rattle.test_runner_core.specs.declared.judge_fault.JudgeFault.TheVariants as fault
 use Rattle.test_runner_core.specs.declared.refused_line.RefusedLine.{RefusedLine}
+use Rattle.test_runner_core.specs.Judging.{Refuses, event_of, refusal_of}
+use Rattle.test_runner_core.specs.Report.{SoFar}
+use Rattle.test_runner_core.specs.declared.refused_line.LineRefusal.{LineRefusal}
+use Rattle.test_runner_core.proofs.Course.{so_far_more, so_far_same}
 
--- judging what is ahead from the state as it is now is judging the whole log from the first state, where its bytes are known
-abbrev pub JudgesAll : SessionState → Cursor → Option (List ℕ) → ℕ → SessionState → Cursor → Option (List ℕ) → Type 0
-JudgesAll first begin None number state cursor left = Unit {0}
-JudgesAll first begin (Some log) number state cursor None = ⊥
-JudgesAll first begin (Some log) number state cursor (Some left) =
-    (found : Option RefusedLine) (last : SessionState) → Judges number state (items_ahead cursor left) found last → Judges 1 first (items_ahead begin log) found last
+-- the items ahead are what these lines leave of the log, where its bytes are known
+abbrev pub LeavesAhead : Cursor → Option (List ℕ) → List (List ℕ) → Cursor → Option (List ℕ) → Type 0
+LeavesAhead begin None front cursor left = Unit {0}
+LeavesAhead begin (Some log) front cursor None = ⊥
+LeavesAhead begin (Some log) front cursor (Some left) = items_ahead begin log ≡ map Line front ++ items_ahead cursor left
 
--- a prefix of the log was judged, none of its lines refused, and the rest is ahead, where the log's bytes are known
-abbrev pub TakenSoFar : SessionState → Cursor → Option (List ℕ) → SessionState → Cursor → Option (List ℕ) → Type 0
-TakenSoFar first begin None state cursor left = Unit {0}
-TakenSoFar first begin (Some log) state cursor None = ⊥
-TakenSoFar first begin (Some log) state cursor (Some left) =
-    (front : List Item) × ((items_ahead begin log ≡ front ++ items_ahead cursor left) × Judges 1 first front None state)
+pub nothing_ahead : (begin : Cursor) (known : Option (List ℕ)) → LeavesAhead begin known [] begin known
+nothing_ahead begin None = tt
+nothing_ahead begin (Some log) = refl
 
--- nothing was judged yet
-pub none_taken : (first : SessionState) (begin : Cursor) (log : Option (List ℕ)) → TakenSoFar first begin log first begin log
-none_taken first begin None = tt
-none_taken first begin (Some log) = ([], (refl, refl))
+-- where the judging of a log is: these lines are judged, and what they tell is told
+pub record Where (plan : Plan) (begin : Cursor) (known before : Option (List ℕ)) (session : SessionState) (cursor : Cursor) (left after : Option (List ℕ)) (waits : List ℕ) (number : ℕ) : Type 0 where
+  pub front : List (List ℕ)
+  pub parts : List Part
+  pub planned : session.plan ≡ plan
+  pub so_far : SoFar plan front session.run parts
+  pub told : TellsAll parts before [] after waits
+  pub items : LeavesAhead begin known front cursor left
+  pub bytes : TakesLines begin known front cursor left
+  pub numbered : number ≡ length front + 1
 
--- one accepted line more
-judges_more : (number : ℕ) (first mid new : SessionState) (front : List Item) (bytes : List ℕ) → Judges number first front None mid
-    → Accepts mid bytes new → Judges number first (front ++ Line bytes ∷ []) None new
-judges_more number first mid new [] bytes judged accepts = inl (new, subst (λ (s : SessionState). Accepts s bytes new) judged accepts, refl)
-judges_more number first mid new (Line other ∷ front) bytes (inl (next, here, judged)) accepts =
-    inl (next, here, judges_more (number + 1) next mid new front bytes judged accepts)
-judges_more number first mid new (Line other ∷ front) bytes (inr (refusal, refuses, found, same)) accepts = absurd (cc)
-judges_more number first mid new (Refused fault ∷ front) bytes judged accepts = absurd (let e = judged.0 in cc)
-
-pub taken_next : (first : SessionState) (begin : Cursor) (log left rest : Option (List ℕ)) (state mid : SessionState) (old new : Cursor) → TakenSoFar first begin log state old left
-    → Hands old left new rest (Ok found_is.Line) → JudgesLine state new.line None mid → TakenSoFar first begin log mid new rest
-taken_next first begin None left rest state mid old new taken hands accepted = tt
-taken_next first begin (Some log) None rest state mid old new taken hands accepted = absurd taken
-taken_next first begin (Some log) (Some left) None state mid old new taken hands accepted = absurd hands
-taken_next first begin (Some log) (Some left) (Some rest) state mid old new taken hands accepted =
-    let front = taken.0 in (
-      front ++ Line new.line ∷ [],
-      (
-        taken.1.0 ∙ ap (λ (items : List Item). front ++ items) hands ∙ sym (append_assoc front (Line new.line ∷ []) (items_ahead new rest)),
-        judges_more 1 first state mid front new.line taken.1.1 accepted,
-      ),
-    )
-
--- so far and no further
-pub has_taken : (first : SessionState) (begin : Cursor) (log left : Option (List ℕ)) (state : SessionState) (cursor : Cursor) → TakenSoFar first begin log state cursor left
-    → IfSome log (λ bytes. HasTaken first (items_ahead begin bytes) state)
-has_taken first begin None left state cursor taken = tt
-has_taken first begin (Some log) None state cursor taken = absurd taken
-has_taken first begin (Some log) (Some left) state cursor taken = (taken.0, (items_ahead cursor left, taken.1))
-
--- states of the same names and run are the same
-pub state_kept : (old new : SessionState) → new.scripts ≡ old.scripts → new.tests ≡ old.tests → new.run ≡ old.run → new ≡ old
-state_kept old new scripts tests run =
-    ap (λ (x : List (List ℕ)). record { scripts = x; tests = new.tests; run = new.run }) scripts
-    ∙ ap (λ (x : List OwnedTestInstanceId). record { scripts = old.scripts; tests = x; run = new.run }) tests
-    ∙ ap (λ (x : State). record { scripts = old.scripts; tests = old.tests; run = x }) run
-
-pub record Judging (first : SessionState) (begin : Cursor) (log : Option (List ℕ)) (first_calls first_failures number : ℕ) (state : SessionState) (cursor : Cursor) (left : Option (List ℕ)) (calls failures : ℕ) : Type 0 where
-  pub finds : JudgesAll first begin log number state cursor left
-  pub taken : TakenSoFar first begin log state cursor left
+-- and how often reader and writer were called for it
+pub record Walking (plan : Plan) (begin : Cursor) (known before : Option (List ℕ)) (first_calls first_failures first_write_failures : ℕ) (session : SessionState) (cursor : Cursor) (left after : Option (List ℕ)) (waits : List ℕ) (number calls failures write_failures : ℕ) : Type 0 where
+  pub here : Where plan begin known before session cursor left after waits number
   pub reads : calls + received begin ≤ first_calls + received cursor
   pub within : calls ≤ first_calls + LOG_LIMIT + 1
   pub unfailed : failures ≡ first_failures
+  pub unfailed_writes : write_failures ≡ first_write_failures
   pub counted : number ≤ cursor.handed + 1
 
--- what a whole log comes to, where its bytes are known
-abbrev pub Comes : SessionState → Cursor → Option (List ℕ) → Option RefusedLine → SessionState → Type 0
-Comes first begin None found last = Unit {0}
-Comes first begin (Some log) found last = Judges 1 first (items_ahead begin log) found last
+-- what the log is, where a line was handed out
+rest_behind : Cursor → Option (List ℕ) → List Item
+rest_behind cursor None = []
+rest_behind cursor (Some left) = items_ahead cursor left
 
--- behind an accepted line
-pub finds_next : (first : SessionState) (begin : Cursor) (log left rest : Option (List ℕ)) (number : ℕ) (state mid : SessionState) (old new : Cursor) → JudgesAll first begin log number state old left → Hands old left new rest (Ok found_is.Line)
-    → JudgesLine state new.line None mid → JudgesAll first begin log (number + 1) mid new rest
-finds_next first begin None left rest number state mid old new all hands accepted = tt
-finds_next first begin (Some log) None rest number state mid old new all hands accepted = absurd all
-finds_next first begin (Some log) (Some left) None number state mid old new all hands accepted = absurd hands
-finds_next first begin (Some log) (Some left) (Some rest) number state mid old new all hands accepted =
-    λ found last h. all found last (subst (λ (xs : List Item). Judges number state xs found last) (sym hands) (inl (mid, accepted, h)))
+log_at_line : (begin old new : Cursor) (known left rest : Option (List ℕ)) (front : List (List ℕ)) → LeavesAhead begin known front old left → Hands old left new rest (Ok found_is.Line)
+    → IsLogOf begin known front (Line new.line ∷ rest_behind new rest)
+unfolding rest_behind
+log_at_line begin old new None left rest front ahead hands = tt
+log_at_line begin old new (Some log) None rest front ahead hands = absurd ahead
+log_at_line begin old new (Some log) (Some left) None front ahead hands = absurd hands
+log_at_line begin old new (Some log) (Some left) (Some rest) front ahead hands = ahead ∙ ap (λ (t : List Item). map Line front ++ t) hands
 
--- at a refused line
-pub finds_line : (first : SessionState) (begin : Cursor) (log left rest : Option (List ℕ)) (number : ℕ) (state last : SessionState) (old new : Cursor) (refusal : LineRefusal) → JudgesAll first begin log number state old left → Hands old left new rest (Ok found_is.Line)
-    → JudgesLine state new.line (Some refusal) last → Comes first begin log (Some (record { line = number; refusal = refusal })) last
-finds_line first begin None left rest number state last old new refusal all hands refused = tt
-finds_line first begin (Some log) None rest number state last old new refusal all hands refused = absurd all
-finds_line first begin (Some log) (Some left) None number state last old new refusal all hands refused = absurd hands
-finds_line first begin (Some log) (Some left) (Some rest) number state last old new refusal all hands refused =
-    all _ last (subst (λ (xs : List Item). Judges number state xs (Some (record { line = number; refusal = refusal })) last) (sym hands) (inr (refusal, refused.0, refl, refused.1)))
+log_past_line : (begin old new : Cursor) (known left rest : Option (List ℕ)) (front : List (List ℕ)) → LeavesAhead begin known front old left → Hands old left new rest (Ok found_is.Line)
+    → LeavesAhead begin known (front ++ new.line ∷ []) new rest
+log_past_line begin old new None left rest front ahead hands = tt
+log_past_line begin old new (Some log) None rest front ahead hands = absurd ahead
+log_past_line begin old new (Some log) (Some left) None front ahead hands = absurd hands
+log_past_line begin old new (Some log) (Some left) (Some rest) front ahead hands =
+    ahead ∙ ap (λ (t : List Item). map Line front ++ t) hands
+    ∙ sym (append_assoc (map Line front) (Line new.line ∷ []) (items_ahead new rest))
+    ∙ ap (λ (t : List Item). t ++ items_ahead new rest) (sym (map-append Line front (new.line ∷ [])))
 
-pub finds_if : (first : SessionState) (begin : Cursor) (log : Option (List ℕ)) (found : Option RefusedLine) (last : SessionState) → Comes first begin log found last → IfSome log (λ left. Judges 1 first (items_ahead begin left) found last)
-finds_if first begin None found last h = tt
-finds_if first begin (Some log) found last h = h
+-- the same with that line among those before
+log_behind_line : (begin old new : Cursor) (known left rest : Option (List ℕ)) (front : List (List ℕ)) → LeavesAhead begin known front old left → Hands old left new rest (Ok found_is.Line)
+    → IsLogOf begin known (front ++ new.line ∷ []) (rest_behind new rest)
+unfolding rest_behind
+log_behind_line begin old new None left rest front ahead hands = tt
+log_behind_line begin old new (Some log) None rest front ahead hands = absurd ahead
+log_behind_line begin old new (Some log) (Some left) None front ahead hands = absurd hands
+log_behind_line begin old new (Some log) (Some left) (Some rest) front ahead hands = log_past_line begin old new (Some log) (Some left) (Some rest) front ahead hands
+
+log_at_fault : (begin old new : Cursor) (known left rest : Option (List ℕ)) (front : List (List ℕ)) (fault : LineFault) → LeavesAhead begin known front old left
+    → Hands old left new rest (Ok (found_is.Refused fault)) → IsLogOf begin known front (Refused fault ∷ [])
+log_at_fault begin old new None left rest front fault ahead hands = tt
+log_at_fault begin old new (Some log) None rest front fault ahead hands = absurd ahead
+log_at_fault begin old new (Some log) (Some left) None front fault ahead hands = absurd hands
+log_at_fault begin old new (Some log) (Some left) (Some rest) front fault ahead hands = ahead ∙ ap (λ (t : List Item). map Line front ++ t) hands.0
+
+log_at_end : (begin old new : Cursor) (known left rest : Option (List ℕ)) (front : List (List ℕ)) → LeavesAhead begin known front old left
+    → Hands old left new rest (Ok found_is.End) → IsLogOf begin known front []
+log_at_end begin old new None left rest front ahead hands = tt
+log_at_end begin old new (Some log) None rest front ahead hands = absurd ahead
+log_at_end begin old new (Some log) (Some left) None front ahead hands = absurd hands
+log_at_end begin old new (Some log) (Some left) (Some rest) front ahead hands = ahead ∙ ap (λ (t : List Item). map Line front ++ t) hands.0
+
+log_somewhere : (begin cursor : Cursor) (known left : Option (List ℕ)) (front : List (List ℕ)) → LeavesAhead begin known front cursor left → IsLogOf begin known front (rest_behind cursor left)
+unfolding rest_behind
+log_somewhere begin cursor None left front ahead = tt
+log_somewhere begin cursor (Some log) None front ahead = absurd ahead
+log_somewhere begin cursor (Some log) (Some left) front ahead = ahead
+
+-- told so far, and nothing more
+told_still : (parts : List Part) (before middle after : Option (List ℕ)) (mid waits : List ℕ) → TellsAll parts before [] middle mid → TellsAll [] middle mid after waits → TellsAll parts before [] after waits
+told_still parts before middle after mid waits first second =
+    subst (λ (p : List Part). TellsAll p before [] after waits) (append-nil parts) (all_then parts [] before middle after [] mid waits first second)
+
+-- behind a line that is accepted
+pub line_accepted : (plan : Plan) (begin : Cursor) (known before : Option (List ℕ)) (old new : SessionState) (cursor next : Cursor) (left rest middle later after : Option (List ℕ)) (mid later_waits waits : List ℕ) (number : ℕ)
+    → Where plan begin known before old cursor left middle mid number → Hands cursor left next rest (Ok found_is.Line) → HandsAhead cursor left next rest (Ok found_is.Line)
+    → TellsAll [] middle mid later later_waits → JudgesLine (Ok None) old next.line new later later_waits after waits
+    → Where plan begin known before new next rest after waits (number + 1)
+line_accepted plan begin known before old new cursor next left rest middle later after mid later_waits waits number here hands ahead still (inl (empty, same, nothing)) =
+    record {
+      front = here.front ++ next.line ∷ [];
+      parts = here.parts;
+      planned = ap (λ (s : SessionState). s.plan) same ∙ here.planned;
+      so_far = subst (λ (s : SessionState). SoFar plan (here.front ++ next.line ∷ []) s.run here.parts) (sym same) (so_far_same plan here.front old.run here.parts next.line here.so_far empty);
+      told = told_still here.parts before later after later_waits waits (told_still here.parts before middle later mid later_waits here.told still) nothing;
+      items = log_past_line begin cursor next known left rest here.front here.items hands;
+      bytes = takes_line begin cursor next known left rest here.front here.bytes ahead;
+      numbered = let size = length-append here.front (next.line ∷ []) in let numbered = here.numbered in omega (arith, size, numbered);
+    }
+line_accepted plan begin known before old new cursor next left rest middle later after mid later_waits waits number here hands ahead still (inr (line, spells, (kept, taken, told))) =
+    record {
+      front = here.front ++ next.line ∷ [];
+      parts = here.parts ++ step_parts old.plan (event_of old.plan line) old.run new.run;
+      planned = kept ∙ here.planned;
+      so_far = subst (λ (p : Plan). SoFar p (here.front ++ next.line ∷ []) new.run (here.parts ++ step_parts old.plan (event_of old.plan line) old.run new.run)) here.planned
+          (so_far_more old.plan here.front old.run new.run here.parts next.line line (subst (λ (p : Plan). SoFar p here.front old.run here.parts) (sym here.planned) here.so_far) spells taken);
+      told = all_then here.parts (step_parts old.plan (event_of old.plan line) old.run new.run) before later after [] later_waits waits
+          (told_still here.parts before middle later mid later_waits here.told still) told;
+      items = log_past_line begin cursor next known left rest here.front here.items hands;
+      bytes = takes_line begin cursor next known left rest here.front here.bytes ahead;
+      numbered = let size = length-append here.front (next.line ∷ []) in let numbered = here.numbered in omega (arith, size, numbered);
+    }
+
+-- at a line that is refused
+pub line_refused : (plan : Plan) (begin : Cursor) (known before : Option (List ℕ)) (old new : SessionState) (cursor next : Cursor) (left rest middle later after : Option (List ℕ)) (mid later_waits waits : List ℕ) (number : ℕ) (refusal : LineRefusal)
+    → Where plan begin known before old cursor left middle mid number → Hands cursor left next rest (Ok found_is.Line)
+    → TellsAll [] middle mid later later_waits → JudgesLine (Ok (Some refusal)) old next.line new later later_waits after waits
+    → JudgedLines plan new.run (Some (record { line = number; refusal = refusal })) begin known before after waits
+line_refused plan begin known before old new cursor next left rest middle later after mid later_waits waits number refusal here hands still (refuses, same, nothing) =
+    record {
+      front = here.front;
+      rest = Line next.line ∷ rest_behind next rest;
+      whole = log_at_line begin cursor next known left rest here.front here.items hands;
+      parts = here.parts;
+      so_far = subst (λ (s : SessionState). SoFar plan here.front s.run here.parts) (sym same) here.so_far;
+      finds = (
+        refusal,
+        subst (λ (s : SessionState). Refuses plan s.run next.line refusal) (sym same) (subst (λ (p : Plan). Refuses p old.run next.line refusal) here.planned refuses),
+        ap (λ (n : ℕ). Some (record { line = n; refusal = refusal })) here.numbered,
+      );
+      told = told_still here.parts before later after later_waits waits (told_still here.parts before middle later mid later_waits here.told still) nothing;
+    }
+
+-- at the log's end, or where it is too long or cut
+pub log_faulty : (plan : Plan) (begin : Cursor) (known before : Option (List ℕ)) (session : SessionState) (cursor next : Cursor) (left rest middle after : Option (List ℕ)) (mid waits : List ℕ) (number : ℕ) (fault : LineFault)
+    → Where plan begin known before session cursor left middle mid number → Hands cursor left next rest (Ok (found_is.Refused fault)) → TellsAll [] middle mid after waits
+    → JudgedLines plan session.run (Some (record { line = number; refusal = refusal_of fault })) begin known before after waits
+log_faulty plan begin known before session cursor next left rest middle after mid waits number fault here hands still =
+    record {
+      front = here.front;
+      rest = Refused fault ∷ [];
+      whole = log_at_fault begin cursor next known left rest here.front fault here.items hands;
+      parts = here.parts;
+      so_far = here.so_far;
+      finds = ap (λ (n : ℕ). Some (record { line = n; refusal = refusal_of fault })) here.numbered;
+      told = told_still here.parts before middle after mid waits here.told still;
+    }
+
+pub log_over : (plan : Plan) (begin : Cursor) (known before : Option (List ℕ)) (session : SessionState) (cursor next : Cursor) (left rest middle after : Option (List ℕ)) (mid waits : List ℕ) (number : ℕ)
+    → Where plan begin known before session cursor left middle mid number → Hands cursor left next rest (Ok found_is.End) → TellsAll [] middle mid after waits
+    → JudgedLines plan session.run None begin known before after waits
+log_over plan begin known before session cursor next left rest middle after mid waits number here hands still =
+    record {
+      front = here.front;
+      rest = [];
+      whole = log_at_end begin cursor next known left rest here.front here.items hands;
+      parts = here.parts;
+      so_far = here.so_far;
+      finds = refl;
+      told = told_still here.parts before middle after mid waits here.told still;
+    }
+
+-- where a read fails
+pub read_failed : (plan : Plan) (begin : Cursor) (known before : Option (List ℕ)) (session : SessionState) (cursor next : Cursor) (left rest middle after : Option (List ℕ)) (mid : List ℕ) (number : ℕ)
+    → Where plan begin known before session cursor left middle mid number → KeepsAhead cursor left next rest → IsPlain next.waiting → MovesOn middle mid after [] []
+    → GotLines plan begin known rest before after
+read_failed plan begin known before session cursor next left rest middle after mid number here kept plain written =
+    record {
+      front = here.front;
+      rest = rest_behind cursor left;
+      whole = log_somewhere begin cursor known left here.front here.items;
+      got = lines_got begin next known rest here.front (takes_kept begin cursor next known left rest here.front here.bytes kept) plain;
+      last = session.run;
+      parts = here.parts;
+      so_far = here.so_far;
+      written =
+          let all = moves_then before middle after [] mid [] here.told.told [] here.told.moved written in
+          let whole = sym (append-nil all.written) ∙ all.whole ∙ append-nil here.told.told in
+          (here.told.told, here.told.text, subst (λ (t : List ℕ). Appends before after t) whole all.taken);
+    }
+  where
+    lines_got : (old new : Cursor) (log left : Option (List ℕ)) (front : List (List ℕ)) → TakesLines old log front new left → IsPlain new.waiting → IsGotOf old log left front
+    lines_got old new None left front taken clean = tt
+    lines_got old new (Some log) None front taken clean = absurd taken
+    lines_got old new (Some log) (Some left) front taken clean = got_lines old new log left front taken clean
+
+-- where a write fails, or there is no memory
+pub next_failed : (plan : Plan) (begin : Cursor) (known before : Option (List ℕ)) (session : SessionState) (cursor : Cursor) (left middle after : Option (List ℕ)) (mid : List ℕ) (number : ℕ)
+    → Where plan begin known before session cursor left middle mid number → TellsFront [] middle mid after → BegunLines plan begin known before after
+next_failed plan begin known before session cursor left middle after mid number here front =
+    record {
+      front = here.front;
+      rest = rest_behind cursor left;
+      whole = log_somewhere begin cursor known left here.front here.items;
+      last = session.run;
+      parts = here.parts;
+      so_far = here.so_far;
+      told = subst (λ (p : List Part). TellsFront p before [] after) (append-nil here.parts) (front_then here.parts [] before middle after [] mid here.told front);
+    }
+
+pub line_failed : (plan : Plan) (begin : Cursor) (known before : Option (List ℕ)) (old new : SessionState) (cursor next : Cursor) (left rest middle later after : Option (List ℕ)) (mid later_waits waits : List ℕ) (number : ℕ) (fault : TellFault)
+    → Where plan begin known before old cursor left middle mid number → Hands cursor left next rest (Ok found_is.Line)
+    → TellsAll [] middle mid later later_waits → JudgesLine (Err fault) old next.line new later later_waits after waits
+    → BegunLines plan begin known before after
+line_failed plan begin known before old new cursor next left rest middle later after mid later_waits waits number fault here hands still (line, spells, inl front) =
+    record {
+      front = here.front;
+      rest = rest_behind cursor left;
+      whole = log_somewhere begin cursor known left here.front here.items;
+      last = old.run;
+      parts = here.parts;
+      so_far = here.so_far;
+      told = subst (λ (p : List Part). TellsFront p before [] after) (append-nil here.parts)
+          (front_then here.parts [] before later after [] later_waits (told_still here.parts before middle later mid later_waits here.told still) front);
+    }
+line_failed plan begin known before old new cursor next left rest middle later after mid later_waits waits number fault here hands still (line, spells, inr (state, taken, front)) =
+    record {
+      front = here.front ++ next.line ∷ [];
+      rest = rest_behind next rest;
+      whole = log_behind_line begin cursor next known left rest here.front here.items hands;
+      last = state;
+      parts = here.parts ++ step_parts old.plan (event_of old.plan line) old.run state;
+      so_far = subst (λ (p : Plan). SoFar p (here.front ++ next.line ∷ []) state (here.parts ++ step_parts old.plan (event_of old.plan line) old.run state)) here.planned
+          (so_far_more old.plan here.front old.run state here.parts next.line line (subst (λ (p : Plan). SoFar p here.front old.run here.parts) (sym here.planned) here.so_far) spells taken);
+      told = front_then here.parts (step_parts old.plan (event_of old.plan line) old.run state) before later after [] later_waits
+          (told_still here.parts before middle later mid later_waits here.told still) front;
+    }
+
+-- what fails, by an exit of `?`
+pub judges_next_fails : (result : Result (Option RefusedLine) JudgeFault) (cause : JudgeFault) (plan : Plan) (last : State) (begin : Cursor) (known before : Option (List ℕ)) (session : SessionState) (cursor next : Cursor)
+    (left rest middle after : Option (List ℕ)) (mid waits later : List ℕ) (number : ℕ)
+    → IsErrAnd result (λ gives. gives ≡ cause) → Where plan begin known before session cursor left middle mid number
+    → HandsNext (Err cause) cursor left next rest middle mid after waits → JudgesLines result plan last begin known rest before after later
+judges_next_fails result cause plan last begin known before session cursor next left rest middle after mid waits later number is here hands =
+    let gives = err_from_is_err_and result is in
+    subst (λ (r : Result (Option RefusedLine) JudgeFault). JudgesLines r plan last begin known rest before after later) (sym gives.1)
+    (subst (λ (f : JudgeFault). JudgesLines (Err f) plan last begin known rest before after later) (sym gives.2) (by_cause cause hands))
+  where
+    by_cause : (c : JudgeFault) → HandsNext (Err c) cursor left next rest middle mid after waits → JudgesLines (Err c) plan last begin known rest before after later
+    by_cause (fault.Read error) h = read_failed plan begin known before session cursor next left rest middle after mid number here h.0 h.1 h.2
+    by_cause (fault.Write error) h = next_failed plan begin known before session cursor left middle after mid number here h
+    by_cause fault.Memory h = next_failed plan begin known before session cursor left middle after mid number here h
+
+pub judges_line_fails : (result : Result (Option RefusedLine) JudgeFault) (cause : TellFault) (plan : Plan) (last : State) (begin : Cursor) (known before rest after : Option (List ℕ)) (later : List ℕ)
+    → IsErrAnd result (λ gives. gives ≡ fault_of_telling cause) → BegunLines plan begin known before after → JudgesLines result plan last begin known rest before after later
+judges_line_fails result cause plan last begin known before rest after later is begun =
+    let gives = err_from_is_err_and result is in
+    subst (λ (r : Result (Option RefusedLine) JudgeFault). JudgesLines r plan last begin known rest before after later) (sym gives.1)
+    (subst (λ (f : JudgeFault). JudgesLines (Err f) plan last begin known rest before after later) (sym gives.2) (by_cause cause))
+  where
+    by_cause : (c : TellFault) → JudgesLines (Err (fault_of_telling c)) plan last begin known rest before after later
+    by_cause (untold.Write error) = begun
+    by_cause untold.Memory = begun

@@ -2,12 +2,18 @@
 use Rattle.std.specs.Prelude.{◌≡◌, ℕ, ◌+◌, Bool, true, false, Result, Err}
 use Rattle.test_runner_core_log_reader.specs.declared.fault.LogFault.{LogFault}
 use Rattle.test_runner_core_log_reader.specs.declared.fault.LogFault.TheVariants as read
+use Rattle.test_runner_core_telling.specs.declared.fault.TellFault.{TellFault}
+use Rattle.test_runner_core_telling.specs.declared.fault.TellFault.TheVariants as told
 use Rattle.test_runner_core.specs.declared.judge_fault.JudgeFault.{JudgeFault}
 use Rattle.test_runner_core.specs.declared.judge_fault.JudgeFault.TheVariants as fault
 
 abbrev pub fault_of : LogFault → JudgeFault
 fault_of read.Memory = fault.Memory
 fault_of (read.Read cause) = fault.Read cause
+
+abbrev pub fault_of_telling : TellFault → JudgeFault
+fault_of_telling told.Memory = fault.Memory
+fault_of_telling (told.Write cause) = fault.Write cause
 
 -- the reader's failed calls rose by one exactly where its failure is answered, and then its last call failed
 abbrev pub TellsRead : {A : Type 0} → Result A JudgeFault → ℕ → ℕ → Bool → Type 0

@@ -1,5 +1,5 @@
--- How a run goes by the lines of a log.
-use Rattle.std.specs.Prelude.{◌≡◌, ◌⊎◌, ℕ, ◌+◌, List, [], ◌∷◌, ◌++◌, Option, None, Some, Ok, Err}
+-- How the run of a plan goes by the lines of a log.
+use Rattle.std.specs.Prelude.{◌≡◌, ◌⊎◌, ℕ, List, [], ◌∷◌, Option, None, Some, Err, ⊤}
 use Rattle.test_runner_core_log_reader.specs.Items.{Item, Line, Refused}
 use Rattle.test_runner_core_log_reader.specs.declared.fault.LineFault.{LineFault}
 use Rattle.test_runner_core_log_reader.specs.declared.fault.LineFault.TheVariants as faults
@@ -8,21 +8,37 @@ use Rattle.test_runner_core_line_syntax.specs.Spelling.{Spells}
 use Rattle.test_runner_core_line_syntax.specs.declared.log_line.LogLine.{LogLine}
 use Rattle.test_runner_core_line_syntax.specs.declared.log_line.LogLine.TheVariants as lines
 use Rattle.test_runner_core_line_syntax.specs.declared.parse_line_error.ParseLineError.TheVariants as unread
+use Rattle.test_runner_core_plan.specs.declared.plan.Plan.{Plan}
+use Rattle.test_runner_core_runs.specs.Runs.{Run}
+use Rattle.test_runner_core_runs.specs.State.{State, initial}
 use Rattle.test_runner_core_runs.specs.Step.{step}
 use Rattle.test_runner_core_runs.specs.declared.event.Event.{Event}
 use Rattle.test_runner_core_runs.specs.declared.event.Event.TheVariants as events
-use Rattle.test_runner_core_session.specs.Names.{place_of, script_place}
-use Rattle.test_runner_core_session.specs.Session.{SessionState}
+use Rattle.test_runner_core_session.specs.Names.{script_place}
+use Rattle.test_runner_core_session.specs.Session.{place_in, run_plan}
 use Rattle.test_runner_core.specs.declared.refused_line.LineRefusal.{LineRefusal}
 use Rattle.test_runner_core.specs.declared.refused_line.LineRefusal.TheVariants as refused
 use Rattle.test_runner_core.specs.declared.refused_line.RefusedLine.{RefusedLine}
 
 -- the event of a line, by the places of its names
-abbrev pub event_of : SessionState → LogLine → Event
-event_of state (lines.Script id told) = events.ScriptEnded (script_place state.scripts id) told
-event_of state (lines.Start binary name) = events.Started (place_of state.tests binary name)
-event_of state (lines.End binary name told) = events.Ended (place_of state.tests binary name) told
-event_of state (lines.Stop reason) = events.Stopped reason
+abbrev pub event_of : Plan → LogLine → Event
+event_of plan (lines.Script id told) = events.ScriptEnded (script_place plan.scripts id) told
+event_of plan (lines.Start binary name) = events.Started (place_in plan binary name)
+event_of plan (lines.End binary name told) = events.Ended (place_in plan binary name) told
+event_of plan (lines.Stop reason) = events.Stopped reason
+
+-- lines tell events: each of them is empty, or spells the next event
+abbrev pub TellsEvents : Plan → List (List ℕ) → List Event → Type 0
+TellsEvents plan [] [] = ⊤
+TellsEvents plan [] (event ∷ told) = ⊥
+TellsEvents plan (bytes ∷ more) told =
+    ((bytes ≡ []) × TellsEvents plan more told)
+    ⊎ ((line : LogLine) × Spells line bytes × ((rest : List Event) × (told ≡ event_of plan line ∷ rest) × TellsEvents plan more rest))
+
+-- lines lead the run of a plan by these events to a state
+pub record Leads (plan : Plan) (front : List (List ℕ)) (told : List Event) (last : State) : Type 0 where
+  pub events : TellsEvents plan front told
+  pub run : Run (initial (run_plan plan)) told last
 
 -- the refusal of a line or a log that is too long, or that is cut
 abbrev pub refusal_of : LineFault → LineRefusal
@@ -30,45 +46,18 @@ refusal_of faults.LineTooLong = refused.LineTooLong
 refusal_of faults.LogTooLong = refused.LogTooLong
 refusal_of faults.NoLineEnd = refused.NoLineEnd
 
--- a line is accepted: it is empty and nothing changes, or the step of its event is taken
-pub record Follows (old new : SessionState) (line : LogLine) : Type 0 where
-  pub scripts : new.scripts ≡ old.scripts
-  pub tests : new.tests ≡ old.tests
-  pub taken : step old.run (event_of old line) ≡ Ok new.run
-
-abbrev pub Accepts : SessionState → List ℕ → SessionState → Type 0
-Accepts old bytes new = ((bytes ≡ []) × (new ≡ old)) ⊎ ((line : LogLine) × Spells line bytes × Follows old new line)
-
 -- the bytes of a whole line are refused: as no UTF-8, as a bad line, or as their event's step is
-abbrev pub Refuses : SessionState → List ℕ → LineRefusal → Type 0
-Refuses old bytes refused.LineTooLong = ⊥
-Refuses old bytes refused.LogTooLong = ⊥
-Refuses old bytes refused.NoLineEnd = ⊥
-Refuses old bytes refused.NotUtf8 = ReadsLine bytes (Err unread.NotUtf8)
-Refuses old bytes refused.BadLine = ReadsLine bytes (Err unread.BadLine)
-Refuses old bytes (refused.Step refusal) = (line : LogLine) × Spells line bytes × (step old.run (event_of old line) ≡ Err refusal)
+abbrev pub Refuses : Plan → State → List ℕ → LineRefusal → Type 0
+Refuses plan state bytes refused.LineTooLong = ⊥
+Refuses plan state bytes refused.LogTooLong = ⊥
+Refuses plan state bytes refused.NoLineEnd = ⊥
+Refuses plan state bytes refused.NotUtf8 = ReadsLine bytes (Err unread.NotUtf8)
+Refuses plan state bytes refused.BadLine = ReadsLine bytes (Err unread.BadLine)
+Refuses plan state bytes (refused.Step refusal) = (line : LogLine) × Spells line bytes × (step state (event_of plan line) ≡ Err refusal)
 
--- the items of a log, the first of which has this number, lead from one state to another: each line up to the first that
--- is refused is accepted, and that one changes nothing
-abbrev pub Judges : ℕ → SessionState → List Item → Option RefusedLine → SessionState → Type 0
-Judges number old [] None new = new ≡ old
-Judges number old [] (Some found) new = ⊥
-Judges number old (Line bytes ∷ more) found new =
-    ((mid : SessionState) × Accepts old bytes mid × Judges (number + 1) mid more found new)
-    ⊎ ((refusal : LineRefusal) × Refuses old bytes refusal × (found ≡ Some (record { line = number; refusal = refusal })) × (new ≡ old))
-Judges number old (Refused fault ∷ more) found new = (found ≡ Some (record { line = number; refusal = refusal_of fault })) × (new ≡ old)
-
--- a prefix of what was ahead was judged, no line of it refused, and nothing of what is behind it was taken
-abbrev pub HasTaken : SessionState → List Item → SessionState → Type 0
-HasTaken old ahead new = (front : List Item) × ((rest : List Item) × ((ahead ≡ front ++ rest) × Judges 1 old front None new))
-
--- what a line's judging answers and leaves
-abbrev pub JudgesLine : SessionState → List ℕ → Option LineRefusal → SessionState → Type 0
-JudgesLine old bytes None new = Accepts old bytes new
-JudgesLine old bytes (Some refusal) new = Refuses old bytes refusal × (new ≡ old)
-
--- what the step of a line answers and leaves; none other than a step's refusal
-abbrev pub Steps : SessionState → LogLine → Option LineRefusal → SessionState → Type 0
-Steps old line None new = Follows old new line
-Steps old line (Some (refused.Step refusal)) new = (step old.run (event_of old line) ≡ Err refusal) × (new ≡ old)
-Steps old line (Some other) new = ⊥
+-- the line with this number is the first of these items, and refused; nothing is, where there are none
+abbrev pub Finds : Plan → State → ℕ → List Item → Option RefusedLine → Type 0
+Finds plan state number [] found = found ≡ None
+Finds plan state number (Line bytes ∷ more) found =
+    (refusal : LineRefusal) × Refuses plan state bytes refusal × (found ≡ Some (record { line = number; refusal = refusal }))
+Finds plan state number (Refused fault ∷ more) found = found ≡ Some (record { line = number; refusal = refusal_of fault })

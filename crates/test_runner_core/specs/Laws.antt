@@ -1,5 +1,5 @@
 -- What holds of every run that a log tells.
-use Rattle.std.specs.Prelude.{◌≡◌, ◌↔◌, ℕ, true, List, map, Ok}
+use Rattle.std.specs.Prelude.{◌≡◌, ◌↔◌, ℕ, true, List, ◌++◌, map, Ok}
 use Rattle.std.specs.List.{Contains}
 use Rattle.nextest_run_events_results.specs.declared.instance.OwnedTestInstanceId.{OwnedTestInstanceId}
 use Rattle.test_runner_core_inputs.specs.declared.inputs.Inputs.{Inputs}
@@ -11,29 +11,37 @@ use Rattle.test_runner_core_plan.specs.declared.plan.PlanTest.{PlanTest}
 use Rattle.test_runner_core_plan.specs.declared.wanted.Wanted.{Wanted}
 use Rattle.test_runner_core_runs.specs.RunPlan.{IsPlan}
 use Rattle.test_runner_core_session.specs.Session.{run_plan}
+use Rattle.test_runner_core_telling.specs.Parts.{IsText, Part}
 use Rattle.test_runner_core_workspace.specs.Lister.{Answer}
 use Rattle.test_runner_core_workspace.specs.declared.record.Binary.{Binary}
-use Rattle.test_runner_core.specs.Outcome.{IsDue, IsNoMilderThanDue, Outcome}
-use Rattle.test_runner_core.specs.Report.{exit_status}
-use Rattle.test_runner_core.specs.declared.judgement.Judgement.{Judgement}
+use Rattle.test_runner_core.specs.Outcome.{IsDue, IsNoMilderThanDue}
+use Rattle.test_runner_core.specs.Report.{Begun, Composed}
 
--- inputs and a log come to one judgement
-abbrev pub OneOutcome : Type 0
-OneOutcome =
-    (answer : Binary → Answer) (inputs : Inputs) (log : List Item) (one other : Judgement)
-    → Outcome answer inputs log one → Outcome answer inputs log other → one ≡ other
+-- inputs and a log have one report at most, its text and its exit status
+abbrev pub OneReport : Type 0
+OneReport =
+    (answer : Binary → Answer) (inputs : Inputs) (log : List Item) (parts other_parts : List Part) (code other_code : ℕ) (text other_text : List ℕ)
+    → Composed answer inputs log parts code → Composed answer inputs log other_parts other_code → IsText parts text → IsText other_parts other_text
+    → (text ≡ other_text) × (code ≡ other_code)
 
--- the exit status of what they come to is due
+-- what was told of a report that was begun is a front of the whole report
+abbrev pub ToldFirst : Type 0
+ToldFirst =
+    (answer : Binary → Answer) (inputs : Inputs) (log : List Item) (parts front rest whole : List Part) (code : ℕ) (told text : List ℕ)
+    → Begun answer inputs log parts → parts ≡ front ++ rest → IsText front told → Composed answer inputs log whole code → IsText whole text
+    → (more : List ℕ) × (text ≡ told ++ more)
+
+-- the exit status of a report is due
 abbrev pub EndsWithDueStatus : Type 0
 EndsWithDueStatus =
-    (answer : Binary → Answer) (inputs : Inputs) (log : List Item) (it : Judgement) → Outcome answer inputs log it
-    → IsDue answer inputs log (exit_status it)
+    (answer : Binary → Answer) (inputs : Inputs) (log : List Item) (parts : List Part) (code : ℕ) → Composed answer inputs log parts code
+    → IsDue answer inputs log code
 
 -- and no milder than what is due, where the log is cut or tells the run to stop
 abbrev pub EndsNoMilder : Type 0
 EndsNoMilder =
-    (answer : Binary → Answer) (inputs : Inputs) (log : List Item) (it : Judgement) → Outcome answer inputs log it
-    → IsNoMilderThanDue answer inputs log (exit_status it)
+    (answer : Binary → Answer) (inputs : Inputs) (log : List Item) (parts : List Part) (code : ℕ) → Composed answer inputs log parts code
+    → IsNoMilderThanDue answer inputs log code
 
 -- a plan that was built is one in the sense of the laws over runs: each test has a try, a limit is one at least, and no script
 -- is to run without a test

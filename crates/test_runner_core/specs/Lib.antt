@@ -1,11 +1,22 @@
 -- What the contracts of this crate, and of what it hands on, speak of.
 pub mod Judging
 pub mod Texts
-pub mod Laws
 pub mod Outcome
 pub mod Report
 pub mod Faults
 pub mod Check
+pub mod Laws
+pub mod Inside
+-- how a run is told
+pub use Rattle.test_runner_core_telling.specs.Parts
+pub use Rattle.test_runner_core_telling.specs.Telling
+pub use Rattle.test_runner_core_telling.specs.RunEnd
+pub use Rattle.test_runner_core_telling.specs.Final
+pub use Rattle.test_runner_core_telling.specs.Steps
+pub use Rattle.test_runner_core_report.specs.Report as TestReport
+pub use Rattle.test_runner_core_report.specs.Texts as TestTexts
+pub use Rattle.test_runner_core_report.specs.Due
+pub use Rattle.test_runner_core_runs.specs.Finishing
 -- runs: plan, assignment, state, step, whole runs
 pub use Rattle.test_runner_core_runs.specs.RunPlan
 pub use Rattle.test_runner_core_runs.specs.Assignment
@@ -92,6 +103,7 @@ pub use Rattle.test_runner_core_line_syntax.specs.declared.parse_line_error.Pars
 pub use Rattle.test_runner_core_line_syntax.specs.declared.spelling_error.SpellingError
 pub use Rattle.test_runner_core_plan.specs.declared.plan_fault.LoadFault
 pub use Rattle.test_runner_core_plan.specs.declared.plan.Plan as PlanType
+pub use Rattle.test_runner_core_plan.specs.declared.plan_error.PlanError
 pub use Rattle.test_runner_core_plan.specs.declared.plan_fault.PlanFault
 pub use Rattle.test_runner_core_plan.specs.declared.plan.PlanSettings
 pub use Rattle.test_runner_core_plan.specs.declared.plan.PlanTest
@@ -108,4 +120,5 @@ pub use Rattle.test_runner_core_workspace.specs.declared.record.Link
 pub use Rattle.test_runner_core_workspace.specs.declared.list_fault.ListFault
 pub use Rattle.test_runner_core_workspace.specs.declared.record.Package
 pub use Rattle.test_runner_core_workspace.specs.declared.workspace_error.WorkspaceError
+pub use Rattle.test_runner_core_workspace.specs.declared.workspace_fault.WorkspaceFault
 pub use Rattle.test_runner_core_workspace.specs.declared.record.WorkspaceRecord

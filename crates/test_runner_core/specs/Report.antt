@@ -1,137 +1,106 @@
--- What a report says, and its exit status.
-use Rattle.std.specs.Prelude.{◌≡◌, ℕ, List, [], ◌∷◌, ◌++◌, take, codes, decimal, Option, None, Some, Result, Ok, Err}
+-- The report of inputs and a log, and its exit status.
+use Rattle.std.specs.Prelude.{◌≡◌, ◌⊎◌, ℕ, ◌+◌, List, [], ◌∷◌, ◌++◌, map, length, codes, decimal, Option, None, Some, Result, Ok, Err}
 use Rattle.std.specs.Io.KnownBytes.{Appends}
-use Rattle.nextest_run_events_counters.specs.declared.run_stats.RunStats.{RunStats}
-use Rattle.nextest_run_events_counters.specs.declared.summary.FinalRunStats.{FinalRunStats}
-use Rattle.nextest_run_events_counters.specs.declared.summary.FinalRunStats.TheVariants as summed
-use Rattle.nextest_run_events_counters.specs.declared.summary.RunStatsFailureKind.{RunStatsFailureKind}
-use Rattle.nextest_run_events_counters.specs.declared.summary.RunStatsFailureKind.TheVariants as at
-use Rattle.nextest_run_events_results.specs.declared.cancel_reason.CancelReason.{CancelReason}
+use Rattle.test_runner_core_inputs.specs.declared.inputs.Inputs.{Inputs}
 use Rattle.test_runner_core_inputs.specs.declared.inputs_error.InputsRefusal.{InputsRefusal}
 use Rattle.test_runner_core_inputs.specs.declared.inputs_error.InputsRefusal.TheVariants as unread
-use Rattle.test_runner_core_line_syntax.specs.Spelling.{reason_word}
-use Rattle.test_runner_core_plan.specs.Texts.{name_of}
-use Rattle.test_runner_core_runs.specs.Counters.{status_of}
+use Rattle.test_runner_core_log_reader.specs.Items.{Item, Line, whole_lines}
+use Rattle.test_runner_core_plan.specs.Plan.{Builds, planned}
+use Rattle.test_runner_core_plan.specs.Texts.{name_of, status_of}
+use Rattle.test_runner_core_plan.specs.declared.plan.Plan.{Plan}
+use Rattle.test_runner_core_plan.specs.declared.plan_fault.PlanFault.{PlanFault}
+use Rattle.test_runner_core_runs.specs.Counters.{status}
+use Rattle.test_runner_core_runs.specs.State.{State, initial}
+use Rattle.test_runner_core_runs.specs.declared.event.Event.{Event}
+use Rattle.test_runner_core_session.specs.Session.{run_plan}
+use Rattle.test_runner_core_telling.specs.Final.{final_parts}
+use Rattle.test_runner_core_telling.specs.Parts.{IsText, Part, Said}
+use Rattle.test_runner_core_telling.specs.RunEnd.{LF, TAB}
+use Rattle.test_runner_core_telling.specs.Steps.{progress}
+use Rattle.test_runner_core_telling.specs.Telling.{TellsFront}
+use Rattle.test_runner_core_workspace.specs.Lister.{Answer}
+use Rattle.test_runner_core_workspace.specs.declared.record.Binary.{Binary}
+use Rattle.test_runner_core.specs.Judging.{Finds, Leads}
 use Rattle.test_runner_core.specs.Texts.{text_of}
 use Rattle.test_runner_core.specs.declared.judge_fault.JudgeFault.{JudgeFault}
 use Rattle.test_runner_core.specs.declared.judge_fault.JudgeFault.TheVariants as fault
-use Rattle.test_runner_core.specs.declared.run_end.RunEnd.{RunEnd}
-use Rattle.test_runner_core.specs.declared.judgement.Judgement.{Judgement}
-use Rattle.test_runner_core.specs.declared.judgement.Judgement.TheVariants as it
-
--- the byte that divides fields, and the one that ends a line
-abbrev pub TAB : ℕ
-TAB = 9
-
-abbrev pub LF : ℕ
-LF = 10
+use Rattle.test_runner_core.specs.declared.refused_line.RefusedLine.{RefusedLine}
 
 -- why a line is no inputs
 abbrev pub input_words : InputsRefusal → List ℕ
 input_words (unread.Field path) = codes "Field" ++ TAB ∷ path
 input_words unread.Syntax = codes "Syntax"
 
--- where a run failed or was cut short: at the scripts, or at the tests with how many were to run and how many did not
-abbrev pub step_words : RunStatsFailureKind → List ℕ
-step_words at.SetupScript = codes "setup-script"
-step_words (at.Test initial_run_count not_run) = codes "test " ++ decimal initial_run_count ++ codes " " ++ decimal not_run
+-- the one line of refused inputs
+abbrev pub refused_inputs : InputsRefusal → List Part
+refused_inputs refusal = Said (codes "refused" ++ TAB ∷ input_words refusal ++ LF ∷ []) ∷ []
 
--- a reason, where one stands
-abbrev pub reason_words : Option CancelReason → List ℕ
-reason_words None = codes "-"
-reason_words (Some reason) = reason_word reason
+-- of inputs without a plan
+abbrev pub refused_plan : PlanFault → List Part
+refused_plan refusal = Said (codes "refused" ++ TAB ∷ name_of refusal ++ LF ∷ []) ∷ []
 
--- what the counters come to
-abbrev pub outcome_words : FinalRunStats → List ℕ
-outcome_words summed.Success = codes "success"
-outcome_words summed.NoTestsRun = codes "no-tests-run"
-outcome_words (summed.Cancelled reason kind) = codes "cancelled " ++ step_words kind ++ codes " " ++ reason_words reason
-outcome_words (summed.Failed kind) = codes "failed " ++ step_words kind
+-- of a refused line of the log
+abbrev pub refused_line : RefusedLine → List Part
+refused_line found = Said (codes "refused" ++ TAB ∷ codes "line" ++ TAB ∷ decimal found.line ++ TAB ∷ text_of found.refusal ++ LF ∷ []) ∷ []
 
--- a name and a number on a line
-unfoldable pub number_line : List ℕ → ℕ → List ℕ
-number_line name number = name ++ TAB ∷ decimal number ++ LF ∷ []
+-- how the report of a run ends: by the first refused line, or else by the final text
+abbrev pub ending : Plan → State → Option RefusedLine → List Part
+ending plan last None = final_parts plan last
+ending plan last (Some found) = refused_line found
 
--- names and numbers, a line each
-abbrev pub number_lines : List (List ℕ × ℕ) → List ℕ
-number_lines [] = []
-number_lines ((name, number) ∷ []) = number_line name number
-number_lines ((name, number) ∷ next ∷ more) = number_line name number ++ number_lines (next ∷ more)
+-- its exit status: 96 where a line is refused
+abbrev pub exit_status : State → Option RefusedLine → ℕ
+exit_status last None = status last
+exit_status last (Some found) = 96
 
--- the counters of setup scripts
-unfoldable pub script_lines : RunStats → List ℕ
-script_lines stats = number_lines (
-    (codes "setup-scripts-initial-count", stats.setup_scripts_initial_count) ∷
-    (codes "setup-scripts-finished-count", stats.setup_scripts_finished_count) ∷
-    (codes "setup-scripts-passed", stats.setup_scripts_passed) ∷
-    (codes "setup-scripts-failed", stats.setup_scripts_failed) ∷
-    (codes "setup-scripts-exec-failed", stats.setup_scripts_exec_failed) ∷
-    (codes "setup-scripts-timed-out", stats.setup_scripts_timed_out) ∷
-    []
-    )
+-- what lines tell: the progress of the run that they lead
+pub record SoFar (plan : Plan) (front : List (List ℕ)) (last : State) (parts : List Part) : Type 0 where
+  pub events : List Event
+  pub leads : Leads plan front events last
+  pub told : parts ≡ progress plan (Ok (initial (run_plan plan))) events
 
--- of tests that passed
-unfoldable pub passed_lines : RunStats → List ℕ
-passed_lines stats = number_lines (
-    (codes "passed", stats.passed) ∷
-    (codes "passed-slow", stats.passed_slow) ∷
-    (codes "passed-timed-out", stats.passed_timed_out) ∷
-    (codes "flaky", stats.flaky) ∷
-    []
-    )
+-- the report of a planned run and its exit status: the progress up to the first refused line, or the log's end, and the ending
+pub record Judged (plan : Plan) (log : List Item) (parts : List Part) (code : ℕ) : Type 0 where
+  pub front : List (List ℕ)
+  pub rest : List Item
+  pub whole : log ≡ map Line front ++ rest
+  pub last : State
+  pub told : List Part
+  pub so_far : SoFar plan front last told
+  pub found : Option RefusedLine
+  pub finds : Finds plan last (length front + 1) rest found
+  pub composed : parts ≡ told ++ ending plan last found
+  pub status : code ≡ exit_status last found
 
--- of tests that failed, or left handles open
-unfoldable pub failed_lines : RunStats → List ℕ
-failed_lines stats = number_lines (
-    (codes "failed", stats.failed) ∷
-    (codes "failed-slow", stats.failed_slow) ∷
-    (codes "failed-timed-out", stats.failed_timed_out) ∷
-    (codes "leaky", stats.leaky) ∷
-    (codes "leaky-failed", stats.leaky_failed) ∷
-    (codes "exec-failed", stats.exec_failed) ∷
-    []
-    )
+-- the report of inputs and a log and its exit status: the inputs have no plan, or their run is judged
+abbrev pub Composed : (Binary → Answer) → Inputs → List Item → List Part → ℕ → Type 0
+Composed answer inputs log parts code =
+    ((refusal : PlanFault) × (planned answer inputs ≡ Err refusal) × (parts ≡ refused_plan refusal) × (code ≡ status_of refusal))
+    ⊎ ((plan : Plan) × Builds answer inputs (Ok plan) × Judged plan log parts code)
 
--- the counters in their order
-unfoldable pub counter_lines : RunStats → List ℕ
-counter_lines stats =
-    number_line (codes "initial-run-count") stats.initial_run_count
-    ++ (number_line (codes "finished-count") stats.finished_count
-    ++ (script_lines stats ++ (passed_lines stats ++ (failed_lines stats
-    ++ number_line (codes "skipped") stats.skipped))))
+-- what lines tell of the run of these inputs
+abbrev pub TellsSoFar : (Binary → Answer) → Inputs → List (List ℕ) → List Part → Type 0
+TellsSoFar answer inputs front parts = (plan : Plan) × Builds answer inputs (Ok plan) × ((last : State) × SoFar plan front last parts)
 
--- the exit status, the outcome, the counters, and why the run was stopped
-abbrev pub final_text : RunEnd → List ℕ
-final_text end =
-    codes "== final ==" ++ LF ∷ number_line (codes "status") (status_of end.outcome)
-    ++ codes "outcome " ++ outcome_words end.outcome ++ LF ∷ counter_lines end.stats
-    ++ codes "cancel-reason" ++ TAB ∷ reason_words end.stats.cancel_reason ++ LF ∷ []
+-- a report, or what its first lines tell, or nothing
+abbrev pub Begun : (Binary → Answer) → Inputs → List Item → List Part → Type 0
+Begun answer inputs log parts =
+    (parts ≡ [])
+    ⊎ (((front : List (List ℕ)) × ((rest : List Item) × ((log ≡ map Line front ++ rest) × TellsSoFar answer inputs front parts)))
+    ⊎ ((code : ℕ) × Composed answer inputs log parts code))
 
--- one line where something is refused, else the final text
-abbrev pub report_of : Judgement → List ℕ
-report_of (it.NoInputs refusal) = codes "refused" ++ TAB ∷ input_words refusal ++ LF ∷ []
-report_of (it.NoPlan refusal) = codes "refused" ++ TAB ∷ name_of refusal ++ LF ∷ []
-report_of (it.RefusedLine found) = codes "refused" ++ TAB ∷ codes "line" ++ TAB ∷ decimal found.line ++ TAB ∷ text_of found.refusal ++ LF ∷ []
-report_of (it.Ended end) = final_text end
+-- what the whole lines tell that were got of these bytes, where the rest was not
+abbrev pub GotTo : (Binary → Answer) → Inputs → List ℕ → List ℕ → List Part → Type 0
+GotTo answer inputs bytes rest parts = (got : List ℕ) × (bytes ≡ got ++ rest) × TellsSoFar answer inputs (whole_lines got) parts
 
--- 96 where something is refused, else the status of the run
-abbrev pub exit_status : Judgement → ℕ
-exit_status (it.NoInputs refusal) = 96
-exit_status (it.NoPlan refusal) = 96
-exit_status (it.RefusedLine found) = 96
-exit_status (it.Ended end) = status_of end.outcome
+-- these parts were written, and nothing else
+abbrev pub IsWritten : List Part → Option (List ℕ) → Option (List ℕ) → Type 0
+IsWritten parts before after = (text : List ℕ) × IsText parts text × Appends before after text
 
--- the report of a judgement is written, and its exit status answered; where writing fails, a front of it is, and where
--- there is no memory nothing
-abbrev pub Writes : Result ℕ JudgeFault → Judgement → Option (List ℕ) → Option (List ℕ) → Type 0
-Writes (Ok code) it before after = (code ≡ exit_status it) × Appends before after (report_of it)
-Writes (Err (fault.Write cause)) it before after = (count : ℕ) × Appends before after (take count (report_of it))
-Writes (Err fault.Memory) it before after = after ≡ before
-Writes (Err (fault.Read cause)) it before after = ⊥
-
--- the report of what a run comes to is written, and its exit status answered; where writing fails, a front of it is, and
--- where reading fails or there is no memory nothing
-abbrev pub Reports : Result ℕ JudgeFault → (Judgement → Type 0) → Option (List ℕ) → Option (List ℕ) → Type 0
-Reports (Err (fault.Read cause)) ComesTo before after = after ≡ before
-Reports (Err fault.Memory) ComesTo before after = after ≡ before
-Reports result ComesTo before after = (it : Judgement) × ComesTo it × Writes result it before after
+-- a whole report is written, and its exit status answered; where reading fails, what was begun by the whole lines got is
+-- written, and where writing fails or there is no memory a front of what was begun
+abbrev pub Reports : Result ℕ JudgeFault → (List Part → ℕ → Type 0) → (List Part → Type 0) → (List Part → Type 0) → Option (List ℕ) → Option (List ℕ) → Type 0
+Reports (Ok code) IsReport IsGot IsBegun before after = (parts : List Part) × IsReport parts code × IsWritten parts before after
+Reports (Err (fault.Read cause)) IsReport IsGot IsBegun before after = (parts : List Part) × IsGot parts × IsBegun parts × IsWritten parts before after
+Reports (Err (fault.Write cause)) IsReport IsGot IsBegun before after = (parts : List Part) × IsBegun parts × TellsFront parts before [] after
+Reports (Err fault.Memory) IsReport IsGot IsBegun before after = (parts : List Part) × IsBegun parts × TellsFront parts before [] after

@@ -4,6 +4,7 @@ ghost use Rattle.std.specs.Prelude.{◌≡◌};
 use std::alloc::{AllocError, AllocFailed};
 use std::io;
 use test_runner_core_log_reader::LogFault;
+use test_runner_core_telling::TellFault;
 use thiserror::Error;
 
 /// Why a run can't be judged to its end. What the report took until then is a front of it.
@@ -30,6 +31,20 @@ impl From<LogFault> for JudgeFault {
         match fault {
             LogFault::Memory => JudgeFault::Memory,
             LogFault::Read(cause) => JudgeFault::Read(cause),
+        }
+    }
+}
+
+impl From<TellFault> for JudgeFault {
+    ghost use Rattle.std.specs.Prelude.{◌≡◌};
+    ghost use Rattle.test_runner_core.specs.Faults.{fault_of_telling};
+
+    ghost from_gives = { λ fault gives. gives ≡ fault_of_telling fault };
+
+    fn from(fault: TellFault) -> JudgeFault {
+        match fault {
+            TellFault::Memory => JudgeFault::Memory,
+            TellFault::Write(cause) => JudgeFault::Write(cause),
         }
     }
 }

@@ -1,105 +1,90 @@
-// How a run goes by the lines of a log.
-ghost use Rattle.std.specs.Prelude.{◌≡◌, ◌+◌, ◌^◌, ◌<◌, ◌≤◌, IfErr, IfOk, IfSome, OnErr};
+// How a run goes by the lines of a log, and what is told of it.
+ghost use Rattle.std.specs.Prelude.{◌≡◌, ◌⊎◌, ◌+◌, ◌^◌, ◌<◌, ◌≤◌, [], IfOk, string_bytes, true};
 ghost use Rattle.test_runner_core_log_reader.specs.Limits.{log_reads};
-ghost use Rattle.test_runner_core_log_reader.specs.Calls.{TellsFailure};
-ghost use Rattle.test_runner_core_log_reader.specs.Cursor.{items_ahead};
-ghost use Rattle.test_runner_core_line_syntax.specs.Lent.{line_meant};
-ghost use Rattle.test_runner_core.specs.Judging as judging;
+ghost use Rattle.test_runner_core_log_reader.specs.Cursor.{Unmoved, tells_next};
+ghost use Rattle.test_runner_core_telling.specs.Telling as telling;
+ghost use Rattle.test_runner_core_session.specs.Session.{session_of};
+ghost use Rattle.test_runner_core.specs.Faults.{TellsRead, TellsWrite};
+ghost use Rattle.test_runner_core.specs.Inside.{HandsNext, JudgesLines, ReadsNext};
 
-use crate::refused_line::{LineRefusal, RefusedLine, refusal_for, refused_at};
-use nextest_run_events_results::TestInstanceId;
-use std::alloc::{AllocError, Global};
-use test_runner_core_line_syntax::{LentLine, SpellingError};
-use test_runner_core_log_reader::{LogFault, LogLines, Next};
-use test_runner_core_progress::StartFault;
+use crate::judge_fault::JudgeFault;
+use crate::judging_line::judge_line;
+use crate::refused_line::{RefusedLine, refusal_for, refused_at};
+use std::alloc::Global;
+use test_runner_core_log_reader::{LogLines, Next};
 use test_runner_core_session::Session;
-use test_runner_core_streams::LogReader;
+use test_runner_core_streams::{LogReader, ReportWriter};
+use test_runner_core_telling::{TellFault, write_waiting};
 
-/// Judges the lines of a log one after another, as `lines` cuts them from the reader: each is read and its event's step
-/// taken, up to the first that is refused, which changes nothing and is answered; `None` where all are accepted. The
-/// first of them has the number 1. Fails where the reader fails or there is no memory; the run has then taken the steps
-/// of the whole lines before, and no other.
-pub fn judge_lines<R: LogReader>(
+// Takes the run of a plan from its beginning by the lines of a log, as `lines` cuts them from the reader, up to the first
+// that is refused, which changes nothing and is answered; `None` where all are accepted. What the steps finish is told, and
+// is written before the reader is asked for more.
+pub(crate) fn judge_lines<R: LogReader, W: ReportWriter>(
     alloc: Global,
     session: &mut Session<'_>,
     lines: &mut LogLines,
-    reader: &mut R,
-) -> Result<Option<RefusedLine>, LogFault>
-    requires calls_fit { R.calls reader.old + 2 ^ 32 ≤ 2 ^ 63 }
-    requires failures_fit { R.failures reader.old < 2 ^ 62 }
-    ensures judged { IfOk result (λ found. IfSome (R.left reader.old) (λ left. judging.Judges 1 session.old (items_ahead lines.old left) found session.new)) }
-    ensures taken { IfErr result (λ _. IfSome (R.left reader.old) (λ left. judging.HasTaken session.old (items_ahead lines.old left) session.new)) }
-    ensures reads { R.calls reader.new ≤ R.calls reader.old + log_reads }
-    ensures failures { TellsFailure result (R.failures reader.old) (R.failures reader.new) (R.last_failed reader.new) }
+    log: &mut R,
+    text: &mut String,
+    report: &mut W,
+) -> Result<Option<RefusedLine>, JudgeFault>
+    requires calls_fit { R.calls log.old + 2 ^ 32 ≤ 2 ^ 63 }
+    requires failures_fit { R.failures log.old < 2 ^ 62 }
+    requires writes_fit { W.failures report.old < 2 ^ 62 }
+    requires begins { session.old ≡ session_of session.old.plan }
+    requires empty { string_bytes text.old ≡ [] }
+    ensures plan { IfOk result (λ _. session.new.plan ≡ session.old.plan) }
+    ensures judged { JudgesLines result session.old.plan session.new.run lines.old (R.left log.old) (R.left log.new) (W.taken report.old) (W.taken report.new) (string_bytes text.new) }
+    ensures reads { R.calls log.new ≤ R.calls log.old + log_reads }
+    ensures read_failures { TellsRead result (R.failures log.old) (R.failures log.new) (R.last_failed log.new) }
+    ensures write_failures { TellsWrite result (W.failures report.old) (W.failures report.new) (W.last_failed report.new) }
 {
     let mut number = 1;
     loop {
-        match lines.next(reader)? {
+        match next_line(lines, log, text, report)? {
             Next::Line => {}
             Next::Refused(fault) => return Ok(Some(refused_at(number, refusal_for(fault)))),
             Next::End => return Ok(None),
         }
-        if let Some(refusal) = judge_line(alloc, session, lines.line())? {
+        if let Some(refusal) = judge_line(alloc, session, lines.line(), text, report)? {
             return Ok(Some(refused_at(number, refusal)));
         }
         number += 1;
     }
 }
 
-// Judges the bytes of one line: why they are refused, if they are.
-fn judge_line(
-    alloc: Global,
-    session: &mut Session<'_>,
-    bytes: &[u8],
-) -> Result<Option<LineRefusal>, AllocError>
-    ensures judged { IfOk result (λ refused. judging.JudgesLine session.old bytes.now refused session.new) }
-    ensures kept { OnErr result (session.new ≡ session.old) }
+// Finds the next line. Where that needs a read, what was told is written before.
+fn next_line<R: LogReader, W: ReportWriter>(
+    lines: &mut LogLines,
+    log: &mut R,
+    text: &mut String,
+    report: &mut W,
+) -> Result<Next, JudgeFault>
+    requires calls_fit { R.calls log.old + 2 ^ 31 ≤ 2 ^ 63 }
+    requires failures_fit { R.failures log.old < 2 ^ 63 }
+    requires writes_fit { W.failures report.old < 2 ^ 63 }
+    ensures items { HandsNext result lines.old (R.left log.old) lines.new (R.left log.new) (W.taken report.old) (string_bytes text.old) (W.taken report.new) (string_bytes text.new) }
+    ensures reads { ReadsNext result lines.old (R.calls log.old) lines.new (R.calls log.new) }
+    ensures read_failures { TellsRead result (R.failures log.old) (R.failures log.new) (R.last_failed log.new) }
+    ensures write_failures { TellsWrite result (W.failures report.old) (W.failures report.new) (W.last_failed report.new) }
 {
-    match LentLine::parse(bytes) {
-        Ok(None) => Ok(None),
-        Ok(Some(line)) => take_step(alloc, session, line),
-        Err(SpellingError::NotUtf8) => Ok(Some(LineRefusal::NotUtf8)),
-        Err(SpellingError::BadLine) => Ok(Some(LineRefusal::BadLine)),
-    }
+    write_before_read(lines, text, report)?;
+    Ok(lines.next(log)?)
 }
 
-// Takes the step of a line's event: why it is refused, if it is.
-fn take_step(
-    alloc: Global,
-    session: &mut Session<'_>,
-    line: LentLine<'_>,
-) -> Result<Option<LineRefusal>, AllocError>
-    ensures taken { IfOk result (λ refused. judging.Steps session.old (line_meant line.entry) refused session.new) }
-    ensures kept { OnErr result (session.new ≡ session.old) }
+// Writes what was told, where the next line needs a read.
+fn write_before_read<W: ReportWriter>(
+    lines: &mut LogLines,
+    text: &mut String,
+    report: &mut W,
+) -> Result<(), TellFault>
+    requires writes_fit { W.failures report.old < 2 ^ 63 }
+    ensures unmoved { Unmoved lines.old lines.new }
+    ensures tells { telling.Tells result [] (W.taken report.old) (string_bytes text.old) (W.taken report.new) (string_bytes text.new) }
+    ensures ready { IfOk result (λ _. (tells_next lines.new ≡ true) ⊎ (string_bytes text.new ≡ [])) }
+    ensures failures { telling.TellsWrite result (W.failures report.old) (W.failures report.new) (W.last_failed report.new) }
 {
-    let taken = match line {
-        LentLine::Script { id, record } => session.script_finished(id, record.own(alloc)?),
-        LentLine::Start { binary, name } => {
-            let test = TestInstanceId {
-                binary_id: binary,
-                test_name: name,
-            };
-            match session.start(test) {
-                Ok(()) => Ok(()),
-                Err(StartFault::Refused(refusal)) => Err(refusal),
-                Err(StartFault::OutOfMemory) => return Err(AllocError),
-            }
-        }
-        LentLine::End {
-            binary,
-            name,
-            record,
-        } => {
-            let test = TestInstanceId {
-                binary_id: binary,
-                test_name: name,
-            };
-            session.attempt_finished(test, record.own(alloc)?)
-        }
-        LentLine::Stop { reason } => session.stop(reason),
-    };
-    match taken {
-        Ok(()) => Ok(None),
-        Err(refusal) => Ok(Some(LineRefusal::Step(refusal))),
+    if lines.is_waiting() {
+        return Ok(());
     }
+    write_waiting(text, report)
 }

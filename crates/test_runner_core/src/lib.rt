@@ -9,17 +9,15 @@
 mod check;
 mod entry;
 mod judge_fault;
-mod judgement;
 mod judging;
+mod judging_line;
 pub mod laws;
 mod refused_line;
-mod run_end;
+mod whole_report;
 
 pub use check::first_refused;
 pub use entry::{judge, judge_stream};
 pub use judge_fault::JudgeFault;
-pub use judgement::Judgement;
-pub use judging::judge_lines;
 pub use nextest_config_elements_plain::{
     FlakyResult, LeakTimeoutResult, MaxFail, NextestRunMode, SlowTimeoutResult, TerminateMode,
 };
@@ -32,7 +30,6 @@ pub use nextest_run_events_results::{
 };
 pub use nextest_text::{Listing, Text};
 pub use refused_line::{LineRefusal, RefusedLine};
-pub use run_end::RunEnd;
 pub use test_runner_core_inputs::{
     ConfigSource, ConfigSourceKind, ConfigSourceOutcome, CurrentVersion, FactRecord, Inputs,
     InputsError, InputsRefusal, PlatformRecord,
@@ -44,7 +41,7 @@ pub use test_runner_core_line_syntax::{
 pub use test_runner_core_log_reader::{
     FIRST_LINE_LIMIT, LINE_LIMIT, LOG_LIMIT, LineFault, LogFault, LogLines, Next,
 };
-pub use test_runner_core_plan::{LoadFault, Plan, PlanFault, PlanSettings, PlanTest};
+pub use test_runner_core_plan::{LoadFault, Plan, PlanError, PlanFault, PlanSettings, PlanTest};
 pub use test_runner_core_progress::StartFault;
 pub use test_runner_core_runs::{Mark, StepRefusal, exit_status};
 pub use test_runner_core_session::{Fate, Session};
@@ -53,5 +50,5 @@ pub use test_runner_core_streams::{
 };
 pub use test_runner_core_workspace::{
     Binary, BinaryKind, BinaryTests, BuildPlatform, Link, ListFault, Lister, Package, TableLister,
-    Workspace, WorkspaceError, WorkspaceRecord,
+    Workspace, WorkspaceError, WorkspaceFault, WorkspaceRecord,
 };

@@ -1,45 +1,129 @@
-use Rattle.std.proofs.Common.{◌≡◌, List, ℕ, Option, Some, None, Ok, ap, sym, ◌∙◌, subst, arith}
-use Rattle.test_runner_core_log_reader.specs.Calls.{Hands, HandsBytes, idle_reads}
+use Rattle.std.proofs.Common.{◌≡◌, List, ℕ, [], Option, Some, None, Ok, Err, refl, ap, sym, ◌∙◌, subst, arith, string_bytes}
+use Rattle.test_runner_core_log_reader.specs.Calls.{Hands, HandsAhead, HandsBytes, idle_reads}
 use Rattle.test_runner_core_log_reader.specs.declared.next.Next.{Next}
-use Rattle.test_runner_core.specs.Judging.{JudgesLine}
+use Rattle.test_runner_core_log_reader.proofs.WholeLines.{takes_none}
+use Rattle.test_runner_core_session.specs.Session.{SessionState}
+use Rattle.test_runner_core_telling.specs.Telling.{TellsAll}
+use Rattle.test_runner_core_telling.proofs.Told.{all_none}
+use Rattle.test_runner_core.specs.Inside.{JudgedLines, JudgesLine}
+use Rattle.test_runner_core.specs.Report.{SoFar}
 use Rattle.test_runner_core.specs.declared.refused_line.LineRefusal.{LineRefusal}
 use Rattle.test_runner_core.specs.declared.refused_line.RefusedLine.{RefusedLine}
-use Rattle.test_runner_core.proofs.Walk.{finds_line, finds_next, finds_if, taken_next, Comes}
+use Rattle.test_runner_core.proofs.Course.{reached, so_far_none}
+use Rattle.test_runner_core.proofs.Walk.{judges_line_fails, judges_next_fails, line_accepted, line_failed, line_refused, log_faulty, log_over, nothing_ahead}
 use Rattle.test_runner_core.proofs.judging.judge_lines.Goals as goal
+
+pub loop-fault-init : goal.loop-fault-init
+loop-fault-init g c =
+    let plan = c.args.session.now.plan in
+    let begins = c.requires.begins in
+    record {
+      here = record {
+        front = [];
+        parts = [];
+        planned = refl;
+        so_far = subst (λ (s : SessionState). SoFar plan [] s.run []) (sym begins) (so_far_none plan);
+        told = subst (λ (w : List ℕ). TellsAll [] (g.W.ReportWriter.taken c.args.report.now) [] (g.W.ReportWriter.taken c.args.report.now) w) (sym c.requires.empty) (all_none (g.W.ReportWriter.taken c.args.report.now) []);
+        items = nothing_ahead c.args.lines.now (g.R.LogReader.left c.args.log.now);
+        bytes = takes_none c.args.lines.now (g.R.LogReader.left c.args.log.now);
+        numbered = refl;
+      };
+      reads = omega arith;
+      within = omega arith;
+      unfailed = refl;
+      unfailed_writes = refl;
+      counted = omega arith;
+    }
+
+pub returns-in_err-next_line-clause-judged : goal.returns-in_err-next_line-clause-judged
+returns-in_err-next_line-clause-judged g c =
+    let left = g.R.LogReader.left in
+    let taken = g.W.ReportWriter.taken in
+    judges_next_fails c.from_residual.result c.in_err-next_line.field-0.0 c.args.session.now.plan _ c.args.lines.now (left c.args.log.now) (taken c.args.report.now) c.loop-fault.session c.loop-fault.lines c.next_line.new.lines
+    (left c.loop-fault.log) (left c.next_line.new.log) (taken c.loop-fault.report) (taken c.next_line.new.report) (string_bytes c.loop-fault.text) (string_bytes c.next_line.new.text) _ c.loop-fault.number
+    c.from_residual.ensures.1 c.loop-fault.invariant.here c.in_err-next_line.ensures.items
+
+pub returns-in-Refused-clause-judged : goal.returns-in-Refused-clause-judged
+returns-in-Refused-clause-judged g c =
+    let left = g.R.LogReader.left in
+    let taken = g.W.ReportWriter.taken in
+    let hands = subst (λ (n : Next). Hands c.loop-fault.lines (left c.loop-fault.log) c.next_line.new.lines (left c.next_line.new.log) (Ok n)) c.in-Refused.is c.in_ok-next_line.ensures.items.0 in
+    let judged =
+    log_faulty c.args.session.now.plan c.args.lines.now (left c.args.log.now) (taken c.args.report.now) c.loop-fault.session c.loop-fault.lines c.next_line.new.lines (left c.loop-fault.log) (left c.next_line.new.log)
+    (taken c.loop-fault.report) (taken c.next_line.new.report) (string_bytes c.loop-fault.text) (string_bytes c.next_line.new.text) c.loop-fault.number c.in-Refused.fault
+    c.loop-fault.invariant.here hands c.in_ok-next_line.ensures.items.3 in
+    let same = c.refused_at.ensures ∙ ap (λ (r : LineRefusal). record { line = c.loop-fault.number; refusal = r }) c.refusal_for.ensures in
+    subst (λ (found : RefusedLine). JudgedLines c.args.session.now.plan c.loop-fault.session.run (Some found) c.args.lines.now (left c.args.log.now) (taken c.args.report.now) (taken c.next_line.new.report) (string_bytes c.next_line.new.text))
+    (sym same) judged
+
+pub returns-in-End-clause-judged : goal.returns-in-End-clause-judged
+returns-in-End-clause-judged g c =
+    let left = g.R.LogReader.left in
+    let taken = g.W.ReportWriter.taken in
+    let hands = subst (λ (n : Next). Hands c.loop-fault.lines (left c.loop-fault.log) c.next_line.new.lines (left c.next_line.new.log) (Ok n)) c.in-End.is c.in_ok-next_line.ensures.items.0 in
+    log_over c.args.session.now.plan c.args.lines.now (left c.args.log.now) (taken c.args.report.now) c.loop-fault.session c.loop-fault.lines c.next_line.new.lines (left c.loop-fault.log) (left c.next_line.new.log)
+    (taken c.loop-fault.report) (taken c.next_line.new.report) (string_bytes c.loop-fault.text) (string_bytes c.next_line.new.text) c.loop-fault.number
+    c.loop-fault.invariant.here hands c.in_ok-next_line.ensures.items.3
+
+pub judge_line-requires-clause-reached : goal.judge_line-requires-clause-reached
+judge_line-requires-clause-reached g c =
+    let here = c.loop-fault.invariant.here in
+    reached c.loop-fault.session c.args.session.now.plan here.front here.parts here.planned here.so_far
+
+pub returns-in_err-refusal-clause-judged : goal.returns-in_err-refusal-clause-judged
+returns-in_err-refusal-clause-judged g c =
+    let left = g.R.LogReader.left in
+    let taken = g.W.ReportWriter.taken in
+    let hands = subst (λ (n : Next). Hands c.loop-fault.lines (left c.loop-fault.log) c.next_line.new.lines (left c.next_line.new.log) (Ok n)) c.in-Line.is c.in_ok-next_line.ensures.items.0 in
+    let judged =
+    subst (λ (bytes : List ℕ). JudgesLine (Err c.in_err-refusal.field-0.0) c.loop-fault.session bytes c.judge_line.new.session (taken c.next_line.new.report) (string_bytes c.next_line.new.text)
+    (taken c.judge_line.new.report) (string_bytes c.judge_line.new.text)) c.line.ensures c.in_err-refusal.ensures.judged in
+    judges_line_fails c.from_residual-in_err-refusal.result c.in_err-refusal.field-0.0 c.args.session.now.plan _ c.args.lines.now (left c.args.log.now) (taken c.args.report.now) (left c.next_line.new.log) (taken c.judge_line.new.report) _
+    c.from_residual-in_err-refusal.ensures.1
+    (line_failed c.args.session.now.plan c.args.lines.now (left c.args.log.now) (taken c.args.report.now) c.loop-fault.session c.judge_line.new.session c.loop-fault.lines c.next_line.new.lines (left c.loop-fault.log) (left c.next_line.new.log)
+    (taken c.loop-fault.report) (taken c.next_line.new.report) (taken c.judge_line.new.report) (string_bytes c.loop-fault.text) (string_bytes c.next_line.new.text) (string_bytes c.judge_line.new.text) c.loop-fault.number c.in_err-refusal.field-0.0
+    c.loop-fault.invariant.here hands c.in_ok-next_line.ensures.items.3 judged)
 
 pub returns-in-Some-clause-judged : goal.returns-in-Some-clause-judged
 returns-in-Some-clause-judged g c =
     let left = g.R.LogReader.left in
-    let first = c.args.session.now in
-    let last = c.judge_line.new.session in
-    let hands = subst (λ (n : Next). Hands c.loop-fault.lines (left c.loop-fault.reader) c.next.new.self (left c.next.new.reader) (Ok n)) c.in-Line.is c.in_ok-next.ensures.items in
-    let judged : JudgesLine c.loop-fault.session c.next.new.self.line (Some c.in-Some.refusal) last =
-    subst (λ (bytes : List ℕ). JudgesLine c.loop-fault.session bytes (Some c.in-Some.refusal) last) c.line.ensures (rw c.in-Some.is at c.in_ok-refusal.ensures.judged) in
-    let found = finds_line first c.args.lines.now (left c.args.reader.now) (left c.loop-fault.reader) (left c.next.new.reader) c.loop-fault.number c.loop-fault.session last c.loop-fault.lines c.next.new.self c.in-Some.refusal
-    c.loop-fault.invariant.finds hands judged in
-    finds_if first c.args.lines.now (left c.args.reader.now) (Some c.refused_at-in-Some.result) last (subst (λ (r : RefusedLine). Comes first c.args.lines.now (left c.args.reader.now) (Some r) last) (sym c.refused_at-in-Some.ensures) found)
+    let taken = g.W.ReportWriter.taken in
+    let hands = subst (λ (n : Next). Hands c.loop-fault.lines (left c.loop-fault.log) c.next_line.new.lines (left c.next_line.new.log) (Ok n)) c.in-Line.is c.in_ok-next_line.ensures.items.0 in
+    let judged =
+    subst (λ (bytes : List ℕ). JudgesLine (Ok (Some c.in-Some.refusal)) c.loop-fault.session bytes c.judge_line.new.session (taken c.next_line.new.report) (string_bytes c.next_line.new.text)
+    (taken c.judge_line.new.report) (string_bytes c.judge_line.new.text)) c.line.ensures (rw c.in-Some.is at c.in_ok-refusal.ensures.judged) in
+    subst (λ (found : RefusedLine). JudgedLines c.args.session.now.plan c.judge_line.new.session.run (Some found) c.args.lines.now (left c.args.log.now) (taken c.args.report.now) (taken c.judge_line.new.report) (string_bytes c.judge_line.new.text))
+    (sym c.refused_at-in-Some.ensures)
+    (line_refused c.args.session.now.plan c.args.lines.now (left c.args.log.now) (taken c.args.report.now) c.loop-fault.session c.judge_line.new.session c.loop-fault.lines c.next_line.new.lines (left c.loop-fault.log) (left c.next_line.new.log)
+    (taken c.loop-fault.report) (taken c.next_line.new.report) (taken c.judge_line.new.report) (string_bytes c.loop-fault.text) (string_bytes c.next_line.new.text) (string_bytes c.judge_line.new.text) c.loop-fault.number c.in-Some.refusal
+    c.loop-fault.invariant.here hands c.in_ok-next_line.ensures.items.3 judged)
 
 pub loop-fault-preserved : goal.loop-fault-preserved
 loop-fault-preserved g c =
     let left = g.R.LogReader.left in
-    let hands = subst (λ (n : Next). Hands c.loop-fault.lines (left c.loop-fault.reader) c.next.new.self (left c.next.new.reader) (Ok n)) c.in-Line.is c.in_ok-next.ensures.items in
-    let handed = subst (λ (n : Next). HandsBytes (Ok n) c.loop-fault.lines c.next.new.self) c.in-Line.is c.in_ok-next.ensures.handed in
-    let reads = c.in_ok-next.ensures.reads in
-    let limit = c.in_ok-next.ensures.limit in
-    let failures = c.in_ok-next.ensures.failures in
+    let taken = g.W.ReportWriter.taken in
+    let hands = subst (λ (n : Next). Hands c.loop-fault.lines (left c.loop-fault.log) c.next_line.new.lines (left c.next_line.new.log) (Ok n)) c.in-Line.is c.in_ok-next_line.ensures.items.0 in
+    let ahead = subst (λ (n : Next). HandsAhead c.loop-fault.lines (left c.loop-fault.log) c.next_line.new.lines (left c.next_line.new.log) (Ok n)) c.in-Line.is c.in_ok-next_line.ensures.items.1 in
+    let handed = subst (λ (n : Next). HandsBytes (Ok n) c.loop-fault.lines c.next_line.new.lines) c.in-Line.is c.in_ok-next_line.ensures.items.2 in
+    let idle : idle_reads (Ok c.in_ok-next_line.field-0) ≡ 0 = ap (λ (n : Next). idle_reads (Ok n)) c.in-Line.is in
+    let judged =
+    subst (λ (bytes : List ℕ). JudgesLine (Ok None) c.loop-fault.session bytes c.judge_line.new.session (taken c.next_line.new.report) (string_bytes c.next_line.new.text)
+    (taken c.judge_line.new.report) (string_bytes c.judge_line.new.text)) c.line.ensures
+    (subst (λ (r : Option LineRefusal). JudgesLine (Ok r) c.loop-fault.session c.line.result.now c.judge_line.new.session (taken c.next_line.new.report) (string_bytes c.next_line.new.text)
+    (taken c.judge_line.new.report) (string_bytes c.judge_line.new.text)) c.in_default.is c.in_ok-refusal.ensures.judged) in
+    let reads = c.in_ok-next_line.ensures.reads.0 in
+    let limit = c.in_ok-next_line.ensures.reads.1 in
     let before = c.loop-fault.invariant in
-    let idle : idle_reads (Ok c.in_ok-next.field-0) ≡ 0 = ap (λ (n : Next). idle_reads (Ok n)) c.in-Line.is in
     let so_far = before.reads in
-    let within = before.within in
     let counted = before.counted in
-    let judged : JudgesLine c.loop-fault.session c.next.new.self.line None c.judge_line.new.session =
-    subst (λ (bytes : List ℕ). JudgesLine c.loop-fault.session bytes None c.judge_line.new.session) c.line.ensures
-    (subst (λ (r : Option LineRefusal). JudgesLine c.loop-fault.session c.line.result.now r c.judge_line.new.session) c.in_default.is c.in_ok-refusal.ensures.judged) in
     record {
-      finds = finds_next c.args.session.now c.args.lines.now (left c.args.reader.now) (left c.loop-fault.reader) (left c.next.new.reader) c.loop-fault.number c.loop-fault.session c.judge_line.new.session c.loop-fault.lines c.next.new.self before.finds hands judged;
-      taken = taken_next c.args.session.now c.args.lines.now (left c.args.reader.now) (left c.loop-fault.reader) (left c.next.new.reader) c.loop-fault.session c.judge_line.new.session c.loop-fault.lines c.next.new.self before.taken hands judged;
+      here =
+          line_accepted c.args.session.now.plan c.args.lines.now (left c.args.log.now) (taken c.args.report.now) c.loop-fault.session c.judge_line.new.session c.loop-fault.lines c.next_line.new.lines (left c.loop-fault.log) (left c.next_line.new.log)
+          (taken c.loop-fault.report) (taken c.next_line.new.report) (taken c.judge_line.new.report) (string_bytes c.loop-fault.text) (string_bytes c.next_line.new.text) (string_bytes c.judge_line.new.text) c.loop-fault.number
+          before.here hands ahead c.in_ok-next_line.ensures.items.3 judged;
       reads = omega arith;
       within = omega arith;
-      unfailed = failures ∙ before.unfailed;
+      unfailed = c.in_ok-next_line.ensures.read_failures ∙ before.unfailed;
+      unfailed_writes = c.in_ok-refusal.ensures.failures ∙ c.in_ok-next_line.ensures.write_failures ∙ before.unfailed_writes;
       counted = omega (arith, handed);
     }

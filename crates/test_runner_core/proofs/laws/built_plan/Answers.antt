@@ -1,4 +1,4 @@
-use Rattle.test_runner_core.proofs.Due.{built_is_plan}
+use Rattle.test_runner_core.proofs.Built.{built_is_plan}
 use Rattle.test_runner_core.proofs.laws.built_plan.Goals as goal
 
 pub returns : goal.returns

@@ -1,5 +1,5 @@
-use Rattle.test_runner_core.proofs.OneOutcome as lemma
+use Rattle.test_runner_core.proofs.Due as lemma
 use Rattle.test_runner_core.proofs.laws.due_status.Goals as goal
 
 pub returns : goal.returns
-returns c = lemma.outcome_is_due
+returns c = lemma.ends_with_due_status

@@ -1,0 +1,161 @@
+-- That a plan that was built is one, and which tests it has.
+use Rattle.std.proofs.Common.{◌≡◌, ℕ, ◌<◌, List, [], ◌∷◌, Option, Some, None, Result, Ok, Err, Bool, true, false, map, length, refl, ap, sym, subst, arith}
+use Rattle.std.specs.Prelude.{⊤, if◌then◌else◌}
+use Rattle.std.specs.List.{AllByRecursion}
+use Rattle.std.specs.Option.{option_map_or}
+use Rattle.nextest_config_elements_plain.specs.declared.max_fail.MaxFail.{MaxFail}
+use Rattle.toml.specs.Data.{Data, string, integer, float, boolean, datetime, array, table, Members}
+use Rattle.test_runner_core_inputs.specs.declared.inputs.Inputs.{Inputs}
+use Rattle.test_runner_core_inputs.specs.declared.source.ConfigSource.{ConfigSource}
+use Rattle.test_runner_core_inputs.specs.declared.source.ConfigSourceKind.{ConfigSourceKind}
+use Rattle.test_runner_core_inputs.specs.declared.source.ConfigSourceKind.TheVariants as kinds
+use Rattle.test_runner_core_inputs.specs.declared.source.ConfigSourceOutcome.{ConfigSourceOutcome}
+use Rattle.test_runner_core_inputs.specs.declared.source.ConfigSourceOutcome.TheVariants as outcomes
+use Rattle.test_runner_core_listing.specs.Listing.{listing}
+use Rattle.test_runner_core_listing.specs.declared.listing_fault.ListingFault.{ListingFault}
+use Rattle.test_runner_core_listing.specs.declared.selection.Selection.{Selection}
+use Rattle.nextest_run_events_results.specs.declared.instance.OwnedTestInstanceId.{OwnedTestInstanceId}
+use Rattle.test_runner_core_plan.specs.Plan.{planned, Planned, IsPlanOf, plan_test, settings_in, settings_by, set_by, wanted_in, asks_for_more, filter_in, listed_in, found_by, has_too_many, workspace_of, ◌>>=◌}
+use Rattle.test_runner_core_plan.specs.declared.plan.Plan.{Plan}
+use Rattle.test_runner_core_plan.specs.declared.plan.PlanTest.{PlanTest}
+use Rattle.test_runner_core_plan.specs.declared.plan_fault.PlanFault.{PlanFault}
+use Rattle.test_runner_core_plan.specs.declared.plan_fault.PlanFault.TheVariants as refused
+use Rattle.test_runner_core_runs.specs.RunPlan.{IsPlan, IsLimit}
+use Rattle.test_runner_core_runs.specs.declared.run_test.RunTest.{RunTest}
+use Rattle.test_runner_core_session.specs.Session.{run_plan, run_test}
+use Rattle.test_runner_core_settings.specs.Settings.{settings_of, set_in, max_fail_of, demands_version, has_bad_value, has_more, retries_of, retries, fail_fast}
+use Rattle.test_runner_core_settings.specs.declared.settings.Settings.{Settings}
+use Rattle.test_runner_core_settings.specs.declared.settings_fault.SettingsFault.{SettingsFault}
+use Rattle.test_runner_core_settings.specs.declared.settings_fault.SettingsFault.TheVariants as not_read
+use Rattle.toml.specs.Parse.{parse_document}
+use Rattle.test_runner_core_workspace.specs.Lister.{Answer}
+use Rattle.test_runner_core_workspace.specs.Workspace.{refusal_of}
+use Rattle.test_runner_core_workspace.specs.declared.record.Binary.{Binary}
+
+-- what holds of each value that is given
+abbrev Holds : {A : Type 0} → Result A PlanFault → (A → Type 0) → Type 0
+Holds (Ok x) P = P x
+Holds (Err refusal) P = ⊤
+
+next_holds : {A B : Type 0} (first : Result A PlanFault) (next : A → Result B PlanFault)
+    (P : A → Type 0) (Q : B → Type 0) → Holds first P → ((x : A) → P x → Holds (next x) Q) → Holds (first >>= next) Q
+next_holds (Ok x) next P Q here there = there x here
+next_holds (Err refusal) next P Q here there = tt
+
+anything : {A : Type 0} (first : Result A PlanFault) → Holds first (λ x. ⊤)
+anything (Ok x) = tt
+anything (Err refusal) = tt
+
+unless_refused : {A : Type 0} (P : A → Type 0) (refuses : Bool) (refusal : PlanFault) (x : A) → P x
+    → Holds (if refuses then Err refusal else Ok x) P
+unless_refused P true refusal x here = tt
+unless_refused P false refusal x here = here
+
+-- the limit that a text sets, or that holds where none is set, is one
+abbrev IsSound : Settings → Type 0
+IsSound settings = IsLimit settings.max_fail
+
+limit_is_one : (found : Option Data) → IsLimit (max_fail_of found)
+limit_is_one None = grind (arith)
+limit_is_one (Some (string text)) = grind (arith)
+limit_is_one (Some (integer number)) = grind (arith)
+limit_is_one (Some (float number)) = grind (arith)
+limit_is_one (Some (boolean true)) = grind (arith)
+limit_is_one (Some (boolean false)) = tt
+limit_is_one (Some (datetime at)) = grind (arith)
+limit_is_one (Some (array items)) = grind (arith)
+limit_is_one (Some (table _)) = grind (arith)
+
+abbrev Sets : Result Settings SettingsFault → Type 0
+Sets (Ok settings) = IsSound settings
+Sets (Err refusal) = ⊤
+
+sets_one : (top : Data) → Sets (set_in top)
+sets_one top = by_refusals (demands_version top) (has_bad_value top) (has_more top)
+  where
+    by_refusals : (version bad more : Bool) →
+        Sets (if version then Err not_read.VersionNotYet else if bad then Err not_read.BadValue
+        else if more then Err not_read.NotYet
+        else Ok (record { retries = retries_of (retries top); max_fail = max_fail_of (fail_fast top) }))
+    by_refusals true bad more = tt
+    by_refusals false true more = tt
+    by_refusals false false true = tt
+    by_refusals false false false = limit_is_one (fail_fast top)
+
+text_sets_one : (text : List ℕ) → Sets (settings_of text)
+text_sets_one text = by_reading (parse_document text)
+  where
+    by_reading : (read : Option Members) → Sets (option_map_or (λ top. set_in (table top)) read (Err not_read.Syntax))
+    by_reading None = tt
+    by_reading (Some top) = sets_one (table top)
+
+set_holds : (set : Result Settings SettingsFault) → Sets set → Holds (set_by set) IsSound
+set_holds (Ok settings) sound = sound
+set_holds (Err refusal) sound = tt
+
+sources_set_one : (sources : List ConfigSource) → Holds (settings_in sources) IsSound
+sources_set_one [] = grind (arith)
+sources_set_one (source ∷ []) = by_kind source.kind source.outcome
+  where
+    by_kind : (kind : ConfigSourceKind) (outcome : ConfigSourceOutcome) → Holds (settings_by kind outcome) IsSound
+    by_kind kinds.ExplicitRepository (outcomes.Text text) = set_holds (settings_of text) (text_sets_one text)
+    by_kind kinds.ExplicitRepository outcomes.NotFound = tt
+    by_kind kinds.ExplicitRepository (outcomes.Failed cause) = tt
+    by_kind kinds.DiscoveredRepository outcome = tt
+    by_kind (kinds.Tool name) outcome = tt
+sources_set_one (source ∷ other ∷ more) = tt
+
+-- the settings of what is planned have a limit
+planned_is_sound : (answer : Binary → Answer) (inputs : Inputs)
+    → Holds (planned answer inputs) (λ it. IsSound it.wanted.settings)
+planned_is_sound answer inputs =
+    next_holds (wanted_in inputs) _ (λ asked. IsSound asked.settings) _ asked_is_sound
+    (λ asked sound. next_holds (found_by (listing answer asked.filter (listed_in inputs asked)))
+    _ (λ found. ⊤) _ (anything _)
+    (λ found _. unless_refused _ (has_too_many asked found) _ _ sound))
+  where
+    asked_is_sound : Holds (wanted_in inputs) (λ asked. IsSound asked.settings)
+    asked_is_sound =
+        next_holds (workspace_of inputs.workspace (refusal_of inputs.workspace)) _ (λ workspace. ⊤) _ (anything _)
+        (λ workspace _. next_holds (settings_in inputs.sources) _ IsSound _ (sources_set_one inputs.sources)
+        (λ settings sound. next_holds (if asks_for_more inputs then Err refused.NotYet else Ok settings)
+        _ (λ whole. ⊤) _ (anything _)
+        (λ whole _. next_holds (filter_in inputs.filterset) _ (λ chosen. ⊤) _ (anything _) (λ chosen _. sound))))
+
+-- what is planned is listed
+itself : {A : Type 0} (given : Result A PlanFault) → Holds given (λ x. given ≡ Ok x)
+itself (Ok x) = refl
+itself (Err refusal) = tt
+
+listed_ok : (found : Result Selection ListingFault) (it : Selection) → found_by found ≡ Ok it → found ≡ Ok it
+listed_ok (Ok found) it e = ap Ok (let f = e in cc)
+listed_ok (Err refusal) it e = absurd (let f = e in cc)
+
+pub planned_lists : (answer : Binary → Answer) (inputs : Inputs) (it : Planned) → planned answer inputs ≡ Ok it
+    → listing answer it.wanted.filter (listed_in inputs it.wanted) ≡ Ok it.found
+planned_lists answer inputs it planned_it =
+    listed_ok (listing answer it.wanted.filter (listed_in inputs it.wanted)) it.found
+    (subst (λ (result : Result Planned PlanFault). Holds result (λ it. found_by (listing answer it.wanted.filter (listed_in inputs it.wanted)) ≡ Ok it.found)) planned_it
+    (next_holds (wanted_in inputs) _ (λ wanted. ⊤) _ (anything _)
+    (λ wanted _. next_holds (found_by (listing answer wanted.filter (listed_in inputs wanted)))
+    _ (λ found. found_by (listing answer wanted.filter (listed_in inputs wanted)) ≡ Ok found) _ (itself _)
+    (λ found listed. unless_refused _ (has_too_many wanted found) _ _ listed))))
+
+each_has_a_try : (settings : Settings) (tests : List OwnedTestInstanceId)
+    → AllByRecursion (λ (test : RunTest). 0 < test.tries) (map run_test (map (plan_test settings) tests))
+each_has_a_try settings [] = tt
+each_has_a_try settings (test ∷ tests) = (grind (arith), each_has_a_try settings tests)
+
+-- a plan that was built is one
+pub built_is_plan : (answer : Binary → Answer) (inputs : Inputs) (it : Planned) (plan : Plan)
+    → planned answer inputs ≡ Ok it → IsPlanOf inputs it plan → IsPlan (run_plan plan)
+built_is_plan answer inputs it plan found built = record {
+  no_lone_script = λ none. ap length built.scripts;
+  tries =
+      subst (λ (tests : List PlanTest). AllByRecursion (λ (test : RunTest). 0 < test.tries) (map run_test tests)) (sym built.tests)
+      (each_has_a_try it.wanted.settings built.selection.tests);
+  limit =
+      subst (λ (limit : MaxFail). IsLimit limit) (sym built.limit)
+      (subst (λ (result : Result Planned PlanFault). Holds result (λ it. IsSound it.wanted.settings)) found
+      (planned_is_sound answer inputs));
+}

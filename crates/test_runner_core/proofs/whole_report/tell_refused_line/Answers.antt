@@ -1,0 +1,22 @@
+use Rattle.std.proofs.Common.{◌≡◌, List, ℕ, [], ◌∷◌, ◌++◌, codes, decimal, string_bytes, ◌∙◌, subst}
+use Rattle.test_runner_core_telling.specs.Parts.{Said}
+use Rattle.test_runner_core_telling.specs.Telling.{Tells}
+use Rattle.test_runner_core_telling.proofs.Told.{fails, front_none}
+use Rattle.test_runner_core.specs.Report.{refused_line}
+use Rattle.test_runner_core.specs.Texts.{text_of}
+use Rattle.test_runner_core.proofs.Whole.{line_words}
+use Rattle.test_runner_core.proofs.whole_report.tell_refused_line.Goals as goal
+
+pub returns-in_err-words-clause-tells : goal.returns-in_err-words-clause-tells
+returns-in_err-words-clause-tells g c =
+    fails c.from_residual.result _ _ _ _ _ c.from_residual.ensures.0
+    (front_none (refused_line c.args.found) (g.W.ReportWriter.taken c.args.report.now) (string_bytes c.args.text.now))
+
+pub returns-clause-tells : goal.returns-clause-tells
+returns-clause-tells g c =
+    let taken = g.W.ReportWriter.taken in
+    let found = c.args.found in
+    let shown : string_bytes c.in_ok-words.words ≡ codes "refused\tline\t" ++ (decimal found.line ++ (codes "\t" ++ (text_of found.refusal ++ codes "\n"))) = c.in_ok-words.ensures.ok in
+    let words = c.as_str.ensures.value ∙ shown in
+    subst (λ (said : List ℕ). Tells c.tell_words.result (Said said ∷ []) (taken c.args.report.now) (string_bytes c.args.text.now)
+    (taken c.tell_words.new.report) (string_bytes c.tell_words.new.text)) (words ∙ line_words (decimal found.line) (text_of found.refusal)) c.tell_words.ensures.tells

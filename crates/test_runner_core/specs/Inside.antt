@@ -1,0 +1,141 @@
+-- What the parts of judging answer and leave.
+use Rattle.std.specs.Prelude.{◌≡◌, ◌⊎◌, ℕ, ◌+◌, ◌≤◌, List, [], ◌++◌, map, length, Option, None, Some, Result, Ok, Err, ⊤}
+use Rattle.test_runner_core_line_syntax.specs.Spelling.{Spells}
+use Rattle.test_runner_core_line_syntax.specs.declared.log_line.LogLine.{LogLine}
+use Rattle.test_runner_core_log_reader.specs.Calls.{Hands, HandsAhead, HandsBytes, KeepsAhead, idle_reads}
+use Rattle.test_runner_core_log_reader.specs.Cursor.{Cursor, items_ahead, received}
+use Rattle.test_runner_core_log_reader.specs.Feeds.{IsPlain}
+use Rattle.test_runner_core_log_reader.specs.Items.{Item, Line, whole_lines}
+use Rattle.test_runner_core_log_reader.specs.Limits.{log_reads}
+use Rattle.test_runner_core_log_reader.specs.declared.next.Next.{Next}
+use Rattle.test_runner_core_plan.specs.declared.plan.Plan.{Plan}
+use Rattle.test_runner_core_runs.specs.Finishing.{KeepsReasons}
+use Rattle.test_runner_core_runs.specs.State.{State}
+use Rattle.test_runner_core_runs.specs.Step.{step}
+use Rattle.test_runner_core_session.specs.Session.{SessionState}
+use Rattle.test_runner_core_telling.specs.Parts.{Part}
+use Rattle.test_runner_core_telling.specs.Steps.{ended_place, step_parts}
+use Rattle.test_runner_core_telling.specs.Telling.{MovesOn, TellsAll, TellsFront}
+use Rattle.test_runner_core_telling.specs.declared.fault.TellFault.{TellFault}
+use Rattle.test_runner_core.specs.Judging.{Finds, Refuses, event_of}
+use Rattle.test_runner_core.specs.Report.{IsWritten, Judged, SoFar}
+use Rattle.test_runner_core.specs.declared.judge_fault.JudgeFault.{JudgeFault}
+use Rattle.test_runner_core.specs.declared.judge_fault.JudgeFault.TheVariants as fault
+use Rattle.test_runner_core.specs.declared.judging_line.Step.TheVariants as it
+use Rattle.test_runner_core.specs.declared.judging_line.Step.{Step}
+use Rattle.test_runner_core.specs.declared.refused_line.LineRefusal.{LineRefusal}
+use Rattle.test_runner_core.specs.declared.refused_line.LineRefusal.TheVariants as refused
+use Rattle.test_runner_core.specs.declared.refused_line.RefusedLine.{RefusedLine}
+
+-- what holds of a session that took the steps of some events from its beginning on
+pub record IsReached (session : SessionState) : Type 0 where
+  pub reasons : KeepsReasons session.run
+  pub tests : length session.run.tests ≡ length session.plan.tests
+
+-- what the step of a line answers and leaves
+abbrev pub Steps : Step → SessionState → LogLine → SessionState → Type 0
+Steps (it.Taken ended) old line new =
+    (new.plan ≡ old.plan) × (step old.run (event_of old.plan line) ≡ Ok new.run) × (ended ≡ ended_place (event_of old.plan line))
+Steps (it.Refused refusal) old line new = (step old.run (event_of old.plan line) ≡ Err refusal) × (new ≡ old)
+
+-- what a line's event does, and what is told of it
+abbrev pub StepsLine : Result (Option LineRefusal) TellFault → SessionState → LogLine → SessionState → Option (List ℕ) → List ℕ → Option (List ℕ) → List ℕ → Type 0
+StepsLine (Ok None) old line new before waited after waits =
+    (new.plan ≡ old.plan) × (step old.run (event_of old.plan line) ≡ Ok new.run)
+    × TellsAll (step_parts old.plan (event_of old.plan line) old.run new.run) before waited after waits
+StepsLine (Ok (Some (refused.Step refusal))) old line new before waited after waits =
+    (step old.run (event_of old.plan line) ≡ Err refusal) × (new ≡ old) × TellsAll [] before waited after waits
+StepsLine (Ok (Some other)) old line new before waited after waits = ⊥
+StepsLine (Err fault) old line new before waited after waits =
+    TellsFront [] before waited after
+    ⊎ ((next : State) × (step old.run (event_of old.plan line) ≡ Ok next) × TellsFront (step_parts old.plan (event_of old.plan line) old.run next) before waited after)
+
+-- what the bytes of a whole line do
+abbrev pub JudgesLine : Result (Option LineRefusal) TellFault → SessionState → List ℕ → SessionState → Option (List ℕ) → List ℕ → Option (List ℕ) → List ℕ → Type 0
+JudgesLine (Ok None) old bytes new before waited after waits =
+    ((bytes ≡ []) × (new ≡ old) × TellsAll [] before waited after waits)
+    ⊎ ((line : LogLine) × Spells line bytes × StepsLine (Ok None) old line new before waited after waits)
+JudgesLine (Ok (Some refusal)) old bytes new before waited after waits =
+    Refuses old.plan old.run bytes refusal × (new ≡ old) × TellsAll [] before waited after waits
+JudgesLine (Err fault) old bytes new before waited after waits =
+    (line : LogLine) × Spells line bytes × StepsLine (Err fault) old line new before waited after waits
+
+-- what looking for the next line hands out, and what is written: all that was told, where a read fails
+abbrev pub HandsNext : Result Next JudgeFault → Cursor → Option (List ℕ) → Cursor → Option (List ℕ) → Option (List ℕ) → List ℕ → Option (List ℕ) → List ℕ → Type 0
+HandsNext (Ok next) old left new rest before waited after waits =
+    Hands old left new rest (Ok next) × HandsAhead old left new rest (Ok next) × HandsBytes (Ok next) old new × TellsAll [] before waited after waits
+HandsNext (Err (fault.Read cause)) old left new rest before waited after waits =
+    KeepsAhead old left new rest × IsPlain new.waiting × MovesOn before waited after [] []
+HandsNext (Err (fault.Write cause)) old left new rest before waited after waits = TellsFront [] before waited after
+HandsNext (Err fault.Memory) old left new rest before waited after waits = TellsFront [] before waited after
+
+-- how often the reader is called for it
+abbrev pub ReadsNext : Result Next JudgeFault → Cursor → ℕ → Cursor → ℕ → Type 0
+ReadsNext (Ok next) old before new after =
+    (after + received old ≤ before + received new + idle_reads (Ok next)) × (received new + idle_reads (Ok next) ≤ log_reads)
+ReadsNext (Err (fault.Read cause)) old before new after = (after + received old ≤ before + received new + 1) × (received new + 1 ≤ log_reads)
+ReadsNext (Err (fault.Write cause)) old before new after = after ≡ before
+ReadsNext (Err fault.Memory) old before new after =
+    (after ≡ before) ⊎ ((after + received old ≤ before + received new + 1) × (received new + 1 ≤ log_reads))
+
+-- the items ahead are these lines and then the rest, where the reader's bytes are known
+abbrev pub IsLogOf : Cursor → Option (List ℕ) → List (List ℕ) → List Item → Type 0
+IsLogOf begin None front rest = ⊤
+IsLogOf begin (Some bytes) front rest = items_ahead begin bytes ≡ map Line front ++ rest
+
+-- these are the whole lines of what was got
+abbrev pub IsGotOf : Cursor → Option (List ℕ) → Option (List ℕ) → List (List ℕ) → Type 0
+IsGotOf begin None left front = ⊤
+IsGotOf begin (Some bytes) None front = ⊥
+IsGotOf begin (Some bytes) (Some left) front = (got : List ℕ) × (begin.waiting ++ bytes ≡ got ++ left) × (whole_lines got ≡ front)
+
+-- the lines up to the first that is refused were judged, and what they tell was told
+pub record JudgedLines (plan : Plan) (last : State) (found : Option RefusedLine) (begin : Cursor) (known before after : Option (List ℕ)) (waits : List ℕ) : Type 0 where
+  pub front : List (List ℕ)
+  pub rest : List Item
+  pub whole : IsLogOf begin known front rest
+  pub parts : List Part
+  pub so_far : SoFar plan front last parts
+  pub finds : Finds plan last (length front + 1) rest found
+  pub told : TellsAll parts before [] after waits
+
+-- the whole lines that were got were judged, and what they tell was written
+pub record GotLines (plan : Plan) (begin : Cursor) (known left before after : Option (List ℕ)) : Type 0 where
+  pub front : List (List ℕ)
+  pub rest : List Item
+  pub whole : IsLogOf begin known front rest
+  pub got : IsGotOf begin known left front
+  pub last : State
+  pub parts : List Part
+  pub so_far : SoFar plan front last parts
+  pub written : IsWritten parts before after
+
+-- some lines were judged, and a front of what they tell was written
+pub record BegunLines (plan : Plan) (begin : Cursor) (known before after : Option (List ℕ)) : Type 0 where
+  pub front : List (List ℕ)
+  pub rest : List Item
+  pub whole : IsLogOf begin known front rest
+  pub last : State
+  pub parts : List Part
+  pub so_far : SoFar plan front last parts
+  pub told : TellsFront parts before [] after
+
+abbrev pub JudgesLines : Result (Option RefusedLine) JudgeFault → Plan → State → Cursor → Option (List ℕ) → Option (List ℕ) → Option (List ℕ) → Option (List ℕ) → List ℕ → Type 0
+JudgesLines (Ok found) plan last begin known left before after waits = JudgedLines plan last found begin known before after waits
+JudgesLines (Err (fault.Read cause)) plan last begin known left before after waits = GotLines plan begin known left before after
+JudgesLines (Err (fault.Write cause)) plan last begin known left before after waits = BegunLines plan begin known before after
+JudgesLines (Err fault.Memory) plan last begin known left before after waits = BegunLines plan begin known before after
+
+-- the same of the items ahead and the bytes got, as parts of a report
+abbrev pub IsJudged : Plan → Cursor → Option (List ℕ) → List Part → ℕ → Type 0
+IsJudged plan begin None parts code = ⊤
+IsJudged plan begin (Some bytes) parts code = Judged plan (items_ahead begin bytes) parts code
+
+abbrev pub IsGot : Plan → Cursor → Option (List ℕ) → Option (List ℕ) → List Part → Type 0
+IsGot plan begin known left parts = (front : List (List ℕ)) × IsGotOf begin known left front × ((last : State) × SoFar plan front last parts)
+
+abbrev pub IsBegun : Plan → Cursor → Option (List ℕ) → List Part → Type 0
+IsBegun plan begin known parts =
+    (parts ≡ [])
+    ⊎ (((front : List (List ℕ)) × ((rest : List Item) × (IsLogOf begin known front rest × ((last : State) × SoFar plan front last parts))))
+    ⊎ ((code : ℕ) × IsJudged plan begin known parts code))

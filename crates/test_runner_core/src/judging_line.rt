@@ -1,0 +1,151 @@
+// What one line of a log does to a run.
+ghost use Rattle.std.specs.Prelude.{◌≡◌, ◌^◌, ◌<◌, IfOk, MatchResult, OnErr, string_bytes};
+ghost use Rattle.test_runner_core_telling.specs.Telling.{TellsWrite};
+ghost use Rattle.test_runner_core_line_syntax.specs.Lent.{line_meant, record_meant};
+ghost use Rattle.test_runner_core_line_syntax.specs.declared.log_line.LogLine.TheVariants as lines;
+ghost use Rattle.test_runner_core.specs.declared.judging_line.Step.TheVariants as it;
+ghost use Rattle.test_runner_core.specs.Inside.{IsReached, JudgesLine, Steps, StepsLine};
+
+use crate::refused_line::LineRefusal;
+use nextest_run_events_results::TestInstanceId;
+use std::alloc::{AllocError, Global};
+use test_runner_core_line_syntax::{LentLine, LentRecord, SpellingError};
+use test_runner_core_progress::StartFault;
+use test_runner_core_runs::StepRefusal;
+use test_runner_core_session::Session;
+use test_runner_core_streams::ReportWriter;
+use test_runner_core_telling::{TellFault, tell_step};
+
+// What became of a line's event.
+#[derive(Clone, Copy)]
+pub(crate) enum Step {
+    // Its step is taken; the attempt of the test at this place ended, if one did.
+    Taken(Option<usize>),
+    // It is refused.
+    Refused(StepRefusal),
+}
+
+// Judges the bytes of one line, and tells what its step finishes: why they are refused, if they are.
+pub(crate) fn judge_line<W: ReportWriter>(
+    alloc: Global,
+    session: &mut Session<'_>,
+    bytes: &[u8],
+    text: &mut String,
+    report: &mut W,
+) -> Result<Option<LineRefusal>, TellFault>
+    requires writes_fit { W.failures report.old < 2 ^ 63 }
+    requires reached { IsReached session.old }
+    ensures judged { JudgesLine result session.old bytes.now session.new (W.taken report.old) (string_bytes text.old) (W.taken report.new) (string_bytes text.new) }
+    ensures failures { TellsWrite result (W.failures report.old) (W.failures report.new) (W.last_failed report.new) }
+{
+    match LentLine::parse(bytes) {
+        Ok(None) => Ok(None),
+        Ok(Some(line)) => tell_line(alloc, session, line, text, report),
+        Err(SpellingError::NotUtf8) => Ok(Some(LineRefusal::NotUtf8)),
+        Err(SpellingError::BadLine) => Ok(Some(LineRefusal::BadLine)),
+    }
+}
+
+// Takes the step of a line's event, and tells what it finishes: why it is refused, if it is.
+fn tell_line<W: ReportWriter>(
+    alloc: Global,
+    session: &mut Session<'_>,
+    line: LentLine<'_>,
+    text: &mut String,
+    report: &mut W,
+) -> Result<Option<LineRefusal>, TellFault>
+    requires writes_fit { W.failures report.old < 2 ^ 63 }
+    requires reached { IsReached session.old }
+    ensures judged { StepsLine result session.old (line_meant line.entry) session.new (W.taken report.old) (string_bytes text.old) (W.taken report.new) (string_bytes text.new) }
+    ensures failures { TellsWrite result (W.failures report.old) (W.failures report.new) (W.last_failed report.new) }
+{
+    let was_stopped = session.is_stopped();
+    match take_step(alloc, session, line)? {
+        Step::Refused(refusal) => Ok(Some(LineRefusal::Step(refusal))),
+        Step::Taken(ended) => {
+            tell_step(text, report, session, ended, was_stopped)?;
+            Ok(None)
+        }
+    }
+}
+
+// Takes the step of a line's event.
+fn take_step(
+    alloc: Global,
+    session: &mut Session<'_>,
+    line: LentLine<'_>,
+) -> Result<Step, AllocError>
+    ensures taken { IfOk result (λ it. Steps it session.old (line_meant line.entry) session.new) }
+    ensures kept { OnErr result (session.new ≡ session.old) }
+{
+    match line {
+        LentLine::Script { id, record } => end_script(alloc, session, id, record),
+        LentLine::Start { binary, name } => start(session, binary, name),
+        LentLine::End {
+            binary,
+            name,
+            record,
+        } => end(alloc, session, binary, name, record),
+        LentLine::Stop { reason } => Ok(step_of(session.stop(reason), None)),
+    }
+}
+
+// What an answer of the session tells.
+fn step_of(answer: Result<(), StepRefusal>, ended: Option<usize>) -> Step
+    ensures { MatchResult answer (λ _. result ≡ it.Taken ended) (λ refusal. result ≡ it.Refused refusal) }
+{
+    match answer {
+        Ok(()) => Step::Taken(ended),
+        Err(refusal) => Step::Refused(refusal),
+    }
+}
+
+// A script ended.
+fn end_script(
+    alloc: Global,
+    session: &mut Session<'_>,
+    id: &str,
+    record: LentRecord<'_>,
+) -> Result<Step, AllocError>
+    ensures taken { IfOk result (λ it. Steps it session.old (lines.Script id.now (record_meant «record».entry)) session.new) }
+    ensures kept { OnErr result (session.new ≡ session.old) }
+{
+    let record = record.own(alloc)?;
+    Ok(step_of(session.script_finished(id, record), None))
+}
+
+// An attempt starts.
+fn start(session: &mut Session<'_>, binary: &str, name: &str) -> Result<Step, AllocError>
+    ensures taken { IfOk result (λ it. Steps it session.old (lines.Start binary.now name.now) session.new) }
+    ensures kept { OnErr result (session.new ≡ session.old) }
+{
+    let test = TestInstanceId {
+        binary_id: binary,
+        test_name: name,
+    };
+    match session.start(test) {
+        Ok(()) => Ok(Step::Taken(None)),
+        Err(StartFault::Refused(refusal)) => Ok(Step::Refused(refusal)),
+        Err(StartFault::OutOfMemory) => Err(AllocError),
+    }
+}
+
+// An attempt ended.
+fn end(
+    alloc: Global,
+    session: &mut Session<'_>,
+    binary: &str,
+    name: &str,
+    record: LentRecord<'_>,
+) -> Result<Step, AllocError>
+    ensures taken { IfOk result (λ it. Steps it session.old (lines.End binary.now name.now (record_meant «record».entry)) session.new) }
+    ensures kept { OnErr result (session.new ≡ session.old) }
+{
+    let record = record.own(alloc)?;
+    let test = TestInstanceId {
+        binary_id: binary,
+        test_name: name,
+    };
+    let place = session.place(test);
+    Ok(step_of(session.attempt_finished(test, record), Some(place)))
+}

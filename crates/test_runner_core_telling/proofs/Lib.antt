@@ -1,0 +1,3 @@
+pub mod Told
+pub mod Named
+pub mod Done

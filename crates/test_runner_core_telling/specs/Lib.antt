@@ -1,0 +1,5 @@
+pub mod RunEnd
+pub mod Parts
+pub mod Telling
+pub mod Final
+pub mod Steps

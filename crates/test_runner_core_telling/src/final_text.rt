@@ -1,0 +1,106 @@
+// Telling the final text of a run.
+ghost use Rattle.std.specs.Prelude.{◌≡◌, ◌^◌, ◌<◌, [], ◌∷◌, map, slice_get, string_bytes};
+ghost use Rattle.test_runner_core_telling.specs.Parts.{Said, Shown};
+ghost use Rattle.test_runner_core_telling.specs.Final.{built_in, final_parts, named_tests, shown};
+ghost use Rattle.test_runner_core_telling.specs.RunEnd.{end_of, end_text};
+ghost use Rattle.test_runner_core_telling.specs.Telling.{Tells, TellsWrite};
+
+use crate::fault::TellFault;
+use crate::run_end::RunEnd;
+use crate::telling::{tell_done, tell_shown, tell_words};
+use nextest_config_elements_plain::{FinalStatusLevel, StatusLevel, TestOutputDisplay};
+use nextest_run_events_visibility::StatusLevels;
+use std::alloc::Global;
+use test_runner_core_report::{Shows, ToldTest};
+use test_runner_core_session::Session;
+use test_runner_core_streams::ReportWriter;
+
+// What the built-in configuration sets of what is shown of tests.
+pub(crate) fn built_in() -> Shows
+    ensures { result ≡ built_in }
+{
+    Shows {
+        levels: StatusLevels {
+            status_level: StatusLevel::Pass,
+            final_status_level: FinalStatusLevel::Flaky,
+        },
+        success_output: TestOutputDisplay::Never,
+        failure_output: TestOutputDisplay::Immediate,
+    }
+}
+
+// The test at a place of the plan, as far as the run is.
+pub(crate) fn told_at<'s>(session: &'s Session<'_>, place: usize) -> Option<ToldTest<'s>>
+    ensures { result ≡ slice_get (named_tests session.now.plan.tests session.now.run.tests) place }
+{
+    let test = session.plan().tests.as_slice().get(place)?;
+    let fate = session.fate_at(place)?;
+    Some(ToldTest::new(test.instance.as_ref(), fate.plan, fate.mark, fate.attempts))
+}
+
+/// Tells the final text of a run.
+pub fn tell_final<W: ReportWriter>(
+    alloc: Global,
+    text: &mut String,
+    report: &mut W,
+    session: &Session<'_>,
+) -> Result<(), TellFault>
+    requires writes_fit { W.failures report.old < 2 ^ 63 }
+    ensures tells { Tells result (final_parts session.now.plan session.now.run) (W.taken report.old) (string_bytes text.old) (W.taken report.new) (string_bytes text.new) }
+    ensures failures { TellsWrite result (W.failures report.old) (W.failures report.new) (W.last_failed report.new) }
+{
+    tell_end(alloc, text, report, session)?;
+    tell_tests(text, report, session)
+}
+
+// Tells where a run ended.
+fn tell_end<W: ReportWriter>(
+    alloc: Global,
+    text: &mut String,
+    report: &mut W,
+    session: &Session<'_>,
+) -> Result<(), TellFault>
+    requires writes_fit { W.failures report.old < 2 ^ 63 }
+    ensures tells { Tells result (Said (end_text (end_of session.now.run)) ∷ []) (W.taken report.old) (string_bytes text.old) (W.taken report.new) (string_bytes text.new) }
+    ensures failures { TellsWrite result (W.failures report.old) (W.failures report.new) (W.last_failed report.new) }
+{
+    let end = RunEnd {
+        outcome: session.summary(),
+        stats: session.stats(),
+    };
+    let words = format!(in alloc; "{end}")?;
+    tell_words(text, report, words.as_str())
+}
+
+// Tells the tests in the plan's order.
+fn tell_tests<W: ReportWriter>(
+    text: &mut String,
+    report: &mut W,
+    session: &Session<'_>,
+) -> Result<(), TellFault>
+    requires writes_fit { W.failures report.old < 2 ^ 63 }
+    ensures tells { Tells result (map (Shown built_in) (named_tests session.now.plan.tests session.now.run.tests)) (W.taken report.old) (string_bytes text.old) (W.taken report.new) (string_bytes text.new) }
+    ensures failures { TellsWrite result (W.failures report.old) (W.failures report.new) (W.last_failed report.new) }
+{
+    for place in 0..session.plan().tests.len() {
+        tell_shown_at(text, report, session, place)?;
+    }
+    Ok(())
+}
+
+// Tells the part of the test at a place.
+fn tell_shown_at<W: ReportWriter>(
+    text: &mut String,
+    report: &mut W,
+    session: &Session<'_>,
+    place: usize,
+) -> Result<(), TellFault>
+    requires writes_fit { W.failures report.old < 2 ^ 63 }
+    ensures tells { Tells result (shown (slice_get (named_tests session.now.plan.tests session.now.run.tests) place)) (W.taken report.old) (string_bytes text.old) (W.taken report.new) (string_bytes text.new) }
+    ensures failures { TellsWrite result (W.failures report.old) (W.failures report.new) (W.last_failed report.new) }
+{
+    match told_at(session, place) {
+        Some(test) => tell_shown(text, report, &built_in(), &test),
+        None => Ok(()),
+    }
+}

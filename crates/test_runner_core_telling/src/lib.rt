@@ -1,0 +1,14 @@
+//! How a run is told: what is written as tests finish, and the final text.
+#![tactic(auto)]
+
+mod fault;
+mod final_text;
+mod run_end;
+mod steps;
+mod telling;
+
+pub use fault::TellFault;
+pub use final_text::tell_final;
+pub use run_end::RunEnd;
+pub use steps::tell_step;
+pub use telling::{tell_done, tell_shown, tell_words, write_waiting};

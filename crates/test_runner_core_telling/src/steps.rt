@@ -1,0 +1,159 @@
+// Telling what the steps of a run finish.
+ghost use Rattle.std.specs.Prelude.{◌≡◌, ◌&&◌, ◌^◌, ◌<◌, not, is_some, [], ◌∷◌, length, slice_get, string_bytes, if◌then◌else◌};
+ghost use Rattle.std.specs.Option.{option_map};
+ghost use Rattle.test_runner_core_runs.specs.Finishing.{finished_at, is_stopped_at, places_among};
+ghost use Rattle.test_runner_core_runs.specs.State.{State};
+ghost use Rattle.test_runner_core_runs.specs.declared.event.Event.{Event};
+ghost use Rattle.test_runner_core_telling.specs.Final.{named_tests};
+ghost use Rattle.test_runner_core_telling.specs.Steps.{Took, all_done, done_at, over_at, step_parts};
+ghost use Rattle.test_runner_core_telling.specs.Telling.{Tells, TellsWrite};
+
+use crate::fault::TellFault;
+use crate::final_text::{built_in, told_at};
+use crate::telling::tell_done;
+use test_runner_core_runs::Mark;
+use test_runner_core_session::Session;
+use test_runner_core_streams::ReportWriter;
+
+/// Tells what the step that a run took last finishes, where an attempt ended at a place, if one did, and the run was
+/// stopped before the step or not: the test of that attempt, and then, in the plan's order, those that the stop finishes.
+pub fn tell_step<W: ReportWriter>(
+    text: &mut String,
+    report: &mut W,
+    session: &Session<'_>,
+    ended: Option<usize>,
+    was_stopped: bool,
+) -> Result<(), TellFault>
+    requires writes_fit { W.failures report.old < 2 ^ 63 }
+    ensures tells { (event : Event) (old : State) → Took session.now.plan event old session.now.run ended was_stopped → Tells result (step_parts session.now.plan event old session.now.run) (W.taken report.old) (string_bytes text.old) (W.taken report.new) (string_bytes text.new) }
+    ensures failures { TellsWrite result (W.failures report.old) (W.failures report.new) (W.last_failed report.new) }
+{
+    tell_ended(text, report, session, ended)?;
+    tell_if_stopped(
+        text,
+        report,
+        session,
+        is_newly_stopped(session, was_stopped),
+    )
+}
+
+// Whether the run is stopped, and wasn't before.
+fn is_newly_stopped(session: &Session<'_>, was_stopped: bool) -> bool
+    ensures { result ≡ (not was_stopped && is_some session.now.run.reason) }
+{
+    !was_stopped && session.is_stopped()
+}
+
+// Tells the tests that a stop finished, if there was one.
+fn tell_if_stopped<W: ReportWriter>(
+    text: &mut String,
+    report: &mut W,
+    session: &Session<'_>,
+    stops: bool,
+) -> Result<(), TellFault>
+    requires writes_fit { W.failures report.old < 2 ^ 63 }
+    ensures tells { Tells result (all_done session.now.plan session.now.run (if stops then places_among (is_stopped_at session.now.run.tests) (length session.now.plan.tests) else [])) (W.taken report.old) (string_bytes text.old) (W.taken report.new) (string_bytes text.new) }
+    ensures failures { TellsWrite result (W.failures report.old) (W.failures report.new) (W.last_failed report.new) }
+{
+    if !stops {
+        return Ok(());
+    }
+    tell_stopped(text, report, session)
+}
+
+// Tells the test of an attempt that ended, where it is over.
+fn tell_ended<W: ReportWriter>(
+    text: &mut String,
+    report: &mut W,
+    session: &Session<'_>,
+    ended: Option<usize>,
+) -> Result<(), TellFault>
+    requires writes_fit { W.failures report.old < 2 ^ 63 }
+    ensures tells { Tells result (all_done session.now.plan session.now.run (over_at ended session.now.run)) (W.taken report.old) (string_bytes text.old) (W.taken report.new) (string_bytes text.new) }
+    ensures failures { TellsWrite result (W.failures report.old) (W.failures report.new) (W.last_failed report.new) }
+{
+    match ended {
+        Some(place) => tell_if(text, report, session, place, is_over(session, place)),
+        None => Ok(()),
+    }
+}
+
+// Tells the tests that a stop finished, in the plan's order.
+fn tell_stopped<W: ReportWriter>(
+    text: &mut String,
+    report: &mut W,
+    session: &Session<'_>,
+) -> Result<(), TellFault>
+    requires writes_fit { W.failures report.old < 2 ^ 63 }
+    ensures tells { Tells result (all_done session.now.plan session.now.run (places_among (is_stopped_at session.now.run.tests) (length session.now.plan.tests))) (W.taken report.old) (string_bytes text.old) (W.taken report.new) (string_bytes text.new) }
+    ensures failures { TellsWrite result (W.failures report.old) (W.failures report.new) (W.last_failed report.new) }
+{
+    for place in 0..session.plan().tests.len() {
+        let stopped = is_stopped_at(session, place);
+        tell_if(text, report, session, place, stopped)?;
+    }
+    Ok(())
+}
+
+// Tells the test at a place, where it is to be told.
+fn tell_if<W: ReportWriter>(
+    text: &mut String,
+    report: &mut W,
+    session: &Session<'_>,
+    place: usize,
+    is_told: bool,
+) -> Result<(), TellFault>
+    requires writes_fit { W.failures report.old < 2 ^ 63 }
+    ensures tells { Tells result (all_done session.now.plan session.now.run (if is_told then place ∷ [] else [])) (W.taken report.old) (string_bytes text.old) (W.taken report.new) (string_bytes text.new) }
+    ensures failures { TellsWrite result (W.failures report.old) (W.failures report.new) (W.last_failed report.new) }
+{
+    if !is_told {
+        return Ok(());
+    }
+    tell_at(text, report, session, place)
+}
+
+// Tells the test at a place.
+fn tell_at<W: ReportWriter>(
+    text: &mut String,
+    report: &mut W,
+    session: &Session<'_>,
+    place: usize,
+) -> Result<(), TellFault>
+    requires writes_fit { W.failures report.old < 2 ^ 63 }
+    ensures tells { Tells result (done_at session.now.plan session.now.run place) (W.taken report.old) (string_bytes text.old) (W.taken report.new) (string_bytes text.new) }
+    ensures failures { TellsWrite result (W.failures report.old) (W.failures report.new) (W.last_failed report.new) }
+{
+    match told_at(session, place) {
+        Some(test) => tell_done(text, report, &built_in(), &test),
+        None => Ok(()),
+    }
+}
+
+// How far the test at a place is.
+fn mark_at(session: &Session<'_>, place: usize) -> Option<Mark>
+    ensures { result ≡ option_map (λ test. test.mark) (slice_get session.now.run.tests place) }
+{
+    let fate = session.fate_at(place)?;
+    Some(fate.mark)
+}
+
+// Whether the test at a place is over.
+fn is_over(session: &Session<'_>, place: usize) -> bool
+    ensures { result ≡ finished_at session.now.run.tests place }
+{
+    match mark_at(session, place) {
+        Some(Mark::Finished(_)) => true,
+        _ => false,
+    }
+}
+
+// Whether the test at a place is over under a reason.
+fn is_stopped_at(session: &Session<'_>, place: usize) -> bool
+    ensures { result ≡ is_stopped_at session.now.run.tests place }
+{
+    match mark_at(session, place) {
+        Some(Mark::Finished(reason)) => reason.is_some(),
+        _ => false,
+    }
+}
