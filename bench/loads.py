@@ -1,13 +1,16 @@
 #!/usr/bin/env python3
 """Times the built program on loads of several sizes, and prints a table.
 
-Build it first by `make run`. For each size: seconds, peak memory, bytes a second, and how much longer than the size
-before it took for so many times the bytes (1.0 is in proportion).
+Build it first by `make run`. For each size: the bytes of the load and of its report, seconds, peak memory, bytes of the load a second, and
+how much longer than the size before it took for so many times the bytes (1.0 is in proportion). A timed report goes nowhere.
 
-  binaries N   N binaries with one test each, and no log
-  tests N      one binary with N tests, which all pass: 2 N lines of log
+  binaries N   N binaries with one test each, and no log: the report has a line for each test, which didn't run
+  tests N      one binary with N tests, which all pass: 2 N lines of log, and N of the report
   shuffled N   the same, where the log has the tests in another order
   places N     inputs of N bytes that are made to take much memory, and no log
+  passing N    1,000 tests which all pass, each of which writes N bytes, a half to each stream: none of them is in the report
+  failing N    the same, where all fail, the last line of each standard error tells of a panic, and no failure stops the run: the report has
+               all that was written, once
   ordinary N, given N   tests of the names in a file that is given as an argument, one a line, beside as many others of their
                length: so names that are made to collide can be tried
 
@@ -25,6 +28,7 @@ import json
 import os
 import pathlib
 import random
+import subprocess
 import sys
 import tempfile
 import time
@@ -36,9 +40,10 @@ def binary(name, tests):
     return {"id": name, "name": name, "package": "p", "kind": "lib", "platform": "target", "tests": tests}
 
 
-def inputs(binaries):
+def inputs(binaries, settings=""):
     workspace = {"packages": [{"id": "p", "name": "p"}], "links": [], "binaries": binaries}
-    return json.dumps({"workspace": workspace, "sources": [], "current_version": "0.9.100"}, separators=(",", ":"))
+    sources = [{"kind": "explicit", "path": "nextest.toml", "text": settings}] if settings else []
+    return json.dumps({"workspace": workspace, "sources": sources, "current_version": "0.9.100"}, separators=(",", ":"))
 
 
 def binaries(count):
@@ -62,6 +67,31 @@ def shuffled(count):
 
 def places(count):
     return '{"x":[' + ",".join(['{"":0}'] * (count // 8)) + "]}", ""
+
+
+LINE = b"module::case: a line of an output\n"
+PANIC = b"\nthread 'main' panicked at src/lib.rs:1:\n"
+
+
+def written(count, last=b""):
+    """So many bytes of an output, in hex, which end in these where there is room for them."""
+    last = last if len(last) <= count else b""
+    return ((LINE * (count // len(LINE) + 1))[: count - len(last)] + last).hex()
+
+
+def outputs(count, result, last):
+    names = [f"module::case_{i:07}" for i in range(1_000)]
+    ended = f"{result}\t-\t1\t{written(count - count // 2)}\t{written(count // 2, last)}\n"
+    log = "".join(f"start\tp\t{name}\nend\tp\t{name}\t{ended}" for name in names)
+    return inputs([binary("p", names)], "[profile.default]\nfail-fast = false\n"), log
+
+
+def passing(count):
+    return outputs(count, "pass", b"")
+
+
+def failing(count):
+    return outputs(count, "fail:101", PANIC)
 
 
 WORD = 2**64 - 1
@@ -169,10 +199,16 @@ def colliding(count):
     return [(name, load(names_of, before), sizes) for name, names_of, before in makers]
 
 
-def run(text):
-    with tempfile.TemporaryFile("w+") as load, open(os.devnull, "w") as report:
-        load.write(text)
-        load.flush()
+def report_length(load):
+    """How many bytes the report of a load has."""
+    with tempfile.TemporaryFile() as report:
+        load.seek(0)
+        subprocess.run([PROGRAM], stdin=load, stdout=report)
+        return report.seek(0, os.SEEK_END)
+
+
+def run(load):
+    with open(os.devnull, "w") as report:
         load.seek(0)
         begun = time.monotonic()
         child = os.fork()
@@ -185,12 +221,14 @@ def run(text):
 
 
 def main():
-    print("load               bytes  seconds  MB peak  MB/s  ratio  status")
+    print("load               bytes     report  seconds  MB peak  MB/s  ratio  status")
     loads = [
         ("binaries", binaries, (1_000, 10_000, 100_000)),
         ("tests", tests, (1_000, 10_000, 100_000, 300_000)),
         ("shuffled", shuffled, (300_000,)),
         ("places", places, (1_000_000, 16_000_000)),
+        ("passing", passing, (0, 1_024, 16_384, 65_536)),
+        ("failing", failing, (0, 1_024, 16_384, 65_536)),
     ]
     arguments = sys.argv[1:]
     if arguments[:1] == ["colliding"]:
@@ -206,11 +244,14 @@ def main():
         before = None
         for count in counts:
             head, log = make(count)
-            text = head + "\n" + log
-            seconds, peak, status = min(run(text) for _ in range(3))
-            ratio = "" if before is None else f"{seconds / before[0] / (len(text) / before[1]):.2f}"
-            before = (seconds, len(text))
-            print(f"{name} {count:<9} {len(text):>9}  {seconds:7.3f}  {peak:7}  {len(text) / seconds / 1e6:4.0f}  {ratio:>5}  {status}")
+            with tempfile.TemporaryFile("w+") as load:
+                size = load.write(head + "\n" + log)
+                load.flush()
+                told = report_length(load)
+                seconds, peak, status = min(run(load) for _ in range(3))
+            ratio = "" if before is None else f"{seconds / before[0] / (size / before[1]):.2f}"
+            before = (seconds, size)
+            print(f"{name} {count:<9} {size:>9}  {told:>9}  {seconds:7.3f}  {peak:7}  {size / seconds / 1e6:4.0f}  {ratio:>5}  {status}")
 
 
 if __name__ == "__main__":

@@ -1,5 +1,8 @@
-// One run, each of whose reads and writes fails in turn: it is told, nothing is tried again, and the report is a front.
-use super::one_run::{End, REPORT, STREAM, end_of};
+// One run, each of whose reads and writes fails in turn: it is told, nothing is tried again, and the report is a front. Where a read
+// fails, it is what the whole lines tell that were read before.
+use super::one_run::{End, end_of};
+use super::three_tests::{REPORT, STREAM, told_by};
+use std::alloc::Global;
 use std::io;
 use std::io::{ErrorKind, Read, Write};
 use std::test::Fail;
@@ -61,26 +64,37 @@ fn pieces_change_nothing(rt: HostRuntime) -> Result<(), Fail> {
         let mut report = MemoryWriter::new(rt.alloc(), REPORT.len(), piece)?;
         let end = end_of(judge_stream(rt.alloc(), &mut input, &mut report));
         assert!(rt;
-            end == End::Status(0) && report.written() == REPORT,
+            end == End::Status(100) && report.written() == REPORT,
             "{piece}"
         );
     }
     Ok(())
 }
 
+// How the run ends whose reader moves so many bytes a call and fails after so many calls; whether the reader wasn't called again, and
+// whether just the whole lines are told that it moved.
+fn of_failing_reader(alloc: Global, piece: usize, calls: u64) -> Result<(End, bool, bool), Fail> {
+    let mut input = MemoryReader::new(STREAM, piece).failing_after(calls);
+    let mut report = MemoryWriter::new(alloc, REPORT.len(), 64)?;
+    let end = end_of(judge_stream(alloc, &mut input, &mut report));
+    let is_last = input.failures() == 1 && input.last_failed();
+    let read = STREAM.len().saturating_sub(input.left().len());
+    Ok((end, is_last, report.written() == told_by(read)))
+}
+
 #[test]
 fn each_read_that_fails_is_told(rt: HostRuntime) -> Result<(), Fail> {
-    // Each byte is a read, and one more finds the end.
-    for call in 0..=230 {
-        let mut input = MemoryReader::new(STREAM, 1).failing_after(call);
-        let mut report = MemoryWriter::new(rt.alloc(), REPORT.len(), 64)?;
-        let end = end_of(judge_stream(rt.alloc(), &mut input, &mut report));
-        let calls = (input.calls(), input.failures(), input.last_failed());
-        assert!(rt; end == End::Read(ErrorKind::Other), "{call}");
-        assert!(rt;
-            calls == (call + 1, 1, true) && report.written().is_empty(),
-            "{call}"
-        );
+    // Each piece is a read, and one more finds the end.
+    for (piece, reads) in [(1, 332), (64, 7)] {
+        for calls in 0..reads {
+            let told = of_failing_reader(rt.alloc(), piece, calls)?;
+            assert!(rt;
+                told == (End::Read(ErrorKind::Other), true, true),
+                "{piece} {calls}"
+            );
+        }
+        let (end, ..) = of_failing_reader(rt.alloc(), piece, reads)?;
+        assert!(rt; end == End::Status(100), "{piece}");
     }
     Ok(())
 }
@@ -92,7 +106,7 @@ fn each_write_that_fails_is_told(rt: HostRuntime) -> Result<(), Fail> {
         (WriteFailure::TakesNone, ErrorKind::WriteZero),
     ] {
         // Each byte is a write.
-        for call in 0..390 {
+        for call in 0..598 {
             let mut input = MemoryReader::new(STREAM, 4096);
             let mut report = MemoryWriter::new(rt.alloc(), REPORT.len(), 1)?.failing_after(
                 call, how,
@@ -111,12 +125,17 @@ fn each_write_that_fails_is_told(rt: HostRuntime) -> Result<(), Fail> {
 
 #[test]
 fn a_report_without_room_is_cut(rt: HostRuntime) -> Result<(), Fail> {
-    let mut input = MemoryReader::new(STREAM, 4096);
-    let mut report = MemoryWriter::new(rt.alloc(), 10, 4)?;
-    let end = end_of(judge_stream(rt.alloc(), &mut input, &mut report));
-    assert!(rt;
-        end == End::Write(ErrorKind::StorageFull) && report.written() == b"== final".as_slice()
-    );
+    for room in 0..598 {
+        let mut input = MemoryReader::new(STREAM, 64);
+        let mut report = MemoryWriter::new(rt.alloc(), room, 4)?;
+        let end = end_of(judge_stream(rt.alloc(), &mut input, &mut report));
+        let front = report.written();
+        assert!(rt; end == End::Write(ErrorKind::StorageFull), "{room}");
+        assert!(rt;
+            REPORT.starts_with(front) && room.saturating_sub(front.len()) < 4,
+            "{room}"
+        );
+    }
     Ok(())
 }
 
@@ -144,7 +163,7 @@ fn std_streams_are_not_tried_again(rt: HostRuntime) {
         assert!(rt; end == End::Write(kind) && (below.calls, below.flushes) == (2, 0));
     }
     let end = end_of(judge_stream(rt.alloc(), &mut StdReader::new(STREAM), &mut whole));
-    assert!(rt; end == End::Status(0) && whole.into_inner().as_slice() == REPORT);
+    assert!(rt; end == End::Status(100) && whole.into_inner().as_slice() == REPORT);
 }
 
 #[test]

@@ -19,4 +19,6 @@ mod refusals;
 #[cfg(test)]
 mod spelling;
 #[cfg(test)]
+mod three_tests;
+#[cfg(test)]
 mod walks;

@@ -1,4 +1,4 @@
-// A run of one test that passes: its stream, the two parts of that, and its report.
+// A run of one test that passes: the two parts of its stream, and its report.
 use std::io::ErrorKind;
 use test_runner_core::JudgeFault;
 
@@ -9,13 +9,9 @@ pub const INPUTS: &[u8] =
 /// Its line feed and the log in which the test passes.
 pub const LOG: &[u8] = b"\nstart\tp\ta\nend\tp\ta\tpass\t-\t1\t-\t-\n";
 
-/// Both, of 230 bytes.
-pub const STREAM: &[u8] =
-    b"{\"workspace\":{\"packages\":[{\"id\":\"p\",\"name\":\"p\"}],\"links\":[],\"binaries\":[{\"id\":\"p\",\"name\":\"p\",\"package\":\"p\",\"kind\":\"lib\",\"platform\":\"target\",\"tests\":[\"a\"]}]},\"sources\":[],\"current_version\":\"0.9.100\"}\nstart\tp\ta\nend\tp\ta\tpass\t-\t1\t-\t-\n";
-
-/// The report, of 390 bytes.
+/// The report.
 pub const REPORT: &[u8] =
-    b"== final ==\nstatus\t0\noutcome success\ninitial-run-count\t1\nfinished-count\t1\nsetup-scripts-initial-count\t0\nsetup-scripts-finished-count\t0\nsetup-scripts-passed\t0\nsetup-scripts-failed\t0\nsetup-scripts-exec-failed\t0\nsetup-scripts-timed-out\t0\npassed\t1\npassed-slow\t0\npassed-timed-out\t0\nflaky\t0\nfailed\t0\nfailed-slow\t0\nfailed-timed-out\t0\nleaky\t0\nleaky-failed\t0\nexec-failed\t0\nskipped\t0\ncancel-reason\t-\n";
+    b"done\tp\ta\tpass\t1/1\n== final ==\nstatus\t0\noutcome success\ninitial-run-count\t1\nfinished-count\t1\nsetup-scripts-initial-count\t0\nsetup-scripts-finished-count\t0\nsetup-scripts-passed\t0\nsetup-scripts-failed\t0\nsetup-scripts-exec-failed\t0\nsetup-scripts-timed-out\t0\npassed\t1\npassed-slow\t0\npassed-timed-out\t0\nflaky\t0\nfailed\t0\nfailed-slow\t0\nfailed-timed-out\t0\nleaky\t0\nleaky-failed\t0\nexec-failed\t0\nskipped\t0\ncancel-reason\t-\n";
 
 /// How a judging ended.
 #[derive(Clone, Copy, PartialEq, Eq)]

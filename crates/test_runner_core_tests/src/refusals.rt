@@ -7,9 +7,9 @@ use std::test::Fail;
 use test_runner_core::{
     CurrentVersion, InputsError, InputsRefusal, LineFault, ParseLineError, SpellingError,
 };
-use test_runner_core_listing::ListingFault;
-use test_runner_core_settings::SettingsFault;
-use test_runner_core_workspace::{ListFault, WorkspaceError};
+use test_runner_core_listing::{ListingError, ListingFault};
+use test_runner_core_settings::{SettingsError, SettingsFault};
+use test_runner_core_workspace::{ListFault, WorkspaceError, WorkspaceFault};
 
 fn push<T: Display>(alloc: Global, told: &mut String, refusal: &T) -> Result<(), AllocError> {
     told.push_str(format!(in alloc; "{refusal}\n")?.as_str())
@@ -43,6 +43,7 @@ a binary can't list its tests: gone
 one of the tests has no name
 the name of one of the tests has a tab or a line end in it
 two tests of a binary have one name
+out of memory
 ";
 
 const OF_LINES: &str = "\
@@ -70,11 +71,11 @@ fn refusals_of_lines_and_workspaces_print(rt: HostRuntime) -> Result<(), Fail> {
     ];
     assert_eq!(rt; told_of(alloc, &of_lines)?.as_str(), OF_LINES);
     let of_workspaces = [
-        WorkspaceError::RepeatedPackage,
-        WorkspaceError::UnknownLink,
-        WorkspaceError::RepeatedBinary,
-        WorkspaceError::UnknownPackage,
-        WorkspaceError::BadId,
+        WorkspaceError::Refused(WorkspaceFault::RepeatedPackage),
+        WorkspaceError::Refused(WorkspaceFault::UnknownLink),
+        WorkspaceError::Refused(WorkspaceFault::RepeatedBinary),
+        WorkspaceError::Refused(WorkspaceFault::UnknownPackage),
+        WorkspaceError::Refused(WorkspaceFault::BadId),
         WorkspaceError::OutOfMemory,
     ];
     assert_eq!(rt; told_of(alloc, &of_workspaces)?.as_str(), OF_WORKSPACES);
@@ -92,11 +93,11 @@ fn refusals_of_lines_and_workspaces_print(rt: HostRuntime) -> Result<(), Fail> {
 #[test]
 fn refusals_of_settings_print(rt: HostRuntime) -> Result<(), Fail> {
     let of_settings = [
-        SettingsFault::Syntax,
-        SettingsFault::VersionNotYet,
-        SettingsFault::BadValue,
-        SettingsFault::NotYet,
-        SettingsFault::OutOfMemory,
+        SettingsError::Refused(SettingsFault::Syntax),
+        SettingsError::Refused(SettingsFault::VersionNotYet),
+        SettingsError::Refused(SettingsFault::BadValue),
+        SettingsError::Refused(SettingsFault::NotYet),
+        SettingsError::OutOfMemory,
     ];
     assert_eq!(rt; told_of(rt.alloc(), &of_settings)?.as_str(), OF_SETTINGS);
     Ok(())
@@ -137,10 +138,11 @@ fn refusals_with_a_text_print(rt: HostRuntime) -> Result<(), Fail> {
     ];
     assert_eq!(rt; told_of(alloc, &of_inputs)?.as_str(), OF_INPUTS);
     let of_listing = [
-        ListingFault::ListFault(Text::from_str(alloc, "gone")?),
-        ListingFault::EmptyTestName,
-        ListingFault::BadTestName,
-        ListingFault::RepeatedTest,
+        ListingError::Refused(ListingFault::ListFault(Text::from_str(alloc, "gone")?)),
+        ListingError::Refused(ListingFault::EmptyTestName),
+        ListingError::Refused(ListingFault::BadTestName),
+        ListingError::Refused(ListingFault::RepeatedTest),
+        ListingError::OutOfMemory,
     ];
     assert_eq!(rt; told_of(alloc, &of_listing)?.as_str(), OF_LISTING);
     Ok(())

@@ -1,9 +1,9 @@
 // Inputs, and their plan.
 use crate::changes::Changed;
-use anyhow::Result;
+use anyhow::{Result, anyhow};
 use nextest_text::Text;
 use std::alloc::Global;
-use test_runner_core::{Inputs, OwnedTestInstanceId, Plan, PlanTest, TableLister};
+use test_runner_core::{Inputs, OwnedTestInstanceId, Plan, PlanError, PlanTest, TableLister};
 use worked_tables::Table;
 
 /// Changes of inputs, each with the plan's tests and how often they may be tried, the limit, the skipped tests, or the name
@@ -22,7 +22,8 @@ impl Table for Plans {
         let mut lister = TableLister::new(alloc, &inputs.workspace)?;
         let mut told = match Plan::build(alloc, &inputs, &mut lister) {
             Ok(plan) => shown(alloc, &plan)?,
-            Err(fault) => String::from_str(alloc, fault.name())?,
+            Err(PlanError::Refused(fault)) => String::from_str(alloc, fault.name())?,
+            Err(PlanError::OutOfMemory) => return Err(anyhow!("out of memory")),
         };
         told.push_str("; asked")?;
         push_all(&mut told, lister.asked())?;

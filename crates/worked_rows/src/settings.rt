@@ -1,7 +1,7 @@
 // Texts of a configuration, and what they set.
 use anyhow::{Result, anyhow};
 use std::alloc::Global;
-use test_runner_core_settings::{Settings, SettingsFault};
+use test_runner_core_settings::{Settings, SettingsError};
 use worked_tables::Table;
 
 /// Configurations, each with what it sets or the name under which it is refused.
@@ -16,8 +16,8 @@ impl Table for SettingsTexts {
     fn answer(&self, alloc: Global, input: &str) -> Result<String> {
         match Settings::from_toml(alloc, input) {
             Ok(settings) => Ok(format!(in alloc; "{settings:?}")?),
-            Err(SettingsFault::OutOfMemory) => Err(anyhow!("out of memory")),
-            Err(fault) => Ok(format!(in alloc; "{fault:?}")?),
+            Err(SettingsError::Refused(fault)) => Ok(format!(in alloc; "{fault:?}")?),
+            Err(SettingsError::OutOfMemory) => Err(anyhow!("out of memory")),
         }
     }
 }
