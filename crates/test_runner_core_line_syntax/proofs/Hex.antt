@@ -1,16 +1,20 @@
 -- What digits spell, and that they spell one list of bytes.
-use Rattle.std.proofs.Common.{◌≡◌, ℕ, zero, suc, ◌<◌, ◌*◌, ◌+◌, ◌/◌, ◌%◌, ◌↔◌, List, [], ◌∷◌, length, get_or, take, drop, take_all, ◌≤◌, ◌-◌, nat_eq, true, Some, None, Result, Ok, Err, refl, sym, ap, subst, ◌∙◌, arith}
+use Rattle.std.proofs.Common.{◌≡◌, ℕ, zero, suc, ◌<◌, ◌*◌, ◌+◌, ◌/◌, ◌%◌, ◌↔◌, List, [], ◌∷◌, length, get_or, take, drop, take_all, Bool, ◌&&◌, ◌≤◌, ◌-◌, Some, None, Result, Ok, Err, refl, sym, ap, subst, ◌∙◌, arith}
 use Rattle.std.specs.Prelude.{slice_index}
 use Rattle.std.specs.Result.{result_unwrap_or}
-use Rattle.std.proofs.lemmas.Bool.{eqb-true}
+use Rattle.std.specs.Prelude.{IsTrue}
+use Rattle.std.specs.List.{All, AllByRecursion}
 use Rattle.std.specs.Str.{IsUtf8}
+use Rattle.std.proofs.Math.Bool.{and-eq-true_iff}
+use Rattle.std.proofs.lemmas.List.{get_or-take, length-take-le}
+use Rattle.std.proofs.lemmas.List.Elements.{All-from_get_or, All-from_recursion, All-more, recursion_from_All}
 use Rattle.hex.specs.Hex.{IsBytes, decode_of, encode_lower, encode_with, lower_digits}
 use Rattle.hex.specs.declared.error.FromHexError.{FromHexError}
 use Rattle.hex.proofs.HexLemmas.{decode_of-encode_lower, decode_of-ok, decode_of-same}
 use Rattle.simdutf8.specs.Steps.{IsClosed, Step, StepsThen}
 use Rattle.simdutf8.proofs.Chars.{StepsThen-IsUtf8}
 use Rattle.test_runner_core_line_syntax.specs.Spelling.{SpellsHex}
-use Rattle.test_runner_core_line_syntax.specs.Hex.{bytes_of_hex, IsHex, SpellsByte, SpellsDigit}
+use Rattle.test_runner_core_line_syntax.specs.Hex.{bytes_of_hex, IsDigit, IsHex, SpellsByte, SpellsDigit}
 
 -- ---- one byte
 
@@ -127,10 +131,59 @@ unfolding encode_with
 hex_end [] rest short spelled = (refl, spelled.1)
 hex_end (byte ∷ bytes) rest short spelled = absurd (let long = ap length spelled.1 in omega arith)
 
-pub hex_rest : (rest : List ℕ) → length rest < 2 → (nat_eq (length rest) 0 ≡ true) ↔ IsHex rest
+-- ---- digits, one after another
+
+-- what a front of the digits says, and the next one
+pub digits_more : (digits : List ℕ) (i : ℕ) (so_far is : Bool) → i < length digits → IsTrue so_far ↔ All IsDigit (take i digits) → IsTrue is ↔ IsDigit (get_or digits i 0)
+    → IsTrue (so_far && is) ↔ All IsDigit (take (i + 1) digits)
+digits_more digits i so_far is less front next =
+    let both = and-eq-true_iff so_far is in (
+      (λ yes. let two = both.0 yes in All-more IsDigit digits i 0 less (front.0 two.0) (next.0 two.1)),
+      (λ all. both.1 (front.1 (before all), next.1 (subst IsDigit (get_or-take (i + 1) digits i 0 (omega arith)) (all i 0 (omega (arith, long)))))),
+    )
+  where
+    long : length (take (i + 1) digits) ≡ i + 1
+    long = length-take-le (i + 1) digits (omega arith)
+
+    short : length (take i digits) ≡ i
+    short = length-take-le i digits (omega arith)
+
+    before : All IsDigit (take (i + 1) digits) → All IsDigit (take i digits)
+    before all = All-from_get_or IsDigit (take i digits) 0
+        (λ k lt. subst IsDigit (get_or-take (i + 1) digits k 0 (omega (arith, short)) ∙ sym (get_or-take i digits k 0 (omega (arith, short)))) (all k 0 (omega (arith, short, long))))
+
+-- an even number of digits spells bytes
+hex_of : (digits : List ℕ) → length digits % 2 ≡ 0 → AllByRecursion IsDigit digits → IsHex digits
 unfolding encode_with
-hex_rest [] short = ((λ _. ([], ((λ i. omega arith), refl))), (λ _. refl))
-hex_rest (digit ∷ rest) short = ((λ empty. absurd (let none = eqb-true (length (digit ∷ rest)) 0 empty in omega arith)), (λ is. cc (hex_end is.0 (digit ∷ rest) short is.1).1))
+hex_of [] even each = ([], ((λ i. omega arith), refl))
+hex_of (digit ∷ []) even each = absurd (omega arith)
+hex_of (high ∷ low ∷ rest) even each =
+    let h = each.0 in
+    let l = each.1.0 in
+    let behind = hex_of rest (omega arith) each.1.1 in
+    let byte = byte_spelled high low h.0 l.0 h.1 l.1 h.2 l.2 in
+    ((h.0 * 16 + l.0) ∷ behind.0, hex_onto (h.0 * 16 + l.0) high low rest behind.0 byte.0 byte.1 behind.1)
+
+pub hex_from_digits : (digits : List ℕ) → length digits % 2 ≡ 0 → All IsDigit digits → IsHex digits
+hex_from_digits digits even all = hex_of digits even (recursion_from_All IsDigit digits all)
+
+-- what spells bytes are digits, an even number of them
+digits_in : (bytes digits : List ℕ) → SpellsHex bytes digits → (length digits % 2 ≡ 0) × AllByRecursion IsDigit digits
+unfolding encode_with
+digits_in [] digits spelled = rw (spelled.1) (refl, tt)
+digits_in (byte ∷ bytes) [] spelled = absurd (let none = ap length spelled.1 in omega arith)
+digits_in (byte ∷ bytes) (digit ∷ []) spelled = absurd (let none = ap length spelled.1 in omega arith)
+digits_in (byte ∷ bytes) (high ∷ low ∷ rest) spelled =
+    let begins = hex_begins (byte ∷ bytes) high low rest spelled in
+    let two = digits_of begins.byte high low begins.digits in
+    let small = begins.small in
+    let behind = digits_in bytes rest ((λ i. spelled.0 (suc i)), ap (λ (s : List ℕ). drop 2 s) spelled.1) in
+    (omega (arith, behind.0), ((begins.byte / 16, omega arith, two.0), ((begins.byte % 16, omega arith, two.1), behind.1)))
+
+pub digits_from_hex : (digits : List ℕ) → IsHex digits → (length digits % 2 ≡ 0) × All IsDigit digits
+digits_from_hex digits is =
+    let two = digits_in is.0 digits is.1 in
+    (two.0, All-from_recursion IsDigit digits two.1)
 
 pub hex_is_one : (a b field : List ℕ) → SpellsHex a field → SpellsHex b field → a ≡ b
 hex_is_one a b field of_a of_b = sym (hex_bytes a field of_a) ∙ hex_bytes b field of_b

@@ -17,6 +17,10 @@ abbrev pub SpellsDigit : ℕ → Option ℕ → Type 0
 SpellsDigit digit (Some value) = (value < 16) × (slice_index lower_digits value ≡ digit)
 SpellsDigit digit None = (value : ℕ) → value < 16 → slice_index lower_digits value ≡ digit → ⊥
 
+-- it is a lower-case digit
+abbrev pub IsDigit : ℕ → Type 0
+IsDigit digit = (value : ℕ) × (value < 16) × (slice_index lower_digits value ≡ digit)
+
 -- the byte that two digits spell, or none where they spell none
 abbrev pub SpellsByte : ℕ → ℕ → Option ℕ → Type 0
 SpellsByte high low (Some byte) = (byte < 256) × (encode_lower (byte ∷ []) ≡ high ∷ low ∷ [])
