@@ -30,6 +30,7 @@ class Crate:
 
     def read(self, file):
         text = re.sub(r"//[^\n]*", "", file.read_text())
+        self.hand_on(file.stem, text)
         owner = None
         for part in re.split(r"\n(?=(?:pub(?:\([a-z]+\))? )?(?:impl|trait|fn|struct|enum|mod|type|const)\b|#\[)", "\n" + text):
             head = part.strip().split("{")[0]
@@ -48,6 +49,11 @@ class Crate:
                 owner = file.stem
             for found in re.finditer(r"\bfn\s+(\w+)(.*?)(?=\bfn\s+\w+|\Z)", part, re.S):
                 self.functions.append((owner, found.group(1), set(CLAUSE.findall(found.group(2)))))
+
+    def hand_on(self, module, text):
+        """Adds the functions that a module takes from that of the same name in another crate, and hands on as its own."""
+        for crate, names in re.findall(r"pub use (\w+)::" + module + r"::\{([^}]*)\}", text):
+            self.functions += [it for it in Crate(crate).functions if it[0] == module and it[1] in re.findall(r"\w+", names)]
 
     def clauses(self, call):
         """The clauses' names of what a call names; None where there is no such thing."""

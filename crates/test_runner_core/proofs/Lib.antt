@@ -11,4 +11,5 @@ pub mod OneReport
 pub mod Built
 pub mod Selected
 pub mod Due
+pub mod OneEnd
 mod Whole

@@ -13,7 +13,7 @@ use Rattle.test_runner_core_telling.specs.Parts.{Done, IsPart, IsText, Part, Sai
 use Rattle.test_runner_core_workspace.specs.Lister.{Answer}
 use Rattle.test_runner_core_workspace.specs.declared.record.Binary.{Binary}
 use Rattle.test_runner_core.specs.Judging.{Finds}
-use Rattle.test_runner_core.specs.Laws.{OneReport, ToldFirst}
+use Rattle.test_runner_core.specs.Laws.{EndsWithOneText, ToldFirst}
 use Rattle.test_runner_core.specs.Report.{Begun, Composed, Judged, SoFar, ending, exit_status, refused_plan}
 use Rattle.test_runner_core.specs.declared.refused_line.RefusedLine.{RefusedLine}
 use Rattle.test_runner_core.proofs.OneRun.{early_parts, err_once, finds_once, fronts_same, never_ok_and_err, one_plan, same_rest, so_far_once, stands_before}
@@ -33,20 +33,22 @@ one_text (part ∷ parts) one other (head, (tail, (is, behind, whole))) (same, (
     ∙ ap (λ (t : List ℕ). same ++ t) (one_text parts tail rest behind behind_same) ∙ sym whole_same
 
 -- the text of some parts and others behind them, parted
-record Parted (parts : List Part) (text : List ℕ) : Type 0 where
-  told : List ℕ
-  more : List ℕ
-  is : IsText parts told
-  whole : text ≡ told ++ more
+pub record Parted (parts others : List Part) (text : List ℕ) : Type 0 where
+  pub told : List ℕ
+  pub more : List ℕ
+  pub is : IsText parts told
+  pub also : IsText others more
+  pub whole : text ≡ told ++ more
 
-parted : (parts more : List Part) (text : List ℕ) → IsText (parts ++ more) text → Parted parts text
-parted [] more text is = record { told = []; more = text; is = refl; whole = refl }
+pub parted : (parts more : List Part) (text : List ℕ) → IsText (parts ++ more) text → Parted parts more text
+parted [] more text is = record { told = []; more = text; is = refl; also = is; whole = refl }
 parted (part ∷ parts) more text (head, (tail, (is, behind, whole))) =
     let there = parted parts more tail behind in
     record {
       told = head ++ there.told;
       more = there.more;
       is = (head, (there.told, (is, there.is, refl)));
+      also = there.also;
       whole = whole ∙ ap (λ (t : List ℕ). head ++ t) there.whole ∙ sym (append_assoc head there.told there.more);
     }
 
@@ -126,8 +128,8 @@ composed_once answer inputs log parts others code other (inr (plan, built, judge
     judged_once plan log parts others code other judged
     (subst (λ (p : Plan). Judged p log others other) (one_plan answer inputs same plan built_same built) judged_same)
 
-pub one_report : OneReport
-one_report answer inputs log parts others code other text same first second is also =
+pub ends_with_one_text : EndsWithOneText
+ends_with_one_text answer inputs log parts others code other text same first second is also =
     let once = composed_once answer inputs log parts others code other first second in
     (one_text parts text same is (subst (λ (p : List Part). IsText p same) (sym once.0) also), once.1)
 

@@ -1,5 +1,5 @@
 -- What holds of every run that a log tells.
-use Rattle.std.specs.Prelude.{◌≡◌, ◌↔◌, ℕ, true, List, ◌++◌, map, Ok}
+use Rattle.std.specs.Prelude.{◌≡◌, ◌↔◌, ℕ, true, List, ◌++◌, map, None, Ok}
 use Rattle.std.specs.List.{Contains}
 use Rattle.nextest_run_events_results.specs.declared.instance.OwnedTestInstanceId.{OwnedTestInstanceId}
 use Rattle.test_runner_core_inputs.specs.declared.inputs.Inputs.{Inputs}
@@ -9,17 +9,19 @@ use Rattle.test_runner_core_plan.specs.Plan.{Builds, IsPlanOf, Planned, listed_i
 use Rattle.test_runner_core_plan.specs.declared.plan.Plan.{Plan}
 use Rattle.test_runner_core_plan.specs.declared.plan.PlanTest.{PlanTest}
 use Rattle.test_runner_core_plan.specs.declared.wanted.Wanted.{Wanted}
+use Rattle.test_runner_core_runs.specs.Assignment.{Assignment, IsUnstopped}
+use Rattle.test_runner_core_runs.specs.Ends.{EndedWhole}
 use Rattle.test_runner_core_runs.specs.RunPlan.{IsPlan}
 use Rattle.test_runner_core_session.specs.Session.{run_plan}
 use Rattle.test_runner_core_telling.specs.Parts.{IsText, Part}
 use Rattle.test_runner_core_workspace.specs.Lister.{Answer}
 use Rattle.test_runner_core_workspace.specs.declared.record.Binary.{Binary}
-use Rattle.test_runner_core.specs.Outcome.{IsDue, IsNoMilderThanDue}
+use Rattle.test_runner_core.specs.Outcome.{IsDue, IsNoMilderThanDue, IsRun, IsWholeRun, due_parts}
 use Rattle.test_runner_core.specs.Report.{Begun, Composed}
 
--- inputs and a log have one report at most, its text and its exit status
-abbrev pub OneReport : Type 0
-OneReport =
+-- inputs and a log have one report at most: one text and one exit status
+abbrev pub EndsWithOneText : Type 0
+EndsWithOneText =
     (answer : Binary → Answer) (inputs : Inputs) (log : List Item) (parts other_parts : List Part) (code other_code : ℕ) (text other_text : List ℕ)
     → Composed answer inputs log parts code → Composed answer inputs log other_parts other_code → IsText parts text → IsText other_parts other_text
     → (text ≡ other_text) × (code ≡ other_code)
@@ -42,6 +44,28 @@ abbrev pub EndsNoMilder : Type 0
 EndsNoMilder =
     (answer : Binary → Answer) (inputs : Inputs) (log : List Item) (parts : List Part) (code : ℕ) → Composed answer inputs log parts code
     → IsNoMilderThanDue answer inputs log code
+
+-- two logs that run the same inputs to their end by one unstopped assignment, in whatever order, have reports that end with one
+-- text, the final text that is due
+abbrev pub HasOneReport : Type 0
+HasOneReport =
+    (answer : Binary → Answer) (inputs : Inputs) (assigned : Assignment) (log other : List Item)
+    (whole : IsWholeRun answer inputs log assigned) → IsWholeRun answer inputs other assigned → IsUnstopped (run_plan whole.run.plan) assigned
+    → (parts other_parts : List Part) (code other_code : ℕ) (text other_text : List ℕ)
+    → Composed answer inputs log parts code → IsText parts text → Composed answer inputs other other_parts other_code → IsText other_parts other_text
+    → (final told other_told : List ℕ) × IsText (due_parts whole.run.plan assigned) final × (text ≡ told ++ final) × (other_text ≡ other_told ++ final)
+
+-- no reason stands at the end of a log that runs the inputs to their end exactly where the assignment is unstopped
+abbrev pub StopsWhereDue : Type 0
+StopsWhereDue =
+    (answer : Binary → Answer) (inputs : Inputs) (assigned : Assignment) (log : List Item) (whole : IsWholeRun answer inputs log assigned)
+    → (whole.run.last.reason ≡ None) ↔ IsUnstopped (run_plan whole.run.plan) assigned
+
+-- a report with status 0 is that of a log without a refused line whose run ended all scripts of the plan and finished all tests
+abbrev pub SucceedsWhole : Type 0
+SucceedsWhole =
+    (answer : Binary → Answer) (inputs : Inputs) (log : List Item) (parts : List Part) → Composed answer inputs log parts 0
+    → (run : IsRun answer inputs log) × EndedWhole (run_plan run.plan) run.last
 
 -- a plan that was built is one in the sense of the laws over runs: each test has a try, a limit is one at least, and no script
 -- is to run without a test

@@ -1,5 +1,6 @@
--- What the exit status of a report says of the run, and the report of a stream.
-use Rattle.std.specs.Prelude.{◌≡◌, ◌⊎◌, ℕ, true, List, [], ◌++◌, map, Result, Ok, Err, ⊤}
+-- What exit status and final text say of the run that a log tells, and the report of a stream.
+use Rattle.std.specs.Prelude.{◌≡◌, ◌⊎◌, ◌↔◌, ℕ, true, List, [], ◌++◌, map, Option, Result, Ok, Err, ⊤}
+use Rattle.std.specs.Io.KnownBytes.{Appends}
 use Rattle.std.specs.List.{AllByRecursion}
 use Rattle.test_runner_core_inputs.specs.Reading.{read_inputs}
 use Rattle.test_runner_core_inputs.specs.declared.inputs.Inputs.{Inputs}
@@ -9,19 +10,21 @@ use Rattle.test_runner_core_log_reader.specs.Items.{Item, Line, items, whole_lin
 use Rattle.test_runner_core_plan.specs.Plan.{Builds, planned}
 use Rattle.test_runner_core_plan.specs.declared.plan.Plan.{Plan}
 use Rattle.test_runner_core_plan.specs.declared.plan_fault.PlanFault.{PlanFault}
-use Rattle.test_runner_core_runs.specs.Assignment.{Assignment, due_status}
+use Rattle.test_runner_core_runs.specs.Assignment.{Assignment, IsUnstopped, due_status}
+use Rattle.test_runner_core_runs.specs.Ends.{final_state}
 use Rattle.test_runner_core_runs.specs.Runs.{Agrees, IsNoMilder, IsNoStop, is_complete}
 use Rattle.test_runner_core_runs.specs.State.{State, initial}
 use Rattle.test_runner_core_runs.specs.declared.event.Event.{Event}
 use Rattle.test_runner_core_session.specs.Session.{run_plan}
-use Rattle.test_runner_core_telling.specs.Parts.{Part}
+use Rattle.test_runner_core_telling.specs.Final.{final_parts}
+use Rattle.test_runner_core_telling.specs.Parts.{IsText, Part}
 use Rattle.test_runner_core_workspace.specs.Lister.{Answer, table_answer}
 use Rattle.test_runner_core_workspace.specs.declared.record.Binary.{Binary}
 use Rattle.test_runner_core.specs.Judging.{Leads}
 use Rattle.test_runner_core.specs.Report.{Begun, Composed, TellsSoFar, refused_inputs}
 
--- a log without a refused line, of these inputs: its run agrees with an assignment
-pub record IsRunOf (answer : Binary → Answer) (inputs : Inputs) (log : List Item) (assigned : Assignment) : Type 0 where
+-- the run of these inputs by a log: no line of the log is refused
+pub record IsRun (answer : Binary → Answer) (inputs : Inputs) (log : List Item) : Type 0 where
   pub plan : Plan
   pub built : Builds answer inputs (Ok plan)
   pub lines : List (List ℕ)
@@ -29,19 +32,44 @@ pub record IsRunOf (answer : Binary → Answer) (inputs : Inputs) (log : List It
   pub events : List Event
   pub last : State
   pub leads : Leads plan lines events last
-  pub agrees : Agrees assigned (initial (run_plan plan)) events
 
--- an exit status is due: where nobody tells the run to stop and it is complete, it is the status that is due to the assignment
+-- it agrees with an assignment
+abbrev pub RunAgrees : {answer : Binary → Answer} {inputs : Inputs} {log : List Item} → IsRun answer inputs log → Assignment → Type 0
+RunAgrees run assigned = Agrees assigned (initial (run_plan run.plan)) run.events
+
+-- a log runs these inputs to their end as it is assigned: no line is refused, the run agrees with the assignment, it is
+-- complete, and nobody tells it to stop
+pub record IsWholeRun (answer : Binary → Answer) (inputs : Inputs) (log : List Item) (assigned : Assignment) : Type 0 where
+  pub run : IsRun answer inputs log
+  pub agrees : RunAgrees run assigned
+  pub complete : is_complete run.last ≡ true
+  pub no_stop : AllByRecursion IsNoStop run.events
+
+-- an exit status is due: of a log that runs the inputs to their end it is the status that is due to the assignment
 abbrev pub IsDue : (Binary → Answer) → Inputs → List Item → ℕ → Type 0
 IsDue answer inputs log code =
-    (assigned : Assignment) (run : IsRunOf answer inputs log assigned) → AllByRecursion IsNoStop run.events
-    → is_complete run.last ≡ true → code ≡ due_status (run_plan run.plan) assigned
+    (assigned : Assignment) (whole : IsWholeRun answer inputs log assigned) → code ≡ due_status (run_plan whole.run.plan) assigned
 
 -- an exit status is no milder than what is due: wherever the log is cut and whoever told the run to stop, it is the status that
--- is due to the assignment or a graver one
+-- is due to the assignment or a graver one, and 4 exactly where 4 is due
 abbrev pub IsNoMilderThanDue : (Binary → Answer) → Inputs → List Item → ℕ → Type 0
 IsNoMilderThanDue answer inputs log code =
-    (assigned : Assignment) (run : IsRunOf answer inputs log assigned) → IsNoMilder code (due_status (run_plan run.plan) assigned)
+    (assigned : Assignment) (run : IsRun answer inputs log) → RunAgrees run assigned
+    → IsNoMilder code (due_status (run_plan run.plan) assigned) × ((code ≡ 4) ↔ (due_status (run_plan run.plan) assigned ≡ 4))
+
+-- the final text that is due to an unstopped assignment: that of the state in which everything ended as it was assigned
+abbrev pub due_parts : Plan → Assignment → List Part
+due_parts plan assigned = final_parts plan (final_state (run_plan plan) assigned)
+
+-- what was written ends with the text of these parts
+abbrev pub EndsWith : List Part → Option (List ℕ) → Option (List ℕ) → Type 0
+EndsWith parts before after = (told : List ℕ) × ((text : List ℕ) × IsText parts text × Appends before after (told ++ text))
+
+-- what was written of a log that runs the inputs to their end ends with the final text that is due, if the assignment is unstopped
+abbrev pub EndsAsDue : (Binary → Answer) → Inputs → List Item → Option (List ℕ) → Option (List ℕ) → Type 0
+EndsAsDue answer inputs log before after =
+    (assigned : Assignment) (whole : IsWholeRun answer inputs log assigned) → IsUnstopped (run_plan whole.run.plan) assigned
+    → EndsWith (due_parts whole.run.plan assigned) before after
 
 -- what a binary answers by the inputs' own table
 abbrev pub table_of : Inputs → Binary → Answer
@@ -87,3 +115,9 @@ abbrev pub IsStreamNoMilder : List ℕ → ℕ → Type 0
 IsStreamNoMilder bytes code =
     (inputs : Inputs) → read_inputs (before_feed bytes) ≡ Ok inputs
     → IsNoMilderThanDue (table_of inputs) inputs (items 0 (behind_feed bytes)) code
+
+-- and what was written of it ends with the final text that is due
+abbrev pub StreamEndsAsDue : List ℕ → Option (List ℕ) → Option (List ℕ) → Type 0
+StreamEndsAsDue bytes before after =
+    (inputs : Inputs) → read_inputs (before_feed bytes) ≡ Ok inputs
+    → EndsAsDue (table_of inputs) inputs (items 0 (behind_feed bytes)) before after

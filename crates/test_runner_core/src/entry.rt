@@ -5,7 +5,7 @@ ghost use Rattle.test_runner_core_inputs.specs.Reading.{read_inputs};
 ghost use Rattle.test_runner_core_log_reader.specs.Feeds.{before_feed};
 ghost use Rattle.test_runner_core_log_reader.specs.Items.{items};
 ghost use Rattle.test_runner_core.specs.Faults.{TellsRead, TellsWrite, lacks_memory};
-ghost use Rattle.test_runner_core.specs.Outcome.{HasNoPlan, IsDue, IsNoMilderThanDue, IsStreamDue, IsStreamNoMilder, StreamBegun, StreamComposed, StreamGotTo, table_of};
+ghost use Rattle.test_runner_core.specs.Outcome.{EndsAsDue, HasNoPlan, IsDue, IsNoMilderThanDue, IsStreamDue, IsStreamNoMilder, StreamBegun, StreamComposed, StreamEndsAsDue, StreamGotTo, table_of};
 ghost use Rattle.test_runner_core.specs.Inside.{IsGotOf};
 ghost use Rattle.test_runner_core.specs.Report.{Begun, Composed, GotTo, Reports, TellsSoFar};
 ghost use Rattle.test_runner_core_log_reader.specs.Cursor.{items_ahead};
@@ -27,8 +27,9 @@ use test_runner_core_workspace::{Lister, TableLister};
 /// listed binary, in the workspace's order, up to the first whose answer is refused, and for none where the inputs are
 /// refused before; nothing of the log is read where the inputs have no plan. Whenever the log is asked for more, all is
 /// written that the whole lines so far tell. A failed read or write is never tried again. Where no line is refused, the log agrees with
-/// an assignment and tells no stop, and the run is complete, the status is that assignment's due status; where the log is
-/// cut, or tells a stop, it is that or a graver one. After a failed read the report has what the whole lines tell that were got;
+/// an assignment and tells no stop, and the run is complete, the status is that assignment's due status, and where no script of
+/// the assignment stops the run and its failing tests don't reach the limit the report ends with the final text of plan and
+/// assignment, in whatever order the tests ran; where the log is cut, or tells a stop, the status is that or a graver one. After a failed read the report has what the whole lines tell that were got;
 /// after a failed write, or where there is no memory, a front of what it would have been. Where there is no memory the
 /// lister was asked for a front of the listed binaries.
 pub fn judge<L: Lister, R: LogReader, W: ReportWriter>(
@@ -48,6 +49,7 @@ pub fn judge<L: Lister, R: LogReader, W: ReportWriter>(
         (W.taken report.old) (W.taken report.new) }
     ensures due { IfOk result (λ code. IfSome (R.left log.old) (λ bytes. IsDue (L.answer lister.old) inputs.now (items 0 bytes) code)) }
     ensures no_milder { IfOk result (λ code. IfSome (R.left log.old) (λ bytes. IsNoMilderThanDue (L.answer lister.old) inputs.now (items 0 bytes) code)) }
+    ensures one_report { IfOk result (λ code. IfSome (R.left log.old) (λ bytes. EndsAsDue (L.answer lister.old) inputs.now (items 0 bytes) (W.taken report.old) (W.taken report.new))) }
     ensures stays { (other : Binary) → L.answer lister.new other ≡ L.answer lister.old other }
     ensures asks { AsksFor (lacks_memory result) (L.asked lister.old) (asked_for (L.answer lister.old) inputs.now (wanted_in inputs.now)) (L.asked lister.new) }
     ensures unread { (refusal : PlanFault) → planned (L.answer lister.old) inputs.now ≡ Err refusal → R.calls log.new ≡ R.calls log.old }
@@ -80,6 +82,7 @@ pub fn judge_stream<R: LogReader, W: ReportWriter>(
         (W.taken report.old) (W.taken report.new) }
     ensures due { IfOk result (λ code. IfSome (R.left input.old) (λ bytes. IsStreamDue bytes code)) }
     ensures no_milder { IfOk result (λ code. IfSome (R.left input.old) (λ bytes. IsStreamNoMilder bytes code)) }
+    ensures one_report { IfOk result (λ code. IfSome (R.left input.old) (λ bytes. StreamEndsAsDue bytes (W.taken report.old) (W.taken report.new))) }
     ensures unread { IfSome (R.left input.old) (λ bytes. HasNoPlan (read_inputs (before_feed bytes)) → R.calls input.new ≤ R.calls input.old + first_line_reads) }
     ensures reads { R.calls input.new ≤ R.calls input.old + first_line_reads + log_reads }
     ensures read_failures { TellsRead result (R.failures input.old) (R.failures input.new) (R.last_failed input.new) }

@@ -1,9 +1,12 @@
-//! What holds of every run that a log tells. Each function does nothing, and its contract is the law.
-ghost use Rattle.test_runner_core.specs.Laws.{BuiltIsPlan, EndsNoMilder, EndsWithDueStatus, HasExactlyTheWanted, OneReport, ToldFirst};
+//! What holds of every run that a log tells. Each function does nothing, and its contract is the law. The laws over runs
+//! hold of the run of each plan that is built (`built_plan`).
+ghost use Rattle.test_runner_core.specs.Laws.{BuiltIsPlan, EndsNoMilder, EndsWithDueStatus, EndsWithOneText, HasExactlyTheWanted, HasOneReport, StopsWhereDue, SucceedsWhole, ToldFirst};
 
-/// Whatever the lister answers, inputs and a log have one report at most, its text and its exit status.
-pub fn one_report()
-    ensures { OneReport }
+pub use test_runner_core_runs::laws::{after_a_reason, no_dead_end};
+
+/// Whatever the lister answers, inputs and a log have one report at most: one text and one exit status.
+pub fn one_text()
+    ensures { EndsWithOneText }
 {}
 
 /// What is told of a report that was begun, wherever it breaks off, is a front of the whole report of the same inputs and
@@ -19,9 +22,22 @@ pub fn due_status()
 {}
 
 /// Whatever the inputs: where no line of a log is refused and the log agrees with an assignment, cut after any line and with stops
-/// anywhere, the exit status of the report is that assignment's due status or a graver one.
-pub fn no_milder()
+/// anywhere, the exit status of the report is that assignment's due status or a graver one, and 4 exactly where 4 is due.
+pub fn cut_or_stopped()
     ensures { EndsNoMilder }
+{}
+
+/// The tests of a run may come in any order: for an assignment of which no script stops the run and whose failing tests
+/// don't reach the limit, all logs that run the inputs to their end have reports that end with the same final text, byte
+/// for byte. Whatever the assignment, a reason stands at the end of such a log exactly where the assignment isn't such a one.
+pub fn one_report()
+    ensures final_text { HasOneReport }
+    ensures reason { StopsWhereDue }
+{}
+
+/// A report with status 0 has no refused line, and all planned scripts and all selected tests finished.
+pub fn status_zero()
+    ensures { SucceedsWhole }
 {}
 
 /// A plan that was built is a plan of the laws over runs, so these hold of each session of it.

@@ -5,6 +5,7 @@ use Rattle.test_runner_core_telling.proofs.Told.{front_none}
 use Rattle.test_runner_core.specs.Inside.{IsBegun, IsGot, IsJudged}
 use Rattle.test_runner_core.specs.Report.{Begun, Composed, GotTo, refused_plan}
 use Rattle.test_runner_core.proofs.Due.{status_is_due, status_is_no_milder}
+use Rattle.test_runner_core.proofs.OneEnd.{report_ends_as_due}
 use Rattle.test_runner_core.proofs.Reported.{all_is_written, asked_as, asks_all, begun_of, got_from_beginning, got_of, if_known, judged_composed, refused_as, refused_begun, refused_composed, reports_as, reports_front}
 use Rattle.test_runner_core.proofs.entry.judge.Goals as goal
 
@@ -69,3 +70,8 @@ returns-in-Ok-clause-due g c =
 pub returns-in-Ok-clause-no_milder : goal.returns-in-Ok-clause-no_milder
 returns-in-Ok-clause-no_milder g c =
     status_is_no_milder (g.L.Lister.answer c.args.lister.now) c.args.inputs.now (g.R.LogReader.left c.args.log.now) _ _ c.judge_plan.result _ _ (returns-in-Ok-clause-reports g c)
+
+pub returns-in-Ok-clause-one_report : goal.returns-in-Ok-clause-one_report
+returns-in-Ok-clause-one_report g c =
+    report_ends_as_due (g.L.Lister.answer c.args.lister.now) c.args.inputs.now (g.R.LogReader.left c.args.log.now) _ _ c.judge_plan.result (g.W.ReportWriter.taken c.args.report.now) (g.W.ReportWriter.taken c.judge_plan.new.report)
+    (returns-in-Ok-clause-reports g c)

@@ -9,6 +9,7 @@ use Rattle.test_runner_core.specs.Inside.{IsGotOf}
 use Rattle.test_runner_core.specs.Outcome.{StreamBegun, StreamComposed, StreamGotTo, table_of}
 use Rattle.test_runner_core.specs.Report.{Begun, Composed, TellsSoFar, refused_inputs}
 use Rattle.test_runner_core.proofs.Due.{stream_status_is_due, stream_status_is_no_milder}
+use Rattle.test_runner_core.proofs.OneEnd.{stream_report_ends_as_due}
 use Rattle.test_runner_core.proofs.Reported.{reports_as}
 use Rattle.test_runner_core.proofs.Stream.{begun_nothing, first_line_alone, first_line_fails, refused_begun, refused_parts, refused_stream, refused_ungot, stream_begun, stream_composed, stream_got}
 use Rattle.test_runner_core.proofs.entry.judge_stream.Goals as goal
@@ -69,3 +70,8 @@ returns-in-Err-Refused-clause-reports g c =
 pub returns-clause-reports : goal.returns-clause-reports
 returns-clause-reports g c =
     ([], begun_nothing (g.R.LogReader.left c.args.input.now), front_none [] (g.W.ReportWriter.taken c.args.report.now) [])
+
+pub returns-in-Ok-clause-one_report : goal.returns-in-Ok-clause-one_report
+returns-in-Ok-clause-one_report g c =
+    stream_report_ends_as_due (g.R.LogReader.left c.args.input.now) _ _ c.judge_by_table.result (g.W.ReportWriter.taken c.args.report.now) (g.W.ReportWriter.taken c.judge_by_table.new.report)
+    (returns-in-Ok-clause-reports g c)
