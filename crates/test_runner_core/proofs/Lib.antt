@@ -10,6 +10,7 @@ pub mod OneRun
 pub mod OneReport
 pub mod Built
 pub mod Selected
+pub mod Once
 pub mod Due
 pub mod OneEnd
 mod Whole

@@ -1,6 +1,6 @@
 -- What holds of every run that a log tells.
-use Rattle.std.specs.Prelude.{◌≡◌, ◌↔◌, ℕ, true, List, ◌++◌, map, None, Ok}
-use Rattle.std.specs.List.{Contains}
+use Rattle.std.specs.Prelude.{◌≡◌, ◌≢◌, ◌↔◌, ℕ, true, List, ◌++◌, map, None, Ok}
+use Rattle.std.specs.List.{AllPairs, Contains}
 use Rattle.nextest_run_events_results.specs.declared.instance.OwnedTestInstanceId.{OwnedTestInstanceId}
 use Rattle.test_runner_core_inputs.specs.declared.inputs.Inputs.{Inputs}
 use Rattle.test_runner_core_log_reader.specs.Items.{Item}
@@ -87,3 +87,9 @@ abbrev pub HasExactlyTheWanted : Type 0
 HasExactlyTheWanted =
     (answer : Binary → Answer) (inputs : Inputs) (it : Planned) (plan : Plan) → planned answer inputs ≡ Ok it → IsPlanOf inputs it plan
     → (test : OwnedTestInstanceId) → Contains (map (λ (t : PlanTest). t.instance) plan.tests) test ↔ IsWanted answer inputs it.wanted test
+
+-- a plan has no test twice: no two of its tests have the same binary's id and the same name
+abbrev pub HasNoneTwice : Type 0
+HasNoneTwice =
+    (answer : Binary → Answer) (inputs : Inputs) (plan : Plan) → Builds answer inputs (Ok plan)
+    → AllPairs (λ one other. one ≢ other) (map (λ (t : PlanTest). t.instance) plan.tests)

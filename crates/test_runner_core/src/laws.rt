@@ -1,6 +1,6 @@
 //! What holds of every run that a log tells. Each function does nothing, and its contract is the law. The laws over runs
 //! hold of the run of each plan that is built (`built_plan`).
-ghost use Rattle.test_runner_core.specs.Laws.{BuiltIsPlan, EndsNoMilder, EndsWithDueStatus, EndsWithOneText, HasExactlyTheWanted, HasOneReport, StopsWhereDue, SucceedsWhole, ToldFirst};
+ghost use Rattle.test_runner_core.specs.Laws.{BuiltIsPlan, EndsNoMilder, EndsWithDueStatus, EndsWithOneText, HasExactlyTheWanted, HasNoneTwice, HasOneReport, StopsWhereDue, SucceedsWhole, ToldFirst};
 
 pub use test_runner_core_runs::laws::{after_a_reason, no_dead_end};
 
@@ -48,4 +48,9 @@ pub fn built_plan()
 /// A test is selected exactly if a listed binary answers its name and the filter in force holds on it.
 pub fn selected()
     ensures { HasExactlyTheWanted }
+{}
+
+/// A plan that was built has each selected test once: no two of its tests have the same binary's id and the same name.
+pub fn selected_once()
+    ensures { HasNoneTwice }
 {}

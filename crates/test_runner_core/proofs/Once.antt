@@ -1,0 +1,215 @@
+-- A plan has no test twice.
+use Rattle.std.proofs.Common.{◌≡◌, ℕ, ◌==◌, List, [], ◌∷◌, ◌++◌, map, length, Bool, true, false, not, ◌&&◌, Option, None, Some, Result, Ok, Err, refl, sym, ap, ◌∙◌, subst, append_assoc}
+use Rattle.std.specs.Prelude.{◌≢◌, IfOk, if◌then◌else◌}
+use Rattle.std.specs.Bool.{Decides}
+use Rattle.std.specs.Cmp.Lexicographic.{nat_list_eq_equiv}
+use Rattle.std.specs.List.{AllByRecursion, AllPairs, IsDistinct, filter, list_all, list_any}
+use Rattle.std.specs.Str.{bytes_eq}
+use Rattle.std.proofs.lemmas.Bool.{and_from, and_left, and_parts, and_right, or_parts}
+use Rattle.std.proofs.lemmas.List.{append-nil, map-id}
+use Rattle.std.proofs.lemmas.List.Kept.{AllPairs-filter}
+use Rattle.std.proofs.lemmas.Map.Keys.{IsDistinct-cons, IsDistinct-head, IsDistinct-IsPermutation, IsDistinct-push, IsDistinct-tail}
+use Rattle.std.proofs.lemmas.Map.Made.{AllPairs-from_IsDistinct, IsDistinct-from_AllPairs}
+use Rattle.std.proofs.lemmas.Simd.{map-map}
+use Rattle.std.proofs.lemmas.Slice.Eq.{bytes_eq-Decides}
+use Rattle.nextest_run_events_results.specs.declared.instance.OwnedTestInstanceId.{OwnedTestInstanceId}
+use Rattle.test_runner_core_inputs.specs.declared.inputs.Inputs.{Inputs}
+use Rattle.test_runner_core_listing.specs.Filter.{holds, may_hold}
+use Rattle.test_runner_core_listing.specs.Listing.{accepted, accepted_names, refused_name, listed_of, listing, selected_in, skipped_in, tests_of, ◌>>=◌}
+use Rattle.test_runner_core_listing.specs.declared.filter.Filter.{Filter}
+use Rattle.test_runner_core_listing.specs.declared.listing_fault.ListingFault.{ListingFault}
+use Rattle.test_runner_core_listing.specs.declared.listing_fault.ListingFault.TheVariants as refused
+use Rattle.test_runner_core_listing.specs.declared.selection.Selection.{Selection}
+use Rattle.test_runner_core_plan.specs.Plan.{Planned, listed_in, plan_test, planned, workspace_of}
+use Rattle.test_runner_core_plan.specs.Plan.{◌>>=◌ as ◌>>>◌}
+use Rattle.test_runner_core_plan.specs.declared.plan.PlanTest.{PlanTest}
+use Rattle.test_runner_core_plan.specs.declared.plan_fault.PlanFault.{PlanFault}
+use Rattle.test_runner_core_plan.specs.declared.wanted.Wanted.{Wanted}
+use Rattle.test_runner_core_workspace.specs.Lister.{Answer}
+use Rattle.test_runner_core_workspace.specs.Workspace.{binary_ids, has_repeat, has_separator, is_among, is_bad_id, is_known_link, package_ids, refusal_of}
+use Rattle.test_runner_core_workspace.specs.declared.record.Binary.{Binary}
+use Rattle.test_runner_core_workspace.specs.declared.record.WorkspaceRecord.{WorkspaceRecord}
+use Rattle.test_runner_core_workspace.specs.declared.workspace_fault.WorkspaceFault.{WorkspaceFault}
+use Rattle.test_runner_core_workspace.specs.declared.workspace_fault.WorkspaceFault.TheVariants as bad
+use Rattle.test_runner_core.specs.Laws.{HasNoneTwice}
+use Rattle.test_runner_core.proofs.Built.{planned_lists}
+
+-- ---- tests that are the same
+
+abbrev same_test : OwnedTestInstanceId → OwnedTestInstanceId → Bool
+same_test one other = bytes_eq one.binary_id other.binary_id && bytes_eq one.test_name other.test_name
+
+same_test_decides : (one other : OwnedTestInstanceId) → Decides (same_test one other) (one ≡ other)
+same_test_decides one other =
+    let ids = bytes_eq-Decides one.binary_id other.binary_id in
+    let names = bytes_eq-Decides one.test_name other.test_name in (
+      λ same.
+          let parts = and_parts (bytes_eq one.binary_id other.binary_id) (bytes_eq one.test_name other.test_name) same in
+          ap (λ (id : List ℕ). record { binary_id = id; test_name = one.test_name }) (ids.0 parts.0)
+          ∙ ap (λ (name : List ℕ). record { binary_id = other.binary_id; test_name = name }) (names.0 parts.1),
+      λ is.
+          and_from (bytes_eq one.binary_id other.binary_id) (bytes_eq one.test_name other.test_name)
+          (ids.1 (ap (λ (test : OwnedTestInstanceId). test.binary_id) is)) (names.1 (ap (λ (test : OwnedTestInstanceId). test.test_name) is)),
+    )
+
+same_test_turned : (one other : OwnedTestInstanceId) → same_test one other ≡ same_test other one
+same_test_turned one other =
+    ap (λ (b : Bool). b && bytes_eq one.test_name other.test_name) (nat_list_eq_equiv.symm one.binary_id other.binary_id)
+    ∙ ap (λ (b : Bool). bytes_eq other.binary_id one.binary_id && b) (nat_list_eq_equiv.symm one.test_name other.test_name)
+
+none_distinct : {K : Type 0} (same : K → K → Bool) → IsDistinct same []
+unfolding IsDistinct
+none_distinct same = tt
+
+-- ---- the names of a binary
+
+-- a name that isn't refused is none of those before it
+name_passes : (empty bad repeated : Bool) (rest : Option ListingFault)
+    → (if empty then Some refused.EmptyTestName else if bad then Some refused.BadTestName else if repeated then Some refused.RepeatedTest else rest) ≡ None
+    → (repeated ≡ false) × (rest ≡ None)
+name_passes true bad repeated rest e = absurd (let f = e in cc)
+name_passes false true repeated rest e = absurd (let f = e in cc)
+name_passes false false true rest e = absurd (let f = e in cc)
+name_passes false false false rest e = (refl, e)
+
+names_once : (before names : List (List ℕ)) → refused_name before names ≡ None → IsDistinct bytes_eq before → IsDistinct bytes_eq (before ++ names)
+names_once before [] e once = subst (λ (all : List (List ℕ)). IsDistinct bytes_eq all) (sym (append-nil before)) once
+names_once before (name ∷ names) e once =
+    let passed = name_passes (length name == 0) (has_separator name) (is_among before name) (refused_name (before ++ name ∷ []) names) e in
+    subst (λ (all : List (List ℕ)). IsDistinct bytes_eq all) (append_assoc before (name ∷ []) names)
+    (names_once (before ++ name ∷ []) names passed.1 (IsDistinct-push nat_list_eq_equiv before name once passed.0))
+
+accepted_once : (answered : Answer) → IfOk (accepted answered) (IsDistinct bytes_eq)
+accepted_once (Ok names) = by_refusal (refused_name [] names) refl
+  where
+    by_refusal : (refusal : Option ListingFault) → refused_name [] names ≡ refusal → IfOk (accepted_names names refusal) (IsDistinct bytes_eq)
+    by_refusal None e = names_once [] names e (none_distinct bytes_eq)
+    by_refusal (Some refusal) e = tt
+accepted_once (Err cause) = tt
+
+filter_once : (passes : List ℕ → Bool) (names : List (List ℕ)) → IsDistinct bytes_eq names → IsDistinct bytes_eq (filter passes names)
+filter_once passes names once =
+    IsDistinct-from_AllPairs bytes_eq-Decides (filter passes names)
+    (AllPairs-filter (λ (one other : List ℕ). one ≢ other) passes names (AllPairs-from_IsDistinct bytes_eq-Decides names once))
+
+-- ---- tests of one binary before those of others
+
+-- no test is of a binary with this id
+abbrev OfOthers : List ℕ → List OwnedTestInstanceId → Type 0
+OfOthers id tests = AllByRecursion (λ (test : OwnedTestInstanceId). bytes_eq id test.binary_id ≡ false) tests
+
+-- a test is none of these
+abbrev IsNew : OwnedTestInstanceId → List OwnedTestInstanceId → Type 0
+IsNew test tests = AllByRecursion (λ (other : OwnedTestInstanceId). same_test test other ≡ false) tests
+
+others_differ : (test : OwnedTestInstanceId) (rest : List OwnedTestInstanceId) → OfOthers test.binary_id rest → IsNew test rest
+others_differ test [] others = tt
+others_differ test (other ∷ rest) others =
+    (and_left (bytes_eq test.binary_id other.binary_id) (bytes_eq test.test_name other.test_name) others.0, others_differ test rest others.1)
+
+name_differs : (binary : Binary) (name : List ℕ) (names : List (List ℕ)) (rest : List OwnedTestInstanceId)
+    → AllByRecursion (λ (other : List ℕ). bytes_eq name other ≡ false) names → OfOthers binary.id rest
+    → IsNew (record { binary_id = binary.id; test_name = name }) (tests_of binary names ++ rest)
+name_differs binary name [] rest new others = others_differ (record { binary_id = binary.id; test_name = name }) rest others
+name_differs binary name (other ∷ names) rest new others =
+    (and_right (bytes_eq binary.id binary.id) (bytes_eq name other) new.0, name_differs binary name names rest new.1 others)
+
+tests_once : (binary : Binary) (names : List (List ℕ)) (rest : List OwnedTestInstanceId)
+    → IsDistinct bytes_eq names → OfOthers binary.id rest → IsDistinct same_test rest → IsDistinct same_test (tests_of binary names ++ rest)
+tests_once binary [] rest names_are others once = once
+tests_once binary (name ∷ names) rest names_are others once =
+    IsDistinct-cons same_test (record { binary_id = binary.id; test_name = name }) (tests_of binary names ++ rest)
+    (name_differs binary name names rest (IsDistinct-head bytes_eq name names names_are) others)
+    (tests_once binary names rest (IsDistinct-tail bytes_eq name names names_are) others once)
+
+of_others : (id : List ℕ) (binary : Binary) (names : List (List ℕ)) (rest : List OwnedTestInstanceId)
+    → bytes_eq id binary.id ≡ false → OfOthers id rest → OfOthers id (tests_of binary names ++ rest)
+of_others id binary [] rest other others = others
+of_others id binary (name ∷ names) rest other others = (other, of_others id binary names rest other others)
+
+-- ---- what binaries give
+
+abbrev ids_of : List Binary → List (List ℕ)
+ids_of binaries = map (λ (binary : Binary). binary.id) binaries
+
+-- what binaries of different ids give has no test twice, and none of another binary
+record AreOnce (binaries : List Binary) (tests : List OwnedTestInstanceId) : Type 0 where
+  once : IsDistinct same_test tests
+  theirs : (id : List ℕ) → is_among (ids_of binaries) id ≡ false → OfOthers id tests
+
+listed_once : (answer : Binary → Answer) (chosen : Filter) (binaries : List Binary) → has_repeat (ids_of binaries) ≡ false
+    → IfOk (listing answer chosen binaries) (λ (found : Selection). AreOnce binaries found.tests)
+listed_once answer chosen [] e = record { once = none_distinct same_test; theirs = λ id apart. tt }
+listed_once answer chosen (binary ∷ binaries) e =
+    let apart = or_parts (is_among (ids_of binaries) binary.id) (has_repeat (ids_of binaries)) e in
+    by_answer apart.0 (accepted (answer binary)) (accepted_once (answer binary)) (listing answer chosen binaries) (listed_once answer chosen binaries apart.1)
+  where
+    joined : List (List ℕ) → Selection → Selection
+    joined names rest = record { tests = selected_in chosen binary names ++ rest.tests; skipped = skipped_in chosen binary names ++ rest.skipped }
+
+    by_answer : is_among (ids_of binaries) binary.id ≡ false
+        → (first : Result (List (List ℕ)) ListingFault) → IfOk first (IsDistinct bytes_eq)
+        → (more : Result Selection ListingFault) → IfOk more (λ (rest : Selection). AreOnce binaries rest.tests)
+        → IfOk (first >>= (λ names. more >>= (λ rest. Ok (joined names rest)))) (λ (found : Selection). AreOnce (binary ∷ binaries) found.tests)
+    by_answer new (Ok names) names_are (Ok rest) are = record {
+      once = tests_once binary (filter (holds chosen) names) rest.tests (filter_once (holds chosen) names names_are) (are.theirs binary.id new) are.once;
+      theirs = λ id apart.
+          let parts = or_parts (bytes_eq id binary.id) (is_among (ids_of binaries) id) apart in
+          of_others id binary (filter (holds chosen) names) rest.tests parts.0 (are.theirs id parts.1);
+    }
+    by_answer new (Ok names) names_are (Err refusal) are = tt
+    by_answer new (Err refusal) names_are more are = tt
+
+-- ---- inputs that have a plan
+
+-- of a workspace that isn't refused no two binaries have one id
+ids_apart : (workspace : WorkspaceRecord) → refusal_of workspace ≡ None → has_repeat (binary_ids workspace) ≡ false
+ids_apart workspace e =
+    let is_known = is_among (package_ids workspace) in
+    by_tests (has_repeat (package_ids workspace)) (not (list_all (is_known_link is_known) workspace.links)) (has_repeat (binary_ids workspace))
+    (if not (list_all (λ binary. is_known binary.package) workspace.binaries) then Some bad.UnknownPackage
+    else if list_any is_bad_id (binary_ids workspace) then Some bad.BadId else None)
+    e
+  where
+    by_tests : (packages links binaries : Bool) (rest : Option WorkspaceFault)
+        → (if packages then Some bad.RepeatedPackage else if links then Some bad.UnknownLink else if binaries then Some bad.RepeatedBinary else rest) ≡ None → binaries ≡ false
+    by_tests true links binaries rest h = absurd (let f = h in cc)
+    by_tests false true binaries rest h = absurd (let f = h in cc)
+    by_tests false false true rest h = absurd (let f = h in cc)
+    by_tests false false false rest h = refl
+
+-- inputs whose workspace is refused have no plan
+not_refused : (workspace : WorkspaceRecord) (refusal : Option WorkspaceFault) (next : WorkspaceRecord → Result Wanted PlanFault) (more : Wanted → Result Planned PlanFault) (it : Planned)
+    → ((workspace_of workspace refusal >>> next) >>> more) ≡ Ok it → refusal ≡ None
+not_refused workspace None next more it e = refl
+not_refused workspace (Some refusal) next more it e = absurd (let f = e in cc)
+
+planned_apart : (answer : Binary → Answer) (inputs : Inputs) (it : Planned) → planned answer inputs ≡ Ok it → has_repeat (binary_ids inputs.workspace) ≡ false
+planned_apart answer inputs it planned_it =
+    ids_apart inputs.workspace (not_refused inputs.workspace (refusal_of inputs.workspace) _ _ it planned_it)
+
+listed_apart : (chosen : Filter) (binaries : List Binary) → has_repeat (ids_of binaries) ≡ false → has_repeat (ids_of (listed_of chosen binaries)) ≡ false
+listed_apart chosen binaries apart = by_test (may_hold chosen)
+  where
+    by_test : (may : Bool) → has_repeat (ids_of (if may then binaries else [])) ≡ false
+    by_test true = apart
+    by_test false = refl
+
+-- ---- plans
+
+instances_of : (tests : List OwnedTestInstanceId) (it : Planned) → map (λ (t : PlanTest). t.instance) (map (plan_test it.wanted.settings) tests) ≡ tests
+instances_of tests it = map-map (λ (t : PlanTest). t.instance) (plan_test it.wanted.settings) tests ∙ map-id tests
+
+pub has_none_twice : HasNoneTwice
+has_none_twice answer inputs plan (it, planned_it, built) =
+    let apart = listed_apart it.wanted.filter inputs.workspace.binaries (planned_apart answer inputs it planned_it) in
+    let listed : AreOnce (listed_in inputs it.wanted) it.found.tests =
+    subst (λ (given : Result Selection ListingFault). IfOk given (λ (found : Selection). AreOnce (listed_in inputs it.wanted) found.tests))
+    (planned_lists answer inputs it planned_it)
+    (listed_once answer it.wanted.filter (listed_in inputs it.wanted) apart) in
+    let selected : IsDistinct same_test built.selection.tests =
+    IsDistinct-IsPermutation same_test same_test_turned it.found.tests built.selection.tests built.selected.tests listed.once in
+    let instances : map (λ (t : PlanTest). t.instance) plan.tests ≡ built.selection.tests =
+    ap (map (λ (t : PlanTest). t.instance)) built.tests ∙ instances_of built.selection.tests it in
+    subst (λ (tests : List OwnedTestInstanceId). AllPairs (λ (one other : OwnedTestInstanceId). one ≢ other) tests) (sym instances)
+    (AllPairs-from_IsDistinct same_test_decides built.selection.tests selected)
