@@ -1,21 +1,26 @@
 //! The program `worked_rows`: it answers the input of each row of the core's tables, and says which answers differ.
 #![tactic(auto)]
 
+mod agreeing;
 mod changes;
 mod filters;
 mod inputs;
+mod judged;
 mod log_lines;
+mod pairs;
 mod plans;
 mod refused_lines;
 mod runs;
 mod settings;
 mod told_tests;
 
+use agreeing::Agreeing;
 use anyhow::Result;
 use changes::Changed;
 use filters::Filters;
 use inputs::{ChangedInputs, OtherInputs, WholeInputs};
 use log_lines::LogLines;
+use pairs::Pairs;
 use plans::Plans;
 use refused_lines::RefusedLines;
 use runs::Runs;
@@ -27,7 +32,7 @@ use worked_tables::{cases_hold, rows_hold};
 
 fn main(rt: HostRuntime) -> Result<ExitCode> {
     let full = fs::read_to_string(&rt, "inputs/full.in")?;
-    let workspace = fs::read_to_string(&rt, "plan.json")?;
+    let plan = Changed::of(fs::read_to_string(&rt, "plan.json")?);
     let all = [
         rows_hold(&rt, &ChangedInputs(Changed::of(full)))?,
         rows_hold(&rt, &OtherInputs)?,
@@ -36,9 +41,11 @@ fn main(rt: HostRuntime) -> Result<ExitCode> {
         rows_hold(&rt, &RefusedLines)?,
         rows_hold(&rt, &SettingsTexts)?,
         rows_hold(&rt, &Filters)?,
-        rows_hold(&rt, &Plans(Changed::of(workspace)))?,
+        rows_hold(&rt, &Plans(&plan))?,
         cases_hold(&rt, &Runs)?,
         rows_hold(&rt, &ToldTests)?,
+        rows_hold(&rt, &Pairs(&plan))?,
+        rows_hold(&rt, &Agreeing(&plan))?,
     ];
     Ok(if all.iter().all(|holds| *holds) {
         ExitCode::SUCCESS

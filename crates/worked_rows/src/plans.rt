@@ -8,10 +8,10 @@ use worked_tables::Table;
 
 /// Changes of inputs, each with the plan's tests and how often they may be tried, the limit, the skipped tests, or the name
 /// under which the inputs are refused; and the binaries that were asked for their tests.
-#[derive(Drop)]
-pub struct Plans(pub Changed);
+#[derive(Clone, Copy)]
+pub struct Plans<'a>(pub &'a Changed);
 
-impl Table for Plans {
+impl Table for Plans<'_> {
     fn name(&self) -> &'static str {
         "plans"
     }
