@@ -9,11 +9,11 @@ const BAR: &str = " | ";
 
 const BREAK: &str = "; ";
 
-/// Changes of inputs, lines with a space for each tab, and logs: what each is, and the numbers of its lines, from 0. The first
-/// log is `whole`: its status, and whether no reason to stop the run stood at its end, is what is due. Then comes the status of
-/// each log, and behind it `differs` where the log isn't as the first one wants it: a `whole` one with another status, or a reason
-/// where the first has none or the other way round, or with another final text where neither has one; a log that is cut or
-/// stopped with a milder status.
+/// Changes of inputs, lines with a space for each tab, and logs: what each is, and the numbers of its lines, from 0.
+/// The first log is `whole`: its status, and whether no reason to stop the run stood at its end, is what is due. Then
+/// comes the status of each log, and behind it `differs` where the log isn't as the first one wants it: a `whole` one
+/// with another status, or a reason where the first has none or the other way round, or with another final text where
+/// neither has one; a log that is cut or stopped with a milder status.
 #[derive(Clone, Copy)]
 pub struct Agreeing<'a>(pub &'a Changed);
 

@@ -7,8 +7,8 @@ use worked_tables::Table;
 
 const BAR: &str = " | ";
 
-/// Changes of inputs and two logs, each with lines divided by `; ` that have a space for each tab: the status of both, and
-/// how much of their reports is the same.
+/// Changes of inputs and two logs, each with lines divided by `; ` that have a space for each tab: the status of both,
+/// and how much of their reports is the same.
 #[derive(Clone, Copy)]
 pub struct Pairs<'a>(pub &'a Changed);
 
