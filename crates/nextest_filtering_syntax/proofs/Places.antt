@@ -1,13 +1,17 @@
 -- Where predicates stand.
-use Rattle.std.proofs.Common.{◌≡◌, refl, ℕ, zero, suc, ◌-◌, ◌≤◌, List, [], ◌∷◌, ◌++◌, length, take, Some, IfSome, sym, ap, subst, ◌∙◌, arith, length-append}
-use Rattle.nextest_filtering_trees.specs.Grammar.{leaf_word}
-use Rattle.nextest_filtering_trees.specs.Tree.{leaf_of}
+use Rattle.std.proofs.Common.{◌≡◌, refl, ℕ, zero, suc, ◌-◌, ◌≤◌, List, [], ◌∷◌, ◌++◌, length, take, Some, IfSome, IfOk, Result, Ok, Err, sym, ap, subst, ◌∙◌, arith, length-append}
+use Rattle.nextest_filtering_trees.specs.Grammar.{unblanked, leaf_word, ReadsLeaf}
+use Rattle.nextest_filtering_trees.specs.Tree.{Leaf, Tree, negation, union, intersection, difference, parens, set, leaf_of, tree_of}
 use Rattle.nextest_filtering_trees.specs.declared.leaf.SourceSpan.{SourceSpan}
 use Rattle.nextest_filtering_trees.specs.declared.leaf.ParsedLeaf.{ParsedLeaf}
 use Rattle.nextest_filtering_arguments.specs.Faults.{IsSuffix, Lies, here, spanned}
 use Rattle.nextest_filtering_arguments.proofs.Spans.{here_lies, here_spans, suffix_len, suffix_trans}
 use Rattle.nextest_filtering_trees.specs.declared.tree.ParsedExpr.{ParsedExpr}
-use Rattle.nextest_filtering_syntax.specs.Places.{span_of, Begins, IsPlacedLeaf, ArePlaced, IsNamed}
+use Rattle.nextest_filtering_trees.specs.declared.tree.ParsedExpr.TheVariants as tree
+use Rattle.nextest_filtering_arguments.specs.declared.stop.Stop.{Stop}
+use Rattle.std.specs.Borrow.{Bor}
+use Rattle.nextest_filtering_syntax.specs.Parsing.{Anywhere, Finds, ReadsPredicate}
+use Rattle.nextest_filtering_syntax.specs.Places.{span_of, Begins, IsPlacedLeaf, ArePlaced, IsNamed, IsSpanned, Spans, Stands}
 
 -- the first bytes of what begins with a word begin with it
 take_word : (word named : List ℕ) (n : ℕ) → length word ≤ n → (rest : List ℕ) × (take n (word ++ named) ≡ word ++ rest)
@@ -42,3 +46,42 @@ placed input now start text rest word it span same has named is within from goes
 -- in an input that stayed
 pub placed_in : (input now : List ℕ) (t : ParsedExpr) → now ≡ input → ArePlaced now t → ArePlaced input t
 placed_in input now t same at = subst (λ l. ArePlaced l t) same at
+
+-- ---- exact spans
+
+-- a span from start to where the text goes on
+pub spanned_so : (input now start rest : List ℕ) (it : ParsedLeaf) (span : SourceSpan) → now ≡ input → span_of it ≡ Some span → span ≡ here now start (length start - length rest)
+    → Spans input start rest it
+spanned_so input now start rest it span same has is =
+    subst (λ o. IfSome o (λ s. s ≡ here input start (length start - length rest))) (sym has) (is ∙ ap (λ l. here l start (length start - length rest)) same)
+
+-- a predicate with such a span stands where it is read
+set_stands : (input text start rest : List ℕ) (t : ParsedExpr) (it : Leaf) → start ≡ unblanked text → IsSpanned input start rest t → tree_of t ≡ set it → ReadsLeaf it text rest
+    → Stands input t text rest
+set_stands input text start rest (tree.Set leaf) it at span is read =
+    let same : it ≡ leaf_of leaf = sym (ap leaf_in is) in
+    (subst (λ l. ReadsLeaf l text rest) same read, subst (λ s. Spans input s rest leaf) at span)
+  where
+    leaf_in : Tree → Leaf
+    leaf_in (negation op t) = it
+    leaf_in (union op a b) = it
+    leaf_in (intersection op a b) = it
+    leaf_in (difference op a b) = it
+    leaf_in (parens t) = it
+    leaf_in (set other) = other
+set_stands input text start rest (tree.Not' op p t) it at none is read = absurd none
+set_stands input text start rest (tree.Union' op p a q b) it at none is read = absurd none
+set_stands input text start rest (tree.Intersection' op p a q b) it at none is read = absurd none
+set_stands input text start rest (tree.Difference' op p a q b) it at none is read = absurd none
+set_stands input text start rest (tree.Parens' p t) it at none is read = absurd none
+
+pub stands_as : (input text start : List ℕ) (old new : ℕ) (r : Result (ParsedExpr × Bor (List ℕ)) Stop) → start ≡ unblanked text → Finds ReadsPredicate Anywhere text old new r
+    → IfOk r (λ it. IsSpanned input start it.1.now it.0) → new ≡ old → IfOk r (λ it. Stands input it.0 text it.1.now)
+stands_as input text start old new (Ok found) at part spanned same =
+    let p = part.reads same in
+    set_stands input text start found.1.now found.0 p.0 at spanned p.1 p.2
+stands_as input text start old new (Err e) at part spanned same = tt
+
+-- in an input that stayed
+pub stands_in : (input now : List ℕ) (t : ParsedExpr) (text rest : List ℕ) → now ≡ input → Stands now t text rest → Stands input t text rest
+stands_in input now t text rest same at = subst (λ l. Stands l t text rest) same at

@@ -10,7 +10,7 @@ use Rattle.nextest_filtering_arguments.specs.declared.stop.Stop.{Stop}
 use Rattle.nextest_filtering_arguments.specs.declared.stop.Stop.TheVariants.{NoTree}
 use Rattle.nextest_filtering_arguments.specs.Faults.{AreFaultsOf}
 use Rattle.nextest_filtering_syntax.proofs.Leaves.{some_is, none_is_not}
-use Rattle.nextest_filtering_syntax.specs.Places.{ArePlaced}
+use Rattle.nextest_filtering_syntax.specs.Places.{ArePlaced, StandsWhole}
 use Rattle.nextest_filtering_syntax.specs.Reading.{ReadsWhole, IsReadingOf}
 use Rattle.nextest_filtering_syntax.specs.declared.reading.Reading.{Reading}
 
@@ -20,9 +20,9 @@ no_length (x ∷ xs) e = absurd (Prim.omega (arith, e))
 
 -- a tree that was made
 pub reading_tree : (text input : List ℕ) (tree : ParsedExpr) (r : Reading) (list : List ParseSingleError) → r.tree ≡ Some tree → r.faults.items ≡ list → input ≡ text
-    → AreFaultsOf input r.faults.items → ReadsWhole text (length list) (Ok tree) → ArePlaced text tree → IsReadingOf text r
-reading_tree text input tree r list is items same faithful whole placed = record {
-  accepts = λ none. (tree, is, whole.0 (ap length (sym items ∙ none)));
+    → AreFaultsOf input r.faults.items → ReadsWhole text (length list) (Ok tree) → ArePlaced text tree → (length list ≡ 0 → StandsWhole text tree) → IsReadingOf text r
+reading_tree text input tree r list is items same faithful whole placed stands = record {
+  accepts = λ none. let no_fault = ap length (sym items ∙ none) in (tree, is, whole.0 no_fault, stands no_fault);
   only = λ other reads.
       let known = whole.1 other reads in
       (items ∙ no_length list known.0, (tree, is, known.1));
@@ -43,11 +43,14 @@ reading_none text input e o r list fails none items same faithful whole no_tree 
     }
 
 pub parse_some : (text : List ℕ) (r : Reading) (t : ParsedExpr) → r.tree ≡ Some t → IsReadingOf text r
-    → ((other : Tree) → IsFilterset text other → other ≡ tree_of t) × ArePlaced text t
+    → ((other : Tree) → IsFilterset text other → (other ≡ tree_of t) × StandsWhole text t) × ArePlaced text t
 parse_some text r t is reading = (
   (λ other reads.
-      let known = (reading.only other reads).1 in
-      known.2 ∙ ap tree_of (some_is known.0 t (sym known.1 ∙ is))),
+      let known = reading.only other reads in
+      let accepted = reading.accepts known.0 in (
+        known.1.2 ∙ ap tree_of (some_is known.1.0 t (sym known.1.1 ∙ is)),
+        subst (StandsWhole text) (some_is accepted.0 t (sym accepted.1 ∙ is)) accepted.3,
+      )),
   subst (λ found. IfSome found (ArePlaced text)) is reading.placed,
 )
 

@@ -6,7 +6,7 @@ ghost use Rattle.nextest_filtering_arguments.specs.Matchers.{subject_of};
 ghost use Rattle.nextest_filtering_syntax.specs.declared.name.Name.TheVariants.{About, Platform};
 ghost use Rattle.nextest_filtering_trees.specs.Words.{subject_word};
 ghost use Rattle.nextest_filtering_syntax.specs.Names.{name_word};
-ghost use Rattle.nextest_filtering_syntax.specs.Places.{ArePlaced, IsNamed, span_of};
+ghost use Rattle.nextest_filtering_syntax.specs.Places.{ArePlaced, IsNamed, IsSpanned, Stands, span_of};
 ghost use Rattle.nextest_filtering_syntax.specs.Parsing.{Anywhere, Finds, FindsArgument, IfToldOf, IsClosed, ReadsPredicate};
 
 use crate::closing::{close, close_argument, split_close};
@@ -50,6 +50,7 @@ fn about<'i>(
     ensures input { faults.new.input ≡ faults.old.input }
     ensures finds { FindsArgument (About subject) text.now (count faults.old) (count faults.new) result }
     ensures placed { IfOk result (λ it. ArePlaced faults.old.input it.0) }
+    ensures spanned { IfOk result (λ it. IsSpanned faults.old.input start.now it.1.now it.0) }
 {
     let (found, behind) = matcher(alloc, faults, subject, text)?;
     let rest = close_argument(faults, behind)?;
@@ -74,6 +75,7 @@ fn built_for<'i>(
     ensures input { faults.new.input ≡ faults.old.input }
     ensures finds { FindsArgument Platform text.now (count faults.old) (count faults.new) result }
     ensures placed { IfOk result (λ it. ArePlaced faults.old.input it.0) }
+    ensures spanned { IfOk result (λ it. IsSpanned faults.old.input start.now it.1.now it.0) }
 {
     let (found, behind) = platform(alloc, faults, text)?;
     let rest = close_argument(faults, behind)?;
@@ -118,6 +120,7 @@ fn argument<'i>(
     ensures input { faults.new.input ≡ faults.old.input }
     ensures finds { FindsArgument name text.now (count faults.old) (count faults.new) result }
     ensures placed { IfOk result (λ it. ArePlaced faults.old.input it.0) }
+    ensures spanned { IfOk result (λ it. IsSpanned faults.old.input start.now it.1.now it.0) }
 {
     match name {
         Name::About(subject) => about(alloc, faults, subject, start, text),
@@ -152,6 +155,7 @@ fn unopened<'i>(
     ensures told { IfToldOf (count faults.old) (count faults.new) result }
     ensures rest { IfOk result (λ it. it.1.now ≡ text.now) }
     ensures placed { IfOk result (λ it. ArePlaced faults.old.input it.0) }
+    ensures spanned { IfOk result (λ it. IsSpanned faults.old.input start.now it.1.now it.0) }
 {
     let place = faults.span(skip_blanks(text), 0);
     faults.report(ParseSingleError::ExpectedOpenParenthesis(place))?;
@@ -176,6 +180,7 @@ pub(crate) fn predicate<'i>(
     ensures input { faults.new.input ≡ faults.old.input }
     ensures finds { Finds ReadsPredicate Anywhere text.now (count faults.old) (count faults.new) result }
     ensures placed { IfOk result (λ it. ArePlaced faults.old.input it.0) }
+    ensures stands { count faults.new ≡ count faults.old → IfOk result (λ it. Stands faults.old.input it.0 text.now it.1.now) }
 {
     let start = skip_blanks(text);
     let Some((name, named)) = predicate_name(start) else {

@@ -1,9 +1,9 @@
 // Expressions, from the operators that bind least to predicates.
-ghost use Rattle.std.specs.Prelude.{◌≡◌, ◌∷◌, ℕ, List, IfOk};
+ghost use Rattle.std.specs.Prelude.{◌≡◌, ◌∷◌, ℕ, List, IfOk, codes};
 ghost use Rattle.nextest_filtering_trees.specs.Tree.{tree_of, negation, union, parens};
-ghost use Rattle.nextest_filtering_trees.specs.Grammar.{unblanked, Unary, Conjunction, Expression, joined};
+ghost use Rattle.nextest_filtering_trees.specs.Grammar.{unblanked, Behind, ReadsJoint, ReadsNot, ReadsOr, Unary, Conjunction, Expression, joined};
 ghost use Rattle.nextest_filtering_arguments.specs.Faults.{IsSuffix, count};
-ghost use Rattle.nextest_filtering_syntax.specs.Places.{ArePlaced};
+ghost use Rattle.nextest_filtering_syntax.specs.Places.{ArePlaced, Stands};
 ghost use Rattle.nextest_filtering_syntax.specs.Parsing.{Anywhere, Closes, ClosesConjunction, Finds};
 
 use crate::closing::close;
@@ -22,6 +22,7 @@ fn union(
 ) -> Result<ParsedExpr, AllocError>
     ensures tree { IfOk result (λ it. tree_of it ≡ union op (tree_of left) (tree_of right)) }
     ensures placed { (input : List ℕ) → ArePlaced input left → ArePlaced input right → IfOk result (ArePlaced input) }
+    ensures stands { (input text middle behind rest : List ℕ) → Stands input left text middle → ReadsOr op middle behind → Stands input right behind rest → IfOk result (λ it. Stands input it text rest) }
 {
     let left = Box::new(alloc, left)?;
     let right = Box::new(alloc, right)?;
@@ -37,6 +38,7 @@ fn join(
 ) -> Result<ParsedExpr, AllocError>
     ensures tree { IfOk result (λ it. tree_of it ≡ joined op (tree_of left) (tree_of right)) }
     ensures placed { (input : List ℕ) → ArePlaced input left → ArePlaced input right → IfOk result (ArePlaced input) }
+    ensures stands { (input text middle behind rest : List ℕ) → Stands input left text middle → ReadsJoint op middle behind → Stands input right behind rest → IfOk result (λ it. Stands input it text rest) }
 {
     let left = Box::new(alloc, left)?;
     let right = Box::new(alloc, right)?;
@@ -50,6 +52,7 @@ fn join(
 fn negate(alloc: Global, op: NotOperator, operand: ParsedExpr) -> Result<ParsedExpr, AllocError>
     ensures tree { IfOk result (λ it. tree_of it ≡ negation op (tree_of operand)) }
     ensures placed { (input : List ℕ) → ArePlaced input operand → IfOk result (ArePlaced input) }
+    ensures stands { (input text inside rest : List ℕ) → ReadsNot op text inside → Stands input operand inside rest → IfOk result (λ it. Stands input it text rest) }
 {
     Ok(ParsedExpr::Not(op, Box::new(alloc, operand)?))
 }
@@ -58,6 +61,7 @@ fn negate(alloc: Global, op: NotOperator, operand: ParsedExpr) -> Result<ParsedE
 fn enclose(alloc: Global, inside: ParsedExpr) -> Result<ParsedExpr, AllocError>
     ensures tree { IfOk result (λ it. tree_of it ≡ parens (tree_of inside)) }
     ensures placed { (input : List ℕ) → ArePlaced input inside → IfOk result (ArePlaced input) }
+    ensures stands { (input text within behind rest : List ℕ) → Behind (codes "(") text within → Stands input inside within behind → Behind (codes ")") behind rest → IfOk result (λ it. Stands input it text rest) }
 {
     Ok(ParsedExpr::Parens(Box::new(alloc, inside)?))
 }
@@ -73,6 +77,7 @@ pub(crate) fn expression<'i>(
     ensures input { faults.new.input ≡ faults.old.input }
     ensures finds { Finds Expression Closes text.now (count faults.old) (count faults.new) result }
     ensures placed { IfOk result (λ it. ArePlaced faults.old.input it.0) }
+    ensures stands { count faults.new ≡ count faults.old → IfOk result (λ it. Stands faults.old.input it.0 text.now it.1.now) }
 {
     let (mut tree, mut rest) = conjunction(alloc, faults, text)?;
     while let Some((op, behind)) = or_operator(faults, rest)? {
@@ -94,6 +99,7 @@ fn conjunction<'i>(
     ensures input { faults.new.input ≡ faults.old.input }
     ensures finds { Finds Conjunction ClosesConjunction text.now (count faults.old) (count faults.new) result }
     ensures placed { IfOk result (λ it. ArePlaced faults.old.input it.0) }
+    ensures stands { count faults.new ≡ count faults.old → IfOk result (λ it. Stands faults.old.input it.0 text.now it.1.now) }
 {
     let (mut tree, mut rest) = operand(alloc, faults, text)?;
     while let Some((op, behind)) = joint_operator(faults, rest)? {
@@ -115,6 +121,7 @@ fn operand<'i>(
     ensures input { faults.new.input ≡ faults.old.input }
     ensures finds { Finds Unary Anywhere text.now (count faults.old) (count faults.new) result }
     ensures placed { IfOk result (λ it. ArePlaced faults.old.input it.0) }
+    ensures stands { count faults.new ≡ count faults.old → IfOk result (λ it. Stands faults.old.input it.0 text.now it.1.now) }
 {
     if let Some((op, behind)) = not_operator(text) {
         let (inside, rest) = operand(alloc, faults, behind)?;

@@ -1,7 +1,7 @@
 // Filtersets: whole texts.
 ghost use Rattle.std.specs.Prelude.{◌≡◌, IfOk};
 ghost use Rattle.nextest_filtering_arguments.specs.Faults.{count};
-ghost use Rattle.nextest_filtering_syntax.specs.Places.{ArePlaced};
+ghost use Rattle.nextest_filtering_syntax.specs.Places.{ArePlaced, StandsWhole};
 ghost use Rattle.nextest_filtering_syntax.specs.Reading.{IsReadingOf, Parses, ReadsWhole};
 
 use crate::parser::expression;
@@ -17,6 +17,7 @@ fn whole(alloc: Global, faults: &mut Faults<'_>, text: &str) -> Result<ParsedExp
     ensures input { faults.new.input ≡ faults.old.input }
     ensures reads { ReadsWhole text.now (count faults.new) result }
     ensures placed { IfOk result (ArePlaced text.now) }
+    ensures stands { count faults.new ≡ 0 → IfOk result (StandsWhole text.now) }
 {
     let (tree, rest) = expression(alloc, faults, text)?;
     let ahead = skip_blanks(rest);
@@ -28,8 +29,9 @@ fn whole(alloc: Global, faults: &mut Faults<'_>, text: &str) -> Result<ParsedExp
 }
 
 /// Reads a filterset, with recovery: its tree, where one could be made, and all faults. The text is a filterset exactly
-/// where there is no fault. Each predicate of the tree has a span of the text that begins with its name, but for `all`
-/// and `none`, which have none. It fails only on allocation.
+/// where there is no fault, and then each predicate of the tree has the span from its name's first byte to behind its `)`.
+/// With faults it has a span of the text that begins with its name. `all` and `none` have none. It fails only on
+/// allocation.
 pub fn read(alloc: Global, text: &str) -> Result<Reading, AllocError>
     ensures { IfOk result (λ it. IsReadingOf text.now it) }
 {

@@ -2,7 +2,7 @@ use Rattle.std.proofs.Math.Path.{ap, ◌∙◌}
 use Rattle.std.specs.Prelude.{length}
 use Rattle.nextest_filtering_arguments.proofs.Spans.{suffix_in, suffix_trans}
 use Rattle.nextest_filtering_syntax.proofs.Leaves.{matchers, argued_from, argued_not_from, matcher_passes}
-use Rattle.nextest_filtering_syntax.proofs.Places.{placed}
+use Rattle.nextest_filtering_syntax.proofs.Places.{placed, spanned_so}
 use Rattle.nextest_filtering_trees.specs.Grammar.{leaf_word}
 use Rattle.nextest_filtering_syntax.proofs.leaf.about.Goals as goal
 
@@ -27,3 +27,7 @@ pub returns-clause-placed : goal.returns-clause-placed
 returns-clause-placed c =
     placed _ _ _ _ _ _ _ _ (c.in_ok-rest.ensures.input ∙ c.in_ok-found.ensures.input) c.leaf.ensures.span (ap leaf_word c.leaf.ensures.leaf) c.span-span.ensures c.requires.start c.requires.named
     (suffix_trans _ _ _ c.in_ok-rest.ensures.closes.behind c.in_ok-found.ensures.finds.behind)
+
+pub returns-clause-spanned : goal.returns-clause-spanned
+returns-clause-spanned c =
+    spanned_so _ _ c.args.start.now _ c.leaf.result _ (c.in_ok-rest.ensures.input ∙ c.in_ok-found.ensures.input) c.leaf.ensures.span c.span-span.ensures

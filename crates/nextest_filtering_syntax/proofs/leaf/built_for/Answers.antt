@@ -1,8 +1,9 @@
 use Rattle.std.proofs.Math.Path.{ap, ◌∙◌}
 use Rattle.std.specs.Prelude.{length, refl, codes}
+use Rattle.nextest_filtering_trees.specs.declared.leaf.ParsedLeaf.TheVariants as leaf
 use Rattle.nextest_filtering_arguments.proofs.Spans.{suffix_in, suffix_trans}
 use Rattle.nextest_filtering_syntax.proofs.Leaves.{platforms, argued_from, argued_not_from}
-use Rattle.nextest_filtering_syntax.proofs.Places.{begins_so}
+use Rattle.nextest_filtering_syntax.proofs.Places.{begins_so, spanned_so}
 use Rattle.nextest_filtering_syntax.proofs.leaf.built_for.Goals as goal
 
 pub platform-requires : goal.platform-requires
@@ -23,3 +24,7 @@ pub returns-clause-placed : goal.returns-clause-placed
 returns-clause-placed c =
     begins_so _ _ _ _ _ (codes "platform") _ (c.in_ok-rest.ensures.input ∙ c.in_ok-found.ensures.input) c.span-span.ensures c.requires.start c.requires.named
     (suffix_trans _ _ _ c.in_ok-rest.ensures.closes.behind c.in_ok-found.ensures.reads.behind)
+
+pub returns-clause-spanned : goal.returns-clause-spanned
+returns-clause-spanned c =
+    spanned_so _ _ c.args.start.now _ (leaf.Platform c.in-Some.platform c.span-span.result) _ (c.in_ok-rest.ensures.input ∙ c.in_ok-found.ensures.input) refl c.span-span.ensures

@@ -1,6 +1,7 @@
 use Rattle.std.proofs.Math.Path.{sym, ◌∙◌}
 use Rattle.std.specs.Prelude.{◌∷◌, []}
 use Rattle.nextest_filtering_arguments.proofs.Spans.{runs_out_at, suffix_token, suffix_at, suffix_trans}
+use Rattle.nextest_filtering_syntax.proofs.Places.{stands_as}
 use Rattle.nextest_filtering_syntax.proofs.Leaves.{predicate_finds_so, unopened_finds, unnamed_finds, name_rest}
 use Rattle.nextest_filtering_syntax.proofs.leaf.predicate.Goals as goal
 
@@ -34,3 +35,11 @@ returns-in-None-clause-finds c =
 pub argument-requires-clause-named : goal.argument-requires-clause-named
 argument-requires-clause-named c =
     (c.in-Some.named.now, c.in-Some.ensures.some.0, suffix_token (40 ∷ []) _ _ (sym c.skip_blanks.ensures ∙ c.in-Some-behind.ensures.some))
+
+pub returns-in-Some-behind-clause-stands : goal.returns-in-Some-behind-clause-stands
+returns-in-Some-behind-clause-stands c =
+    stands_as _ c.args.text.now _ _ _ c.argument.result c.skip_blanks-start.ensures (returns-in-Some-behind-clause-finds c) c.argument.ensures.spanned
+
+pub returns-in-None-clause-stands : goal.returns-in-None-clause-stands
+returns-in-None-clause-stands c =
+    stands_as _ c.args.text.now _ _ _ c.unopened.result c.skip_blanks-start.ensures (returns-in-None-clause-finds c) c.unopened.ensures.spanned

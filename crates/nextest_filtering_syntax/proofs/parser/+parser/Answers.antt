@@ -5,7 +5,7 @@ use Rattle.nextest_filtering_syntax.proofs.Operands.{renamed, negated, grouped, 
 use Rattle.nextest_filtering_arguments.proofs.Spans.{suffix_trans, suffix_token, shorter_token}
 use Rattle.nextest_filtering_syntax.proofs.Single.{not_behind}
 use Rattle.nextest_filtering_arguments.proofs.Spans.{suffix_in}
-use Rattle.nextest_filtering_syntax.proofs.Places.{placed_in}
+use Rattle.nextest_filtering_syntax.proofs.Places.{placed_in, stands_in}
 use Rattle.nextest_filtering_syntax.proofs.parser.+parser.Goals as goal
 
 pub conjunction-returns-in_err-tree-clause-finds : goal.conjunction-returns-in_err-tree-clause-finds
@@ -13,7 +13,7 @@ conjunction-returns-in_err-tree-clause-finds t c =
     passes _ _ _ _ _ _ _ (begins_not _ _ _ conjunction_level) c.in_err-tree.ensures.finds c.from_residual.ensures.1
 
 pub conjunction-loop-op-init : goal.conjunction-loop-op-init
-conjunction-loop-op-init t c = (Prim.search rules, c.in_ok-tree.ensures.input, begins _ _ _ _ _ conjunction_level c.in_ok-tree.ensures.finds, c.in_ok-tree.ensures.placed)
+conjunction-loop-op-init t c = (Prim.search rules, c.in_ok-tree.ensures.input, begins _ _ _ _ _ conjunction_level c.in_ok-tree.ensures.finds, c.in_ok-tree.ensures.placed, c.in_ok-tree.ensures.stands)
 
 pub conjunction-joint_operator-requires : goal.conjunction-joint_operator-requires
 conjunction-joint_operator-requires t c =
@@ -37,6 +37,13 @@ conjunction-loop-op-preserved t c = (
   read_as _ _ _ _ _ _ c.in_ok-tree-2.ensures.tree
       (goes_on _ _ _ _ _ _ _ _ _ _ _ conjunction_level c.loop-op.invariant.2 (operator_found _ _ _ _ _ _ c.in-Some.is c.in_ok-op.ensures.finds) c.in_ok-right.ensures.finds),
   c.in_ok-tree-2.ensures.placed _ c.loop-op.invariant.3 (placed_in _ _ c.in_ok-right.right (c.in_ok-op.ensures.input ∙ c.loop-op.invariant.1) c.in_ok-right.ensures.placed),
+  (λ same.
+      let found = operator_found _ _ _ _ _ _ c.in-Some.is c.in_ok-op.ensures.finds in
+      let read = c.loop-op.invariant.2 in
+      let part = c.in_ok-right.ensures.finds in
+      c.in_ok-tree-2.ensures.stands _ c.args.text.now c.loop-op.rest.now _ _ (c.loop-op.invariant.4 (Prim.omega (arith, same, read.more, found.more, part.more)))
+      (found.reads (Prim.omega (arith, same, read.more, found.more, part.more)))
+      (stands_in _ _ c.in_ok-right.right _ _ (c.in_ok-op.ensures.input ∙ c.loop-op.invariant.1) (c.in_ok-right.ensures.stands (Prim.omega (arith, same, read.more, found.more, part.more))))),
 )
 
 pub conjunction-returns-clause-finds : goal.conjunction-returns-clause-finds
@@ -47,7 +54,7 @@ expression-returns-in_err-tree-clause-finds t c =
     passes _ _ _ _ _ _ _ (begins_not _ _ _ expression_level) c.in_err-tree.ensures.finds c.from_residual.ensures.1
 
 pub expression-loop-op-init : goal.expression-loop-op-init
-expression-loop-op-init t c = (Prim.search rules, c.in_ok-tree.ensures.input, begins _ _ _ _ _ expression_level c.in_ok-tree.ensures.finds, c.in_ok-tree.ensures.placed)
+expression-loop-op-init t c = (Prim.search rules, c.in_ok-tree.ensures.input, begins _ _ _ _ _ expression_level c.in_ok-tree.ensures.finds, c.in_ok-tree.ensures.placed, c.in_ok-tree.ensures.stands)
 
 pub expression-or_operator-requires : goal.expression-or_operator-requires
 expression-or_operator-requires t c =
@@ -71,6 +78,13 @@ expression-loop-op-preserved t c = (
   read_as _ _ _ _ _ _ c.in_ok-tree-2.ensures.tree
       (goes_on _ _ _ _ _ _ _ _ _ _ _ expression_level c.loop-op.invariant.2 (operator_found _ _ _ _ _ _ c.in-Some.is c.in_ok-op.ensures.finds) c.in_ok-operand.ensures.finds),
   c.in_ok-tree-2.ensures.placed _ c.loop-op.invariant.3 (placed_in _ _ c.in_ok-operand.operand (c.in_ok-op.ensures.input ∙ c.loop-op.invariant.1) c.in_ok-operand.ensures.placed),
+  (λ same.
+      let found = operator_found _ _ _ _ _ _ c.in-Some.is c.in_ok-op.ensures.finds in
+      let read = c.loop-op.invariant.2 in
+      let part = c.in_ok-operand.ensures.finds in
+      c.in_ok-tree-2.ensures.stands _ c.args.text.now c.loop-op.rest.now _ _ (c.loop-op.invariant.4 (Prim.omega (arith, same, read.more, found.more, part.more)))
+      (found.reads (Prim.omega (arith, same, read.more, found.more, part.more)))
+      (stands_in _ _ c.in_ok-operand.operand _ _ (c.in_ok-op.ensures.input ∙ c.loop-op.invariant.1) (c.in_ok-operand.ensures.stands (Prim.omega (arith, same, read.more, found.more, part.more))))),
 )
 
 pub expression-returns-clause-finds : goal.expression-returns-clause-finds
@@ -118,3 +132,23 @@ operand-returns-in-Some-clause-placed t c = c.in_ok-tree.ensures.placed _ c.in_o
 
 pub operand-returns-in-Some-behind-clause-placed : goal.operand-returns-in-Some-behind-clause-placed
 operand-returns-in-Some-behind-clause-placed t c = c.in_ok-tree-3.ensures.placed _ c.in_ok-tree-2.ensures.placed
+
+pub conjunction-returns-clause-stands : goal.conjunction-returns-clause-stands
+conjunction-returns-clause-stands t c = λ same.
+    let none = no_operator_found _ _ _ _ _ _ c.in_default.is c.in_ok-op.ensures.finds in
+    c.loop-op.invariant.4 (Prim.omega (arith, same, none.same))
+
+pub expression-returns-clause-stands : goal.expression-returns-clause-stands
+expression-returns-clause-stands t c = λ same.
+    let none = no_operator_found _ _ _ _ _ _ c.in_default.is c.in_ok-op.ensures.finds in
+    c.loop-op.invariant.4 (Prim.omega (arith, same, none.same))
+
+pub operand-returns-in-Some-clause-stands : goal.operand-returns-in-Some-clause-stands
+operand-returns-in-Some-clause-stands t c = λ same. c.in_ok-tree.ensures.stands _ c.args.text.now _ _ c.in-Some.ensures.some (c.in_ok-inside.ensures.stands same)
+
+pub operand-returns-in-Some-behind-clause-stands : goal.operand-returns-in-Some-behind-clause-stands
+operand-returns-in-Some-behind-clause-stands t c = λ same.
+    let part = c.in_ok-tree-2.ensures.finds in
+    let closes = c.in_ok-rest.ensures.closes in
+    c.in_ok-tree-3.ensures.stands _ c.args.text.now _ _ _ (sym c.skip_blanks.ensures ∙ c.in-Some-behind.ensures.some)
+    (c.in_ok-tree-2.ensures.stands (Prim.omega (arith, same, part.more, closes.more))) (closes.reads (Prim.omega (arith, same, part.more, closes.more)))

@@ -4,7 +4,7 @@ use denote.Shadow.{shadow}
 use Rattle.nextest_filtering_trees.specs.Tree.{tree_of, union}
 use Rattle.nextest_filtering_trees.specs.Grammar.{joined, ReadsOr, ReadsJoint, Unary, Conjunction, Expression}
 use Rattle.nextest_filtering_arguments.specs.Faults.{count}
-use Rattle.nextest_filtering_syntax.specs.Places.{ArePlaced}
+use Rattle.nextest_filtering_syntax.specs.Places.{ArePlaced, Stands}
 use Rattle.nextest_filtering_syntax.specs.Parsing.{Closes, ClosesConjunction}
 use Rattle.nextest_filtering_syntax.proofs.Chains.{HasRead}
 use Rattle.nextest_filtering_syntax.proofs.parser.+parser.Given as goal
@@ -22,6 +22,7 @@ decreases-operand l = 3 * length l.text.now
 abbrev pub invariant-conjunction-loop-op : goal.invariant-conjunction-loop-op
 invariant-conjunction-loop-op l = shadow (Utf8 l.rest) × (l.faults.input ≡ l.fn.faults.input)
     × HasRead ReadsJoint Unary joined Conjunction ClosesConjunction l.fn.text (count l.fn.faults) (count l.faults) (tree_of l.tree) l.rest × ArePlaced l.fn.faults.input l.tree
+    × (count l.faults ≡ count l.fn.faults → Stands l.fn.faults.input l.tree l.fn.text l.rest)
 
 abbrev pub decreases-conjunction-loop-op : goal.decreases-conjunction-loop-op
 decreases-conjunction-loop-op l = length l.rest
@@ -30,6 +31,7 @@ decreases-conjunction-loop-op l = length l.rest
 abbrev pub invariant-expression-loop-op : goal.invariant-expression-loop-op
 invariant-expression-loop-op l = shadow (Utf8 l.rest) × (l.faults.input ≡ l.fn.faults.input)
     × HasRead ReadsOr Conjunction union Expression Closes l.fn.text (count l.fn.faults) (count l.faults) (tree_of l.tree) l.rest × ArePlaced l.fn.faults.input l.tree
+    × (count l.faults ≡ count l.fn.faults → Stands l.fn.faults.input l.tree l.fn.text l.rest)
 
 abbrev pub decreases-expression-loop-op : goal.decreases-expression-loop-op
 decreases-expression-loop-op l = length l.rest
