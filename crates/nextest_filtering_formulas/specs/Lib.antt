@@ -1,0 +1,5 @@
+pub mod Formula
+pub mod Values
+pub mod Steps
+pub mod Waiting
+pub mod Laws
