@@ -13,4 +13,5 @@ pub mod Selected
 pub mod Once
 pub mod Due
 pub mod OneEnd
+pub mod Written
 mod Whole

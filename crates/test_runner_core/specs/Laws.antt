@@ -1,5 +1,6 @@
 -- What holds of every run that a log tells.
-use Rattle.std.specs.Prelude.{◌≡◌, ◌≢◌, ◌↔◌, ℕ, true, List, ◌++◌, map, None, Ok}
+use Rattle.std.specs.Prelude.{◌≡◌, ◌≢◌, ◌↔◌, ℕ, true, List, ◌++◌, map, Option, None, Result, Ok, ⊤}
+use Rattle.std.specs.Io.KnownBytes.{Appends}
 use Rattle.std.specs.List.{AllPairs, Contains}
 use Rattle.nextest_run_events_results.specs.declared.instance.OwnedTestInstanceId.{OwnedTestInstanceId}
 use Rattle.test_runner_core_inputs.specs.declared.inputs.Inputs.{Inputs}
@@ -17,7 +18,8 @@ use Rattle.test_runner_core_telling.specs.Parts.{IsText, Part}
 use Rattle.test_runner_core_workspace.specs.Lister.{Answer}
 use Rattle.test_runner_core_workspace.specs.declared.record.Binary.{Binary}
 use Rattle.test_runner_core.specs.Outcome.{IsDue, IsNoMilderThanDue, IsRun, IsWholeRun, due_parts}
-use Rattle.test_runner_core.specs.Report.{Begun, Composed}
+use Rattle.test_runner_core.specs.Report.{Begun, Composed, Reports}
+use Rattle.test_runner_core.specs.declared.judge_fault.JudgeFault.{JudgeFault}
 
 -- inputs and a log have one report at most: one text and one exit status
 abbrev pub EndsWithOneText : Type 0
@@ -32,6 +34,14 @@ ToldFirst =
     (answer : Binary → Answer) (inputs : Inputs) (log : List Item) (parts front rest whole : List Part) (code : ℕ) (told text : List ℕ)
     → Begun answer inputs log parts → parts ≡ front ++ rest → IsText front told → Composed answer inputs log whole code → IsText whole text
     → (more : List ℕ) × (text ≡ told ++ more)
+
+-- whatever a call answers, what it wrote is a front of the whole report
+abbrev pub WrittenFirst : Type 0
+WrittenFirst =
+    (answer : Binary → Answer) (inputs : Inputs) (log : List Item) (result : Result ℕ JudgeFault) (before after : Option (List ℕ))
+    → Reports result (Composed answer inputs log) (λ parts. ⊤) (Begun answer inputs log) before after
+    → (whole : List Part) (code : ℕ) (text : List ℕ) → Composed answer inputs log whole code → IsText whole text
+    → (written more : List ℕ) × Appends before after written × (text ≡ written ++ more)
 
 -- the exit status of a report is due
 abbrev pub EndsWithDueStatus : Type 0

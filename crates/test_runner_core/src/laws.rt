@@ -1,6 +1,6 @@
 //! What holds of every run that a log tells. Each function does nothing, and its contract is the law. The laws over runs
 //! hold of the run of each plan that is built (`built_plan`).
-ghost use Rattle.test_runner_core.specs.Laws.{BuiltIsPlan, EndsNoMilder, EndsWithDueStatus, EndsWithOneText, HasExactlyTheWanted, HasNoneTwice, HasOneReport, StopsWhereDue, SucceedsWhole, ToldFirst};
+ghost use Rattle.test_runner_core.specs.Laws.{BuiltIsPlan, EndsNoMilder, EndsWithDueStatus, EndsWithOneText, HasExactlyTheWanted, HasNoneTwice, HasOneReport, StopsWhereDue, SucceedsWhole, ToldFirst, WrittenFirst};
 
 pub use test_runner_core_runs::laws::{after_a_reason, no_dead_end};
 
@@ -13,6 +13,11 @@ pub fn one_text()
 /// log: nothing that is told early is ever taken back.
 pub fn told_first()
     ensures { ToldFirst }
+{}
+
+/// Whatever a call answers, and wherever it failed, what it wrote is a front of the whole report of its inputs and its log.
+pub fn written_first()
+    ensures { WrittenFirst }
 {}
 
 /// Whatever the inputs: where no line of a log is refused, the log agrees with an assignment and tells no stop, and the
