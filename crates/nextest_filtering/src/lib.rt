@@ -1,8 +1,8 @@
 //! The filterset language: texts, trees and matchers, as they are parsed and printed.
 //!
 //! What the contracts of these speak of is handed on as `Rattle.nextest_filtering.specs`. A crate with a clause on a
-//! function that takes or gives a `ParsedExpr` or a `GlobToken` itself also names `nextest_filtering_trees` or
-//! `nextest_filtering_globs` among the libraries that it stands on, since these types are recursive.
+//! function that takes or gives a `ParsedExpr` itself also names `nextest_filtering_trees` among the libraries that it
+//! stands on, since this type is recursive.
 #![tactic(auto)]
 
 pub use nextest_filtering_arguments::ParseSingleError;

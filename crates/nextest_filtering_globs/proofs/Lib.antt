@@ -1,8 +1,6 @@
-pub mod PlainTokens
 pub mod Beginnings
 pub mod Splits
 pub mod Unique
 pub mod Refusals
 pub mod Steps
 pub mod Whole
-pub mod Sizes

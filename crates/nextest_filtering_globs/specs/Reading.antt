@@ -1,12 +1,12 @@
 -- What reading a text gives.
 use Rattle.std.proofs.Common.{Vec, Global}
 use Rattle.nextest_filtering_globs.specs.declared.token.ClassRange.{ClassRange}
-use Rattle.std.specs.Prelude.{◌≡◌, ℕ, ◌<◌, Bool, true, false, List, [], ◌∷◌, ◌++◌, length, slice_index, take, Result, Ok, Err, IsTrue, ⊤}
+use Rattle.nextest_filtering_globs.specs.declared.token.GlobToken.{GlobToken}
+use Rattle.std.specs.Prelude.{◌≡◌, ℕ, ◌<◌, Bool, true, false, List, ◌∷◌, ◌++◌, length, slice_index, take, Result, Ok, Err, IsTrue, ⊤}
 use Rattle.nextest_filtering_globs.specs.declared.construct_error.GlobConstructError.{GlobConstructError}
 use Rattle.nextest_filtering_globs.specs.declared.construct_error.GlobConstructError.TheVariants as fault
-use Rattle.nextest_filtering_globs.specs.Signs.{closing_bracket, is_complement_sign, is_stop}
-use Rattle.nextest_filtering_globs.specs.Syntax.{AllRise, IsClassBody, IsUnclosed, SpellsAll, begins_complement, class_ranges}
-use Rattle.nextest_filtering_globs.specs.Tree.{Tokens}
+use Rattle.nextest_filtering_globs.specs.Signs.{closing_bracket, is_complement_sign}
+use Rattle.nextest_filtering_globs.specs.Syntax.{AllRise, IsClassBody, IsUnclosed, SpellsFrom, begins_complement, class_ranges}
 
 -- a refusal as invalid says that nothing is read so, and want of memory says nothing
 abbrev pub Refuses : {B : Type 0} → (B → List ℕ → Type 0) → GlobConstructError → Type 0
@@ -18,14 +18,11 @@ abbrev pub Reads : {A B : Type 0} → (A → B × List ℕ) → (B → List ℕ 
 Reads meant IsRead (Ok found) = IsRead (meant found).0 (meant found).1
 Reads meant IsRead (Err error) = Refuses IsRead error
 
--- nothing is left, or what no token begins with
-abbrev pub IsStopped : Bool → List ℕ → Type 0
-IsStopped inside [] = ⊤
-IsStopped inside (c ∷ more) = IsTrue (is_stop inside c)
-
--- the text begins with these tokens, and with no further one
-abbrev pub SpellsUpTo : Bool → List ℕ → Tokens → List ℕ → Type 0
-SpellsUpTo inside text tokens rest = SpellsAll inside tokens text rest × IsStopped inside rest
+-- the tokens that the whole text spells; a refusal as invalid says that it spells none, and want of memory says nothing
+abbrev pub ReadsWhole : List ℕ → Result (Vec GlobToken Global) GlobConstructError → Type 0
+ReadsWhole text (Ok tokens) = SpellsFrom 0 tokens.items text
+ReadsWhole text (Err fault.InvalidGlob) = (tokens : List GlobToken) → SpellsFrom 0 tokens text → ⊥
+ReadsWhole text (Err fault.OutOfMemory) = ⊤
 
 -- the text begins with the characters of a class, and what is left stands behind its bracket
 abbrev pub IsSplit : List ℕ → List ℕ → List ℕ → Type 0

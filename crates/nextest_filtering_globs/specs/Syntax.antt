@@ -1,10 +1,11 @@
 -- Which texts spell which tokens. Texts are lists of characters, `rest` is what follows in the text.
-use Rattle.std.specs.Prelude.{◌≡◌, ◌≢◌, ℕ, ◌==◌, ◌≤◌, Bool, true, false, if◌then◌else◌, List, [], ◌∷◌, ◌++◌, ◌⊎◌, IsTrue}
+use Rattle.std.specs.Prelude.{◌≡◌, ◌≢◌, ℕ, ◌+◌, ◌-◌, ◌==◌, ◌≤◌, nat_lt, Bool, true, false, if◌then◌else◌, List, [], ◌∷◌, ◌++◌, ◌⊎◌, IsTrue}
 use Rattle.std.specs.List.{AllByRecursion}
 use Rattle.std.specs.Str.{chars}
 use Rattle.nextest_filtering_globs.specs.declared.token.ClassRange.{ClassRange}
 use Rattle.nextest_filtering_globs.specs.Signs.{question_mark, asterisk, opening_bracket, closing_bracket, opening_brace, closing_brace, comma, backslash, hyphen, is_complement_sign, is_ordinary}
-use Rattle.nextest_filtering_globs.specs.Tree.{Token, literal, any, zero_or_more, class, alternates, Tokens, no_tokens, next_token, Alternatives, no_alternatives, next_alternative}
+use Rattle.nextest_filtering_globs.specs.declared.token.GlobToken.{GlobToken}
+use Rattle.nextest_filtering_globs.specs.declared.token.GlobToken.TheVariants as token
 
 -- the characters from `first` to `last`
 abbrev pub range : ℕ → ℕ → ClassRange
@@ -51,36 +52,29 @@ SpellsClass false ranges text rest = (begins_complement text ≡ false) × Spell
 abbrev pub SpellsLiteral : Bool → ℕ → List ℕ → List ℕ → Type 0
 SpellsLiteral inside c text rest = ((text ≡ c ∷ rest) × IsTrue (is_ordinary inside c)) ⊎ (text ≡ backslash ∷ c ∷ rest)
 
-abbrev mutual
-  -- the text begins with this token, outside or inside of braces
-  pub Spells : Bool → Token → List ℕ → List ℕ → Type 0
-  Spells inside (literal c) text rest = SpellsLiteral inside c text rest
-  Spells inside any text rest = text ≡ question_mark ∷ rest
-  Spells inside zero_or_more text rest = text ≡ asterisk ∷ rest
-  Spells inside (class negated ranges) text rest = (inner : List ℕ) × (text ≡ opening_bracket ∷ inner)
-      × SpellsClass negated ranges inner rest
-  Spells inside (alternates all) text rest = (inner : List ℕ) × (text ≡ opening_brace ∷ inner)
-      × SpellsAlternatives all inner rest
+-- the text begins with this token, outside or inside of braces
+abbrev pub Spells : Bool → GlobToken → List ℕ → List ℕ → Type 0
+Spells inside (token.Literal c) text rest = SpellsLiteral inside c text rest
+Spells inside token.Any text rest = text ≡ question_mark ∷ rest
+Spells inside token.ZeroOrMore text rest = text ≡ asterisk ∷ rest
+Spells inside (token.Class negated ranges) text rest =
+    (inner : List ℕ) × (text ≡ opening_bracket ∷ inner) × SpellsClass negated ranges inner rest
+Spells inside token.Open text rest = text ≡ opening_brace ∷ rest
+Spells inside token.Or text rest = (text ≡ comma ∷ rest) × IsTrue inside
+Spells inside token.Close text rest = (text ≡ closing_brace ∷ rest) × IsTrue inside
 
-  -- the text begins with these tokens
-  pub SpellsAll : Bool → Tokens → List ℕ → List ℕ → Type 0
-  SpellsAll inside no_tokens text rest = text ≡ rest
-  SpellsAll inside (next_token first more) text rest = (middle : List ℕ) × Spells inside first text middle
-      × SpellsAll inside more middle rest
+-- how many braces are open behind a token, with so many in front of it
+abbrev pub depth_behind : ℕ → GlobToken → ℕ
+depth_behind depth token.Open = depth + 1
+depth_behind depth token.Close = depth - 1
+depth_behind depth other = depth
 
-  -- behind an opening brace: at least one alternative, and what follows it
-  pub SpellsAlternatives : Alternatives → List ℕ → List ℕ → Type 0
-  SpellsAlternatives no_alternatives text rest = ⊥
-  SpellsAlternatives (next_alternative first more) text rest = (middle : List ℕ) × SpellsAll true first text middle
-      × SpellsFurther more middle rest
-
-  -- behind an alternative: the closing brace, or a comma and a further alternative
-  pub SpellsFurther : Alternatives → List ℕ → List ℕ → Type 0
-  SpellsFurther no_alternatives text rest = text ≡ closing_brace ∷ rest
-  SpellsFurther (next_alternative first more) text rest =
-      (inner : List ℕ) × (middle : List ℕ) × (text ≡ comma ∷ inner) × SpellsAll true first inner middle
-      × SpellsFurther more middle rest
+-- from here on, with so many braces open, the text spells these tokens and nothing else
+abbrev pub SpellsFrom : ℕ → List GlobToken → List ℕ → Type 0
+SpellsFrom depth [] text = (text ≡ []) × (depth ≡ 0)
+SpellsFrom depth (first ∷ more) text =
+    (rest : List ℕ) × Spells (nat_lt 0 depth) first text rest × SpellsFrom (depth_behind depth first) more rest
 
 -- the text is a glob of these tokens
-abbrev pub IsGlob : List ℕ → Tokens → Type 0
-IsGlob text tokens = SpellsAll false tokens (chars text) []
+abbrev pub IsGlob : List ℕ → List GlobToken → Type 0
+IsGlob text tokens = SpellsFrom 0 tokens (chars text)

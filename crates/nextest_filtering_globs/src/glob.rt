@@ -4,37 +4,32 @@ ghost use Rattle.std.proofs.Common.{rules};
 ghost use Rattle.std.specs.Cmp.Rules.{comparing};
 ghost use Rattle.std.specs.Cmp.Lexicographic.{pointwise, nat_list_eq_equiv};
 ghost use Rattle.std.specs.Cmp.{partial_equiv_from_equiv};
-ghost use Rattle.nextest_filtering_globs.specs.Plain.{plain_all};
 ghost use Rattle.nextest_filtering_globs.specs.Syntax.{IsGlob};
 ghost use Rattle.nextest_filtering_globs.specs.Glob.{Constructs};
 
 use super::construct_error::GlobConstructError;
-use super::copying::copy_tokens;
 use super::reading::read_tokens;
 use super::token::GlobToken;
-use nextest_text::Text;
+use nextest_text::{Listing, Text};
 use std::alloc::{AllocError, Global};
 use std::marker::Model;
 
-/// A glob pattern. In a clause it is its text and the plain tree of its tokens.
+/// A glob pattern. In a clause it is its text and the list of its tokens.
 #[derive(Debug)]
 pub struct GenericGlob {
     text: Text,
-    tokens: Vec<GlobToken>,
+    tokens: Listing<GlobToken>,
 }
 
 impl Model for GenericGlob {
-    ghost use Rattle.nextest_filtering_globs.specs.Glob.{Glob, glob, glob_code};
-    ghost use Rattle.nextest_filtering_globs.specs.Plain.{plain_all};
+    ghost use Rattle.nextest_filtering_globs.specs.Glob.{Glob, glob};
     ghost use Rattle.nextest_filtering_globs.specs.Syntax.{IsGlob};
 
     ghost Value = { Glob };
 
-    ghost coded = { glob_code };
+    ghost view = { λ it. glob it.text it.tokens };
 
-    ghost view = { λ it. glob it.text (plain_all it.tokens.items) };
-
-    ghost invariant = { λ it. IsGlob it.text (plain_all it.tokens.items) };
+    ghost invariant = { λ it. IsGlob it.text it.tokens };
 }
 
 // Code that drops one calls this, and doesn't look into it.
@@ -51,12 +46,9 @@ impl GenericGlob {
         ensures { Constructs text result }
     {
         let characters = characters_of(alloc, text.as_str())?;
-        let (tokens, left) = read_tokens(alloc, false, characters.as_slice())?;
-        if left.is_empty() {
-            Ok(GenericGlob { text, tokens })
-        } else {
-            Err(GlobConstructError::InvalidGlob)
-        }
+        let tokens = read_tokens(alloc, characters.as_slice())?;
+        let tokens = Listing::from(tokens);
+        Ok(GenericGlob { text, tokens })
     }
 
     /// The text, lent.
@@ -68,7 +60,7 @@ impl GenericGlob {
 
     /// The tokens, lent: those that the text spells.
     pub fn tokens(&self) -> &[GlobToken]
-        ensures value { plain_all result.now ≡ self.now.tokens }
+        ensures value { result.now ≡ self.now.tokens }
         ensures spelled { IsGlob self.now.text self.now.tokens }
     {
         self.tokens.as_slice()
@@ -88,7 +80,7 @@ impl Clone for GenericGlob {
     fn clone(&self) -> Result<GenericGlob, AllocError> {
         Ok(GenericGlob {
             text: self.text.clone()?,
-            tokens: copy_tokens(&self.tokens)?,
+            tokens: self.tokens.clone()?,
         })
     }
 }

@@ -3,7 +3,6 @@
 
 mod class;
 mod construct_error;
-mod copying;
 mod glob;
 pub mod laws;
 mod reading;

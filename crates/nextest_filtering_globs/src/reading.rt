@@ -1,25 +1,18 @@
 // Reading the tokens of a glob.
-ghost use Rattle.std.specs.Prelude.{◌≡◌, ◌≤◌, ◌∷◌, length, false, IfOk};
-ghost use Rattle.nextest_filtering_globs.specs.Plain.{plain, plain_all, plain_alternatives};
-ghost use Rattle.nextest_filtering_globs.specs.Signs.{backslash, opening_bracket, opening_brace, is_stop};
-ghost use Rattle.nextest_filtering_globs.specs.Syntax.{Spells, SpellsAlternatives};
-ghost use Rattle.nextest_filtering_globs.specs.Reading.{Reads, SpellsUpTo};
+ghost use Rattle.std.specs.Prelude.{◌≡◌, ◌+◌, ◌<◌, ◌≤◌, ◌^◌, ◌∷◌, nat_lt, length, IfOk};
+ghost use Rattle.nextest_filtering_globs.specs.Signs.{backslash, opening_bracket};
+ghost use Rattle.nextest_filtering_globs.specs.Syntax.{Spells, depth_behind};
+ghost use Rattle.nextest_filtering_globs.specs.Reading.{Reads, ReadsWhole};
 
 use super::class::read_class;
 use super::construct_error::GlobConstructError;
 use super::token::GlobToken;
+use nextest_text::Listing;
 use std::alloc::Global;
-
-// Whether no token begins with the character.
-fn is_stop(inside: bool, c: char) -> bool
-    ensures { result ≡ is_stop inside c }
-{
-    c == '}' || (inside && c == ',')
-}
 
 // A character behind a backslash.
 fn read_escaped(inside: bool, text: &[char]) -> Result<(GlobToken, &[char]), GlobConstructError>
-    ensures exact { Reads (λ read. (plain read.0, read.1.now))
+    ensures exact { Reads (λ read. (read.0, read.1.now))
         (λ token rest. Spells inside token (backslash ∷ text.now) rest) result }
     ensures left { IfOk result (λ read. length read.1.now ≤ length text.now) }
 {
@@ -35,63 +28,23 @@ fn read_class_token(
     inside: bool,
     text: &[char],
 ) -> Result<(GlobToken, &[char]), GlobConstructError>
-    ensures exact { Reads (λ read. (plain read.0, read.1.now))
+    ensures exact { Reads (λ read. (read.0, read.1.now))
         (λ token rest. Spells inside token (opening_bracket ∷ text.now) rest) result }
     ensures left { IfOk result (λ read. length read.1.now ≤ length text.now) }
 {
     let (negated, ranges, rest) = read_class(alloc, text)?;
+    let ranges = Listing::from(ranges);
     Ok((GlobToken::Class { negated, ranges }, rest))
 }
 
-// Alternatives behind their opening brace, as a token.
-#[cycle(read)]
-fn read_alternates(
-    alloc: Global,
-    inside: bool,
-    text: &[char],
-) -> Result<(GlobToken, &[char]), GlobConstructError>
-    ensures exact { Reads (λ read. (plain read.0, read.1.now))
-        (λ token rest. Spells inside token (opening_brace ∷ text.now) rest) result }
-    ensures left { IfOk result (λ read. length read.1.now ≤ length text.now) }
-{
-    let (all, rest) = read_alternatives(alloc, text)?;
-    Ok((GlobToken::Alternates(all), rest))
-}
-
-// Alternatives behind their opening brace.
-#[cycle(read)]
-fn read_alternatives(
-    alloc: Global,
-    text: &[char],
-) -> Result<(Vec<Vec<GlobToken>>, &[char]), GlobConstructError>
-    ensures exact { Reads (λ read. (plain_alternatives read.0.items, read.1.now))
-        (λ all rest. SpellsAlternatives all text.now rest) result }
-    ensures left { IfOk result (λ read. length read.1.now ≤ length text.now) }
-{
-    let mut all = Vec::new(alloc);
-    let mut left = text;
-    loop {
-        let (tokens, behind) = read_tokens(alloc, true, left)?;
-        all.push(tokens)?;
-        match behind.split_first() {
-            None => return Err(GlobConstructError::InvalidGlob),
-            Some(('}', rest)) => return Ok((all, rest)),
-            // Inside of braces only a comma stops reading beside the brace.
-            Some((_, next)) => left = next,
-        }
-    }
-}
-
-// The token that begins with `first`.
-#[cycle(read)]
+// The token that begins with `first`, outside or inside of braces.
 fn read_token(
     alloc: Global,
     inside: bool,
     first: char,
     behind: &[char],
 ) -> Result<(GlobToken, &[char]), GlobConstructError>
-    requires { is_stop inside first ≡ false }
-    ensures exact { Reads (λ read. (plain read.0, read.1.now))
+    ensures exact { Reads (λ read. (read.0, read.1.now))
         (λ token rest. Spells inside token (first ∷ behind.now) rest) result }
     ensures left { IfOk result (λ read. length read.1.now ≤ length behind.now) }
 {
@@ -100,30 +53,43 @@ fn read_token(
         '*' => Ok((GlobToken::ZeroOrMore, behind)),
         '\\' => read_escaped(inside, behind),
         '[' => read_class_token(alloc, inside, behind),
-        '{' => read_alternates(alloc, inside, behind),
+        '{' => Ok((GlobToken::Open, behind)),
+        '}' if inside => Ok((GlobToken::Close, behind)),
+        '}' => Err(GlobConstructError::InvalidGlob),
+        ',' if inside => Ok((GlobToken::Or, behind)),
         _ => Ok((GlobToken::Literal(first), behind)),
     }
 }
 
-/// The tokens that a text begins with, up to its end, a brace that closes, or inside of braces a comma.
-#[cycle(read)]
-pub fn read_tokens(
-    alloc: Global,
-    inside: bool,
-    text: &[char],
-) -> Result<(Vec<GlobToken>, &[char]), GlobConstructError>
-    ensures exact { Reads (λ read. (plain_all read.0.items, read.1.now)) (SpellsUpTo inside text.now) result }
-    ensures left { IfOk result (λ read. length read.1.now ≤ length text.now) }
+// How many braces are open behind a token.
+fn depth_behind(depth: usize, token: &GlobToken) -> usize
+    requires { depth + 1 < 2 ^ 64 }
+    ensures { result ≡ depth_behind depth token.now }
 {
+    match token {
+        GlobToken::Open => depth + 1,
+        GlobToken::Close => depth.saturating_sub(1),
+        _ => depth,
+    }
+}
+
+/// The tokens that a whole text spells.
+pub fn read_tokens(alloc: Global, text: &[char]) -> Result<Vec<GlobToken>, GlobConstructError>
+    ensures { ReadsWhole text.now result }
+{
+    let _count = text.len();
     let mut tokens = Vec::new(alloc);
+    let mut depth = 0;
     let mut left = text;
     while let Some((first, behind)) = left.split_first() {
-        if is_stop(inside, *first) {
-            break;
-        }
-        let (token, rest) = read_token(alloc, inside, *first, behind)?;
+        let (token, rest) = read_token(alloc, depth > 0, *first, behind)?;
+        depth = depth_behind(depth, &token);
         tokens.push(token)?;
         left = rest;
     }
-    Ok((tokens, left))
+    if depth == 0 {
+        Ok(tokens)
+    } else {
+        Err(GlobConstructError::InvalidGlob)
+    }
 }

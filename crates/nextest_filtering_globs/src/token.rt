@@ -1,9 +1,5 @@
 // The tokens of a glob.
-ghost use Rattle.std.specs.Prelude.{◌≡◌};
-ghost use Rattle.nextest_filtering_globs.specs.Plain.{plain};
-
-use super::copying::copy_token;
-use std::alloc::AllocError;
+use nextest_text::Listing;
 
 /// The characters from `first` to `last`, both included.
 #[derive(Clone, Copy, Debug, PartialEq, Eq)]
@@ -14,8 +10,8 @@ pub struct ClassRange {
     pub last: char,
 }
 
-/// A part of a glob, which matches a run of characters.
-#[derive(Debug, PartialEq, Eq, Drop)]
+/// A part of a glob, which matches a run of characters; or a sign of the braces around alternatives.
+#[derive(Clone, Debug, PartialEq, Eq, Drop)]
 pub enum GlobToken {
     /// Just this character.
     Literal(char),
@@ -28,16 +24,12 @@ pub enum GlobToken {
         /// Whether the characters of the ranges are those that don't match.
         negated: bool,
         /// The ranges.
-        ranges: Vec<ClassRange>,
+        ranges: Listing<ClassRange>,
     },
-    /// What one of these matches.
-    Alternates(Vec<Vec<GlobToken>>),
-}
-
-impl Clone for GlobToken {
-    ghost is_clone = { λ original copy. plain copy ≡ plain original };
-
-    fn clone(&self) -> Result<GlobToken, AllocError> {
-        copy_token(self)
-    }
+    /// The brace in front of alternatives.
+    Open,
+    /// What stands between two alternatives.
+    Or,
+    /// The brace behind alternatives.
+    Close,
 }

@@ -2,7 +2,7 @@
 use Rattle.std.specs.Prelude.{ℕ, Bool, false, List}
 use Rattle.regex.specs.Failures.{IsPattern}
 use Rattle.regex.specs.Patterns.{default_config}
-use Rattle.nextest_filtering_globs.specs.Tree.{Tokens}
+use Rattle.nextest_filtering_globs.specs.declared.token.GlobToken.{GlobToken}
 use Rattle.nextest_filtering_globs.specs.Syntax.{IsGlob}
 use Rattle.nextest_filtering_trees.specs.declared.operators.NotOperator.{NotOperator}
 use Rattle.nextest_filtering_trees.specs.declared.operators.OrOperator.{OrOperator}
@@ -22,7 +22,7 @@ IsRegex text = IsPattern default_config text
 
 -- the text is a glob
 abbrev pub IsGlobText : List ℕ → Type 0
-IsGlobText text = (tokens : Tokens) × IsGlob text tokens
+IsGlobText text = (tokens : List GlobToken) × IsGlob text tokens
 
 -- how a matcher compares
 pub data Comparison : Type 0 where
