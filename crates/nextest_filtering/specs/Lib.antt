@@ -21,6 +21,7 @@ pub use Rattle.nextest_filtering_texts.specs.Printing as TextPrinting
 pub use Rattle.nextest_filtering_texts.specs.Laws as TextLaws
 pub use Rattle.nextest_filtering_globs.specs.Glob
 pub use Rattle.nextest_filtering_globs.specs.Syntax as GlobSyntax
+pub use Rattle.nextest_filtering_globs.specs.Meaning as GlobMeaning
 pub use Rattle.nextest_filtering_globs.specs.Laws as GlobLaws
 -- types
 pub use Rattle.nextest_filtering_trees.specs.declared.tree.ParsedExpr

@@ -4,3 +4,10 @@ pub mod Unique
 pub mod Refusals
 pub mod Steps
 pub mod Whole
+pub mod Sets
+pub mod Classes
+pub mod Trees
+pub mod Ends
+pub mod Fold
+pub mod Loops
+pub mod Walks

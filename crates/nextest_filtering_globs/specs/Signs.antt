@@ -46,7 +46,7 @@ abbrev pub is_opening : ℕ → Bool
 is_opening c = (c == question_mark) || (c == asterisk) || (c == opening_bracket) || (c == opening_brace) ||
     (c == backslash)
 
--- `}`, and inside of braces `,` too: no token begins with it
+-- `}`, and inside of braces `,` too, which end an alternative
 abbrev pub is_stop : Bool → ℕ → Bool
 is_stop inside c = (c == closing_brace) || (inside && (c == comma))
 

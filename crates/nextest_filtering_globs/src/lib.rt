@@ -1,13 +1,18 @@
-//! Glob patterns of a filterset language: their tokens, and exactly which texts are globs.
+//! Glob patterns of a filterset language: their tokens, and exactly which texts are globs and what they match.
 #![tactic(auto)]
 
 mod class;
 mod construct_error;
+mod fitting;
 mod glob;
 pub mod laws;
+mod matcher;
+mod places;
 mod reading;
 mod token;
+mod walk;
 
 pub use construct_error::GlobConstructError;
 pub use glob::GenericGlob;
+pub use matcher::GlobMatcher;
 pub use token::{ClassRange, GlobToken};

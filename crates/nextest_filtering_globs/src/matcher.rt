@@ -1,0 +1,69 @@
+// What a glob matches.
+ghost use Rattle.std.specs.Prelude.{◌≡◌, ◌↔◌, chars, IfOk, IsTrue};
+ghost use Rattle.nextest_filtering_globs.specs.Meaning.{Matches};
+
+use super::glob::GenericGlob;
+use super::places::{begin, has_last, read_characters};
+use super::walk::take_all;
+use std::alloc::{AllocError, Global};
+use std::marker::Model;
+
+/// A glob, lent, with memory of its own for matching texts one after another. It asks for more only where a text has
+/// more characters than each before. In a clause it is the glob.
+#[derive(Debug, Drop)]
+pub struct GlobMatcher<'g> {
+    glob: &'g GenericGlob,
+    characters: Vec<char>,
+    current: Vec<bool>,
+    stack: Vec<bool>,
+}
+
+impl<'g> Model for GlobMatcher<'g> {
+    ghost use Rattle.nextest_filtering_globs.specs.Glob.{Glob};
+
+    ghost Value = { Glob };
+
+    ghost view = { λ it. it.glob.now };
+}
+
+impl<'g> GlobMatcher<'g> {
+    /// A matcher of this glob. It takes no memory yet.
+    pub fn new(alloc: Global, glob: &'g GenericGlob) -> GlobMatcher<'g>
+        ensures { result ≡ glob.now }
+    {
+        GlobMatcher {
+            glob,
+            characters: Vec::new(alloc),
+            current: Vec::new(alloc),
+            stack: Vec::new(alloc),
+        }
+    }
+
+    /// Whether the glob matches the whole text. It fails only on allocation. It takes at most about the time of the
+    /// text's characters times the glob's.
+    pub fn is_match(&mut self, text: &str) -> Result<bool, AllocError>
+        ensures exact { IfOk result (λ answer. IsTrue answer ↔ Matches self.old.tokens (chars text.now)) }
+        ensures same { self.new ≡ self.old }
+    {
+        read_characters(text, &mut self.characters)?;
+        begin(self.characters.as_slice(), &mut self.current)?;
+        self.stack.clear();
+        take_all(
+            self.glob.tokens(),
+            self.characters.as_slice(),
+            self.current.as_mut_slice(),
+            &mut self.stack,
+        )?;
+        Ok(has_last(self.current.as_slice()))
+    }
+}
+
+impl GenericGlob {
+    /// Whether the glob matches the whole text. It fails only on allocation. Who asks for many texts makes a
+    /// `GlobMatcher` and keeps it.
+    pub fn is_match(&self, alloc: Global, text: &str) -> Result<bool, AllocError>
+        ensures { IfOk result (λ answer. IsTrue answer ↔ Matches self.now.tokens (chars text.now)) }
+    {
+        GlobMatcher::new(alloc, self).is_match(text)
+    }
+}
