@@ -1,5 +1,5 @@
-// The table of globs.
-use anyhow::Result;
+// The tables of globs.
+use anyhow::{Context, Result};
 use nextest_filtering::GenericGlob;
 use nextest_text::Text;
 use std::alloc::Global;
@@ -21,5 +21,20 @@ impl Table for Globs {
             }
             Err(error) => Ok(format!(in alloc; "{error:?}")?),
         }
+    }
+}
+
+// Whether a glob matches a whole text.
+pub struct GlobMatches;
+
+impl Table for GlobMatches {
+    fn name(&self) -> &'static str {
+        "glob_matches"
+    }
+
+    fn answer(&self, alloc: Global, input: &str) -> Result<String> {
+        let (glob, text) = input.split_once(" | ").context("no text")?;
+        let matches = GenericGlob::new(alloc, Text::from_str(alloc, glob)?)?.is_match(alloc, text)?;
+        Ok(format!(in alloc; "{matches}")?)
     }
 }

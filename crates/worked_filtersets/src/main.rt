@@ -16,6 +16,7 @@ fn main(rt: HostRuntime) -> Result<()> {
     hold &= rows_hold(&rt, &filtersets::Leaves)?;
     hold &= rows_hold(&rt, &filtersets::Deps)?;
     hold &= rows_hold(&rt, &globs::Globs)?;
+    hold &= rows_hold(&rt, &globs::GlobMatches)?;
     hold &= rows_hold(&rt, &texts::Texts)?;
     hold &= rows_hold(&rt, &texts::Escapes)?;
     hold &= rows_hold(&rt, &texts::Printed)?;
