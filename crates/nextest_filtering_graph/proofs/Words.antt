@@ -1,10 +1,11 @@
 -- Bits of rows.
-use Rattle.std.proofs.Common.{◌≡◌, ℕ, ◌+◌, ◌*◌, ◌/◌, ◌%◌, ◌^◌, ◌<◌, ◌≤◌, ◌≢◌, ◌⊎◌, List, get_or, length, sum, eqb, Bool, true, false, ◌∙◌, ap, max, sym, subst, inl, inr, refl, arith, eq-eqb, eqb-true, w64, get_or-set_same, get_or-set_other}
+use Rattle.std.proofs.Common.{◌≡◌, ℕ, ◌+◌, ◌*◌, ◌/◌, ◌%◌, ◌^◌, ◌<◌, ◌≤◌, ◌≢◌, ◌⊎◌, List, get_or, length, replicate, sum, eqb, Bool, true, false, ◌∙◌, ap, max, sym, subst, inl, inr, refl, arith, eq-eqb, eqb-true, w64, get_or-set_same, get_or-set_other}
 use Rattle.std.proofs.Math.ListN.{set}
-use Rattle.std.proofs.lemmas.Bool.{cases_eq}
+use Rattle.std.proofs.lemmas.Bool.{cases_eq, cases_lt}
+use Rattle.std.proofs.lemmas.List.{get_or-replicate, get_or_past, length-replicate}
 use Rattle.std.proofs.lemmas.Nat.{div-mul-add, le_or_l}
 use Rattle.std.proofs.lemmas.List.Sums.{sum_by-set}
-use Rattle.std.proofs.lemmas.Nat.Bits.{bit_at_or, bit_at-lt, shr_and_one, bit_at_set_same, bit_at_set_other}
+use Rattle.std.proofs.lemmas.Nat.Bits.{bit_at_or, bit_at-lt, bit_at-zero, shr_and_one, bit_at_set_same, bit_at_set_other}
 use Rattle.std.specs.Prelude.{bit_and, bit_or, ◌↔◌}
 use Rattle.std.specs.Int.{bit_at}
 use Rattle.nextest_filtering_graph.specs.Rows.{HasBit}
@@ -128,3 +129,17 @@ sum_grows old words place more within before other =
 pub sum_at_least : (old words : List ℕ) (changed : Bool) → (changed ≡ false → words ≡ old) → (changed ≡ true → sum old < sum words) → sum old ≤ sum words
 sum_at_least old words true kept grown = let more : sum old < sum words = grown refl in omega arith
 sum_at_least old words false kept grown = let same : sum words ≡ sum old = ap sum (kept refl) in omega arith
+
+zero_at : (n k : ℕ) → let zero : ℕ = 0 in get_or (replicate n zero) k zero ≡ zero
+zero_at n k = elim (cases_lt k n) [
+  | inl within ↦ get_or-replicate {A = ℕ} n k 0 0 within
+  | inr past ↦ get_or_past {X = ℕ} (replicate n 0) k 0 (omega (arith, length-replicate {A = ℕ} n 0))
+]
+
+-- words that are all 0 have no bit
+pub no_bits : (n width i j : ℕ) → ¬ (HasBit (replicate n 0) width i j)
+unfolding HasBit
+no_bits n width i j has =
+    let none : bit_at (get_or (replicate n 0) (i * width + j / 64) 0) (j % 64) ≡ 0
+    = ap (λ x. bit_at x (j % 64)) (zero_at n (i * width + j / 64)) ∙ bit_at-zero (j % 64) in
+    omega arith

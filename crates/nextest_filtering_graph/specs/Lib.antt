@@ -1,2 +1,4 @@
+pub mod Graph
+pub mod Making
 pub mod Reaching
 pub mod Rows

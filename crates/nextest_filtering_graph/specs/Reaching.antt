@@ -13,3 +13,8 @@ pub data Reaches (links : List (ℕ × ℕ)) : ℕ → ℕ → Type 0 where
 -- each link's ends lie below the number of places
 abbrev pub LinksBelow : ℕ → List (ℕ × ℕ) → Type 0
 LinksBelow count links = All (λ link. (link.0 < count) × (link.1 < count)) links
+
+-- places from 0 up to a number, and the links between them
+pub record LinkedPlaces : Type 0 where
+  pub count : ℕ
+  pub links : List (ℕ × ℕ)

@@ -3,3 +3,13 @@
 
 mod bits;
 mod closing;
+mod graph;
+mod graph_error;
+mod graph_fault;
+mod indexing;
+mod reachability;
+
+pub use graph::PackageGraph;
+pub use graph_error::GraphError;
+pub use graph_fault::GraphFault;
+pub use reachability::Reachability;

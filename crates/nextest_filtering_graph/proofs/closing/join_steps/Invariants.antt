@@ -1,0 +1,5 @@
+use Rattle.nextest_filtering_graph.specs.Rows.{AreRows}
+use Rattle.nextest_filtering_graph.proofs.closing.join_steps.Given as goal
+
+abbrev pub invariant-loop-from : goal.invariant-loop-from
+invariant-loop-from g l = AreRows g.links l.width l.count l.words
