@@ -1,6 +1,7 @@
 // The places of packages, by their ids, and the links by places.
 ghost use Rattle.std.specs.Prelude.{◌≡◌, ℕ, List, IfOk};
-ghost use Rattle.nextest_filtering_graph.specs.Graph.{IsIndex, ids};
+ghost use Rattle.std.specs.BTreeMap.{get_by_text};
+ghost use Rattle.nextest_filtering_graph.specs.Graph.{IsIndex, both, ids};
 ghost use Rattle.nextest_filtering_graph.specs.Making.{lent, Indexes, Places};
 
 use crate::graph_error::GraphError;
@@ -39,7 +40,16 @@ pub(crate) fn owned(
     Ok(copy)
 }
 
-// Each link by the places of its ends, where both are known.
+// A link by the places of its ends, where the index has both.
+fn placed_link(index: &BTreeMap<String, usize>, from: &str, to: &str) -> Option<(usize, usize)>
+    ensures { result ≡ both (get_by_text index.now from.now) (get_by_text index.now to.now) }
+{
+    let from = index.get(from)?;
+    let to = index.get(to)?;
+    Some((*from, *to))
+}
+
+// Each link by the places of its ends, where the index has both.
 pub(crate) fn placed_links(
     alloc: Global,
     index: &BTreeMap<String, usize>,
@@ -49,9 +59,9 @@ pub(crate) fn placed_links(
 {
     let mut places = Vec::new(alloc);
     for (from, to) in links {
-        match (index.get(*from), index.get(*to)) {
-            (Some(from), Some(to)) => places.push((*from, *to))?,
-            _ => return Err(GraphError::Refused(GraphFault::UnknownLink)),
+        match placed_link(index, from, to) {
+            Some(link) => places.push(link)?,
+            None => return Err(GraphError::Refused(GraphFault::UnknownLink)),
         }
     }
     Ok(places)
