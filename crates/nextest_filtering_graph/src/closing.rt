@@ -1,9 +1,10 @@
 // Rows of bits are joined until each has the bits of all that its place reaches.
-ghost use Rattle.std.specs.Prelude.{◌≡◌, ℕ, ◌*◌, ◌<◌, ◌≤◌, List, sum, true, false, IfOk, vec_len};
+ghost use Rattle.std.specs.Prelude.{◌≡◌, ℕ, ◌*◌, ◌<◌, ◌≤◌, List, sum, true, false, IfOk, length, vec_len};
 ghost use Rattle.nextest_filtering_graph.specs.Reaching.{LinksBelow};
 ghost use Rattle.nextest_filtering_graph.specs.Rows.{AreRows, AreClosed, AreReached};
 
 use crate::bits::{has_bit, join_rows, set_bit};
+use crate::ordering::steps;
 use std::alloc::{AllocError, Global};
 
 // Rows by which each place reaches itself alone.
@@ -45,9 +46,9 @@ fn join_steps(
     count: usize,
     steps: &[(usize, usize)],
 )
-    ghost links: { List (ℕ × ℕ) }
-    requires rows { AreRows links width count words.old }
-    ensures rows { AreRows links width count words.new }
+    requires sized { length words.old ≡ count * width }
+    requires room { count ≤ 64 * width }
+    ensures { (links : List (ℕ × ℕ)) → AreRows links width count words.old → AreRows links width count words.new }
 {
     for (from, to) in steps {
         if *from < count && *to < count && has_bit(words, width, *from, *to) {
@@ -66,6 +67,24 @@ fn close(words: &mut [u64], width: usize, count: usize, links: &[(usize, usize)]
     while join_links(words, width, count, links) {}
 }
 
+// Joins rows along the links, then by these steps, and then along the links until no row changes any more.
+fn fill(
+    words: &mut [u64],
+    width: usize,
+    count: usize,
+    links: &[(usize, usize)],
+    steps: &[(usize, usize)],
+)
+    requires rows { AreRows links.now width count words.old }
+    requires links { LinksBelow count links.now }
+    ensures rows { AreRows links.now width count words.new }
+    ensures closed { AreClosed links.now width count words.new }
+{
+    join_links(words, width, count, links);
+    join_steps(words, width, count, steps);
+    close(words, width, count, links);
+}
+
 // Rows whose bits say exactly what each place reaches.
 pub(crate) fn reached_rows(
     alloc: Global,
@@ -79,6 +98,7 @@ pub(crate) fn reached_rows(
     ensures reached { IfOk result (λ words. AreReached links.now width count words.items) }
 {
     let mut words = rows_of_places(alloc, width, count)?;
-    close(&mut words, width, count, links);
+    let order = steps(alloc, count, links)?;
+    fill(&mut words, width, count, links, order.as_slice());
     Ok(words)
 }

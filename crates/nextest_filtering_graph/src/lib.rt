@@ -7,7 +7,9 @@ mod graph;
 mod graph_error;
 mod graph_fault;
 mod indexing;
+mod ordering;
 mod reachability;
+mod searching;
 
 pub use graph::PackageGraph;
 pub use graph_error::GraphError;

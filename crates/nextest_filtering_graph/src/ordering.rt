@@ -1,0 +1,153 @@
+// In which order rows are joined so that a few joins are enough, whatever the links. Nothing is promised of the steps:
+// the rows come out right by any, and only time hangs on them.
+//
+// Places that reach each other are a group. A search against the links, begun with the places that a search along them
+// left last, finds group after group, and leads along links to the head of each. A search along the links that begins
+// with the heads, those of the groups found last first, leaves each place behind what is found from it. So the head of
+// a group knows all that the group reaches once each place, in that order, has got the rows of its links' ends and of
+// their heads; and then the others of the group get the head's row from one to the next.
+use crate::searching::{Search, search_lists};
+use std::alloc::{AllocError, Global};
+
+// Pairs of places: the row of the second is to be joined to that of the first, one after another.
+pub(crate) fn steps(
+    alloc: Global,
+    count: usize,
+    links: &[(usize, usize)],
+) -> Result<Vec<(usize, usize)>, AllocError> {
+    let ends = ends_of(alloc, count, links)?;
+    let starts = starts_of(alloc, count, links)?;
+    let places = all_places(alloc, count)?;
+    let along = search_lists(alloc, ends.as_slice(), places.as_slice())?;
+    let last_left = reversed(alloc, along.left.as_slice())?;
+    let against = search_lists(alloc, starts.as_slice(), last_left.as_slice())?;
+    let heads_first = reversed(alloc, against.left.as_slice())?;
+    let heads = heads_of(alloc, count, heads_first.as_slice(), &against)?;
+    let again = search_lists(alloc, ends.as_slice(), heads_first.as_slice())?;
+    let mut steps = Vec::new(alloc);
+    push_parents(&mut steps, heads_first.as_slice(), &against)?;
+    push_ends(&mut steps, again.left.as_slice(), ends.as_slice(), heads.as_slice())?;
+    push_parents(&mut steps, heads_first.as_slice(), &against)?;
+    Ok(steps)
+}
+
+// Empty lists, one for each place.
+fn empty_lists(alloc: Global, count: usize) -> Result<Vec<Vec<usize>>, AllocError> {
+    let mut lists = Vec::with_capacity(alloc, count)?;
+    for _ in 0..count {
+        lists.push(Vec::new(alloc))?;
+    }
+    Ok(lists)
+}
+
+// For each place the ends of the links from it.
+fn ends_of(
+    alloc: Global,
+    count: usize,
+    links: &[(usize, usize)],
+) -> Result<Vec<Vec<usize>>, AllocError> {
+    let mut lists = empty_lists(alloc, count)?;
+    for (from, to) in links {
+        if let Some(list) = lists.get_mut(*from) {
+            list.push(*to)?;
+        }
+    }
+    Ok(lists)
+}
+
+// For each place the starts of the links to it.
+fn starts_of(
+    alloc: Global,
+    count: usize,
+    links: &[(usize, usize)],
+) -> Result<Vec<Vec<usize>>, AllocError> {
+    let mut lists = empty_lists(alloc, count)?;
+    for (from, to) in links {
+        if let Some(list) = lists.get_mut(*to) {
+            list.push(*from)?;
+        }
+    }
+    Ok(lists)
+}
+
+// The places from 0 on.
+fn all_places(alloc: Global, count: usize) -> Result<Vec<usize>, AllocError> {
+    let mut places = Vec::with_capacity(alloc, count)?;
+    for place in 0..count {
+        places.push(place)?;
+    }
+    Ok(places)
+}
+
+// The places in the other direction.
+fn reversed(alloc: Global, places: &[usize]) -> Result<Vec<usize>, AllocError> {
+    let mut copy = Vec::from_slice(alloc, places)?;
+    copy.reverse();
+    Ok(copy)
+}
+
+// The place that a search went on to for a place, or the place itself.
+fn at(places: &[usize], place: usize) -> usize {
+    match places.get(place) {
+        Some(found) => *found,
+        None => place,
+    }
+}
+
+// For each place the one that the search of its group began with.
+fn heads_of(
+    alloc: Global,
+    count: usize,
+    heads_first: &[usize],
+    against: &Search,
+) -> Result<Vec<usize>, AllocError> {
+    let mut heads = all_places(alloc, count)?;
+    for place in heads_first {
+        let head = at(heads.as_slice(), against.parent(*place));
+        if *place < heads.len() {
+            heads[*place] = head;
+        }
+    }
+    Ok(heads)
+}
+
+// A step from each place to the one that it was found from.
+fn push_parents(
+    steps: &mut Vec<(usize, usize)>,
+    places: &[usize],
+    found: &Search,
+) -> Result<(), AllocError> {
+    for place in places {
+        steps.push((*place, found.parent(*place)))?;
+    }
+    Ok(())
+}
+
+// Steps from each place to its links' ends and to their heads.
+fn push_ends(
+    steps: &mut Vec<(usize, usize)>,
+    places: &[usize],
+    ends: &[Vec<usize>],
+    heads: &[usize],
+) -> Result<(), AllocError> {
+    for place in places {
+        if let Some(list) = ends.get(*place) {
+            push_ends_of(steps, *place, list.as_slice(), heads)?;
+        }
+    }
+    Ok(())
+}
+
+// Steps from one place to its links' ends and to their heads.
+fn push_ends_of(
+    steps: &mut Vec<(usize, usize)>,
+    place: usize,
+    ends: &[usize],
+    heads: &[usize],
+) -> Result<(), AllocError> {
+    for end in ends {
+        steps.push((place, *end))?;
+        steps.push((place, at(heads, *end)))?;
+    }
+    Ok(())
+}
