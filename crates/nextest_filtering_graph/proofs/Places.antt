@@ -213,11 +213,12 @@ links_below known links places same = λ k d within.
 
 -- the index, the packages and the links of a graph that is made
 pub graph_holds : {Y : Type 0} (index : BTreeMap (String Y) ℕ) (packages links owned : List (List ℕ × List ℕ)) (places : List (ℕ × ℕ))
-    → IsIndex index (ids packages) → owned ≡ packages → map Some places ≡ map (placed (ids packages)) links
-    → IsIndex index (ids owned) × LinksBelow (length owned) places
-graph_holds {Y} index packages links owned places is_index same placed_all = (
+    → IsIndex index (ids packages) → has_repeat (ids packages) ≡ false → owned ≡ packages → map Some places ≡ map (placed (ids packages)) links
+    → IsIndex index (ids owned) × LinksBelow (length owned) places × (has_repeat (ids owned) ≡ false)
+graph_holds {Y} index packages links owned places is_index once same placed_all = (
   subst (λ (all : List (List ℕ × List ℕ)). IsIndex index (ids all)) (sym same) is_index,
   subst (λ (n : ℕ). LinksBelow n places) (length-map packages (λ (it : List ℕ × List ℕ). it.0) ∙ ap length (sym same)) (links_below (ids packages) links places placed_all),
+  ap (λ (all : List (List ℕ × List ℕ)). has_repeat (ids all)) same ∙ once,
 )
 
 -- what is looked up in a graph's index is a package's place

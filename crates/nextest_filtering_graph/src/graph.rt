@@ -1,6 +1,6 @@
 // Packages and the links between them.
-ghost use Rattle.std.specs.Prelude.{◌≡◌, ◌<◌, length, IfSome, Some};
-ghost use Rattle.nextest_filtering_graph.specs.Graph.{ids, place_of};
+ghost use Rattle.std.specs.Prelude.{◌≡◌, ◌<◌, false, length, IfSome};
+ghost use Rattle.nextest_filtering_graph.specs.Graph.{has_repeat, ids, place_of};
 ghost use Rattle.nextest_filtering_graph.specs.Making.{lent, Makes};
 ghost use Rattle.nextest_filtering_graph.specs.Reaching.{LinksBelow};
 
@@ -25,16 +25,18 @@ impl Drop for PackageGraph {
 }
 
 impl Model for PackageGraph {
-    ghost use Rattle.nextest_filtering_graph.specs.Graph.{Graph, IsIndex, ids};
+    ghost use Rattle.std.specs.Prelude.{◌≡◌, false, length};
+    ghost use Rattle.nextest_filtering_graph.specs.Graph.{Graph, IsIndex, has_repeat, ids};
     ghost use Rattle.nextest_filtering_graph.specs.Reaching.{LinksBelow};
-    ghost use Rattle.std.specs.Prelude.{length};
 
     ghost Value = { Graph };
 
     ghost view = { λ g. record { packages = g.packages.items; links = g.links.items } };
 
     ghost invariant = {
-        λ g. IsIndex g.index (ids g.packages.items) × LinksBelow (length g.packages.items) g.links.items
+        λ g. IsIndex g.index (ids g.packages.items)
+            × LinksBelow (length g.packages.items) g.links.items
+            × (has_repeat (ids g.packages.items) ≡ false)
     };
 }
 
@@ -64,9 +66,10 @@ impl PackageGraph {
         self.packages.len()
     }
 
-    /// The packages, each by its id and its name.
+    /// The packages, each by its id and its name. Each has an id of its own.
     pub fn packages(&self) -> &[(Text, Text)]
-        ensures { result.now ≡ self.now.packages }
+        ensures value { result.now ≡ self.now.packages }
+        ensures distinct { has_repeat (ids result.now) ≡ false }
     {
         self.packages.as_slice()
     }
