@@ -1,5 +1,5 @@
 -- Ids and their places.
-use Rattle.std.proofs.Common.{◌≡◌, ℕ, ◌+◌, ◌<◌, ◌≤◌, List, [], ◌∷◌, ◌++◌, length, get_or, take, drop, map, Bool, true, false, cond, ◌||◌, Option, None, Some, is_some, is_none, String, string_bytes, refl, ap, sym, subst, ◌∙◌, arith, add-zero, add-suc, zero-add}
+use Rattle.std.proofs.Common.{◌≡◌, ℕ, ◌+◌, ◌<◌, List, [], ◌∷◌, ◌++◌, length, get_or, take, drop, map, Bool, true, false, cond, ◌||◌, Option, None, Some, is_some, is_none, String, string_bytes, refl, ap, sym, subst, ◌∙◌, arith, add-zero, add-suc, zero-add}
 use Rattle.std.specs.Prelude.{IfSome}
 use Rattle.nextest_filtering_graph.specs.Reaching.{LinksBelow}
 use Rattle.std.specs.List.{list_any, position_from}
@@ -46,7 +46,7 @@ found_later test n (id ∷ known) one = by_test (test id) (found_later test (n +
         → cond b (Some n) (position_from test (n + 1) (known ++ one ∷ [])) ≡ option_or (cond b (Some n) (position_from test (n + 1) known)) (cond (test one) (Some (n + length (id ∷ known))) None)
     by_test true later = refl
     by_test false later = later
-      ∙ ap (λ (m : ℕ). option_or (position_from test (n + 1) known) (cond (test one) (Some m) None)) counted
+        ∙ ap (λ (m : ℕ). option_or (position_from test (n + 1) known) (cond (test one) (Some m) None)) counted
 
 -- an id has a place where it stands in the list
 pub has_place : (test : List ℕ → Bool) (n : ℕ) (known : List (List ℕ)) → is_some (position_from test n known) ≡ list_any test known

@@ -1,9 +1,9 @@
 -- Rows that are joined along links.
-use Rattle.std.proofs.Common.{◌≡◌, ℕ, ◌+◌, ◌*◌, ◌<◌, ◌≤◌, ◌⊎◌, List, [], ◌∷◌, ◌++◌, get_or, take, length, sum, Bool, true, false, ◌∙◌, ap, sym, subst, inl, inr, refl, arith, mul-le-mul_right}
-use Rattle.std.specs.Prelude.{◌↔◌, Contains, All}
-use Rattle.std.proofs.lemmas.List.Elements.{All-contains, Contains-push_cases, Contains-get_or}
+use Rattle.std.proofs.Common.{◌≡◌, ℕ, ◌+◌, ◌*◌, ◌<◌, ◌≤◌, ◌⊎◌, List, get_or, take, length, ◌∙◌, sym, subst, inl, inr, arith, mul-le-mul_right}
+use Rattle.std.specs.Prelude.{◌↔◌, Contains}
+use Rattle.std.proofs.lemmas.List.Elements.{Contains-push_cases}
 use Rattle.std.proofs.lemmas.List.{take_more}
-use Rattle.nextest_filtering_graph.specs.Reaching.{IsLink, Reaches, stay, onward, LinksBelow}
+use Rattle.nextest_filtering_graph.specs.Reaching.{Reaches, stay, onward, LinksBelow}
 use Rattle.nextest_filtering_graph.specs.Rows.{HasBit, AreRows, AreClosed, AreReached}
 
 -- a path and a path behind it

@@ -48,15 +48,13 @@ bit_set words width from to row bit i j small =
             | inr apart ↦
                 let other : bit_at (bit_or old mark) (j % 64) ≡ bit_at old (j % 64) = bit_at_set_other w64 old (to % 64) (omega arith) (j % 64) apart in
                 let kept : bit_at (get_or new (i * width + j / 64) 0) (j % 64) ≡ bit_at (get_or words (i * width + j / 64) 0) (j % 64)
-                = ap (λ n. bit_at n (j % 64)) here ∙ other ∙ ap (λ n. bit_at n (j % 64)) (sym was) in
-                (
+                = ap (λ n. bit_at n (j % 64)) here ∙ other ∙ ap (λ n. bit_at n (j % 64)) (sym was) in (
                   λ has. inl (sym kept ∙ has),
                   λ cases. elim cases [ inl has ↦ kept ∙ has | inr both ↦ absurd (apart (ap (λ n. n % 64) both.1)) ],
                 )
           ]
       | inr apart ↦
-          let kept : get_or new (i * width + j / 64) 0 ≡ get_or words (i * width + j / 64) 0 = get_or-set_other words place (i * width + j / 64) (bit_or old mark) 0 apart in
-          (
+          let kept : get_or new (i * width + j / 64) 0 ≡ get_or words (i * width + j / 64) 0 = get_or-set_other words place (i * width + j / 64) (bit_or old mark) 0 apart in (
             λ has. inl (ap (λ n. bit_at n (j % 64)) (sym kept) ∙ has),
             λ cases. elim cases [
               | inl has ↦ ap (λ n. bit_at n (j % 64)) kept ∙ has
@@ -82,15 +80,13 @@ rows_joined old new width from to joined others i j small =
           let both : bit_at (get_or new (i * width + j / 64) 0) (j % 64) ≡ max a b
           = ap (λ n. bit_at n (j % 64)) here ∙ bit_at_or (get_or old (i * width + j / 64) 0) (get_or old (to * width + j / 64) 0) (j % 64) in
           let low_a : a < 2 = bit_at-lt (get_or old (i * width + j / 64) 0) (j % 64) in
-          let low_b : b < 2 = bit_at-lt (get_or old (to * width + j / 64) 0) (j % 64) in
-          (
+          let low_b : b < 2 = bit_at-lt (get_or old (to * width + j / 64) 0) (j % 64) in (
             λ has. elim (cases_eq a 1) [ inl one ↦ inl one | inr zero ↦ inr (same, omega arith) ],
             λ cases. elim cases [ inl has ↦ omega arith | inr one ↦ let at : b ≡ 1 = one.1 in omega arith ],
           )
       | inr apart ↦
           let kept : get_or new (i * width + j / 64) 0 ≡ get_or old (i * width + j / 64) 0
-          = others (i * width + j / 64) (λ k within e. apart (one_place width i (j / 64) from k in_word within e).0) in
-          (
+          = others (i * width + j / 64) (λ k within e. apart (one_place width i (j / 64) from k in_word within e).0) in (
             λ has. inl (ap (λ n. bit_at n (j % 64)) (sym kept) ∙ has),
             λ cases. elim cases [ inl has ↦ ap (λ n. bit_at n (j % 64)) kept ∙ has | inr both ↦ absurd (apart both.0) ],
           )

@@ -1,5 +1,5 @@
 -- Which packages and links make a graph.
-use Rattle.std.specs.Prelude.{◌≡◌, ℕ, List, true, false, Option, Some, Result, Ok, Err, ⊤, Bool, String, map, is_none}
+use Rattle.std.specs.Prelude.{◌≡◌, ℕ, List, true, false, Some, Result, Ok, Err, ⊤, Bool, String, map, is_none}
 use Rattle.std.specs.List.{list_any}
 use Rattle.std.specs.BTreeMap.{BTreeMap}
 use denote.Ref.{Bor}
@@ -24,7 +24,8 @@ abbrev pub has_unknown : List (List ℕ) → List (List ℕ × List ℕ) → Boo
 has_unknown known links = list_any (λ link. is_none (placed known link)) links
 
 -- links by the places of their ends; an end that is no package is told
-abbrev pub Places : {V : Type 0} → (V → List (ℕ × ℕ)) → List (List ℕ) → List (List ℕ × List ℕ) → Result V GraphError → Type 0
+abbrev pub Places : {V : Type 0} → (V → List (ℕ × ℕ)) → List (List ℕ) → List (List ℕ × List ℕ) → Result V GraphError
+    → Type 0
 Places items known links (Ok places) = map Some (items places) ≡ map (placed known) links
 Places items known links (Err (error.Refused refused.RepeatedPackage)) = ⊥
 Places items known links (Err (error.Refused refused.UnknownLink)) = has_unknown known links ≡ true

@@ -15,10 +15,8 @@ pub(crate) fn has_bit(words: &[u64], width: usize, from: usize, to: usize) -> bo
 pub(crate) fn set_bit(words: &mut [u64], width: usize, from: usize, to: usize)
     requires row { from * width + width ≤ length words.old }
     requires bit { to < 64 * width }
-    ensures {
-        (i j : ℕ) → j < 64 * width
-        → HasBit words.new width i j ↔ (HasBit words.old width i j ⊎ ((i ≡ from) × (j ≡ to)))
-    }
+    ensures { (i j : ℕ) → j < 64 * width
+        → HasBit words.new width i j ↔ (HasBit words.old width i j ⊎ ((i ≡ from) × (j ≡ to))) }
 {
     words[from * width + to / 64] |= 1u64 << (to % 64);
 }
@@ -27,10 +25,8 @@ pub(crate) fn set_bit(words: &mut [u64], width: usize, from: usize, to: usize)
 pub(crate) fn join_rows(words: &mut [u64], width: usize, from: usize, to: usize) -> bool
     requires from_row { from * width + width ≤ length words.old }
     requires to_row { to * width + width ≤ length words.old }
-    ensures joined {
-        (i j : ℕ) → j < 64 * width
-        → HasBit words.new width i j ↔ (HasBit words.old width i j ⊎ ((i ≡ from) × HasBit words.old width to j))
-    }
+    ensures joined { (i j : ℕ) → j < 64 * width → HasBit words.new width i j
+        ↔ (HasBit words.old width i j ⊎ ((i ≡ from) × HasBit words.old width to j)) }
     ensures kept { result ≡ false → words.new ≡ words.old }
     ensures grown { result ≡ true → sum words.old < sum words.new }
 {

@@ -40,15 +40,11 @@ fn join_links(words: &mut [u64], width: usize, count: usize, links: &[(usize, us
 }
 
 // Joins to a row that of each place that it is known to reach, for each of these pairs of places in turn.
-fn join_steps(
-    words: &mut [u64],
-    width: usize,
-    count: usize,
-    steps: &[(usize, usize)],
-)
+fn join_steps(words: &mut [u64], width: usize, count: usize, steps: &[(usize, usize)])
     requires sized { length words.old ≡ count * width }
     requires room { count ≤ 64 * width }
-    ensures { (links : List (ℕ × ℕ)) → AreRows links width count words.old → AreRows links width count words.new }
+    ensures { (links : List (ℕ × ℕ)) → AreRows links width count words.old
+        → AreRows links width count words.new }
 {
     for (from, to) in steps {
         if *from < count && *to < count && has_bit(words, width, *from, *to) {

@@ -20,7 +20,11 @@ pub struct PackageGraph {
 
 impl Drop for PackageGraph {
     fn drop(self) {
-        let Self { packages: _, links: _, index: _ } = self;
+        let Self {
+            packages: _,
+            links: _,
+            index: _,
+        } = self;
     }
 }
 
@@ -33,11 +37,9 @@ impl Model for PackageGraph {
 
     ghost view = { λ g. record { packages = g.packages.items; links = g.links.items } };
 
-    ghost invariant = {
-        λ g. IsIndex g.index (ids g.packages.items)
-            × LinksBelow (length g.packages.items) g.links.items
-            × (has_repeat (ids g.packages.items) ≡ false)
-    };
+    ghost invariant = { λ g. IsIndex g.index (ids g.packages.items)
+        × LinksBelow (length g.packages.items) g.links.items
+        × (has_repeat (ids g.packages.items) ≡ false) };
 }
 
 impl PackageGraph {

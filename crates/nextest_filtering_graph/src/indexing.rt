@@ -55,7 +55,8 @@ pub(crate) fn placed_links(
     index: &BTreeMap<String, usize>,
     links: &[(&str, &str)],
 ) -> Result<Vec<(usize, usize)>, GraphError>
-    ensures { (known : List (List ℕ)) → IsIndex index.now known → Places (λ it. it.items) known (lent links.now) result }
+    ensures { (known : List (List ℕ)) → IsIndex index.now known
+        → Places (λ it. it.items) known (lent links.now) result }
 {
     let mut places = Vec::new(alloc);
     for (from, to) in links {

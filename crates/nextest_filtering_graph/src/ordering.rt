@@ -26,7 +26,12 @@ pub(crate) fn steps(
     let again = search_lists(alloc, ends.as_slice(), heads_first.as_slice())?;
     let mut steps = Vec::new(alloc);
     push_parents(&mut steps, heads_first.as_slice(), &against)?;
-    push_ends(&mut steps, again.left.as_slice(), ends.as_slice(), heads.as_slice())?;
+    push_ends(
+        &mut steps,
+        again.left.as_slice(),
+        ends.as_slice(),
+        heads.as_slice(),
+    )?;
     push_parents(&mut steps, heads_first.as_slice(), &against)?;
     Ok(steps)
 }

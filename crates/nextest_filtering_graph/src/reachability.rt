@@ -19,7 +19,12 @@ pub struct Reachability {
 
 impl Drop for Reachability {
     fn drop(self) {
-        let Self { width: _, count: _, words: _, links: _ } = self;
+        let Self {
+            width: _,
+            count: _,
+            words: _,
+            links: _,
+        } = self;
     }
 }
 
@@ -32,10 +37,8 @@ impl Model for Reachability {
 
     ghost view = { λ r. record { count = r.count; links = r.links.items } };
 
-    ghost invariant = {
-        λ r. (vec_len r.words ≡ r.count * r.width) × (r.count ≤ 64 * r.width)
-            × AreReached r.links.items r.width r.count r.words.items
-    };
+    ghost invariant = { λ r. (vec_len r.words ≡ r.count * r.width) × (r.count ≤ 64 * r.width)
+        × AreReached r.links.items r.width r.count r.words.items };
 }
 
 impl Reachability {

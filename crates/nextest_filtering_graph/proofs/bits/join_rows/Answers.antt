@@ -1,4 +1,4 @@
-use Rattle.std.proofs.Common.{◌≡◌, ◌≢◌, ℕ, ◌+◌, ◌*◌, ◌<◌, ◌≤◌, length, sum, true, false, arith, get_or, ap, refl, sym, ◌∙◌, get_or-set_same, get_or-set_other}
+use Rattle.std.proofs.Common.{ℕ, ◌+◌, ◌*◌, ◌<◌, length, arith, get_or, refl, sym, get_or-set_same, get_or-set_other}
 use Rattle.std.proofs.Math.ListN.{set}
 use Rattle.std.specs.Prelude.{bit_or}
 use Rattle.nextest_filtering_graph.proofs.Words.{rows_joined, one_more_word, sum_grows, sum_at_least}
@@ -21,7 +21,7 @@ loop-word-preserved c =
             others = both.1;
             kept = λ e. cc;
             grown = λ _. sum_grows c.args.words.now c.loop-word.words place more within
-            (sum_at_least c.args.words.now c.loop-word.words c.loop-word.is_changed c.loop-word.invariant.kept c.loop-word.invariant.grown) w.if-new-old.true;
+                (sum_at_least c.args.words.now c.loop-word.words c.loop-word.is_changed c.loop-word.invariant.kept c.loop-word.invariant.grown) w.if-new-old.true;
           })
       | else-new-old w ↦
           let both = one_more_word c.args.words.now c.loop-word.words c.loop-word.words c.args.width c.args.from c.args.to c.loop-word.word c.loop-word-test.true

@@ -1,4 +1,4 @@
-use Rattle.std.proofs.Common.{◌≡◌, ℕ, ◌+◌, ◌*◌, ◌<◌, ◌≤◌, List, sum, take, get_or, length, true, false, arith, ap, sym, ◌∙◌, refl, inl, inr, subst}
+use Rattle.std.proofs.Common.{◌≡◌, ℕ, ◌<◌, ◌≤◌, List, sum, take, get_or, arith, sym, ◌∙◌, refl, inr, subst}
 use Rattle.std.proofs.lemmas.List.Elements.{Contains-get_or}
 use Rattle.nextest_filtering_graph.specs.Reaching.{Reaches, stay, onward}
 use Rattle.nextest_filtering_graph.specs.Rows.{HasBit, AreRows, AreClosed}
@@ -27,15 +27,15 @@ loop-from-preserved c =
     = rows_after c.args.links.now c.args.width c.args.count c.loop-from.words c.join_rows.new.words link.0 link.1 c.loop-from.invariant.rows reaches below.1 c.join_rows.auto.words c.join_rows.ensures.joined in
     elim c.if-join_rows.branch [
       | then-join_rows w ↦ rw w.is_changed-is (record {
-          rows = rows;
-          closed = λ e. cc;
-          kept = λ e. cc;
-          grown = λ _.
-              let more : sum c.loop-from.words < sum c.join_rows.new.words = c.join_rows.ensures.grown w.if-join_rows.true in
-              let before : sum c.args.words.now ≤ sum c.loop-from.words
-              = sum_at_least c.args.words.now c.loop-from.words c.loop-from.is_changed c.loop-from.invariant.kept c.loop-from.invariant.grown in
-              omega arith;
-        })
+        rows = rows;
+        closed = λ e. cc;
+        kept = λ e. cc;
+        grown = λ _.
+            let more : sum c.loop-from.words < sum c.join_rows.new.words = c.join_rows.ensures.grown w.if-join_rows.true in
+            let before : sum c.args.words.now ≤ sum c.loop-from.words
+            = sum_at_least c.args.words.now c.loop-from.words c.loop-from.is_changed c.loop-from.invariant.kept c.loop-from.invariant.grown in
+            omega arith;
+      })
       | else-join_rows w ↦
           let same : c.join_rows.new.words ≡ c.loop-from.words = c.join_rows.ensures.kept w.if-join_rows.false in
           rw w.is_changed-is (record {

@@ -1,4 +1,4 @@
-use Rattle.std.proofs.Common.{◌≡◌, ℕ, ◌<◌, get_or, sym}
+use Rattle.std.proofs.Common.{ℕ, get_or}
 use Rattle.nextest_filtering_graph.specs.Rows.{AreRows}
 use Rattle.nextest_filtering_graph.proofs.Rows.{rows_after}
 use Rattle.nextest_filtering_graph.proofs.closing.join_steps.Goals.{then-from-count+then-to-count+then-has_bit, else-from-count}

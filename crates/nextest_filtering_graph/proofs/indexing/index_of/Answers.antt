@@ -1,10 +1,9 @@
-use Rattle.std.proofs.Common.{◌≡◌, ℕ, ◌+◌, List, [], ◌∷◌, ◌++◌, take, get_or, length, true, false, is_some, ap, sym, ◌∙◌, subst}
+use Rattle.std.proofs.Common.{◌≡◌, ℕ, List, [], take, get_or, true, false, is_some, sym, subst}
 use Rattle.nextest_filtering_graph.specs.Graph.{IsIndex, ids, place_of}
 use Rattle.nextest_filtering_graph.specs.Making.{lent}
 use Rattle.nextest_filtering_graph.proofs.Places.{ids_more, stands_twice, stands_once, index_more, looked_up, ids_length}
 use Rattle.nextest_filtering_graph.proofs.indexing.index_of.Goals as goal
 use denote.Ref.{Bor}
-
 
 pub returns-then-is_some : goal.returns-then-is_some
 returns-then-is_some c =

@@ -1,6 +1,4 @@
-use Rattle.std.proofs.Common.{◌≡◌, ℕ, ◌+◌, List, [], ◌∷◌, ◌++◌, take, get_or, length, map, Option, None, Some, ap, sym, ◌∙◌, subst}
-use Rattle.nextest_filtering_graph.specs.Graph.{IsIndex, placed}
-use Rattle.nextest_filtering_graph.specs.Making.{lent}
+use Rattle.std.proofs.Common.{ℕ, List, [], get_or, map, Some, ap, sym, ◌∙◌}
 use Rattle.nextest_filtering_graph.proofs.Places.{unknown_among, placed_more, placed_by}
 use Rattle.nextest_filtering_graph.proofs.indexing.placed_links.Goals as goal
 use denote.Ref.{Bor}
