@@ -6,7 +6,9 @@
 #![tactic(auto)]
 
 pub use nextest_filtering_arguments::ParseSingleError;
-pub use nextest_filtering_globs::{ClassRange, GenericGlob, GlobConstructError, GlobMatcher, GlobToken};
+pub use nextest_filtering_globs::{
+    ClassRange, GenericGlob, GlobConstructError, GlobMatcher, GlobToken,
+};
 pub use nextest_filtering_syntax::{ParseError, Reading, needs_deps, parse, read};
 pub use nextest_filtering_trees::{
     AndOperator, BuildPlatform, DifferenceOperator, NameMatcher, NotOperator, OrOperator,
