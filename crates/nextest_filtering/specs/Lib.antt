@@ -6,6 +6,8 @@ pub use Rattle.nextest_filtering_trees.specs.Words
 pub use Rattle.nextest_filtering_trees.specs.Printing
 pub use Rattle.nextest_filtering_trees.specs.Runtime
 pub use Rattle.nextest_filtering_trees.specs.Same
+pub use Rattle.nextest_filtering_trees.specs.Meaning
+pub use Rattle.nextest_filtering_trees.specs.Matching
 pub use Rattle.nextest_filtering_laws.specs.Laws
 -- reading: what is read, and where faults and predicates stand
 pub use Rattle.nextest_filtering_syntax.specs.Reading
@@ -29,6 +31,7 @@ pub use Rattle.nextest_filtering_trees.specs.declared.leaf.ParsedLeaf
 pub use Rattle.nextest_filtering_trees.specs.declared.leaf.BuildPlatform
 pub use Rattle.nextest_filtering_trees.specs.declared.leaf.SourceSpan
 pub use Rattle.nextest_filtering_trees.specs.declared.matcher.NameMatcher
+pub use Rattle.nextest_filtering_trees.specs.declared.matching.NameMatching
 pub use Rattle.nextest_filtering_trees.specs.declared.operators.AndOperator
 pub use Rattle.nextest_filtering_trees.specs.declared.operators.DifferenceOperator
 pub use Rattle.nextest_filtering_trees.specs.declared.operators.NotOperator

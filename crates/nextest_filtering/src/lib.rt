@@ -11,8 +11,8 @@ pub use nextest_filtering_globs::{
 };
 pub use nextest_filtering_syntax::{ParseError, Reading, needs_deps, parse, read};
 pub use nextest_filtering_trees::{
-    AndOperator, BuildPlatform, DifferenceOperator, NameMatcher, NotOperator, OrOperator,
-    ParsedExpr, ParsedLeaf, Pattern, PatternError, SourceSpan,
+    AndOperator, BuildPlatform, DifferenceOperator, NameMatcher, NameMatching, NotOperator,
+    OrOperator, ParsedExpr, ParsedLeaf, Pattern, PatternError, SourceSpan,
 };
 
 /// The laws of the language over its definitions.

@@ -1,6 +1,7 @@
 // What a glob matches.
 ghost use Rattle.std.specs.Prelude.{◌≡◌, ◌↔◌, chars, IfOk, IsTrue};
 ghost use Rattle.nextest_filtering_globs.specs.Meaning.{Matches};
+ghost use Rattle.nextest_filtering_globs.specs.Syntax.{IsGlob};
 
 use super::glob::GenericGlob;
 use super::places::{begin, has_last, read_characters};
@@ -43,6 +44,7 @@ impl<'g> GlobMatcher<'g> {
     /// text's characters times the glob's.
     pub fn is_match(&mut self, text: &str) -> Result<bool, AllocError>
         ensures exact { IfOk result (λ answer. IsTrue answer ↔ Matches self.old.tokens (chars text.now)) }
+        ensures spelled { IfOk result (λ _. IsGlob self.old.text self.old.tokens) }
         ensures same { self.new ≡ self.old }
     {
         read_characters(text, &mut self.characters)?;

@@ -1,4 +1,7 @@
 pub mod Grammar
+pub mod Inside
+pub mod Matching
+pub mod Meaning
 pub mod Printing
 pub mod Same
 pub mod Tree

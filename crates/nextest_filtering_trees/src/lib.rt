@@ -4,6 +4,7 @@
 mod copying;
 mod leaf;
 mod matcher;
+mod matching;
 mod operators;
 mod pattern;
 mod printing;
@@ -12,6 +13,7 @@ mod tree;
 
 pub use leaf::{BuildPlatform, ParsedLeaf, SourceSpan};
 pub use matcher::NameMatcher;
+pub use matching::NameMatching;
 pub use operators::{AndOperator, DifferenceOperator, Joint, NotOperator, OrOperator};
-pub use pattern::{Pattern, PatternError};
+pub use pattern::{Pattern, PatternError, PatternMatcher};
 pub use tree::ParsedExpr;

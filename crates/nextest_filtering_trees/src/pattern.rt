@@ -1,9 +1,10 @@
 // A regular expression with its text.
-ghost use Rattle.std.specs.Prelude.{◌≡◌, IfOk, Err};
+ghost use Rattle.std.specs.Prelude.{◌≡◌, ◌↔◌, true, IfOk, Err};
+ghost use Rattle.nextest_filtering_trees.specs.Meaning.{IsFoundIn};
 ghost use Rattle.nextest_filtering_trees.specs.declared.pattern.PatternError.TheVariants.{Syntax};
 ghost use Rattle.nextest_filtering_trees.specs.Tree.{IsRegex};
 
-use regex::{Error as RegexError, Regex};
+use regex::{Error as RegexError, Matcher, Regex};
 use std::alloc::{AllocError, AllocFailed, Global};
 use std::fmt;
 use std::marker::Model;
@@ -73,11 +74,59 @@ impl Pattern {
         }
     }
 
+    /// What it takes to look for it in texts.
+    pub fn matcher(&self, alloc: Global) -> Result<PatternMatcher<'_>, AllocError>
+        ensures { IfOk result (λ it. it ≡ self.now) }
+    {
+        Ok(PatternMatcher {
+            pattern: self,
+            matcher: self.regex.matcher(alloc)?,
+        })
+    }
+
     /// The text of the pattern.
     pub fn as_str(&self) -> &str
         ensures { result.now ≡ self.now }
     {
         self.regex.as_str()
+    }
+}
+
+/// A regular expression, lent, with what it takes to look for it in texts one after another, without more memory. In a
+/// clause it is the list of its text's bytes.
+pub struct PatternMatcher<'p> {
+    pattern: &'p Pattern,
+    matcher: Matcher<'p>,
+}
+
+impl<'p> Model for PatternMatcher<'p> {
+    ghost use Rattle.std.specs.Prelude.{List, ℕ};
+    ghost use Rattle.nextest_filtering_trees.specs.Inside.{IsFor};
+
+    ghost Value = { List ℕ };
+
+    ghost view = { λ it. it.pattern.now };
+
+    ghost invariant = { λ it. IsFor it.pattern.now it.matcher };
+}
+
+// Code that drops one calls this, and doesn't look into it.
+impl<'p> Drop for PatternMatcher<'p> {
+    fn drop(self) {
+        let PatternMatcher {
+            pattern: _,
+            matcher: _,
+        } = self;
+    }
+}
+
+impl<'p> PatternMatcher<'p> {
+    /// Whether a part of the text matches the regular expression.
+    pub fn is_match(&mut self, text: &str) -> bool
+        ensures exact { (result ≡ true) ↔ IsFoundIn self.old text.now }
+        ensures same { self.new ≡ self.old }
+    {
+        self.matcher.is_match(text)
     }
 }
 

@@ -4,6 +4,7 @@
 mod faults;
 mod filtersets;
 mod globs;
+mod names;
 mod texts;
 
 use anyhow::{Result, ensure};
@@ -17,6 +18,7 @@ fn main(rt: HostRuntime) -> Result<()> {
     hold &= rows_hold(&rt, &filtersets::Deps)?;
     hold &= rows_hold(&rt, &globs::Globs)?;
     hold &= rows_hold(&rt, &globs::GlobMatches)?;
+    hold &= rows_hold(&rt, &names::NameMatches)?;
     hold &= rows_hold(&rt, &texts::Texts)?;
     hold &= rows_hold(&rt, &texts::Escapes)?;
     hold &= rows_hold(&rt, &texts::Printed)?;
