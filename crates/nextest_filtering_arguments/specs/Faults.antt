@@ -54,7 +54,8 @@ abbrev pub BeginsBare : List ℕ → SourceSpan → Type 0
 BeginsBare input span = has_blank_front (drop span.offset input) ≡ false
 
 -- where a fault may stand: an operator's span is the operator, a comma's the comma, an escape's a backslash with
--- the whole character behind it, or the one that is the input's last byte; what is missing is missing behind blanks
+-- the whole character behind it, or the one that is the input's last byte; what is missing is missing behind blanks;
+-- faults of predicates aren't told of a text
 abbrev pub IsFaultOf : List ℕ → ParseSingleError → Type 0
 IsFaultOf input (fault.InvalidGlob span) = Lies input span
 IsFaultOf input (fault.InvalidRegexWithoutMessage span) = Lies input span
@@ -70,6 +71,11 @@ IsFaultOf input (fault.InvalidEscapeCharacter span) = Lies input span × IsBadEs
 IsFaultOf input (fault.ExpectedExpr span) = RunsOut input span × BeginsBare input span
 IsFaultOf input (fault.ExpectedEndOfExpression span) = RunsOut input span × BeginsBare input span
 IsFaultOf input (fault.InvalidPlatformArgument span) = Lies input span
+IsFaultOf input (fault.BannedPredicate kind span reason) = ⊥
+IsFaultOf input (fault.NoPackageMatch span) = ⊥
+IsFaultOf input (fault.NoBinaryIdMatch span) = ⊥
+IsFaultOf input (fault.NoBinaryNameMatch span) = ⊥
+IsFaultOf input (fault.NoGroupMatch span) = ⊥
 
 -- each of them is one of the input's
 abbrev pub AreFaultsOf : List ℕ → List ParseSingleError → Type 0

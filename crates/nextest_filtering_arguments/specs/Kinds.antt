@@ -20,6 +20,11 @@ label_of (fault.InvalidEscapeCharacter span) = codes "InvalidEscapeCharacter"
 label_of (fault.ExpectedExpr span) = codes "ExpectedExpr"
 label_of (fault.ExpectedEndOfExpression span) = codes "ExpectedEndOfExpression"
 label_of (fault.InvalidPlatformArgument span) = codes "InvalidPlatformArgument"
+label_of (fault.BannedPredicate kind span reason) = codes "BannedPredicate"
+label_of (fault.NoPackageMatch span) = codes "NoPackageMatch"
+label_of (fault.NoBinaryIdMatch span) = codes "NoBinaryIdMatch"
+label_of (fault.NoBinaryNameMatch span) = codes "NoBinaryNameMatch"
+label_of (fault.NoGroupMatch span) = codes "NoGroupMatch"
 
 -- what to write instead
 abbrev pub help_of : ParseSingleError → Option (List ℕ)
@@ -37,6 +42,11 @@ help_of (fault.InvalidEscapeCharacter span) = None
 help_of (fault.ExpectedExpr span) = None
 help_of (fault.ExpectedEndOfExpression span) = None
 help_of (fault.InvalidPlatformArgument span) = None
+help_of (fault.BannedPredicate kind span reason) = None
+help_of (fault.NoPackageMatch span) = None
+help_of (fault.NoBinaryIdMatch span) = None
+help_of (fault.NoBinaryNameMatch span) = None
+help_of (fault.NoGroupMatch span) = None
 
 -- where it stands
 abbrev pub span_of : ParseSingleError → SourceSpan
@@ -54,3 +64,8 @@ span_of (fault.InvalidEscapeCharacter span) = span
 span_of (fault.ExpectedExpr span) = span
 span_of (fault.ExpectedEndOfExpression span) = span
 span_of (fault.InvalidPlatformArgument span) = span
+span_of (fault.BannedPredicate kind span reason) = span
+span_of (fault.NoPackageMatch span) = span
+span_of (fault.NoBinaryIdMatch span) = span
+span_of (fault.NoBinaryNameMatch span) = span
+span_of (fault.NoGroupMatch span) = span

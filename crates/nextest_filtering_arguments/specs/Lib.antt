@@ -3,3 +3,4 @@ pub mod Faults
 pub mod Kinds
 pub mod Texts
 pub mod Matchers
+pub mod Bans

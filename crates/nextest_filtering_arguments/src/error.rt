@@ -1,7 +1,9 @@
 // Why a text is refused.
+use crate::ban::{BannedPredicateReason, FiltersetKind};
 use nextest_filtering_trees::SourceSpan;
 
-/// A fault of a filterset's text, and where it stands.
+/// A fault of a filterset, and where it stands: of its text, of a predicate that may not stand there, or of one that nothing
+/// can be.
 #[derive(Clone, Copy, Debug, PartialEq, Eq)]
 pub enum ParseSingleError {
     /// The text is no glob.
@@ -32,6 +34,23 @@ pub enum ParseSingleError {
     ExpectedEndOfExpression(SourceSpan),
     /// The platform is neither `host` nor `target`.
     InvalidPlatformArgument(SourceSpan),
+    /// The predicate may not stand in a filterset of this kind, for this reason.
+    BannedPredicate {
+        /// What the filterset is for.
+        kind: FiltersetKind,
+        /// Where the predicate stands.
+        span: SourceSpan,
+        /// Why it may not.
+        reason: BannedPredicateReason,
+    },
+    /// No package has such a name.
+    NoPackageMatch(SourceSpan),
+    /// No binary has such an id.
+    NoBinaryIdMatch(SourceSpan),
+    /// No binary has such a name.
+    NoBinaryNameMatch(SourceSpan),
+    /// No group has such a name.
+    NoGroupMatch(SourceSpan),
 }
 
 impl ParseSingleError {
@@ -57,6 +76,11 @@ impl ParseSingleError {
             ParseSingleError::ExpectedExpr(_) => "ExpectedExpr",
             ParseSingleError::ExpectedEndOfExpression(_) => "ExpectedEndOfExpression",
             ParseSingleError::InvalidPlatformArgument(_) => "InvalidPlatformArgument",
+            ParseSingleError::BannedPredicate { .. } => "BannedPredicate",
+            ParseSingleError::NoPackageMatch(_) => "NoPackageMatch",
+            ParseSingleError::NoBinaryIdMatch(_) => "NoBinaryIdMatch",
+            ParseSingleError::NoBinaryNameMatch(_) => "NoBinaryNameMatch",
+            ParseSingleError::NoGroupMatch(_) => "NoGroupMatch",
         }
     }
 
@@ -89,7 +113,12 @@ impl ParseSingleError {
             | ParseSingleError::InvalidEscapeCharacter(span)
             | ParseSingleError::ExpectedExpr(span)
             | ParseSingleError::ExpectedEndOfExpression(span)
-            | ParseSingleError::InvalidPlatformArgument(span) => *span,
+            | ParseSingleError::InvalidPlatformArgument(span)
+            | ParseSingleError::BannedPredicate { span, .. }
+            | ParseSingleError::NoPackageMatch(span)
+            | ParseSingleError::NoBinaryIdMatch(span)
+            | ParseSingleError::NoBinaryNameMatch(span)
+            | ParseSingleError::NoGroupMatch(span) => *span,
         }
     }
 }

@@ -1,6 +1,7 @@
 //! The arguments of predicates: texts, matchers, platforms, as they are read, and why they are refused.
 #![tactic(auto)]
 
+mod ban;
 mod cursor;
 mod error;
 mod faults;
@@ -10,6 +11,7 @@ mod stop;
 mod subject;
 mod text;
 
+pub use ban::{BannedPredicateReason, FiltersetKind};
 pub use cursor::{begins_blank, behind, is_blank, skip_blanks, trim_blanks_end};
 pub use error::ParseSingleError;
 pub use faults::Faults;

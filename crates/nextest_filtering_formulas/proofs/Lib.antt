@@ -1,3 +1,4 @@
 pub mod Giving
 pub mod Waiting
 pub mod Building
+pub mod Rows

@@ -3,3 +3,4 @@ pub mod Values
 pub mod Steps
 pub mod Waiting
 pub mod Laws
+pub mod WorkedRows
