@@ -1,25 +1,19 @@
 -- The worked rows.
-use Rattle.std.proofs.Common.{◌↔◌, ℕ, Bool, true, false, inl, inr, refl}
-use Rattle.nextest_filtering_formulas.specs.Formula.{AreValues, Formula, Gives, leaf, negated, either, both}
-use Rattle.nextest_filtering_formulas.specs.Laws.{may_by}
-use Rattle.nextest_filtering_formulas.specs.Values.{both_values, either_values, negated_values}
+use Rattle.std.proofs.Common.{inl, inr, refl}
+use Rattle.nextest_filtering_formulas.specs.Formula.{Gives, leaf, negated, either, both}
+use Rattle.nextest_filtering_formulas.specs.Values.{may_by, nowhere, both_values, either_values, negated_values}
 use Rattle.nextest_filtering_formulas.specs.Waiting.{AreOf}
-use Rattle.nextest_filtering_formulas.specs.WorkedRows.{WorkedRows, everywhere, known, nowhere, unknown}
-use Rattle.nextest_filtering_formulas.specs.declared.values.Values.{Values}
-use Rattle.nextest_filtering_formulas.proofs.Giving.{is_value, leaf_values, values_both, values_either, values_negated}
-
--- the values of a leaf
-exactly : (number : ℕ) → AreValues (may_by known number) (known number)
-exactly number = (((λ so. so), (λ so. so)), ((λ so. so), (λ so. so)))
+use Rattle.nextest_filtering_formulas.specs.WorkedRows.{WorkedRows, everywhere, known, unknown}
+use Rattle.nextest_filtering_formulas.proofs.Giving.{is_value, may_exactly, leaf_values, values_both, values_either, values_negated}
 
 test_a : AreOf (may_by known) (leaf 0) unknown
-test_a = leaf_values (may_by known) 0 unknown (exactly 0) (inl refl)
+test_a = leaf_values (may_by known) 0 unknown (may_exactly known 0) (inl refl)
 
 all : AreOf (may_by known) (leaf 1) everywhere
-all = leaf_values (may_by known) 1 everywhere (exactly 1) (inl refl)
+all = leaf_values (may_by known) 1 everywhere (may_exactly known 1) (inl refl)
 
 none : AreOf (may_by known) (leaf 2) nowhere
-none = leaf_values (may_by known) 2 nowhere (exactly 2) (inr refl)
+none = leaf_values (may_by known) 2 nowhere (may_exactly known 2) (inr refl)
 
 pub worked_rows : WorkedRows
 worked_rows =

@@ -4,11 +4,11 @@ use Rattle.std.proofs.Math.Seq.{drop-cons}
 use Rattle.nextest_filtering_formulas.specs.Formula.{AreValues, Formula, both, either, leaf, negated}
 use Rattle.nextest_filtering_formulas.specs.Steps.{after, after_step, and_then}
 use Rattle.nextest_filtering_formulas.specs.Values.{IsSome, both_values, either_values, negated_values}
-use Rattle.nextest_filtering_formulas.specs.Waiting.{AreOf, IsSameMay, Takes, Wait, over}
+use Rattle.nextest_filtering_formulas.specs.Waiting.{AreOf, Takes, Wait, over}
 use Rattle.nextest_filtering_formulas.specs.declared.step.Step.{Step}
 use Rattle.nextest_filtering_formulas.specs.declared.step.Step.TheVariants as step
 use Rattle.nextest_filtering_formulas.specs.declared.values.Values.{Values}
-use Rattle.nextest_filtering_formulas.proofs.Giving.{leaf_values, same_values, values_both, values_either, values_negated}
+use Rattle.nextest_filtering_formulas.proofs.Giving.{leaf_values, values_both, values_either, values_negated}
 
 -- lists that end so are the same in front
 same_ends : (one other : List Values) (x y : Values) → one ++ x ∷ [] ≡ other ++ y ∷ [] → (one ≡ other) × (x ≡ y)
@@ -27,10 +27,10 @@ leaf_waits : (May : ℕ → Bool → Type 0) (number : ℕ) (old new : List Valu
     → Takes May (step.Leaf number) old new
 leaf_waits May number old new values exact some is formulas next made waits =
     let same : leaf number ∷ formulas ≡ next = cc in
-    subst (λ (f : List Formula). Wait May f new) same (old, (values, is, leaf_values May number values exact some, waits))
+    subst (λ (f : List (Formula ℕ)). Wait May f new) same (old, (values, is, leaf_values May number values exact some, waits))
 
 -- what waits last
-last_waits : (May : ℕ → Bool → Type 0) (last : Formula) (formulas : List Formula) (front old : List Values) (values : Values) → old ≡ front ++ values ∷ [] → Wait May (last ∷ formulas) old
+last_waits : (May : ℕ → Bool → Type 0) (last : Formula ℕ) (formulas : List (Formula ℕ)) (front old : List Values) (values : Values) → old ≡ front ++ values ∷ [] → Wait May (last ∷ formulas) old
     → AreOf May last values × Wait May formulas front
 last_waits May last formulas front old values is (others, (same, ends, of, waits)) =
     let one = same_ends others front same values (sym ends ∙ is) in
@@ -42,7 +42,7 @@ not_waits May front old new inside is ends [] next made waits = cc
 not_waits May front old new inside is ends (last ∷ formulas) next made waits =
     let one = last_waits May last formulas front old inside is waits in
     let same : negated last ∷ formulas ≡ next = cc in
-    subst (λ (f : List Formula). Wait May f new) same (front, (negated_values inside, ends, values_negated May last inside one.0, one.1))
+    subst (λ (f : List (Formula ℕ)). Wait May f new) same (front, (negated_values inside, ends, values_negated May last inside one.0, one.1))
 
 either_waits : (May : ℕ → Bool → Type 0) (front middle old new : List Values) (left right : Values) → old ≡ middle ++ right ∷ [] → middle ≡ front ++ left ∷ []
     → new ≡ front ++ either_values left right ∷ [] → Takes May step.Either old new
@@ -52,7 +52,7 @@ either_waits May front middle old new left right is at ends (last ∷ first ∷ 
     let one = last_waits May last (first ∷ formulas) middle old right is waits in
     let two = last_waits May first formulas front middle left at one.1 in
     let same : either first last ∷ formulas ≡ next = cc in
-    subst (λ (f : List Formula). Wait May f new) same (front, (either_values left right, ends, values_either May first last left right two.0 one.0, two.1))
+    subst (λ (f : List (Formula ℕ)). Wait May f new) same (front, (either_values left right, ends, values_either May first last left right two.0 one.0, two.1))
 
 both_waits : (May : ℕ → Bool → Type 0) (front middle old new : List Values) (left right : Values) → old ≡ middle ++ right ∷ [] → middle ≡ front ++ left ∷ []
     → new ≡ front ++ both_values left right ∷ [] → Takes May step.Both old new
@@ -62,7 +62,7 @@ both_waits May front middle old new left right is at ends (last ∷ first ∷ fo
     let one = last_waits May last (first ∷ formulas) middle old right is waits in
     let two = last_waits May first formulas front middle left at one.1 in
     let same : both first last ∷ formulas ≡ next = cc in
-    subst (λ (f : List Formula). Wait May f new) same (front, (both_values left right, ends, values_both May first last left right two.0 one.0, two.1))
+    subst (λ (f : List (Formula ℕ)). Wait May f new) same (front, (both_values left right, ends, values_both May first last left right two.0 one.0, two.1))
 
 pub takes_leaf : (May : ℕ → Bool → Type 0) (it : Step) (number : ℕ) (old new : List Values) (values : Values) → it ≡ step.Leaf number → AreValues (May number) values → IsSome values
     → new ≡ old ++ values ∷ [] → Takes May it old new
@@ -85,48 +85,42 @@ takes_both May it front middle old new left right made is at then_at same ends =
 
 -- ---- all steps
 
--- the same where leaves may be the same
-same_waits : (May Other : ℕ → Bool → Type 0) → IsSameMay May Other → (formulas : List Formula) (waiting : List Values) → Wait May formulas waiting → Wait Other formulas waiting
-same_waits May Other same [] waiting none = none
-same_waits May Other same (last ∷ formulas) waiting (front, (values, is, of, waits)) =
-    (front, (values, is, same_values May Other same last values of, same_waits May Other same formulas front waits))
-
 -- as many values wait as formulas
-many_wait : (May : ℕ → Bool → Type 0) (formulas : List Formula) (waiting : List Values) → Wait May formulas waiting → length waiting ≡ length formulas
+many_wait : (May : ℕ → Bool → Type 0) (formulas : List (Formula ℕ)) (waiting : List Values) → Wait May formulas waiting → length waiting ≡ length formulas
 many_wait May [] waiting none = ap length none
 many_wait May (last ∷ formulas) waiting (front, (values, is, of, waits)) =
     let more = many_wait May formulas front waits in
     omega (arith, ap length is, length-append front (values ∷ []), more)
 
 -- What a walk over steps has got to: the formulas that wait, their values, and what the steps that are left make of them.
-pub record GotTo (May : ℕ → Bool → Type 0) (steps : List Step) (place : ℕ) (formula : Formula) (waiting : List Values) : Type 0 where
-  pub formulas : List Formula
+pub record GotTo (May : ℕ → Bool → Type 0) (steps : List Step) (place : ℕ) (formula : Formula ℕ) (waiting : List Values) : Type 0 where
+  pub formulas : List (Formula ℕ)
   pub ahead : after (drop place steps) formulas ≡ Some (formula ∷ [])
   pub waits : Wait May formulas waiting
 
-pub got_nowhere : (May : ℕ → Bool → Type 0) (steps : List Step) (formula : Formula) (waiting : List Values) → after steps [] ≡ Some (formula ∷ []) → waiting ≡ [] → GotTo May steps 0 formula waiting
+pub got_nowhere : (May : ℕ → Bool → Type 0) (steps : List Step) (formula : Formula ℕ) (waiting : List Values) → after steps [] ≡ Some (formula ∷ []) → waiting ≡ [] → GotTo May steps 0 formula waiting
 got_nowhere May steps formula waiting made none = record { formulas = []; ahead = made; waits = none }
 
 -- what a step makes, where the steps make something
-record Makes (it : Step) (more : List Step) (formulas : List Formula) (formula : Formula) : Type 0 where
-  next : List Formula
+record Makes (it : Step) (more : List Step) (formulas : List (Formula ℕ)) (formula : Formula ℕ) : Type 0 where
+  next : List (Formula ℕ)
   made : after_step it formulas ≡ Some next
   ahead : after more next ≡ Some (formula ∷ [])
 
-makes : (it : Step) (more : List Step) (formulas : List Formula) (formula : Formula) → after (it ∷ more) formulas ≡ Some (formula ∷ []) → Makes it more formulas formula
+makes : (it : Step) (more : List Step) (formulas : List (Formula ℕ)) (formula : Formula ℕ) → after (it ∷ more) formulas ≡ Some (formula ∷ []) → Makes it more formulas formula
 makes it more formulas formula ahead = by_made (after_step it formulas) refl ahead
   where
-    by_made : (made : Option (List Formula)) → after_step it formulas ≡ made → and_then (after more) made ≡ Some (formula ∷ []) → Makes it more formulas formula
+    by_made : (made : Option (List (Formula ℕ))) → after_step it formulas ≡ made → and_then (after more) made ≡ Some (formula ∷ []) → Makes it more formulas formula
     by_made None is none = cc
     by_made (Some next) is some = record { next = next; made = is; ahead = some }
 
-next_step : (May : ℕ → Bool → Type 0) (steps : List Step) (place : ℕ) (formula : Formula) (waiting : List Values) (other : Step) → place < length steps
+next_step : (May : ℕ → Bool → Type 0) (steps : List Step) (place : ℕ) (formula : Formula ℕ) (waiting : List Values) (other : Step) → place < length steps
     → (got : GotTo May steps place formula waiting) → Makes (get_or steps place other) (drop (suc place) steps) got.formulas formula
 next_step May steps place formula waiting other less got =
     makes (get_or steps place other) (drop (suc place) steps) got.formulas formula
     (subst (λ (l : List Step). after l got.formulas ≡ Some (formula ∷ [])) (drop-cons steps place other less) got.ahead)
 
-enough : (it : Step) (formulas next : List Formula) → after_step it formulas ≡ Some next → over it ≤ length formulas
+enough : (it : Step) (formulas next : List (Formula ℕ)) → after_step it formulas ≡ Some next → over it ≤ length formulas
 enough (step.Leaf number) formulas next made = omega arith
 enough step.Not [] next made = cc
 enough step.Not (last ∷ formulas) next made = omega arith
@@ -138,7 +132,7 @@ enough step.Both (last ∷ []) next made = cc
 enough step.Both (last ∷ first ∷ formulas) next made = omega arith
 
 -- a step has the values that it is over
-pub enough_wait : (May : ℕ → Bool → Type 0) (steps : List Step) (place : ℕ) (formula : Formula) (waiting : List Values) (other : Step) → place < length steps
+pub enough_wait : (May : ℕ → Bool → Type 0) (steps : List Step) (place : ℕ) (formula : Formula ℕ) (waiting : List Values) (other : Step) → place < length steps
     → GotTo May steps place formula waiting → over (get_or steps place other) ≤ length waiting
 enough_wait May steps place formula waiting other less got =
     let step_made = next_step May steps place formula waiting other less got in
@@ -146,14 +140,13 @@ enough_wait May steps place formula waiting other less got =
     omega (arith, few, many_wait May got.formulas waiting got.waits)
 
 -- and the walk goes on behind it
-pub goes_on : (May Now : ℕ → Bool → Type 0) (steps : List Step) (place : ℕ) (formula : Formula) (waiting new : List Values) (other : Step) → place < length steps
-    → IsSameMay Now May → GotTo May steps place formula waiting → Takes Now (get_or steps place other) waiting new → GotTo May steps (place + 1) formula new
-goes_on May Now steps place formula waiting new other less same got takes =
+pub goes_on : (May : ℕ → Bool → Type 0) (steps : List Step) (place : ℕ) (formula : Formula ℕ) (waiting new : List Values) (other : Step) → place < length steps
+    → GotTo May steps place formula waiting → Takes May (get_or steps place other) waiting new → GotTo May steps (place + 1) formula new
+goes_on May steps place formula waiting new other less got takes =
     let step_made = next_step May steps place formula waiting other less got in
     let count : suc place ≡ place + 1 = omega arith in
     record {
       formulas = step_made.next;
       ahead = subst (λ (n : ℕ). after (drop n steps) step_made.next ≡ Some (formula ∷ [])) count step_made.ahead;
-      waits = same_waits Now May same step_made.next new
-          (takes got.formulas step_made.next step_made.made (same_waits May Now (λ number value. ((same number value).1, (same number value).0)) got.formulas waiting got.waits));
+      waits = takes got.formulas step_made.next step_made.made got.waits;
     }

@@ -1,6 +1,19 @@
 -- Values that can be, of what is made of others.
-use Rattle.std.specs.Prelude.{◌⊎◌, Bool, ◌&&◌, ◌||◌, Option, None, Some, IsTrue, if◌then◌else◌}
+use Rattle.std.specs.Prelude.{◌⊎◌, ℕ, Bool, true, false, List, slice_get, unwrap_or, ◌&&◌, ◌||◌, Option, None, Some, IsTrue, if◌then◌else◌}
 use Rattle.nextest_filtering_formulas.specs.declared.values.Values.{Values}
+
+-- a leaf may be what its values say
+abbrev pub may_by : (ℕ → Values) → ℕ → Bool → Type 0
+may_by values number true = IsTrue (values number).may_hold
+may_by values number false = IsTrue (values number).may_fail
+
+-- what holds nowhere
+abbrev pub nowhere : Values
+nowhere = record { may_hold = false; may_fail = true }
+
+-- the values of a leaf, by its place in a list; one that isn't there holds nowhere
+abbrev pub values_at : List Values → ℕ → Values
+values_at values number = unwrap_or (slice_get values number) nowhere
 
 -- some value can be
 abbrev pub IsSome : Values → Type 0

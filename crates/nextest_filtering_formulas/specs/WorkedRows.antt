@@ -1,18 +1,15 @@
 -- Filters whose values were found by hand.
-use Rattle.std.specs.Prelude.{ℕ, Bool, zero, suc, true, false, None, Some}
-use Rattle.nextest_filtering_formulas.specs.Formula.{Formula, Gives, IsValue, leaf, negated, either, both}
-use Rattle.nextest_filtering_formulas.specs.Laws.{may_by}
+use Rattle.std.specs.Prelude.{ℕ, zero, suc, true, false, None, Some}
+use Rattle.nextest_filtering_formulas.specs.Formula.{Gives, IsValue, leaf, negated, either, both}
+use Rattle.nextest_filtering_formulas.specs.Values.{may_by, nowhere}
 use Rattle.nextest_filtering_formulas.specs.declared.values.Values.{Values}
 
--- a test's name that isn't known yet, what is everywhere, and what is nowhere
+-- a test's name that isn't known yet, and what holds everywhere
 abbrev pub unknown : Values
 unknown = record { may_hold = true; may_fail = true }
 
 abbrev pub everywhere : Values
 everywhere = record { may_hold = true; may_fail = false }
-
-abbrev pub nowhere : Values
-nowhere = record { may_hold = false; may_fail = true }
 
 -- leaf 0 is `test(a)`, leaf 1 `all()`, leaf 2 `none()`
 abbrev pub known : ℕ → Values

@@ -49,7 +49,7 @@ impl FormulaBuilder {
     /// Negates the last formula. It fails only on allocation, and then nothing changes.
     pub fn negate(&mut self) -> Result<(), AllocError>
         requires some { 1 ≤ length (waiting_of self.old) }
-        ensures negated { IfOk result (λ _. (inside : words.Formula) (more : List words.Formula) → waiting_of self.old ≡ inside ∷ more → waiting_of self.new ≡ negated inside ∷ more) }
+        ensures negated { IfOk result (λ _. (inside : words.Formula ℕ) (more : List (words.Formula ℕ)) → waiting_of self.old ≡ inside ∷ more → waiting_of self.new ≡ negated inside ∷ more) }
         ensures kept { OnErr result (self.new ≡ self.old) }
     {
         Ok(self.steps.push(Step::Not)?)
@@ -59,7 +59,7 @@ impl FormulaBuilder {
     /// changes.
     pub fn either(&mut self) -> Result<(), AllocError>
         requires two { 2 ≤ length (waiting_of self.old) }
-        ensures joined { IfOk result (λ _. (right left : words.Formula) (more : List words.Formula) → waiting_of self.old ≡ right ∷ left ∷ more → waiting_of self.new ≡ either left right ∷ more) }
+        ensures joined { IfOk result (λ _. (right left : words.Formula ℕ) (more : List (words.Formula ℕ)) → waiting_of self.old ≡ right ∷ left ∷ more → waiting_of self.new ≡ either left right ∷ more) }
         ensures kept { OnErr result (self.new ≡ self.old) }
     {
         Ok(self.steps.push(Step::Either)?)
@@ -68,7 +68,7 @@ impl FormulaBuilder {
     /// Joins the last two formulas to what is so where both are. It fails only on allocation, and then nothing changes.
     pub fn both(&mut self) -> Result<(), AllocError>
         requires two { 2 ≤ length (waiting_of self.old) }
-        ensures joined { IfOk result (λ _. (right left : words.Formula) (more : List words.Formula) → waiting_of self.old ≡ right ∷ left ∷ more → waiting_of self.new ≡ both left right ∷ more) }
+        ensures joined { IfOk result (λ _. (right left : words.Formula ℕ) (more : List (words.Formula ℕ)) → waiting_of self.old ≡ right ∷ left ∷ more → waiting_of self.new ≡ both left right ∷ more) }
         ensures kept { OnErr result (self.new ≡ self.old) }
     {
         Ok(self.steps.push(Step::Both)?)

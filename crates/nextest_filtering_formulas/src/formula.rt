@@ -1,10 +1,10 @@
 // A formula, and its value.
-ghost use Rattle.std.specs.Prelude.{◌≡◌, ◌≤◌, ℕ, Bool, [], ◌∷◌, ◌++◌, vec_len, IfOk};
+ghost use Rattle.std.specs.Prelude.{◌≡◌, ◌≤◌, ℕ, Bool, [], ◌∷◌, ◌++◌, vec_len, IfOk, All};
 ghost use Rattle.nextest_filtering_formulas.specs.Formula.{Gives, IsValue};
 ghost use Rattle.nextest_filtering_formulas.specs.Steps.{formula_of};
-ghost use Rattle.nextest_filtering_formulas.specs.Waiting.{IsSameMay, Takes, over};
+ghost use Rattle.nextest_filtering_formulas.specs.Values.{IsSome, may_by, values_at};
+ghost use Rattle.nextest_filtering_formulas.specs.Waiting.{Takes, over};
 
-use crate::leaves::Leaves;
 use crate::step::Step;
 use crate::values::Values;
 use std::alloc::AllocError;
@@ -39,18 +39,29 @@ fn take_last(waiting: &mut Vec<Values>) -> Values
     }
 }
 
+// The values of a leaf.
+fn values_of(leaves: &[Values], leaf: usize) -> Values
+    requires some { All IsSome leaves.now }
+    ensures values { result ≡ values_at leaves.now leaf }
+    ensures some { IsSome result }
+{
+    match leaves.get(leaf) {
+        Some(values) => *values,
+        None => Values {
+            may_hold: false,
+            may_fail: true,
+        },
+    }
+}
+
 // Takes one step over values that wait, the last one last.
-fn take_step<L: Leaves>(
-    step: Step,
-    leaves: &mut L,
-    waiting: &mut Vec<Values>,
-) -> Result<(), AllocError>
+fn take_step(step: Step, leaves: &[Values], waiting: &mut Vec<Values>) -> Result<(), AllocError>
     requires few { over step ≤ vec_len waiting.old }
-    ensures takes { IfOk result (λ _. Takes (L.may leaves.old) step waiting.old.items waiting.new.items) }
-    ensures stays { IsSameMay (L.may leaves.new) (L.may leaves.old) }
+    requires some { All IsSome leaves.now }
+    ensures { IfOk result (λ _. Takes (may_by (values_at leaves.now)) step waiting.old.items waiting.new.items) }
 {
     match step {
-        Step::Leaf(leaf) => Ok(waiting.push(leaves.values(leaf))?),
+        Step::Leaf(leaf) => Ok(waiting.push(values_of(leaves, leaf))?),
         Step::Not => {
             let inside = take_last(waiting);
             Ok(waiting.push(inside.negated())?)
@@ -70,15 +81,16 @@ fn take_step<L: Leaves>(
 
 impl Formula {
     /// The value that the formula has whatever its leaves are, each place of a leaf apart from all others; `None` where it
-    /// can be true and can be false. `waiting` is room for values: what it had is gone, and memory is asked for only where it has
-    /// too little. It fails only on allocation.
-    pub fn value<L: Leaves>(
+    /// can be true and can be false. `leaves` are the values of the leaves, in the order of their numbers; a leaf that isn't
+    /// there holds nowhere. `waiting` is room for values: what it had is gone, and memory is asked for only where it has too
+    /// little. It fails only on allocation.
+    pub fn value(
         &self,
-        leaves: &mut L,
+        leaves: &[Values],
         waiting: &mut Vec<Values>,
     ) -> Result<Option<bool>, AllocError>
-        ensures value { IfOk result (IsValue (Gives (L.may leaves.old) (formula_of self.now))) }
-        ensures stays { IsSameMay (L.may leaves.new) (L.may leaves.old) }
+        requires some { All IsSome leaves.now }
+        ensures { IfOk result (IsValue (Gives (may_by (values_at leaves.now)) (formula_of self.now))) }
     {
         waiting.clear();
         for step in &self.steps {

@@ -5,12 +5,10 @@
 mod builder;
 mod formula;
 pub mod laws;
-mod leaves;
 mod step;
 mod values;
 
 pub use builder::FormulaBuilder;
 pub use formula::Formula;
-pub use leaves::Leaves;
 pub use step::Step;
 pub use values::Values;

@@ -1,0 +1,61 @@
+// The predicates of filters that are compiled.
+ghost use Rattle.std.specs.Prelude.{◌≡◌};
+ghost use Rattle.nextest_filtering_filters.specs.Filter.{is_runtime_only};
+
+use crate::package_set::PackageSet;
+use nextest_filtering_trees::{BuildPlatform, NameMatcher, SourceSpan};
+
+/// A predicate, as it is asked.
+pub enum FiltersetLeaf {
+    /// The binary's package is one of these.
+    Packages(PackageSet),
+    /// The binary's kind.
+    Kind(NameMatcher, SourceSpan),
+    /// The platform that the binary is built for.
+    Platform(BuildPlatform, SourceSpan),
+    /// The binary's name.
+    Binary(NameMatcher, SourceSpan),
+    /// The binary's id.
+    BinaryId(NameMatcher, SourceSpan),
+    /// The test's name.
+    Test(NameMatcher, SourceSpan),
+    /// The test's group.
+    Group(NameMatcher, SourceSpan),
+    /// The default filter.
+    Default,
+    /// Everything.
+    All,
+    /// Nothing.
+    None,
+}
+
+// Code that drops one calls this, and doesn't look into it.
+impl Drop for FiltersetLeaf {
+    fn drop(self) {
+        match self {
+            FiltersetLeaf::Packages(_) => {}
+            FiltersetLeaf::Kind(_, _) => {}
+            FiltersetLeaf::Platform(_, _) => {}
+            FiltersetLeaf::Binary(_, _) => {}
+            FiltersetLeaf::BinaryId(_, _) => {}
+            FiltersetLeaf::Test(_, _) => {}
+            FiltersetLeaf::Group(_, _) => {}
+            FiltersetLeaf::Default => {}
+            FiltersetLeaf::All => {}
+            FiltersetLeaf::None => {}
+        }
+    }
+}
+
+impl FiltersetLeaf {
+    /// Whether only a test tells whether the predicate holds, and not its binary alone: test names, groups and the default
+    /// filter.
+    pub fn is_runtime_only(&self) -> bool
+        ensures { result ≡ is_runtime_only self.now }
+    {
+        matches!(
+            self,
+            FiltersetLeaf::Test(_, _) | FiltersetLeaf::Group(_, _) | FiltersetLeaf::Default
+        )
+    }
+}
