@@ -1,12 +1,14 @@
 -- Filters that are compiled.
 use Rattle.std.specs.Prelude.{ℕ, Bool, true, false, List, slice_get, unwrap_or}
 use Rattle.nextest_filtering_formulas.specs.Formula.{Formula, with_leaves}
+use Rattle.nextest_filtering_formulas.specs.Steps.{formula_of}
+use Rattle.nextest_filtering_formulas.specs.declared.step.Step.{Step}
 use Rattle.nextest_filtering_filters.specs.declared.leaf.FiltersetLeaf.{FiltersetLeaf}
 use Rattle.nextest_filtering_filters.specs.declared.leaf.FiltersetLeaf.TheVariants as leaf
 
--- a formula over the places of predicates
+-- a formula over the places of predicates, by its steps
 pub record Compiled : Type 0 where
-  pub formula : Formula ℕ
+  pub steps : List Step
   pub leaves : List FiltersetLeaf
 
 -- the predicate at a place; where none stands, it holds nowhere
@@ -15,7 +17,7 @@ leaf_at leaves place = unwrap_or (slice_get leaves place) leaf.None
 
 -- the formula over predicates
 abbrev pub filter_of : Compiled → Formula FiltersetLeaf
-filter_of it = with_leaves (leaf_at it.leaves) it.formula
+filter_of it = with_leaves (leaf_at it.leaves) (formula_of it.steps)
 
 -- the predicate asks for the group of a test
 abbrev pub is_group : FiltersetLeaf → Bool

@@ -1,3 +1,5 @@
 pub mod Query
 pub mod Filter
 pub mod Meaning
+pub mod Asking
+pub mod Laws

@@ -1,5 +1,6 @@
 -- What filters are on binaries and on tests.
 use Rattle.std.specs.Prelude.{◌≡◌, ◌↔◌, Bool, true, false, ⊤}
+use Rattle.std.specs.BTreeSet.{contains_text}
 use Rattle.nextest_filtering_formulas.specs.Formula.{Formula, Gives}
 use Rattle.nextest_filtering_trees.specs.Meaning.{MatchesName}
 use Rattle.nextest_filtering_trees.specs.Tree.{Matcher, matcher_of}
@@ -13,7 +14,7 @@ Tells So value = (value ≡ true) ↔ So
 
 -- what a binary alone tells of a predicate; of a test's name, its group and the default filter nothing
 abbrev pub IsKnownOn : Binary → FiltersetLeaf → Bool → Type 0
-IsKnownOn binary (leaf.Packages set) value = value ≡ set binary.package_id
+IsKnownOn binary (leaf.Packages set) value = value ≡ contains_text set binary.package_id
 IsKnownOn binary (leaf.Kind m span) value = Tells (MatchesName (matcher_of m) binary.kind) value
 IsKnownOn binary (leaf.Platform p span) value = Tells (p ≡ binary.platform) value
 IsKnownOn binary (leaf.Binary m span) value = Tells (MatchesName (matcher_of m) binary.name) value

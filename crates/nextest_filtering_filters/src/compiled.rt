@@ -2,7 +2,6 @@
 ghost use Rattle.std.specs.Prelude.{◌≡◌, ◌∷◌, [], IfOk};
 ghost use Rattle.std.specs.List.{list_any};
 ghost use Rattle.nextest_filtering_formulas.specs.Formula.{leaf};
-ghost use Rattle.nextest_filtering_formulas.specs.Steps.{formula_of};
 ghost use Rattle.nextest_filtering_filters.specs.Filter.{filter_of, is_default, is_group};
 ghost use Rattle.nextest_filtering_filters.specs.declared.leaf.FiltersetLeaf.TheVariants.{All};
 
@@ -28,18 +27,17 @@ impl Drop for CompiledExpr {
 }
 
 impl Model for CompiledExpr {
-    ghost use Rattle.nextest_filtering_formulas.specs.Steps.{formula_of};
     ghost use Rattle.nextest_filtering_filters.specs.Filter.{Compiled};
 
     ghost Value = { Compiled };
 
-    ghost view = { λ it. record { formula = formula_of it.formula; leaves = it.leaves.items } };
+    ghost view = { λ it. record { steps = it.formula; leaves = it.leaves.items } };
 }
 
 impl CompiledExpr {
     /// A formula over predicates, each known by its place in the list. A place where none stands holds nowhere.
     pub fn new(formula: Formula, leaves: Vec<FiltersetLeaf>) -> CompiledExpr
-        ensures formula { result.formula ≡ formula_of formula }
+        ensures steps { result.steps ≡ formula }
         ensures leaves { result.leaves ≡ leaves.items }
     {
         CompiledExpr { formula, leaves }
@@ -61,7 +59,7 @@ impl CompiledExpr {
 
     /// The formula over the places of its predicates.
     pub fn formula(&self) -> &Formula
-        ensures { formula_of result.now ≡ self.now.formula }
+        ensures { result.now ≡ self.now.steps }
     {
         &self.formula
     }

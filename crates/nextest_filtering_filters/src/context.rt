@@ -7,7 +7,7 @@ use crate::compiled::CompiledExpr;
 use std::marker::Model;
 
 /// The default filter, which `default()` is. In a clause it is that filter.
-#[derive(Clone, Copy)]
+#[derive(Drop)]
 pub struct EvalContext<'c> {
     default_filter: &'c CompiledExpr,
 }

@@ -2,13 +2,13 @@
 ghost use Rattle.std.specs.Prelude.{◌≡◌};
 ghost use Rattle.nextest_filtering_filters.specs.Filter.{is_runtime_only};
 
-use crate::package_set::PackageSet;
 use nextest_filtering_trees::{BuildPlatform, NameMatcher, SourceSpan};
+use std::collections::BTreeSet;
 
 /// A predicate, as it is asked.
 pub enum FiltersetLeaf {
-    /// The binary's package is one of these.
-    Packages(PackageSet),
+    /// The binary's package is one of these, by their ids.
+    Packages(BTreeSet<String>),
     /// The binary's kind.
     Kind(NameMatcher, SourceSpan),
     /// The platform that the binary is built for.

@@ -9,7 +9,6 @@ mod group_lookup;
 pub mod laws;
 mod leaf;
 mod matches;
-mod package_set;
 mod part;
 mod query;
 
@@ -18,5 +17,4 @@ pub use context::EvalContext;
 pub use evaluator::BinaryEvaluator;
 pub use group_lookup::GroupLookup;
 pub use leaf::FiltersetLeaf;
-pub use package_set::PackageSet;
 pub use query::{BinaryQuery, TestQuery};

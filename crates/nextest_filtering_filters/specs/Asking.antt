@@ -1,0 +1,44 @@
+-- What is left to ask of a filter where its binary is known.
+use Rattle.std.specs.Prelude.{◌≡◌, ℕ, Bool, List}
+use Rattle.nextest_filtering_formulas.specs.Values.{may_by}
+use Rattle.nextest_filtering_formulas.specs.declared.values.Values.{Values}
+use Rattle.nextest_filtering_trees.specs.Matching.{comparison_of, text_of}
+use Rattle.nextest_filtering_trees.specs.Meaning.{MatchesName}
+use Rattle.nextest_filtering_trees.specs.Tree.{Matcher, matcher_of}
+use Rattle.nextest_filtering_trees.specs.declared.leaf.SourceSpan.{SourceSpan}
+use Rattle.nextest_filtering_trees.specs.declared.matcher.NameMatcher.{NameMatcher}
+use Rattle.nextest_filtering_filters.specs.Filter.{Compiled}
+use Rattle.nextest_filtering_filters.specs.Meaning.{IsKnownOn, MayBe, Tells}
+use Rattle.nextest_filtering_filters.specs.Query.{Binary, Test}
+use Rattle.nextest_filtering_filters.specs.declared.asked.Asked.{Asked}
+use Rattle.nextest_filtering_filters.specs.declared.asked.Asked.TheVariants as asked
+use Rattle.nextest_filtering_filters.specs.declared.leaf.FiltersetLeaf.{FiltersetLeaf}
+use Rattle.nextest_filtering_filters.specs.declared.leaf.FiltersetLeaf.TheVariants as leaf
+
+-- a filter, the default filter, and the binary of whose tests they are asked
+pub record Asking : Type 0 where
+  pub filter : Compiled
+  pub default : Compiled
+  pub binary : Binary
+
+-- one of them on the binary
+pub record PartOf : Type 0 where
+  pub filter : Compiled
+  pub binary : Binary
+
+-- it asks what a predicate asks of the tests of a binary
+abbrev pub IsFor : Binary → FiltersetLeaf → Asked → Type 0
+IsFor binary it (asked.Known value) = IsKnownOn binary it value
+IsFor binary it (asked.Name matching) =
+    (m : NameMatcher) × (span : SourceSpan) × (it ≡ leaf.Test m span) × (comparison_of matching ≡ (matcher_of m).comparison) × (text_of matching ≡ (matcher_of m).text)
+IsFor binary it (asked.Group lent) = (m : NameMatcher) × (span : SourceSpan) × (it ≡ leaf.Group m span) × (matcher_of lent.now ≡ matcher_of m)
+IsFor binary it asked.Default = it ≡ leaf.Default
+
+-- one of these values
+abbrev pub values_may : Values → Bool → Type 0
+values_may values = may_by (λ number. values) 0
+
+-- what a predicate is on a test of this name and these groups, where the default filter is so
+abbrev pub IsTold : Binary → List ℕ → (Matcher → Type 0) → Bool → FiltersetLeaf → Bool → Type 0
+IsTold binary name Member default it value =
+    MayBe binary (λ m. Tells (MatchesName m name)) (λ m. Tells (Member m)) (λ other. other ≡ default) it value

@@ -1,0 +1,95 @@
+// What a predicate is on a binary, and who is asked of the binary's tests.
+ghost use Rattle.std.specs.Prelude.{◌≡◌, Bool, IfOk};
+ghost use Rattle.nextest_filtering_formulas.specs.Formula.{AreValues};
+ghost use Rattle.nextest_filtering_formulas.specs.Values.{IsSome, may_by};
+ghost use Rattle.nextest_filtering_filters.specs.Asking.{IsFor, IsTold, values_may};
+ghost use Rattle.nextest_filtering_filters.specs.Meaning.{Either, MayBe};
+ghost use Rattle.nextest_filtering_filters.specs.Query.{Binary, binary_of, test_of};
+ghost use Rattle.nextest_filtering_filters.specs.declared.leaf.FiltersetLeaf.{FiltersetLeaf};
+
+use crate::group_lookup::GroupLookup;
+use crate::leaf::FiltersetLeaf;
+use crate::query::{BinaryQuery, TestQuery};
+use nextest_filtering_formulas::Values;
+use nextest_filtering_trees::{NameMatcher, NameMatching};
+use std::alloc::{AllocError, Global};
+
+// What a predicate is on a binary, or what it asks of each test.
+#[derive(Drop)]
+pub(crate) enum Asked<'f> {
+    // It is so, or isn't, whatever the test.
+    Known(bool),
+    // Whether the test's name is matched.
+    Name(NameMatching<'f>),
+    // Whether the test's group has a name that is matched.
+    Group(&'f NameMatcher),
+    // Whether the default filter holds.
+    Default,
+}
+
+impl<'f> Asked<'f> {
+    // What a predicate is on a binary, or asks of its tests.
+    pub(crate) fn new(
+        alloc: Global,
+        leaf: &'f FiltersetLeaf,
+        binary: &BinaryQuery<'_>,
+    ) -> Result<Asked<'f>, AllocError>
+        ensures { IfOk result (IsFor (binary_of binary.now) leaf.now) }
+    {
+        match leaf {
+            FiltersetLeaf::Packages(set) => Ok(Asked::Known(set.contains(binary.package_id))),
+            FiltersetLeaf::Kind(matcher, _) => {
+                Ok(Asked::Known(matcher.is_match(alloc, binary.kind)?))
+            }
+            FiltersetLeaf::Platform(platform, _) => Ok(Asked::Known(*platform == binary.platform)),
+            FiltersetLeaf::Binary(matcher, _) => {
+                Ok(Asked::Known(matcher.is_match(alloc, binary.binary_name)?))
+            }
+            FiltersetLeaf::BinaryId(matcher, _) => {
+                Ok(Asked::Known(matcher.is_match(alloc, binary.binary_id)?))
+            }
+            FiltersetLeaf::Test(matcher, _) => Ok(Asked::Name(matcher.matching(alloc)?)),
+            FiltersetLeaf::Group(matcher, _) => Ok(Asked::Group(matcher)),
+            FiltersetLeaf::Default => Ok(Asked::Default),
+            FiltersetLeaf::All => Ok(Asked::Known(true)),
+            FiltersetLeaf::None => Ok(Asked::Known(false)),
+        }
+    }
+
+    // The values that the predicate may have on the binary, where the default filter may have these.
+    pub(crate) fn on_binary(&self, default: Values) -> Values
+        requires some { IsSome default }
+        ensures values { (binary : Binary) (leaf : FiltersetLeaf) → IsFor binary leaf self.now → AreValues (MayBe binary Either Either (values_may default) leaf) result }
+        ensures some { IsSome result }
+    {
+        match self {
+            Asked::Known(value) => Values {
+                may_hold: *value,
+                may_fail: !*value,
+            },
+            Asked::Name(_) | Asked::Group(_) => Values {
+                may_hold: true,
+                may_fail: true,
+            },
+            Asked::Default => default,
+        }
+    }
+
+    // Whether the predicate is so on a test, where the default filter is `default`.
+    pub(crate) fn on_test<G: GroupLookup>(
+        &mut self,
+        test: &TestQuery<'_>,
+        default: bool,
+        groups: &G,
+    ) -> Result<bool, AllocError>
+        ensures value { IfOk result (λ value. (binary : Binary) (leaf : FiltersetLeaf) → IsFor binary leaf self.old → IsTold binary (test_of test.now).name (G.member groups.now (test_of test.now)) default leaf value) }
+        ensures stays { (binary : Binary) (leaf : FiltersetLeaf) → IsFor binary leaf self.old → IsFor binary leaf self.new }
+    {
+        match self {
+            Asked::Known(value) => Ok(*value),
+            Asked::Name(matching) => matching.is_match(test.test_name),
+            Asked::Group(matcher) => groups.is_member_test(test, matcher),
+            Asked::Default => Ok(default),
+        }
+    }
+}
