@@ -1,0 +1,29 @@
+-- The predicates of a tree.
+use Rattle.std.specs.Prelude.{ℕ, ◌+◌, List, [], ◌∷◌, ◌++◌, length}
+use Rattle.std.specs.Borrow.{Bor}
+use Rattle.nextest_filtering_formulas.specs.Formula.{Formula, leaf, negated, either, both}
+use Rattle.nextest_filtering_trees.specs.declared.leaf.ParsedLeaf.{ParsedLeaf}
+use Rattle.nextest_filtering_trees.specs.declared.tree.ParsedExpr.{ParsedExpr}
+use Rattle.nextest_filtering_trees.specs.declared.tree.ParsedExpr.TheVariants as tree
+
+-- from left to right
+abbrev pub leaves_of : ParsedExpr → List ParsedLeaf
+leaves_of (tree.Not' op p t) = leaves_of t
+leaves_of (tree.Union' op p a q b) = leaves_of a ++ leaves_of b
+leaves_of (tree.Intersection' op p a q b) = leaves_of a ++ leaves_of b
+leaves_of (tree.Difference' op p a q b) = leaves_of a ++ leaves_of b
+leaves_of (tree.Parens' p t) = leaves_of t
+leaves_of (tree.Set it) = it ∷ []
+
+-- the predicate that is lent
+abbrev pub behind : Bor ParsedLeaf → ParsedLeaf
+behind lent = lent.now
+
+-- a tree as a formula over the places of its predicates, the leftmost of which has this one
+abbrev pub placed : ℕ → ParsedExpr → Formula ℕ
+placed first (tree.Not' op p t) = negated (placed first t)
+placed first (tree.Union' op p a q b) = either (placed first a) (placed (first + length (leaves_of a)) b)
+placed first (tree.Intersection' op p a q b) = both (placed first a) (placed (first + length (leaves_of a)) b)
+placed first (tree.Difference' op p a q b) = both (placed first a) (negated (placed (first + length (leaves_of a)) b))
+placed first (tree.Parens' p t) = placed first t
+placed first (tree.Set it) = leaf first

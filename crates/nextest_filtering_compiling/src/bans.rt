@@ -1,0 +1,77 @@
+// The predicates that may not stand in a filterset.
+ghost use Rattle.std.specs.Prelude.{◌≡◌, IfOk, map};
+ghost use Rattle.nextest_filtering_trees.specs.Tree.{leaf_of};
+ghost use Rattle.nextest_filtering_compiling.specs.Bans as words;
+ghost use Rattle.nextest_filtering_compiling.specs.Bans.{ban_of, banned};
+ghost use Rattle.nextest_filtering_compiling.specs.Leaves.{behind};
+
+use nextest_filtering_arguments::{BannedPredicateReason, FiltersetKind, ParseSingleError};
+use nextest_filtering_trees::{ParsedLeaf, SourceSpan};
+use std::alloc::{AllocError, Global};
+
+// Why a predicate may not stand in a filterset of a kind, if it may not.
+fn ban(kind: FiltersetKind, leaf: &ParsedLeaf) -> Option<BannedPredicateReason>
+    ensures { result ≡ ban_of kind (leaf_of leaf.now) }
+{
+    match (kind, leaf) {
+        (FiltersetKind::DefaultFilter, ParsedLeaf::Default(_)) => {
+            Some(BannedPredicateReason::DefaultInfiniteRecursion)
+        }
+        (FiltersetKind::DefaultFilter, ParsedLeaf::Group(_, _)) => {
+            Some(BannedPredicateReason::GroupNotAvailableInDefaultFilter)
+        }
+        (FiltersetKind::OverrideFilter, ParsedLeaf::Group(_, _)) => {
+            Some(BannedPredicateReason::GroupCircularDependency)
+        }
+        (FiltersetKind::TestArchive, ParsedLeaf::Group(_, _)) => {
+            Some(BannedPredicateReason::GroupNotAvailableInArchive)
+        }
+        (FiltersetKind::TestArchive, ParsedLeaf::Test(_, _)) => {
+            Some(BannedPredicateReason::TestNotAvailableInArchive)
+        }
+        _ => None,
+    }
+}
+
+// Where a predicate stands; `all` and `none` have no place.
+fn place_of(leaf: &ParsedLeaf) -> SourceSpan
+    ensures { result ≡ words.place_of leaf.now }
+{
+    match leaf {
+        ParsedLeaf::Package(_, span)
+        | ParsedLeaf::Deps(_, span)
+        | ParsedLeaf::Rdeps(_, span)
+        | ParsedLeaf::Kind(_, span)
+        | ParsedLeaf::Binary(_, span)
+        | ParsedLeaf::BinaryId(_, span)
+        | ParsedLeaf::Platform(_, span)
+        | ParsedLeaf::Test(_, span)
+        | ParsedLeaf::Group(_, span)
+        | ParsedLeaf::Default(span) => *span,
+        ParsedLeaf::All | ParsedLeaf::None => SourceSpan {
+            offset: 0,
+            length: 0,
+        },
+    }
+}
+
+// The predicates that may not stand in a filterset of a kind, from left to right.
+pub(crate) fn banned_in(
+    alloc: Global,
+    kind: FiltersetKind,
+    leaves: &[&ParsedLeaf],
+) -> Result<Vec<ParseSingleError>, AllocError>
+    ensures { IfOk result (λ found. found.items ≡ banned kind (map behind leaves.now)) }
+{
+    let mut found = Vec::new(alloc);
+    for leaf in leaves {
+        if let Some(reason) = ban(kind, leaf) {
+            found.push(ParseSingleError::BannedPredicate {
+                kind,
+                span: place_of(leaf),
+                reason,
+            })?;
+        }
+    }
+    Ok(found)
+}

@@ -1,0 +1,18 @@
+//! Filtersets that are compiled for a workspace: which texts are accepted, and the filters that they are.
+#![tactic(auto)]
+
+mod bans;
+mod compile;
+mod error;
+mod faults;
+mod filterset;
+mod known_groups;
+mod leaves;
+mod packages;
+mod parse_context;
+mod shape;
+
+pub use error::{FiltersetError, FiltersetParseErrors};
+pub use filterset::Filterset;
+pub use known_groups::KnownGroups;
+pub use parse_context::ParseContext;

@@ -1,0 +1,59 @@
+// A tree as a formula over the places of its predicates.
+ghost use Rattle.std.specs.Prelude.{◌≡◌, ◌+◌, ◌∷◌, [], length, IfOk, OnOk};
+ghost use Rattle.nextest_filtering_formulas.specs.Steps.{formula_of, waiting_of};
+ghost use Rattle.nextest_filtering_compiling.specs.Leaves.{leaves_of, placed};
+
+use nextest_filtering_formulas::{Formula, FormulaBuilder};
+use nextest_filtering_trees::ParsedExpr;
+use std::alloc::{AllocError, Global};
+
+// The formula of a tree over the places of its predicates, from left to right.
+pub(crate) fn shape_of(alloc: Global, tree: &ParsedExpr) -> Result<Formula, AllocError>
+    ensures { IfOk result (λ it. formula_of it ≡ placed 0 tree.now) }
+{
+    let mut builder = FormulaBuilder::new(alloc);
+    add(tree, &mut builder, 0)?;
+    Ok(builder.into_formula())
+}
+
+// Adds the formula of a tree whose predicates begin at `first`, and answers the place behind them.
+fn add(
+    tree: &ParsedExpr,
+    builder: &mut FormulaBuilder,
+    first: usize,
+) -> Result<usize, AllocError>
+    ensures waits { OnOk result (waiting_of builder.new ≡ placed first tree.now ∷ waiting_of builder.old) }
+    ensures next { IfOk result (λ next. next ≡ first + length (leaves_of tree.now)) }
+{
+    match tree {
+        ParsedExpr::Not(_, inside) => {
+            let next = add(inside, builder, first)?;
+            builder.negate()?;
+            Ok(next)
+        }
+        ParsedExpr::Parens(inside) => add(inside, builder, first),
+        ParsedExpr::Union(_, left, right) => {
+            let middle = add(left, builder, first)?;
+            let next = add(right, builder, middle)?;
+            builder.either()?;
+            Ok(next)
+        }
+        ParsedExpr::Intersection(_, left, right) => {
+            let middle = add(left, builder, first)?;
+            let next = add(right, builder, middle)?;
+            builder.both()?;
+            Ok(next)
+        }
+        ParsedExpr::Difference(_, left, right) => {
+            let middle = add(left, builder, first)?;
+            let next = add(right, builder, middle)?;
+            builder.negate()?;
+            builder.both()?;
+            Ok(next)
+        }
+        ParsedExpr::Set(_) => {
+            builder.leaf(first)?;
+            Ok(first + 1)
+        }
+    }
+}
