@@ -1,0 +1,6 @@
+pub mod Behind
+pub mod Looked
+pub mod Asked
+pub mod Kept
+pub mod Placed
+pub mod Whole

@@ -7,11 +7,11 @@ use Rattle.nextest_filtering_trees.specs.Tree.{Matcher, Subject, package_name, d
 
 -- the package at a place has a name that the matcher matches
 abbrev pub IsNamed : Graph → Matcher → ℕ → Type 0
-IsNamed graph m place = (package : List ℕ × List ℕ) × (slice_get graph.packages place ≡ Some package) × MatchesName m package.1
+IsNamed graph m place = (it : List ℕ × List ℕ) × (slice_get graph.packages place ≡ Some it) × MatchesName m it.1
 
 -- the package at a place has this id
 abbrev pub HasId : Graph → List ℕ → ℕ → Type 0
-HasId graph id place = (package : List ℕ × List ℕ) × (slice_get graph.packages place ≡ Some package) × (package.0 ≡ id)
+HasId graph id place = (it : List ℕ × List ℕ) × (slice_get graph.packages place ≡ Some it) × (it.0 ≡ id)
 
 -- a predicate asks for the package of an id: `package` for those with such a name, `deps` for those that one of these reaches by a path of
 -- links, perhaps an empty one, `rdeps` for those that reach one of these

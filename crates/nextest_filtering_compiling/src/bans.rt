@@ -1,8 +1,8 @@
 // The predicates that may not stand in a filterset.
-ghost use Rattle.std.specs.Prelude.{◌≡◌, IfOk, map};
+ghost use Rattle.std.specs.Prelude.{◌≡◌, ◌++◌, IfOk, OnOk, map};
 ghost use Rattle.nextest_filtering_trees.specs.Tree.{leaf_of};
 ghost use Rattle.nextest_filtering_compiling.specs.Bans as words;
-ghost use Rattle.nextest_filtering_compiling.specs.Bans.{ban_of, banned};
+ghost use Rattle.nextest_filtering_compiling.specs.Bans.{ban_of, banned, fault_for};
 ghost use Rattle.nextest_filtering_compiling.specs.Leaves.{behind};
 
 use nextest_filtering_arguments::{BannedPredicateReason, FiltersetKind, ParseSingleError};
@@ -55,6 +55,24 @@ fn place_of(leaf: &ParsedLeaf) -> SourceSpan
     }
 }
 
+// Adds the fault of a predicate, where it may not stand in a filterset of a kind.
+fn add_ban(
+    kind: FiltersetKind,
+    leaf: &ParsedLeaf,
+    found: &mut Vec<ParseSingleError>,
+) -> Result<(), AllocError>
+    ensures { OnOk result (found.new.items ≡ found.old.items ++ fault_for kind (words.place_of leaf.now) (ban_of kind (leaf_of leaf.now))) }
+{
+    match ban(kind, leaf) {
+        Some(reason) => Ok(found.push(ParseSingleError::BannedPredicate {
+            kind,
+            span: place_of(leaf),
+            reason,
+        })?),
+        None => Ok(()),
+    }
+}
+
 // The predicates that may not stand in a filterset of a kind, from left to right.
 pub(crate) fn banned_in(
     alloc: Global,
@@ -65,13 +83,7 @@ pub(crate) fn banned_in(
 {
     let mut found = Vec::new(alloc);
     for leaf in leaves {
-        if let Some(reason) = ban(kind, leaf) {
-            found.push(ParseSingleError::BannedPredicate {
-                kind,
-                span: place_of(leaf),
-                reason,
-            })?;
-        }
+        add_ban(kind, leaf, &mut found)?;
     }
     Ok(found)
 }

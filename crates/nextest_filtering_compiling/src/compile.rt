@@ -1,11 +1,13 @@
 // What predicates are compiled to.
-ghost use Rattle.std.specs.Prelude.{◌≡◌, [], IfOk, map};
+ghost use Rattle.std.specs.Prelude.{◌≡◌, [], IfOk, OnOk, map};
 ghost use Rattle.std.specs.List.{AllZip};
-ghost use Rattle.nextest_filtering_trees.specs.Tree.{leaf_of};
-ghost use Rattle.nextest_filtering_compiling.specs.Asking.{IsOutcome};
+ghost use Rattle.nextest_filtering_trees.specs.Tree.{binary_id, binary_name, group, leaf_of, matcher_of, matching};
+ghost use Rattle.nextest_filtering_compiling.specs.Asking.{IsKept, IsOutcome, IsOutcomeAt, subject_of};
 ghost use Rattle.nextest_filtering_compiling.specs.Compiling.{IsCompiledLeaf};
+ghost use Rattle.nextest_filtering_compiling.specs.Context.{Context};
 ghost use Rattle.nextest_filtering_compiling.specs.Faults.{Have};
 ghost use Rattle.nextest_filtering_compiling.specs.Leaves.{behind};
+ghost use Rattle.nextest_filtering_compiling.specs.declared.known_groups.KnownGroups as groups;
 
 use crate::faults::{lacks_group, lacks_id, lacks_name};
 use crate::known_groups::KnownGroups;
@@ -17,33 +19,17 @@ use nextest_filtering_trees::{NameMatcher, ParsedLeaf, SourceSpan};
 use std::alloc::{AllocError, Global};
 
 // What a predicate is compiled to, or its fault.
+#[derive(Drop)]
 pub(crate) enum Outcome {
     Leaf(FiltersetLeaf),
     Fault(ParseSingleError),
 }
 
-impl Drop for Outcome {
-    fn drop(self) {
-        match self {
-            Outcome::Leaf(_) => {}
-            Outcome::Fault(_) => {}
-        }
-    }
-}
-
 // What predicates are compiled to, and their faults.
+#[derive(Drop)]
 pub(crate) struct Compiled {
     pub(crate) leaves: Vec<FiltersetLeaf>,
     pub(crate) faults: Vec<ParseSingleError>,
-}
-
-impl Drop for Compiled {
-    fn drop(self) {
-        let Self {
-            leaves: _,
-            faults: _,
-        } = self;
-    }
 }
 
 // A predicate that asks for packages.
@@ -53,7 +39,9 @@ fn about_packages(
     asks: Asks,
     matcher: &NameMatcher,
     span: SourceSpan,
-) -> Result<Outcome, AllocError> {
+) -> Result<Outcome, AllocError>
+    ensures { (known : groups.KnownGroups) → IfOk result (IsOutcomeAt cx.now known span (matching (subject_of asks) (matcher_of matcher.now))) }
+{
     let named = named_places(alloc, cx, matcher)?;
     if named.is_empty() {
         return Ok(Outcome::Fault(ParseSingleError::NoPackageMatch(span)));
@@ -68,7 +56,9 @@ fn about_id(
     cx: &ParseContext,
     matcher: &NameMatcher,
     span: SourceSpan,
-) -> Result<Outcome, AllocError> {
+) -> Result<Outcome, AllocError>
+    ensures { (known : groups.KnownGroups) → IfOk result (IsOutcomeAt cx.now known span (matching binary_id (matcher_of matcher.now))) }
+{
     if lacks_id(alloc, cx, matcher)? {
         return Ok(Outcome::Fault(ParseSingleError::NoBinaryIdMatch(span)));
     }
@@ -81,7 +71,9 @@ fn about_name(
     cx: &ParseContext,
     matcher: &NameMatcher,
     span: SourceSpan,
-) -> Result<Outcome, AllocError> {
+) -> Result<Outcome, AllocError>
+    ensures { (known : groups.KnownGroups) → IfOk result (IsOutcomeAt cx.now known span (matching binary_name (matcher_of matcher.now))) }
+{
     if lacks_name(alloc, cx, matcher)? {
         return Ok(Outcome::Fault(ParseSingleError::NoBinaryNameMatch(span)));
     }
@@ -94,7 +86,9 @@ fn about_group(
     known: &KnownGroups,
     matcher: &NameMatcher,
     span: SourceSpan,
-) -> Result<Outcome, AllocError> {
+) -> Result<Outcome, AllocError>
+    ensures { (cx : Context) → IfOk result (IsOutcomeAt cx known.now span (matching group (matcher_of matcher.now))) }
+{
     if lacks_group(alloc, known, matcher)? {
         return Ok(Outcome::Fault(ParseSingleError::NoGroupMatch(span)));
     }
@@ -136,6 +130,20 @@ fn compile_leaf(
     }
 }
 
+// Keeps what a predicate is compiled to, or its fault.
+fn keep(
+    outcome: Outcome,
+    made: &mut Vec<FiltersetLeaf>,
+    faults: &mut Vec<ParseSingleError>,
+) -> Result<(), AllocError>
+    ensures { OnOk result (IsKept outcome made.old.items faults.old.items made.new.items faults.new.items) }
+{
+    match outcome {
+        Outcome::Leaf(leaf) => Ok(made.push(leaf)?),
+        Outcome::Fault(fault) => Ok(faults.push(fault)?),
+    }
+}
+
 // What predicates are compiled to, and their faults, from left to right.
 pub(crate) fn compile_leaves(
     alloc: Global,
@@ -149,10 +157,11 @@ pub(crate) fn compile_leaves(
     let mut made = Vec::new(alloc);
     let mut faults = Vec::new(alloc);
     for leaf in leaves {
-        match compile_leaf(alloc, cx, known, leaf)? {
-            Outcome::Leaf(leaf) => made.push(leaf)?,
-            Outcome::Fault(fault) => faults.push(fault)?,
-        }
+        keep(
+            compile_leaf(alloc, cx, known, leaf)?,
+            &mut made,
+            &mut faults,
+        )?;
     }
     Ok(Compiled {
         leaves: made,

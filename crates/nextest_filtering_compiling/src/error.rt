@@ -5,7 +5,7 @@ use std::alloc::{AllocError, AllocFailed};
 use thiserror::Error;
 
 /// A filterset's text, and its faults.
-#[derive(Debug)]
+#[derive(Debug, Drop)]
 pub struct FiltersetParseErrors {
     /// The text.
     pub input: Text,
@@ -14,17 +14,8 @@ pub struct FiltersetParseErrors {
     pub errors: Vec<ParseSingleError>,
 }
 
-impl Drop for FiltersetParseErrors {
-    fn drop(self) {
-        let Self {
-            input: _,
-            errors: _,
-        } = self;
-    }
-}
-
 /// Why a filterset isn't made.
-#[derive(Debug, Error)]
+#[derive(Debug, Drop, Error)]
 pub enum FiltersetError {
     /// For these faults.
     #[error("the text is no filterset here")]
@@ -32,15 +23,6 @@ pub enum FiltersetError {
     /// There is no memory, which says nothing of the text.
     #[error("out of memory")]
     OutOfMemory,
-}
-
-impl Drop for FiltersetError {
-    fn drop(self) {
-        match self {
-            FiltersetError::Refused(_) => {}
-            FiltersetError::OutOfMemory => {}
-        }
-    }
 }
 
 impl From<AllocError> for FiltersetError {

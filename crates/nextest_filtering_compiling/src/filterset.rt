@@ -1,12 +1,12 @@
 // Filtersets.
-ghost use Rattle.std.specs.Prelude.{◌≡◌, ◌↔◌, true, false, Some, IfOk, codes};
+ghost use Rattle.std.specs.Prelude.{◌≡◌, ◌↔◌, IfOk, Some, true, false, codes};
 ghost use Rattle.std.specs.List.{list_any};
 ghost use Rattle.std.specs.Str.Iter.{HasSubslice};
 ghost use Rattle.nextest_filtering_formulas.specs.Formula.{IsValue};
 ghost use Rattle.nextest_filtering_filters.specs.Filter.{filter_of, is_group};
 ghost use Rattle.nextest_filtering_filters.specs.Meaning.{CanBeOn, IsOn};
 ghost use Rattle.nextest_filtering_filters.specs.Query.{binary_of, test_of};
-ghost use Rattle.nextest_filtering_compiling.specs.Accepting.{Parses};
+ghost use Rattle.nextest_filtering_compiling.specs.Accepting.{IsFiltered, Parses};
 
 use crate::bans::banned_in;
 use crate::compile::{Compiled, compile_leaves};
@@ -23,6 +23,7 @@ use nextest_text::Text;
 use std::alloc::{AllocError, Global};
 
 /// A filterset: its text, its tree as it was written, and the filter that it is in a workspace.
+#[derive(Drop)]
 pub struct Filterset {
     /// The text.
     pub input: Text,
@@ -32,29 +33,11 @@ pub struct Filterset {
     pub compiled: CompiledExpr,
 }
 
-impl Drop for Filterset {
-    fn drop(self) {
-        let Self {
-            input: _,
-            parsed: _,
-            compiled: _,
-        } = self;
-    }
-}
-
 // The filter that a tree is, or the faults for which it is refused.
+#[derive(Drop)]
 enum Filtered {
     Filter(CompiledExpr),
     Faults(Vec<ParseSingleError>),
-}
-
-impl Drop for Filtered {
-    fn drop(self) {
-        match self {
-            Filtered::Filter(_) => {}
-            Filtered::Faults(_) => {}
-        }
-    }
 }
 
 // The filter that a tree is, or its faults: the predicates that may not stand there, else those that nothing can be.
@@ -64,7 +47,9 @@ fn compile(
     cx: &ParseContext,
     kind: FiltersetKind,
     known_groups: &KnownGroups,
-) -> Result<Filtered, AllocError> {
+) -> Result<Filtered, AllocError>
+    ensures { IfOk result (IsFiltered cx.now kind known_groups.now tree.now) }
+{
     let leaves = leaves_of(alloc, tree)?;
     let banned = banned_in(alloc, kind, leaves.as_slice())?;
     if !banned.is_empty() {
@@ -78,7 +63,7 @@ fn compile(
         return Ok(Filtered::Faults(faults));
     }
     Ok(Filtered::Filter(CompiledExpr::new(
-        shape_of(alloc, tree)?,
+        shape_of(alloc, tree, leaves.as_slice())?,
         made,
     )))
 }
@@ -129,7 +114,7 @@ impl Filterset {
         needs_deps(text)
     }
 
-    /// As of its filter.
+    /// The value of its filter on a binary, as `CompiledExpr::matches_binary` tells it.
     pub fn matches_binary(
         &self,
         alloc: Global,
@@ -141,7 +126,7 @@ impl Filterset {
         self.compiled.matches_binary(alloc, query, ecx)
     }
 
-    /// As of its filter.
+    /// Whether its filter, which asks for no group, holds on a test, as `CompiledExpr::matches_test` tells it.
     pub fn matches_test(
         &self,
         alloc: Global,
@@ -154,7 +139,7 @@ impl Filterset {
         self.compiled.matches_test(alloc, query, ecx)
     }
 
-    /// As of its filter.
+    /// Whether its filter holds on a test, as `CompiledExpr::matches_test_with_groups` tells it.
     pub fn matches_test_with_groups<G: GroupLookup>(
         &self,
         alloc: Global,

@@ -1,10 +1,8 @@
 // The packages that predicates ask for.
-ghost use Rattle.std.specs.Prelude.{◌≡◌, ◌<◌, ◌↔◌, ℕ, List, true, length, All, Contains, IfOk, IsTrue};
-ghost use Rattle.std.specs.BTreeSet.{contains_text};
+ghost use Rattle.std.specs.Prelude.{◌<◌, length, All, IfOk};
 ghost use Rattle.nextest_filtering_filters.specs.Meaning.{Tells};
 ghost use Rattle.nextest_filtering_trees.specs.Tree.{matcher_of};
-ghost use Rattle.nextest_filtering_compiling.specs.Asking.{AreNamed, IsAsked, IsSetFor, subject_of};
-ghost use Rattle.nextest_filtering_compiling.specs.Packages.{IsNamed};
+ghost use Rattle.nextest_filtering_compiling.specs.Asking.{AreNamed, IsAsked, IsAskedBy, IsSetFor};
 
 use crate::parse_context::ParseContext;
 use nextest_filtering_trees::NameMatcher;
@@ -32,12 +30,25 @@ pub(crate) fn named_places(
 {
     let mut names = matcher.matching(alloc)?;
     let mut places = Vec::new(alloc);
-    for (place, (_, name)) in cx.graph().packages().iter().enumerate() {
-        if names.is_match(name.as_str())? {
+    for (place, package) in cx.graph().packages().iter().enumerate() {
+        if names.is_match(package.1.as_str())? {
             places.push(place)?;
         }
     }
     Ok(places)
+}
+
+// Whether the package at a place is asked for, where that at another is named.
+fn is_asked_by(cx: &ParseContext, asks: Asks, named: usize, place: usize) -> bool
+    requires named { named < length cx.now.graph.packages }
+    requires place { place < length cx.now.graph.packages }
+    ensures { Tells (IsAskedBy cx.now.graph.links asks named place) result }
+{
+    match asks {
+        Asks::Named => named == place,
+        Asks::Reached => cx.reaches(named, place),
+        Asks::Reaching => cx.reaches(place, named),
+    }
 }
 
 // Whether the package at a place is asked for, where those at these places are named.
@@ -47,12 +58,7 @@ fn is_asked(cx: &ParseContext, asks: Asks, named: &[usize], place: usize) -> boo
     ensures { Tells (IsAsked cx.now.graph.links asks named.now place) result }
 {
     for other in named {
-        let is_asked = match asks {
-            Asks::Named => *other == place,
-            Asks::Reached => cx.reaches(*other, place),
-            Asks::Reaching => cx.reaches(place, *other),
-        };
-        if is_asked {
+        if is_asked_by(cx, asks, *other, place) {
             return true;
         }
     }
@@ -70,9 +76,9 @@ pub(crate) fn packages_asked(
     ensures { IfOk result (IsSetFor cx.now.graph asks named.now) }
 {
     let mut ids = BTreeSet::new(alloc);
-    for (place, (id, _)) in cx.graph().packages().iter().enumerate() {
+    for (place, package) in cx.graph().packages().iter().enumerate() {
         if is_asked(cx, asks, named, place) {
-            ids.insert(String::from_str(alloc, id.as_str())?)?;
+            ids.insert(String::from_str(alloc, package.0.as_str())?)?;
         }
     }
     Ok(ids)

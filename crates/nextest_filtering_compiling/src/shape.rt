@@ -1,17 +1,23 @@
 // A tree as a formula over the places of its predicates.
-ghost use Rattle.std.specs.Prelude.{◌≡◌, ◌+◌, ◌∷◌, [], length, IfOk, OnOk};
+ghost use Rattle.std.specs.Prelude.{◌≡◌, ◌+◌, ◌<◌, ◌^◌, ◌∷◌, [], length, IfOk, OnOk, map};
 ghost use Rattle.nextest_filtering_formulas.specs.Steps.{formula_of, waiting_of};
-ghost use Rattle.nextest_filtering_compiling.specs.Leaves.{leaves_of, placed};
+ghost use Rattle.nextest_filtering_compiling.specs.Leaves.{behind, leaves_of, placed};
 
 use nextest_filtering_formulas::{Formula, FormulaBuilder};
-use nextest_filtering_trees::ParsedExpr;
+use nextest_filtering_trees::{ParsedExpr, ParsedLeaf};
 use std::alloc::{AllocError, Global};
 
-// The formula of a tree over the places of its predicates, from left to right.
-pub(crate) fn shape_of(alloc: Global, tree: &ParsedExpr) -> Result<Formula, AllocError>
+// The formula of a tree over the places of its predicates, which are these, from left to right.
+pub(crate) fn shape_of(
+    alloc: Global,
+    tree: &ParsedExpr,
+    leaves: &[&ParsedLeaf],
+) -> Result<Formula, AllocError>
+    requires { map behind leaves.now ≡ leaves_of tree.now }
     ensures { IfOk result (λ it. formula_of it ≡ placed 0 tree.now) }
 {
     let mut builder = FormulaBuilder::new(alloc);
+    let _count = leaves.len();
     add(tree, &mut builder, 0)?;
     Ok(builder.into_formula())
 }
@@ -22,6 +28,7 @@ fn add(
     builder: &mut FormulaBuilder,
     first: usize,
 ) -> Result<usize, AllocError>
+    requires { first + length (leaves_of tree.now) < 2 ^ 64 }
     ensures waits { OnOk result (waiting_of builder.new ≡ placed first tree.now ∷ waiting_of builder.old) }
     ensures next { IfOk result (λ next. next ≡ first + length (leaves_of tree.now)) }
 {

@@ -1,6 +1,7 @@
 -- What is left to ask of a filter where its binary is known.
-use Rattle.std.specs.Prelude.{◌≡◌, ℕ, Bool, List}
-use Rattle.nextest_filtering_formulas.specs.Values.{may_by}
+use Rattle.std.specs.Prelude.{◌≡◌, ℕ, Bool, true, false, List, Option, None, Some}
+use Rattle.nextest_filtering_formulas.specs.Formula.{AreValues}
+use Rattle.nextest_filtering_formulas.specs.Values.{IsSome, may_by}
 use Rattle.nextest_filtering_formulas.specs.declared.values.Values.{Values}
 use Rattle.nextest_filtering_trees.specs.Matching.{comparison_of, text_of}
 use Rattle.nextest_filtering_trees.specs.Meaning.{MatchesName}
@@ -8,8 +9,8 @@ use Rattle.nextest_filtering_trees.specs.Tree.{Matcher, matcher_of}
 use Rattle.nextest_filtering_trees.specs.declared.leaf.SourceSpan.{SourceSpan}
 use Rattle.nextest_filtering_trees.specs.declared.matcher.NameMatcher.{NameMatcher}
 use Rattle.nextest_filtering_filters.specs.Filter.{Compiled}
-use Rattle.nextest_filtering_filters.specs.Meaning.{IsKnownOn, MayBe, Tells}
-use Rattle.nextest_filtering_filters.specs.Query.{Binary, Test}
+use Rattle.nextest_filtering_filters.specs.Meaning.{Either, IsKnownOn, MayBe, Tells}
+use Rattle.nextest_filtering_filters.specs.Query.{Binary}
 use Rattle.nextest_filtering_filters.specs.declared.asked.Asked.{Asked}
 use Rattle.nextest_filtering_filters.specs.declared.asked.Asked.TheVariants as asked
 use Rattle.nextest_filtering_filters.specs.declared.leaf.FiltersetLeaf.{FiltersetLeaf}
@@ -42,3 +43,17 @@ values_may values = may_by (λ number. values) 0
 abbrev pub IsTold : Binary → List ℕ → (Matcher → Type 0) → Bool → FiltersetLeaf → Bool → Type 0
 IsTold binary name Member default it value =
     MayBe binary (λ m. Tells (MatchesName m name)) (λ m. Tells (Member m)) (λ other. other ≡ default) it value
+
+-- the values that a predicate may have on a binary, where the default filter may have these
+abbrev pub AreOn : Binary → Values → FiltersetLeaf → Values → Type 0
+AreOn binary default it values = AreValues (MayBe binary Either Either (values_may default) it) values × IsSome values
+
+-- the value that a predicate has on a test, as values
+abbrev pub AreTold : Binary → List ℕ → (Matcher → Type 0) → Bool → FiltersetLeaf → Values → Type 0
+AreTold binary name Member default it values = AreValues (IsTold binary name Member default it) values × IsSome values
+
+-- the values that one value, or none that is known, leaves
+abbrev pub left_by : Option Bool → Values
+left_by None = record { may_hold = true; may_fail = true }
+left_by (Some true) = record { may_hold = true; may_fail = false }
+left_by (Some false) = record { may_hold = false; may_fail = true }

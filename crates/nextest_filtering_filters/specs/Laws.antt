@@ -21,3 +21,9 @@ SameWithoutGroups =
     → list_any is_group filter.leaves ≡ false → list_any is_group default.leaves ≡ false
     → IsOn (filter_of filter) (filter_of default) test (λ m. member m ≡ true) value
     → IsOn (filter_of filter) (filter_of default) test (λ m. other m ≡ true) value
+
+-- a filter is at most one value on a test
+abbrev pub OneAnswer : Type 0
+OneAnswer =
+    (filter default : Formula FiltersetLeaf) (test : Test) (member : Matcher → Bool) (a b : Bool)
+    → IsOn filter default test (λ m. member m ≡ true) a → IsOn filter default test (λ m. member m ≡ true) b → a ≡ b

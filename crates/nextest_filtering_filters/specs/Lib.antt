@@ -3,3 +3,4 @@ pub mod Filter
 pub mod Meaning
 pub mod Asking
 pub mod Laws
+pub mod Deciding

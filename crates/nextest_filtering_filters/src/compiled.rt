@@ -45,7 +45,8 @@ impl CompiledExpr {
 
     /// `all()`. It fails only on allocation.
     pub fn all(alloc: Global) -> Result<CompiledExpr, AllocError>
-        ensures { IfOk result (λ it. filter_of it ≡ leaf All) }
+        ensures filter { IfOk result (λ it. filter_of it ≡ leaf All) }
+        ensures leaves { IfOk result (λ it. it.leaves ≡ All ∷ []) }
     {
         let mut leaves = Vec::new(alloc);
         leaves.push(FiltersetLeaf::All)?;

@@ -1,9 +1,13 @@
 // A filter on a binary and its tests.
-ghost use Rattle.std.specs.Prelude.{◌≡◌, Some, IfOk};
-ghost use Rattle.nextest_filtering_formulas.specs.Formula.{IsValue};
-ghost use Rattle.nextest_filtering_filters.specs.Filter.{filter_of};
-ghost use Rattle.nextest_filtering_filters.specs.Meaning.{CanBeOn, IsOn};
-ghost use Rattle.nextest_filtering_filters.specs.Query.{Test, binary_of};
+ghost use Rattle.std.specs.Prelude.{◌≡◌, true, false, Some, IfOk};
+ghost use Rattle.std.specs.List.{list_any};
+ghost use Rattle.nextest_filtering_formulas.specs.Formula.{AreValues, Gives, IsValue};
+ghost use Rattle.nextest_filtering_formulas.specs.Values.{IsSome};
+ghost use Rattle.nextest_filtering_trees.specs.Meaning.{MatchesName};
+ghost use Rattle.nextest_filtering_filters.specs.Asking.{left_by};
+ghost use Rattle.nextest_filtering_filters.specs.Filter.{filter_of, is_default};
+ghost use Rattle.nextest_filtering_filters.specs.Meaning.{CanBeOn, Either, IsOn, MayBe, Never, Tells};
+ghost use Rattle.nextest_filtering_filters.specs.Query.{Test, binary_of, test_of};
 
 use crate::compiled::CompiledExpr;
 use crate::context::EvalContext;
@@ -58,10 +62,44 @@ impl<'f> Model for BinaryEvaluator<'f> {
 }
 
 // The values that one value, or none that is known, leaves.
-fn values_of(value: Option<bool>) -> Values {
+fn values_of(value: Option<bool>) -> Values
+    ensures { result ≡ left_by value }
+{
     Values {
         may_hold: value != Some(false),
         may_fail: value != Some(true),
+    }
+}
+
+// The values that a default filter may have on its binary, where it is asked for.
+fn default_values(default: &mut Part<'_>, is_asked: bool) -> Result<Values, AllocError>
+    requires none { list_any is_default default.old.filter.leaves ≡ false }
+    ensures values { IfOk result (λ values. is_asked ≡ true → AreValues (Gives (MayBe default.old.binary Either Either Never) (filter_of default.old.filter)) values) }
+    ensures some { IfOk result IsSome }
+    ensures same { default.new ≡ default.old }
+{
+    if is_asked {
+        Ok(values_of(default.on_binary(NOWHERE)?))
+    } else {
+        Ok(NOWHERE)
+    }
+}
+
+// Whether a default filter holds on a test, where it is asked for.
+fn default_value<G: GroupLookup>(
+    default: &mut Part<'_>,
+    is_asked: bool,
+    test: &TestQuery<'_>,
+    groups: &G,
+) -> Result<bool, AllocError>
+    requires none { list_any is_default default.old.filter.leaves ≡ false }
+    ensures value { IfOk result (λ value. is_asked ≡ true → IsValue (Gives (MayBe default.old.binary (λ m. Tells (MatchesName m (test_of test.now).name)) (λ m. Tells (G.member groups.now (test_of test.now) m)) Never) (filter_of default.old.filter)) (Some value)) }
+    ensures same { default.new ≡ default.old }
+{
+    if is_asked {
+        default.on_test(test, false, groups)
+    } else {
+        Ok(false)
     }
 }
 
@@ -91,11 +129,7 @@ impl<'f> BinaryEvaluator<'f> {
         ensures value { IfOk result (IsValue (CanBeOn (filter_of self.old.filter) (filter_of self.old.default) self.old.binary)) }
         ensures same { self.new ≡ self.old }
     {
-        let default = if self.asks_default {
-            values_of(self.default.on_binary(NOWHERE)?)
-        } else {
-            NOWHERE
-        };
+        let default = default_values(&mut self.default, self.asks_default)?;
         self.main.on_binary(default)
     }
 
@@ -112,11 +146,7 @@ impl<'f> BinaryEvaluator<'f> {
             binary_query: self.binary,
             test_name,
         };
-        let default = if self.asks_default {
-            self.default.on_test(&test, false, groups)?
-        } else {
-            false
-        };
+        let default = default_value(&mut self.default, self.asks_default, &test, groups)?;
         self.main.on_test(&test, default, groups)
     }
 }

@@ -1,15 +1,18 @@
 // A filter on a binary, asked of the binary's tests.
-ghost use Rattle.std.specs.Prelude.{◌≡◌, Some, IfOk, OnOk, All};
-ghost use Rattle.nextest_filtering_formulas.specs.Formula.{AreValues, Gives, IsValue};
+ghost use Rattle.std.specs.Prelude.{◌≡◌, Bool, List, Some, IfOk};
+ghost use Rattle.std.specs.List.{AllZip};
+ghost use Rattle.nextest_filtering_formulas.specs.Formula.{Gives, IsValue};
 ghost use Rattle.nextest_filtering_formulas.specs.Values.{IsSome};
-ghost use Rattle.nextest_filtering_filters.specs.Asking.{IsTold, values_may};
+ghost use Rattle.nextest_filtering_filters.specs.Asking.{AreOn, AreTold, IsFor, IsTold, values_may};
 ghost use Rattle.nextest_filtering_filters.specs.Filter.{filter_of};
 ghost use Rattle.nextest_filtering_filters.specs.Meaning.{Either, MayBe};
-ghost use Rattle.nextest_filtering_filters.specs.Query.{binary_of, test_of};
+ghost use Rattle.nextest_filtering_filters.specs.Query.{Binary, binary_of, test_of};
+ghost use Rattle.nextest_filtering_filters.specs.declared.leaf.FiltersetLeaf.{FiltersetLeaf};
 
 use crate::asked::Asked;
 use crate::compiled::CompiledExpr;
 use crate::group_lookup::GroupLookup;
+use crate::leaf::FiltersetLeaf;
 use crate::query::{BinaryQuery, TestQuery};
 use nextest_filtering_formulas::Values;
 use std::alloc::{AllocError, Global};
@@ -48,6 +51,79 @@ impl<'f> Model for Part<'f> {
     ghost invariant = { λ it. AllZip (IsFor (binary_of it.binary)) it.filter.now.leaves it.asked.items };
 }
 
+// What each predicate is on a binary, or asks of its tests.
+fn asked_of<'f>(
+    alloc: Global,
+    leaves: &'f [FiltersetLeaf],
+    binary: &BinaryQuery<'_>,
+) -> Result<Vec<Asked<'f>>, AllocError>
+    ensures { IfOk result (λ asked. AllZip (IsFor (binary_of binary.now)) leaves.now asked.items) }
+{
+    let mut asked = Vec::new(alloc);
+    for leaf in leaves {
+        asked.push(Asked::new(alloc, leaf, binary)?)?;
+    }
+    Ok(asked)
+}
+
+// The values that each predicate may have on the binary, in place of others.
+fn values_on_binary(
+    asked: &[Asked<'_>],
+    default: Values,
+    values: &mut Vec<Values>,
+) -> Result<(), AllocError>
+    requires some { IsSome default }
+    ensures { IfOk result (λ _. (binary : Binary) (leaves : List FiltersetLeaf) → AllZip (IsFor binary) leaves asked.now → AllZip (AreOn binary default) leaves values.new.items) }
+{
+    values.clear();
+    for it in asked {
+        values.push(it.on_binary(default))?;
+    }
+    Ok(())
+}
+
+// The value that one predicate has on a test.
+fn values_of_one<G: GroupLookup>(
+    asked: &mut Asked<'_>,
+    test: &TestQuery<'_>,
+    default: bool,
+    groups: &G,
+) -> Result<Values, AllocError>
+    ensures value { IfOk result (λ values. (binary : Binary) (leaf : FiltersetLeaf) → IsFor binary leaf asked.old → AreTold binary (test_of test.now).name (G.member groups.now (test_of test.now)) default leaf values) }
+    ensures stays { (binary : Binary) (leaf : FiltersetLeaf) → IsFor binary leaf asked.old → IsFor binary leaf asked.new }
+{
+    let value = asked.on_test(test, default, groups)?;
+    Ok(Values {
+        may_hold: value,
+        may_fail: !value,
+    })
+}
+
+// The value that each predicate has on a test, in place of others.
+fn values_on_test<G: GroupLookup>(
+    asked: &mut [Asked<'_>],
+    test: &TestQuery<'_>,
+    default: bool,
+    groups: &G,
+    values: &mut Vec<Values>,
+) -> Result<(), AllocError>
+    ensures values { IfOk result (λ _. (binary : Binary) (leaves : List FiltersetLeaf) → AllZip (IsFor binary) leaves asked.old → AllZip (AreTold binary (test_of test.now).name (G.member groups.now (test_of test.now)) default) leaves values.new.items) }
+    ensures stays { (binary : Binary) (leaves : List FiltersetLeaf) → AllZip (IsFor binary) leaves asked.old → AllZip (IsFor binary) leaves asked.new }
+{
+    values.clear();
+    for it in asked.iter_mut() {
+        values.push(values_of_one(it, test, default, groups)?)?;
+    }
+    Ok(())
+}
+
+// The one value, where there is one.
+fn one_value(value: Option<bool>) -> bool
+    ensures { (one : Bool) → value ≡ Some one → result ≡ one }
+{
+    value == Some(true)
+}
+
 impl<'f> Part<'f> {
     // A filter on a binary.
     pub(crate) fn new(
@@ -58,14 +134,10 @@ impl<'f> Part<'f> {
         ensures filter { IfOk result (λ it. it.filter ≡ filter.now) }
         ensures binary { IfOk result (λ it. it.binary ≡ binary_of binary.entry) }
     {
-        let mut asked = Vec::new(alloc);
-        for leaf in filter.leaves() {
-            asked.push(Asked::new(alloc, leaf, &binary)?)?;
-        }
         Ok(Part {
             filter,
             binary,
-            asked,
+            asked: asked_of(alloc, filter.leaves(), &binary)?,
             values: Vec::new(alloc),
             waiting: Vec::new(alloc),
         })
@@ -77,10 +149,7 @@ impl<'f> Part<'f> {
         ensures value { IfOk result (IsValue (Gives (MayBe self.old.binary Either Either (values_may default)) (filter_of self.old.filter))) }
         ensures same { self.new ≡ self.old }
     {
-        self.values.clear();
-        for asked in &self.asked {
-            self.values.push(asked.on_binary(default))?;
-        }
+        values_on_binary(self.asked.as_slice(), default, &mut self.values)?;
         self.filter
             .formula()
             .value(self.values.as_slice(), &mut self.waiting)
@@ -96,18 +165,17 @@ impl<'f> Part<'f> {
         ensures value { IfOk result (λ value. IsValue (Gives (IsTold self.old.binary (test_of test.now).name (G.member groups.now (test_of test.now)) default) (filter_of self.old.filter)) (Some value)) }
         ensures same { self.new ≡ self.old }
     {
-        self.values.clear();
-        for asked in &mut self.asked {
-            let value = asked.on_test(test, default, groups)?;
-            self.values.push(Values {
-                may_hold: value,
-                may_fail: !value,
-            })?;
-        }
+        values_on_test(
+            self.asked.as_mut_slice(),
+            test,
+            default,
+            groups,
+            &mut self.values,
+        )?;
         let value = self
             .filter
             .formula()
             .value(self.values.as_slice(), &mut self.waiting)?;
-        Ok(value == Some(true))
+        Ok(one_value(value))
     }
 }

@@ -1,0 +1,61 @@
+-- Lists side by side, and a loop over one of them.
+use Rattle.std.proofs.Common.{◌≡◌, ℕ, zero, suc, ◌+◌, ◌<◌, List, [], ◌∷◌, ◌++◌, length, take, get_or, refl, sym, ap, ◌∙◌, subst, arith, slice_set}
+use Rattle.std.specs.List.{All, AllZip}
+use Rattle.std.proofs.Math.Seq.{take-length, take-suc}
+
+-- one more of each
+push_both : {A B : Type 0} (R : A → B → Type 0) (xs : List A) (ys : List B) (x : A) (y : B) → AllZip R xs ys → R x y → AllZip R (xs ++ x ∷ []) (ys ++ y ∷ [])
+push_both R [] [] x y all one = (one, all)
+push_both R [] (b ∷ ys) x y all one = absurd all
+push_both R (a ∷ xs) [] x y all one = absurd all
+push_both R (a ∷ xs) (b ∷ ys) x y all one = (all.0, push_both R xs ys x y all.1 one)
+
+-- a loop over the first list that makes the second
+pub zip_more : {A B : Type 0} (R : A → B → Type 0) (xs : List A) (ys news : List B) (place : ℕ) (x : A) (y : B) → place < length xs → x ≡ get_or xs place x → news ≡ ys ++ y ∷ [] → R x y
+    → AllZip R (take place xs) ys → AllZip R (take (place + 1) xs) news
+zip_more R xs ys news place x y less at is one all =
+    let count : suc place ≡ place + 1 = omega arith in
+    let front : take place xs ++ x ∷ [] ≡ take (place + 1) xs = ap (λ z. take place xs ++ z ∷ []) at ∙ (sym (take-suc xs place x less) ∙ ap (λ n. take n xs) count) in
+    subst (λ l. AllZip R l news) front (subst (AllZip R (take place xs ++ x ∷ [])) (sym is) (push_both R (take place xs) ys x y all one))
+
+pub zip_end : {A B : Type 0} (R : A → B → Type 0) (xs : List A) (ys : List B) (place : ℕ) → place ≡ length xs → AllZip R (take place xs) ys → AllZip R xs ys
+zip_end R xs ys place ended all = subst (λ l. AllZip R l ys) (ap (λ n. take n xs) ended ∙ take-length xs) all
+
+-- a loop over a list that stands beside another, and makes a third
+made_more : {A B C : Type 0} (R : A → B → Type 0) (Q : A → C → Type 0) (xs : List A) (ys : List B) (made : List C) (place : ℕ) (y : B) (v : C)
+    → place < length ys → y ≡ get_or ys place y → ((x : A) → R x y → Q x v) → AllZip R xs ys → AllZip Q (take place xs) made → AllZip Q (take (suc place) xs) (made ++ v ∷ [])
+made_more R Q xs [] made place y v less at one all before = absurd (omega (arith, less))
+made_more R Q [] (b ∷ ys) made place y v less at one all before = absurd all
+made_more R Q (a ∷ xs) (b ∷ ys) [] zero y v less at one all before = (one a (subst (R a) (sym at) all.0), tt)
+made_more R Q (a ∷ xs) (b ∷ ys) (c ∷ made) zero y v less at one all before = absurd before
+made_more R Q (a ∷ xs) (b ∷ ys) [] (suc place) y v less at one all before = absurd before
+made_more R Q (a ∷ xs) (b ∷ ys) (c ∷ made) (suc place) y v less at one all before =
+    (before.0, made_more R Q xs ys made place y v (omega (arith, less)) at one all.1 before.1)
+
+pub value_more : {A B C : Type 0} (R : A → B → Type 0) (Q : A → C → Type 0) (xs : List A) (ys : List B) (made news : List C) (place : ℕ) (y : B) (v : C)
+    → place < length ys → y ≡ get_or ys place y → news ≡ made ++ v ∷ [] → ((x : A) → R x y → Q x v) → AllZip R xs ys → AllZip Q (take place xs) made → AllZip Q (take (place + 1) xs) news
+value_more R Q xs ys made news place y v less at is one all before =
+    let count : suc place ≡ place + 1 = omega arith in
+    subst (λ n. AllZip Q (take n xs) news) count (subst (AllZip Q (take (suc place) xs)) (sym is) (made_more R Q xs ys made place y v less at one all before))
+
+-- as long as each other
+pub as_long : {A B : Type 0} (R : A → B → Type 0) (xs : List A) (ys : List B) → AllZip R xs ys → length ys ≡ length xs
+as_long R [] [] all = refl
+as_long R [] (y ∷ ys) all = absurd all
+as_long R (x ∷ xs) [] all = absurd all
+as_long R (x ∷ xs) (y ∷ ys) all = ap suc (as_long R xs ys all.1)
+
+-- another in the second list
+pub zip_set : {A B : Type 0} (R : A → B → Type 0) (xs : List A) (ys : List B) (place : ℕ) (old new : B) → place < length ys → old ≡ get_or ys place old → ((x : A) → R x old → R x new)
+    → AllZip R xs ys → AllZip R xs (slice_set ys place new)
+zip_set R xs [] place old new less at one all = absurd (omega (arith, less))
+zip_set R [] (b ∷ ys) place old new less at one all = absurd all
+zip_set R (a ∷ xs) (b ∷ ys) zero old new less at one all = (one a (subst (R a) (sym at) all.0), all.1)
+zip_set R (a ∷ xs) (b ∷ ys) (suc place) old new less at one all = (all.0, zip_set R xs ys place old new (omega (arith, less)) at one all.1)
+
+-- what holds of each of the second list
+pub all_second : {A B : Type 0} (R : A → B → Type 0) (P : B → Type 0) → ((x : A) (y : B) → R x y → P y) → (xs : List A) (ys : List B) → AllZip R xs ys → All P ys
+all_second R P holds xs [] all k d less = absurd (omega (arith, less))
+all_second R P holds [] (y ∷ ys) all k d less = absurd all
+all_second R P holds (x ∷ xs) (y ∷ ys) all zero d less = holds x y all.0
+all_second R P holds (x ∷ xs) (y ∷ ys) all (suc k) d less = all_second R P holds xs ys all.1 k d (omega (arith, less))
