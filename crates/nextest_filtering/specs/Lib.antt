@@ -15,6 +15,23 @@ pub use Rattle.nextest_filtering_syntax.specs.Places
 pub use Rattle.nextest_filtering_arguments.specs.Blanks
 pub use Rattle.nextest_filtering_arguments.specs.Faults
 pub use Rattle.nextest_filtering_arguments.specs.Kinds
+-- filtersets that are compiled: which are accepted, and what they are on binaries and tests
+pub use Rattle.nextest_filtering_compiling.specs.Accepting
+pub use Rattle.nextest_filtering_compiling.specs.Bans
+pub use Rattle.nextest_filtering_compiling.specs.Compiling
+pub use Rattle.nextest_filtering_compiling.specs.Context
+pub use Rattle.nextest_filtering_compiling.specs.Faults as CompileFaults
+pub use Rattle.nextest_filtering_compiling.specs.Leaves
+pub use Rattle.nextest_filtering_compiling.specs.Packages
+pub use Rattle.nextest_filtering_filters.specs.Asking
+pub use Rattle.nextest_filtering_filters.specs.Filter
+pub use Rattle.nextest_filtering_filters.specs.Laws as FilterLaws
+pub use Rattle.nextest_filtering_filters.specs.Meaning as FilterMeaning
+pub use Rattle.nextest_filtering_filters.specs.Query
+pub use Rattle.nextest_filtering_formulas.specs.Formula
+pub use Rattle.nextest_filtering_graph.specs.Graph
+pub use Rattle.nextest_filtering_graph.specs.Making
+pub use Rattle.nextest_filtering_graph.specs.Reaching
 -- arguments: texts, regular expressions, globs
 pub use Rattle.nextest_filtering_texts.specs.Text
 pub use Rattle.nextest_filtering_texts.specs.Spans
@@ -37,7 +54,19 @@ pub use Rattle.nextest_filtering_trees.specs.declared.operators.DifferenceOperat
 pub use Rattle.nextest_filtering_trees.specs.declared.operators.NotOperator
 pub use Rattle.nextest_filtering_trees.specs.declared.operators.OrOperator
 pub use Rattle.nextest_filtering_trees.specs.declared.pattern.PatternError
+pub use Rattle.nextest_filtering_arguments.specs.Bans as KindWords
+pub use Rattle.nextest_filtering_arguments.specs.declared.ban.BannedPredicateReason
+pub use Rattle.nextest_filtering_arguments.specs.declared.ban.FiltersetKind
 pub use Rattle.nextest_filtering_arguments.specs.declared.error.ParseSingleError
+pub use Rattle.nextest_filtering_compiling.specs.declared.error.FiltersetError
+pub use Rattle.nextest_filtering_compiling.specs.declared.error.FiltersetParseErrors
+pub use Rattle.nextest_filtering_compiling.specs.declared.filterset.Filterset
+pub use Rattle.nextest_filtering_compiling.specs.declared.known_groups.KnownGroups
+pub use Rattle.nextest_filtering_filters.specs.declared.leaf.FiltersetLeaf
+pub use Rattle.nextest_filtering_filters.specs.declared.query.BinaryQuery
+pub use Rattle.nextest_filtering_filters.specs.declared.query.TestQuery
+pub use Rattle.nextest_filtering_graph.specs.declared.graph_error.GraphError
+pub use Rattle.nextest_filtering_graph.specs.declared.graph_fault.GraphFault
 pub use Rattle.nextest_filtering_syntax.specs.declared.reading.Reading as ReadingType
 pub use Rattle.nextest_filtering_syntax.specs.declared.reading.ParseError
 pub use Rattle.nextest_filtering_globs.specs.declared.construct_error.GlobConstructError

@@ -1,14 +1,22 @@
-//! The filterset language: texts, trees and matchers, as they are parsed and printed.
+//! The filterset language: texts, trees and matchers, as they are parsed and printed; filtersets that are compiled for a
+//! workspace, and what they are on binaries and tests.
 //!
 //! What the contracts of these speak of is handed on as `Rattle.nextest_filtering.specs`. A crate with a clause on a
 //! function that takes or gives a `ParsedExpr` itself also names `nextest_filtering_trees` among the libraries that it
 //! stands on, since this type is recursive.
 #![tactic(auto)]
 
-pub use nextest_filtering_arguments::ParseSingleError;
+pub use nextest_filtering_arguments::{BannedPredicateReason, FiltersetKind, ParseSingleError};
+pub use nextest_filtering_compiling::{
+    Filterset, FiltersetError, FiltersetParseErrors, KnownGroups, ParseContext,
+};
+pub use nextest_filtering_filters::{
+    BinaryEvaluator, BinaryQuery, CompiledExpr, EvalContext, FiltersetLeaf, GroupLookup, TestQuery,
+};
 pub use nextest_filtering_globs::{
     ClassRange, GenericGlob, GlobConstructError, GlobMatcher, GlobToken,
 };
+pub use nextest_filtering_graph::{GraphError, GraphFault, PackageGraph};
 pub use nextest_filtering_syntax::{ParseError, Reading, needs_deps, parse, read};
 pub use nextest_filtering_trees::{
     AndOperator, BuildPlatform, DifferenceOperator, NameMatcher, NameMatching, NotOperator,
@@ -17,6 +25,7 @@ pub use nextest_filtering_trees::{
 
 /// The laws of the language over its definitions.
 pub mod laws {
+    pub use nextest_filtering_filters::laws::{one_answer, same_without_groups, sure_of_tests};
     pub use nextest_filtering_globs::laws::one_reading as one_glob_reading;
     pub use nextest_filtering_laws::laws::{one_tree, printed_reads_back, reads_back_exactly};
     pub use nextest_filtering_texts::laws::{escaped_reads_back, one_regex, one_text};

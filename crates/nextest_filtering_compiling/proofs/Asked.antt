@@ -1,5 +1,5 @@
 -- Packages that are named, and those that are asked for.
-use Rattle.std.proofs.Common.{◌≡◌, ℕ, ◌+◌, ◌<◌, ◌≤◌, ◌==◌, zero, suc, ◌⊎◌, inl, inr, Bool, true, false, cond, List, [], ◌∷◌, ◌++◌, length, get_or, Option, None, Some, String, string_bytes, Global, refl, ap, sym, subst, ◌∙◌, arith}
+use Rattle.std.proofs.Common.{◌≡◌, ℕ, ◌+◌, ◌<◌, ◌≤◌, ◌==◌, zero, suc, ◌⊎◌, inl, inr, Bool, true, false, cond, List, [], ◌∷◌, ◌++◌, length, get_or, String, string_bytes, Global, refl, ap, sym, subst, ◌∙◌, arith}
 use Rattle.std.specs.Prelude.{All, Contains, ◌↔◌}
 use Rattle.std.specs.Str.{bytes_eq}
 use Rattle.std.specs.List.{slice_get}
@@ -128,22 +128,24 @@ asked_one {Y} graph how named place d ids new key within is_key asked update bef
     by_test true same =
         ((λ _. here ((bytes_eq-Decides (string_bytes key) id).0 same)), (λ _. says ∙ ap (λ (c : Bool). cond c true (contains_text ids id)) same))
     by_test false apart =
-        let still : contains_text new id ≡ contains_text ids id = says ∙ ap (λ (c : Bool). cond c true (contains_text ids id)) apart in
-        ((λ found. later graph how named place id ((before id).0 (sym still ∙ found))),
-        (λ so. elim (earlier_or_last graph how named place id so) [
-          | inl earlier ↦ still ∙ (before id).1 earlier
-          | inr last ↦ absurd (other apart last)
-        ]))
+        let still : contains_text new id ≡ contains_text ids id = says ∙ ap (λ (c : Bool). cond c true (contains_text ids id)) apart in (
+          (λ found. later graph how named place id ((before id).0 (sym still ∙ found))),
+          (λ so. elim (earlier_or_last graph how named place id so) [
+            | inl earlier ↦ still ∙ (before id).1 earlier
+            | inr last ↦ absurd (other apart last)
+          ]),
+        )
 
 -- one more package isn't
 pub asked_none : {Y : Type 0} (graph : Graph) (how : Asks) (named : List ℕ) (place : ℕ) (ids : BTreeSet (String Y)) → (IsAsked graph.links how named place → ⊥)
     → AreIdsBelow graph how named place ids → AreIdsBelow graph how named (place + 1) ids
-asked_none {Y} graph how named place ids not_asked before id =
-    ((λ found. later graph how named place id ((before id).0 found)),
-    (λ so. elim (earlier_or_last graph how named place id so) [
-      | inl earlier ↦ (before id).1 earlier
-      | inr last ↦ absurd (not_asked last.0)
-    ]))
+asked_none {Y} graph how named place ids not_asked before id = (
+  (λ found. later graph how named place id ((before id).0 found)),
+  (λ so. elim (earlier_or_last graph how named place id so) [
+    | inl earlier ↦ (before id).1 earlier
+    | inr last ↦ absurd (not_asked last.0)
+  ]),
+)
 
 abbrev IsId : Graph → Asks → List ℕ → List ℕ → Type 0
 IsId graph how named id = (place : ℕ) × IsAsked graph.links how named place × HasId graph id place

@@ -1,5 +1,5 @@
 -- What predicates are compiled to, one after another.
-use Rattle.std.proofs.Common.{◌≡◌, ℕ, ◌+◌, ◌<◌, List, [], ◌∷◌, ◌++◌, Option, None, Some, refl, ap, sym, subst, ◌∙◌}
+use Rattle.std.proofs.Common.{◌≡◌, List, [], ◌∷◌, ◌++◌, Option, None, Some, refl, ap, sym, subst, ◌∙◌}
 use Rattle.std.specs.List.{AllZip}
 use Rattle.std.proofs.lemmas.List.{append_assoc, append-nil}
 use Rattle.nextest_filtering_arguments.specs.declared.error.ParseSingleError.{ParseSingleError}
@@ -19,9 +19,13 @@ have_push : (cx : Context) (known : KnownGroups) (leaves : List ParsedLeaf) (it 
     → Have cx known leaves faults → LeafHas cx known (place_of it) (leaf_of it) first → Have cx known (leaves ++ it ∷ []) (faults ++ listed first)
 have_push cx known [] it faults first none has =
     (first, [], ap (λ (l : List ParseSingleError). l ++ listed first) none ∙ sym (append-nil (listed first)), has, refl)
-have_push cx known (leaf ∷ leaves) it faults first (head, rest, same, has_head, have) has =
-    (head, rest ++ listed first, ap (λ (l : List ParseSingleError). l ++ listed first) same ∙ append_assoc (listed head) rest (listed first), has_head,
-    have_push cx known leaves it rest first have has)
+have_push cx known (leaf ∷ leaves) it faults first (head, rest, same, has_head, have) has = (
+  head,
+  rest ++ listed first,
+  ap (λ (l : List ParseSingleError). l ++ listed first) same ∙ append_assoc (listed head) rest (listed first),
+  has_head,
+  have_push cx known leaves it rest first have has,
+)
 
 -- the faults, with that of one more
 pub keeps_faults : (cx : Context) (known : KnownGroups) (leaves : List ParsedLeaf) (it : ParsedLeaf) (outcome : Outcome) (made new_made : List FiltersetLeaf)

@@ -36,25 +36,35 @@ stand_all graph front [] (it ∷ leaves) all first is at zip = absurd zip
 stand_all graph front (one ∷ made) (it ∷ leaves) all first is at zip =
     let found : leaf_at all first ≡ one
     = ap (λ (l : List FiltersetLeaf). leaf_at l first) is ∙ ap (leaf_at (front ++ one ∷ made)) at
-    ∙ unwrap_or-slice_get (front ++ one ∷ made) (length front) leaf.None ∙ get_or-append_seam front one made leaf.None in
-    (subst (IsCompiledLeaf graph (leaf_of it)) (sym found) zip.0,
-    stand_all graph (front ++ one ∷ []) made leaves all (first + 1) (is ∙ sym (append_assoc front (one ∷ []) made)) (omega (arith, at, length-append front (one ∷ []))) zip.1)
+    ∙ unwrap_or-slice_get (front ++ one ∷ made) (length front) leaf.None ∙ get_or-append_seam front one made leaf.None in (
+      subst (IsCompiledLeaf graph (leaf_of it)) (sym found) zip.0,
+      stand_all graph (front ++ one ∷ []) made leaves all (first + 1) (is ∙ sym (append_assoc front (one ∷ []) made)) (omega (arith, at, length-append front (one ∷ []))) zip.1,
+    )
 
 compiled_at : (graph : Graph) (all : List FiltersetLeaf) (t : ParsedExpr) (first : ℕ) → Stand graph all first (leaves_of t)
     → IsCompiled graph (tree_of t) (with_leaves (leaf_at all) (placed first t))
 compiled_at graph all (tree.Not' op p t) first stand = (with_leaves (leaf_at all) (placed first t), refl, compiled_at graph all t first stand)
-compiled_at graph all (tree.Union' op p a q b) first stand =
-    (with_leaves (leaf_at all) (placed first a), with_leaves (leaf_at all) (placed (first + length (leaves_of a)) b), refl,
-    compiled_at graph all a first (stand_left graph all first (leaves_of a) (leaves_of b) stand),
-    compiled_at graph all b (first + length (leaves_of a)) (stand_right graph all first (first + length (leaves_of a)) (leaves_of a) (leaves_of b) refl stand))
-compiled_at graph all (tree.Intersection' op p a q b) first stand =
-    (with_leaves (leaf_at all) (placed first a), with_leaves (leaf_at all) (placed (first + length (leaves_of a)) b), refl,
-    compiled_at graph all a first (stand_left graph all first (leaves_of a) (leaves_of b) stand),
-    compiled_at graph all b (first + length (leaves_of a)) (stand_right graph all first (first + length (leaves_of a)) (leaves_of a) (leaves_of b) refl stand))
-compiled_at graph all (tree.Difference' op p a q b) first stand =
-    (with_leaves (leaf_at all) (placed first a), with_leaves (leaf_at all) (placed (first + length (leaves_of a)) b), refl,
-    compiled_at graph all a first (stand_left graph all first (leaves_of a) (leaves_of b) stand),
-    compiled_at graph all b (first + length (leaves_of a)) (stand_right graph all first (first + length (leaves_of a)) (leaves_of a) (leaves_of b) refl stand))
+compiled_at graph all (tree.Union' op p a q b) first stand = (
+  with_leaves (leaf_at all) (placed first a),
+  with_leaves (leaf_at all) (placed (first + length (leaves_of a)) b),
+  refl,
+  compiled_at graph all a first (stand_left graph all first (leaves_of a) (leaves_of b) stand),
+  compiled_at graph all b (first + length (leaves_of a)) (stand_right graph all first (first + length (leaves_of a)) (leaves_of a) (leaves_of b) refl stand),
+)
+compiled_at graph all (tree.Intersection' op p a q b) first stand = (
+  with_leaves (leaf_at all) (placed first a),
+  with_leaves (leaf_at all) (placed (first + length (leaves_of a)) b),
+  refl,
+  compiled_at graph all a first (stand_left graph all first (leaves_of a) (leaves_of b) stand),
+  compiled_at graph all b (first + length (leaves_of a)) (stand_right graph all first (first + length (leaves_of a)) (leaves_of a) (leaves_of b) refl stand),
+)
+compiled_at graph all (tree.Difference' op p a q b) first stand = (
+  with_leaves (leaf_at all) (placed first a),
+  with_leaves (leaf_at all) (placed (first + length (leaves_of a)) b),
+  refl,
+  compiled_at graph all a first (stand_left graph all first (leaves_of a) (leaves_of b) stand),
+  compiled_at graph all b (first + length (leaves_of a)) (stand_right graph all first (first + length (leaves_of a)) (leaves_of a) (leaves_of b) refl stand),
+)
 compiled_at graph all (tree.Parens' p t) first stand = compiled_at graph all t first stand
 compiled_at graph all (tree.Set it) first stand = (leaf_at all first, refl, stand.0)
 

@@ -7,7 +7,7 @@ use Rattle.nextest_filtering_arguments.specs.declared.ban.FiltersetKind.TheVaria
 use Rattle.nextest_filtering_arguments.specs.declared.error.ParseSingleError.{ParseSingleError}
 use Rattle.nextest_filtering_arguments.specs.declared.error.ParseSingleError.TheVariants as fault
 use Rattle.nextest_filtering_syntax.specs.Places.{span_of}
-use Rattle.nextest_filtering_trees.specs.Tree.{Leaf, Subject, matching, default_filter, test_name, group, leaf_of}
+use Rattle.nextest_filtering_trees.specs.Tree.{Leaf, matching, default_filter, test_name, group, leaf_of}
 use Rattle.nextest_filtering_trees.specs.declared.leaf.ParsedLeaf.{ParsedLeaf}
 use Rattle.nextest_filtering_trees.specs.declared.leaf.SourceSpan.{SourceSpan}
 

@@ -23,11 +23,7 @@ pub(crate) fn shape_of(
 }
 
 // Adds the formula of a tree whose predicates begin at `first`, and answers the place behind them.
-fn add(
-    tree: &ParsedExpr,
-    builder: &mut FormulaBuilder,
-    first: usize,
-) -> Result<usize, AllocError>
+fn add(tree: &ParsedExpr, builder: &mut FormulaBuilder, first: usize) -> Result<usize, AllocError>
     requires { first + length (leaves_of tree.now) < 2 ^ 64 }
     ensures waits { OnOk result (waiting_of builder.new ≡ placed first tree.now ∷ waiting_of builder.old) }
     ensures next { IfOk result (λ next. next ≡ first + length (leaves_of tree.now)) }

@@ -1,11 +1,14 @@
 //! The program `worked_filtersets`: worked rows of the filterset language. Its tables stand in the folder that it runs in.
 #![tactic(auto)]
 
+mod answers;
+mod compiled;
 mod faults;
 mod filtersets;
 mod globs;
 mod names;
 mod texts;
+mod workspaces;
 
 use anyhow::{Result, ensure};
 use worked_tables::rows_hold;
@@ -24,6 +27,8 @@ fn main(rt: HostRuntime) -> Result<()> {
     hold &= rows_hold(&rt, &texts::Printed)?;
     hold &= rows_hold(&rt, &texts::Regexes)?;
     hold &= rows_hold(&rt, &texts::Arguments)?;
+    hold &= rows_hold(&rt, &compiled::Compiled)?;
+    hold &= rows_hold(&rt, &answers::Answers)?;
     ensure!(hold, "a row has another answer");
     Ok(())
 }

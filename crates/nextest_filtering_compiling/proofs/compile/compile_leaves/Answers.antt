@@ -1,4 +1,4 @@
-use Rattle.std.proofs.Common.{◌≡◌, [], List, map, take, subst, sym}
+use Rattle.std.proofs.Common.{List, map, take, subst, sym}
 use Rattle.std.specs.List.{AllZip}
 use Rattle.nextest_filtering_trees.specs.Tree.{leaf_of}
 use Rattle.nextest_filtering_trees.specs.declared.leaf.ParsedLeaf.{ParsedLeaf}

@@ -1,4 +1,4 @@
-use Rattle.std.proofs.Common.{◌≡◌, ℕ, List, [], ◌∙◌, true, refl, subst, sym, codes, length, ◌≤◌, take}
+use Rattle.std.proofs.Common.{ℕ, List, ◌∙◌, true, refl, subst, sym, codes, length, ◌≤◌, take}
 use Rattle.std.specs.Prelude.{All}
 use Rattle.nextest_filtering_filters.specs.Meaning.{Tells}
 use Rattle.nextest_filtering_trees.specs.Meaning.{MatchesName}
@@ -20,10 +20,14 @@ loop-name-preserved c = record {
 pub returns : goal.returns
 returns c =
     let m = matcher_of c.args.matcher.now in
-    subst (λ (known : KnownGroups). Tells (NoGroup known m) true) (sym c.in-Known.is)
-    ((λ _. (not_so c.in_ok-is_match.field-0
-    (tells_name m c.in_ok-names.names (codes "@global") c.in_ok-is_match.field-0 c.in_ok-names.ensures.comparison c.in_ok-names.ensures.text c.in_ok-is_match.ensures.exact)
-    c.if-branch.false,
-    none_of_all (λ (it : List ℕ). it) m c.in-Known.groups c.loop-name.name-index
-    (subst (λ (l : List (List ℕ)). length l ≤ c.loop-name.name-index) c.as_slice-name-items.ensures c.loop-name-test.false)
-    (subst (λ (l : List (List ℕ)). All (λ it. MatchesName m it → ⊥) (take c.loop-name.name-index l)) c.as_slice-name-items.ensures c.loop-name.invariant.none))), (λ _. refl))
+    subst (λ (known : KnownGroups). Tells (NoGroup known m) true) (sym c.in-Known.is) (
+      (λ _. (
+        not_so c.in_ok-is_match.field-0
+            (tells_name m c.in_ok-names.names (codes "@global") c.in_ok-is_match.field-0 c.in_ok-names.ensures.comparison c.in_ok-names.ensures.text c.in_ok-is_match.ensures.exact)
+            c.if-branch.false,
+        none_of_all (λ (it : List ℕ). it) m c.in-Known.groups c.loop-name.name-index
+            (subst (λ (l : List (List ℕ)). length l ≤ c.loop-name.name-index) c.as_slice-name-items.ensures c.loop-name-test.false)
+            (subst (λ (l : List (List ℕ)). All (λ it. MatchesName m it → ⊥) (take c.loop-name.name-index l)) c.as_slice-name-items.ensures c.loop-name.invariant.none),
+      )),
+      (λ _. refl),
+    )

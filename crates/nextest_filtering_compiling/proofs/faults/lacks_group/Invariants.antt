@@ -1,4 +1,4 @@
-use Rattle.std.proofs.Common.{◌≡◌, take, codes}
+use Rattle.std.proofs.Common.{◌≡◌, take}
 use Rattle.std.specs.List.{All}
 use Rattle.nextest_filtering_trees.specs.Matching.{comparison_of, text_of}
 use Rattle.nextest_filtering_trees.specs.Meaning.{MatchesName}

@@ -1,4 +1,4 @@
-use Rattle.std.proofs.Common.{◌≡◌, ℕ, List, [], ◌∙◌, length, ◌≤◌, take, ap, subst}
+use Rattle.std.proofs.Common.{ℕ, List, ◌∙◌, length, ◌≤◌, take, ap, subst}
 use Rattle.std.specs.Prelude.{All}
 use Rattle.nextest_filtering_trees.specs.Meaning.{MatchesName}
 use Rattle.nextest_filtering_trees.specs.Tree.{matcher_of}

@@ -1,4 +1,4 @@
-use Rattle.std.proofs.Common.{ℕ, take}
+use Rattle.std.proofs.Common.{take}
 use Rattle.std.specs.List.{All}
 use Rattle.nextest_filtering_compiling.specs.Asking.{IsAskedBy}
 use Rattle.nextest_filtering_compiling.proofs.packages.is_asked.Given as goal

@@ -1,4 +1,4 @@
-use Rattle.std.proofs.Common.{◌≡◌, ℕ, ◌+◌, ◌<◌, ◌≤◌, List, [], ◌∙◌, Global, Vec, get_or, length, subst, sym, ap}
+use Rattle.std.proofs.Common.{◌≡◌, ℕ, ◌+◌, ◌<◌, ◌≤◌, List, ◌∙◌, Global, Vec, get_or, length, subst, sym, ap}
 use Rattle.nextest_filtering_filters.specs.Meaning.{Tells}
 use Rattle.nextest_filtering_graph.specs.Graph.{Graph}
 use Rattle.nextest_filtering_trees.specs.Meaning.{MatchesName}

@@ -1,7 +1,5 @@
-use Rattle.std.proofs.Common.{◌≡◌, ℕ, ◌+◌, ◌<◌, ◌≤◌, List, [], ◌∙◌, Global, String, get_or, length, subst, sym, ap}
-use Rattle.std.specs.BTreeSet.{BTreeSet}
+use Rattle.std.proofs.Common.{◌≡◌, ℕ, ◌+◌, ◌<◌, ◌≤◌, List, ◌∙◌, get_or, length, subst, sym, ap}
 use Rattle.nextest_filtering_graph.specs.Graph.{Graph}
-use Rattle.nextest_filtering_compiling.specs.Asking.{IsAsked}
 use Rattle.nextest_filtering_compiling.proofs.Asked.{AreIdsBelow, asked_all, asked_none, asked_one}
 use Rattle.nextest_filtering_compiling.proofs.Looked.{not_so}
 use Rattle.nextest_filtering_compiling.proofs.packages.packages_asked.Goals.{then-is_asked+in_ok-from_str+in_ok-insert, else-is_asked}

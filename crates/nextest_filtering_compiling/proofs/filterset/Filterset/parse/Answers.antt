@@ -1,8 +1,7 @@
-use Rattle.std.proofs.Common.{◌≡◌, ◌≢◌, [], ℕ, List, refl, subst, sym, arith}
+use Rattle.std.proofs.Common.{◌≡◌, ◌≢◌, [], ℕ, List, refl, subst, arith}
 use Rattle.std.specs.Prelude.{vec_len}
 use Rattle.nextest_filtering_syntax.specs.Reading.{IsReadingOf}
 use Rattle.nextest_filtering_compiling.specs.Accepting.{IsFiltered}
-use Rattle.nextest_filtering_compiling.specs.declared.filterset.Filtered.{Filtered}
 use Rattle.nextest_filtering_compiling.proofs.Whole.{accepted_text, is_nothing, is_something, refused_predicates, refused_text, refused_treeless}
 use Rattle.nextest_filtering_compiling.proofs.filterset.Filterset.parse.Goals as goal
 
@@ -29,7 +28,7 @@ returns-in-Filter c =
     let clean : reading.faults.items ≡ []
     = is_nothing reading.faults.items (vec_len reading.faults) c.is_empty.result c.is_empty.ensures c.if-not-is_empty.false (omega (arith, reading.faults.ok.0)) in
     let told = accepted_text c.args.cx.now c.args.kind c.args.known_groups.now c.args.input reading c.in-Some.parsed c.in-Filter.compiled is clean c.in-Some.is
-        (subst (IsFiltered c.args.cx.now c.args.kind c.args.known_groups.now c.in-Some.parsed) c.in-Filter.is c.in_ok-compiled.ensures) in
+    (subst (IsFiltered c.args.cx.now c.args.kind c.args.known_groups.now c.in-Some.parsed) c.in-Filter.is c.in_ok-compiled.ensures) in
     (refl, told.accepted, told.stands, told.compiled)
 
 pub returns : goal.returns
