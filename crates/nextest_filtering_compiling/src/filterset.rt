@@ -62,10 +62,7 @@ fn compile(
     if !faults.is_empty() {
         return Ok(Filtered::Faults(faults));
     }
-    Ok(Filtered::Filter(CompiledExpr::new(
-        shape_of(alloc, tree, leaves.as_slice())?,
-        made,
-    )))
+    Ok(Filtered::Filter(CompiledExpr::new(shape_of(alloc, tree, leaves.as_slice())?, made)))
 }
 
 impl Filterset {

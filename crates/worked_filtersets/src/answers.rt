@@ -2,8 +2,8 @@
 use crate::workspaces::{binary, workspace};
 use anyhow::{Context, Result, ensure};
 use nextest_filtering::{
-    BinaryEvaluator, CompiledExpr, EvalContext, Filterset, FiltersetKind, GroupLookup,
-    KnownGroups, NameMatcher, ParseContext, TestQuery,
+    BinaryEvaluator, CompiledExpr, EvalContext, Filterset, FiltersetKind, GroupLookup, KnownGroups,
+    NameMatcher, ParseContext, TestQuery,
 };
 use nextest_text::Text;
 use std::alloc::{AllocError, Global};
