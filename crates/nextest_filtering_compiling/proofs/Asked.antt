@@ -17,7 +17,8 @@ use Rattle.nextest_filtering_trees.specs.Tree.{Matcher, matching}
 use Rattle.nextest_filtering_trees.specs.declared.leaf.SourceSpan.{SourceSpan}
 use Rattle.nextest_filtering_arguments.specs.declared.error.ParseSingleError.TheVariants as fault
 use Rattle.nextest_filtering_filters.specs.declared.leaf.FiltersetLeaf.TheVariants as leaf
-use Rattle.nextest_filtering_compiling.specs.Asking.{AreNamed, IsAsked, IsSetFor, IsOutcomeAt, subject_of}
+use Rattle.nextest_filtering_compiling.specs.Asking.{AreNamed, IsAsked, IsSetFor, subject_of}
+use Rattle.nextest_filtering_compiling.specs.Outcomes.{IsOutcomeAt}
 use Rattle.nextest_filtering_compiling.specs.Context.{Context}
 use Rattle.nextest_filtering_compiling.specs.Faults.{NoPackage}
 use Rattle.nextest_filtering_compiling.specs.Packages.{AsksFor, HasId, IsNamed}

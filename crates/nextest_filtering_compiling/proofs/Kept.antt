@@ -6,7 +6,7 @@ use Rattle.nextest_filtering_arguments.specs.declared.error.ParseSingleError.{Pa
 use Rattle.nextest_filtering_filters.specs.declared.leaf.FiltersetLeaf.{FiltersetLeaf}
 use Rattle.nextest_filtering_trees.specs.Tree.{leaf_of}
 use Rattle.nextest_filtering_trees.specs.declared.leaf.ParsedLeaf.{ParsedLeaf}
-use Rattle.nextest_filtering_compiling.specs.Asking.{IsKept, IsOutcome}
+use Rattle.nextest_filtering_compiling.specs.Outcomes.{IsKept, IsOutcome}
 use Rattle.nextest_filtering_compiling.specs.Bans.{place_of}
 use Rattle.nextest_filtering_compiling.specs.Compiling.{IsCompiledLeaf}
 use Rattle.nextest_filtering_compiling.specs.Context.{Context}

@@ -19,7 +19,8 @@ use Rattle.nextest_filtering_trees.specs.declared.leaf.ParsedLeaf.{ParsedLeaf}
 use Rattle.nextest_filtering_trees.specs.declared.leaf.SourceSpan.{SourceSpan}
 use Rattle.nextest_filtering_trees.specs.declared.tree.ParsedExpr.{ParsedExpr}
 use Rattle.nextest_filtering_trees.specs.declared.tree.ParsedExpr.TheVariants as tree
-use Rattle.nextest_filtering_compiling.specs.Accepting.{IsAccepted, IsFiltered, IsFree, IsRefusedFor}
+use Rattle.nextest_filtering_compiling.specs.Accepting.{IsAccepted, IsFree, IsRefusedFor}
+use Rattle.nextest_filtering_compiling.specs.Outcomes.{IsFiltered}
 use Rattle.nextest_filtering_compiling.specs.Bans.{ban_of, banned, fault_for, place_of}
 use Rattle.nextest_filtering_compiling.specs.Compiling.{IsCompiled, IsCompiledLeaf}
 use Rattle.nextest_filtering_compiling.specs.Context.{Context}

@@ -15,8 +15,6 @@ use Rattle.nextest_filtering_compiling.specs.Faults.{Have, LeafHas}
 use Rattle.nextest_filtering_compiling.specs.Leaves.{leaves_of}
 use Rattle.nextest_filtering_compiling.specs.declared.error.FiltersetError.{FiltersetError}
 use Rattle.nextest_filtering_compiling.specs.declared.error.FiltersetError.TheVariants as error
-use Rattle.nextest_filtering_compiling.specs.declared.filterset.Filtered.{Filtered}
-use Rattle.nextest_filtering_compiling.specs.declared.filterset.Filtered.TheVariants as filtered
 use Rattle.nextest_filtering_compiling.specs.declared.filterset.Filterset.{Filterset}
 use Rattle.nextest_filtering_compiling.specs.declared.known_groups.KnownGroups.{KnownGroups}
 
@@ -39,13 +37,6 @@ IsRefusedFor cx kind known text faults =
     (((other : Tree) → IsFilterset text other → ⊥) × AreFaultsOf text faults)
     ⊎ ((parsed : ParsedExpr) × IsFilterset text (tree_of parsed) × StandsWhole text parsed
     × ((faults ≡ banned kind (leaves_of parsed)) ⊎ ((banned kind (leaves_of parsed) ≡ []) × Have cx known (leaves_of parsed) faults)))
-
--- the filter that a tree is, where no predicate has a fault; else the faults
-abbrev pub IsFiltered : Context → FiltersetKind → KnownGroups → ParsedExpr → Filtered → Type 0
-IsFiltered cx kind known tree (filtered.Filter made) = (banned kind (leaves_of tree) ≡ []) × Have cx known (leaves_of tree) []
-    × IsCompiled cx.graph (tree_of tree) (filter_of made)
-IsFiltered cx kind known tree (filtered.Faults faults) = (faults.items ≢ [])
-    × ((faults.items ≡ banned kind (leaves_of tree)) ⊎ ((banned kind (leaves_of tree) ≡ []) × Have cx known (leaves_of tree) faults.items))
 
 -- what a text gives: its tree with the spans of its predicates, and the filter that the tree is compiled to; or the faults for which it is
 -- refused, of which there are some; want of memory says nothing

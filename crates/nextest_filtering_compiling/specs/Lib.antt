@@ -5,4 +5,5 @@ pub mod Packages
 pub mod Compiling
 pub mod Faults
 pub mod Asking
+pub mod Outcomes
 pub mod Accepting

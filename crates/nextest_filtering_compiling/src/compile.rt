@@ -2,7 +2,8 @@
 ghost use Rattle.std.specs.Prelude.{◌≡◌, [], IfOk, OnOk, map};
 ghost use Rattle.std.specs.List.{AllZip};
 ghost use Rattle.nextest_filtering_trees.specs.Tree.{binary_id, binary_name, group, leaf_of, matcher_of, matching};
-ghost use Rattle.nextest_filtering_compiling.specs.Asking.{IsKept, IsOutcome, IsOutcomeAt, subject_of};
+ghost use Rattle.nextest_filtering_compiling.specs.Asking.{subject_of};
+ghost use Rattle.nextest_filtering_compiling.specs.Outcomes.{IsKept, IsOutcome, IsOutcomeAt};
 ghost use Rattle.nextest_filtering_compiling.specs.Compiling.{IsCompiledLeaf};
 ghost use Rattle.nextest_filtering_compiling.specs.Context.{Context};
 ghost use Rattle.nextest_filtering_compiling.specs.Faults.{Have};

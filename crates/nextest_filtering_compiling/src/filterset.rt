@@ -6,7 +6,8 @@ ghost use Rattle.nextest_filtering_formulas.specs.Formula.{IsValue};
 ghost use Rattle.nextest_filtering_filters.specs.Filter.{filter_of, is_group};
 ghost use Rattle.nextest_filtering_filters.specs.Meaning.{CanBeOn, IsOn};
 ghost use Rattle.nextest_filtering_filters.specs.Query.{binary_of, test_of};
-ghost use Rattle.nextest_filtering_compiling.specs.Accepting.{IsFiltered, Parses};
+ghost use Rattle.nextest_filtering_compiling.specs.Accepting.{Parses};
+ghost use Rattle.nextest_filtering_compiling.specs.Outcomes.{IsFiltered};
 
 use crate::bans::banned_in;
 use crate::compile::{Compiled, compile_leaves};

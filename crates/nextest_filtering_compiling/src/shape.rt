@@ -17,6 +17,7 @@ pub(crate) fn shape_of(
     ensures { IfOk result (λ it. formula_of it ≡ placed 0 tree.now) }
 {
     let mut builder = FormulaBuilder::new(alloc);
+    // a slice has fewer than 2^64 predicates, so their places can be counted
     let _count = leaves.len();
     add(tree, &mut builder, 0)?;
     Ok(builder.into_formula())

@@ -10,7 +10,7 @@ use Rattle.nextest_filtering_filters.specs.declared.leaf.FiltersetLeaf.TheVarian
 abbrev pub IsReadable : Matcher → Type 0
 IsReadable m = m.comparison ≡ glob → IsGlobText m.text
 
--- so does the matcher of a predicate, where it has one
+-- the same of the matcher of a predicate, where it has one
 abbrev pub HasReadable : FiltersetLeaf → Type 0
 HasReadable (leaf.Packages set) = ⊤
 HasReadable (leaf.Kind m span) = IsReadable (matcher_of m)

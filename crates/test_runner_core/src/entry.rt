@@ -26,12 +26,13 @@ use test_runner_core_workspace::{Lister, TableLister};
 /// Judges the run of inputs by a log, writes its report and answers its exit status. The lister is asked once for each
 /// listed binary, in the workspace's order, up to the first whose answer is refused, and for none where the inputs are
 /// refused before; nothing of the log is read where the inputs have no plan. Whenever the log is asked for more, all is
-/// written that the whole lines so far tell. A failed read or write is never tried again. Where no line is refused, the log agrees with
-/// an assignment and tells no stop, and the run is complete, the status is that assignment's due status, and where no script of
-/// the assignment stops the run and its failing tests don't reach the limit the report ends with the final text of plan and
-/// assignment, in whatever order the tests ran; where the log is cut, or tells a stop, the status is that or a graver one. After a failed read the report has what the whole lines tell that were got;
-/// after a failed write, or where there is no memory, a front of what it would have been. Where there is no memory the
-/// lister was asked for a front of the listed binaries.
+/// written that the whole lines so far tell. A failed read or write is never tried again. Where no line is refused, the
+/// log agrees with an assignment and tells no stop, and the run is complete, the status is that assignment's due
+/// status, and where no script of the assignment stops the run and its failing tests don't reach the limit the report
+/// ends with the final text of plan and assignment, in whatever order the tests ran; where the log is cut, or tells a
+/// stop, the status is that or a graver one. After a failed read the report has what the whole lines tell that were
+/// got; after a failed write, or where there is no memory, a front of what it would have been. Where there is no memory
+/// the lister was asked for a front of the listed binaries.
 pub fn judge<L: Lister, R: LogReader, W: ReportWriter>(
     alloc: Global,
     inputs: &Inputs,

@@ -1,6 +1,6 @@
 use Rattle.std.proofs.Common.{IfOk, subst, sym}
 use Rattle.nextest_filtering_trees.specs.declared.leaf.ParsedLeaf.{ParsedLeaf}
-use Rattle.nextest_filtering_compiling.specs.Asking.{IsOutcome}
+use Rattle.nextest_filtering_compiling.specs.Outcomes.{IsOutcome}
 use Rattle.nextest_filtering_compiling.proofs.compile.compile_leaf.Goals as goal
 
 pub returns-in-Package : goal.returns-in-Package

@@ -1,7 +1,7 @@
 use Rattle.std.proofs.Common.{◌≡◌, ◌≢◌, [], ℕ, List, refl, subst, arith}
 use Rattle.std.specs.Prelude.{vec_len}
 use Rattle.nextest_filtering_syntax.specs.Reading.{IsReadingOf}
-use Rattle.nextest_filtering_compiling.specs.Accepting.{IsFiltered}
+use Rattle.nextest_filtering_compiling.specs.Outcomes.{IsFiltered}
 use Rattle.nextest_filtering_compiling.proofs.Whole.{accepted_text, is_nothing, is_something, refused_predicates, refused_text, refused_treeless}
 use Rattle.nextest_filtering_compiling.proofs.filterset.Filterset.parse.Goals as goal
 
