@@ -21,6 +21,7 @@ pub use Rattle.nextest_filtering_compiling.specs.Bans
 pub use Rattle.nextest_filtering_compiling.specs.Compiling
 pub use Rattle.nextest_filtering_compiling.specs.Context
 pub use Rattle.nextest_filtering_compiling.specs.Faults as CompileFaults
+pub use Rattle.nextest_filtering_compiling.specs.Laws as CompileLaws
 pub use Rattle.nextest_filtering_compiling.specs.Leaves
 pub use Rattle.nextest_filtering_compiling.specs.Packages
 pub use Rattle.nextest_filtering_filters.specs.Asking

@@ -4,3 +4,4 @@ pub mod Asked
 pub mod Kept
 pub mod Placed
 pub mod Whole
+pub mod Meaning

@@ -7,3 +7,4 @@ pub mod Faults
 pub mod Asking
 pub mod Outcomes
 pub mod Accepting
+pub mod Laws

@@ -7,6 +7,7 @@ mod error;
 mod faults;
 mod filterset;
 mod known_groups;
+pub mod laws;
 mod leaves;
 mod packages;
 mod parse_context;

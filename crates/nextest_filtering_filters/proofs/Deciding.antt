@@ -1,8 +1,7 @@
 -- Every question of a filter has an answer.
-use Rattle.std.proofs.Common.{◌≡◌, ◌⊎◌, ℕ, zero, suc, Bool, true, false, List, [], ◌∷◌, ◌++◌, drop, get_or, not, Option, None, Some, refl, sym, ap, subst, inl, inr, arith}
+use Rattle.std.proofs.Common.{◌≡◌, ◌⊎◌, ℕ, Bool, true, false, List, [], ◌∷◌, ◌++◌, drop, get_or, not, Option, None, Some, refl, sym, ap, subst, inl, inr}
 use Rattle.std.specs.BTreeSet.{contains_text}
 use Rattle.std.specs.Bool.{Decides}
-use Rattle.std.specs.List.{All, list_any}
 use Rattle.std.specs.Option.{IsSomeAnd}
 use Rattle.std.specs.Prelude.{chars, is_some}
 use Rattle.std.specs.Str.{bytes_eq}
@@ -11,7 +10,7 @@ use Rattle.std.proofs.lemmas.Bool.Decides.{Decides-eqb}
 use Rattle.std.proofs.lemmas.Slice.Eq.{bytes_eq-Decides}
 use Rattle.regex.specs.Patterns.{default_config, find_str}
 use Rattle.regex_syntax.specs.Grammar.{read}
-use Rattle.nextest_filtering_formulas.specs.Formula.{AreValues, Formula, Gives, IsValue, both, both_gives, either, either_gives, leaf, leaf_gives, negated, negated_gives}
+use Rattle.nextest_filtering_formulas.specs.Formula.{AreValues, Formula, Gives, IsValue, both, both_gives, either, either_gives, leaf, leaf_gives, negated, negated_gives, with_leaves}
 use Rattle.nextest_filtering_formulas.specs.Steps.{formula_of}
 use Rattle.nextest_filtering_formulas.specs.Values.{IsSome, one_value}
 use Rattle.nextest_filtering_formulas.specs.Waiting.{AreOf}
@@ -27,13 +26,13 @@ use Rattle.nextest_filtering_trees.specs.Tree.{Comparison, IsGlobText, Matcher, 
 use Rattle.nextest_filtering_trees.specs.declared.leaf.BuildPlatform.{BuildPlatform}
 use Rattle.nextest_filtering_trees.specs.declared.leaf.BuildPlatform.TheVariants as platform
 use Rattle.nextest_filtering_filters.specs.Asking.{left_by}
-use Rattle.nextest_filtering_filters.specs.Deciding.{AreReadable, HasReadable, IsReadable}
+use Rattle.nextest_filtering_filters.specs.Deciding.{AllLeaves, AreReadable, HasReadable, IsReadable}
 use Rattle.nextest_filtering_filters.specs.Filter.{Compiled, filter_of, is_default, leaf_at}
 use Rattle.nextest_filtering_filters.specs.Meaning.{CanBeOn, Either, IsOn, MayBe, Never, Tells}
 use Rattle.nextest_filtering_filters.specs.Query.{Binary, Test}
 use Rattle.nextest_filtering_filters.specs.declared.leaf.FiltersetLeaf.{FiltersetLeaf}
 use Rattle.nextest_filtering_filters.specs.declared.leaf.FiltersetLeaf.TheVariants as predicate
-use Rattle.nextest_filtering_filters.proofs.Parts.{left_exact, left_some, none_at, tells_one}
+use Rattle.nextest_filtering_filters.proofs.Parts.{left_exact, left_some, tells_one}
 
 -- ---- it is so, or isn't
 
@@ -110,11 +109,6 @@ decided_name m name readable = compares m.comparison m.text name readable
 
 -- ---- predicates
 
-readable_at : (leaves : List FiltersetLeaf) → All HasReadable leaves → (place : ℕ) → HasReadable (leaf_at leaves place)
-readable_at [] all place = tt
-readable_at (first ∷ leaves) all zero = all 0 predicate.None (omega arith)
-readable_at (first ∷ leaves) all (suc place) = readable_at leaves (λ k d less. all (suc k) d (omega (arith, less))) place
-
 platforms : (p q : BuildPlatform) → (p ≡ q) ⊎ (p ≡ q → ⊥)
 platforms platform.Target platform.Target = inl refl
 platforms platform.Host platform.Host = inl refl
@@ -122,49 +116,63 @@ platforms platform.Target platform.Host = inr (λ is. cc)
 platforms platform.Host platform.Target = inr (λ is. cc)
 
 -- on a test a predicate holds, or doesn't
-some_told : (binary : Binary) (name : List ℕ) (member : Matcher → Bool) (Default : Bool → Type 0) (it : FiltersetLeaf) → HasReadable it → (is_default it ≡ true → (b : Bool) × Default b)
-    → (b : Bool) × MayBe binary (λ m. Tells (MatchesName m name)) (λ m. Tells (member m ≡ true)) Default it b
-some_told binary name member Default (predicate.Packages set) readable default = (contains_text set binary.package_id, refl)
-some_told binary name member Default (predicate.Kind m span) readable default = decided_name (matcher_of m) binary.kind readable
-some_told binary name member Default (predicate.Platform p span) readable default = told (p ≡ binary.platform) (platforms p binary.platform)
-some_told binary name member Default (predicate.Binary m span) readable default = decided_name (matcher_of m) binary.name readable
-some_told binary name member Default (predicate.BinaryId m span) readable default = decided_name (matcher_of m) binary.id readable
-some_told binary name member Default (predicate.Test m span) readable default = decided_name (matcher_of m) name readable
-some_told binary name member Default (predicate.Group m span) readable default = (member (matcher_of m), ((λ is. is), (λ has. has)))
-some_told binary name member Default predicate.Default readable default = default refl
-some_told binary name member Default predicate.All readable default = (true, refl)
-some_told binary name member Default predicate.None readable default = (false, refl)
+some_told : (binary : Binary) (name : List ℕ) (Member : Matcher → Type 0) → ((m : Matcher) → IsReadable m → (b : Bool) × Tells (Member m) b) → (Default : Bool → Type 0) (it : FiltersetLeaf) → HasReadable it
+    → (is_default it ≡ true → (b : Bool) × Default b) → (b : Bool) × MayBe binary (λ m. Tells (MatchesName m name)) (λ m. Tells (Member m)) Default it b
+some_told binary name Member member Default (predicate.Packages set) readable default = (contains_text set binary.package_id, refl)
+some_told binary name Member member Default (predicate.Kind m span) readable default = decided_name (matcher_of m) binary.kind readable
+some_told binary name Member member Default (predicate.Platform p span) readable default = told (p ≡ binary.platform) (platforms p binary.platform)
+some_told binary name Member member Default (predicate.Binary m span) readable default = decided_name (matcher_of m) binary.name readable
+some_told binary name Member member Default (predicate.BinaryId m span) readable default = decided_name (matcher_of m) binary.id readable
+some_told binary name Member member Default (predicate.Test m span) readable default = decided_name (matcher_of m) name readable
+some_told binary name Member member Default (predicate.Group m span) readable default = member (matcher_of m) readable
+some_told binary name Member member Default predicate.Default readable default = default refl
+some_told binary name Member member Default predicate.All readable default = (true, refl)
+some_told binary name Member member Default predicate.None readable default = (false, refl)
+
+-- ---- all leaves of a formula
+
+leaves_both : {L : Type 0} (Holds Other : L → Type 0) (formula : Formula L) → AllLeaves Holds formula → AllLeaves Other formula → AllLeaves (λ it. Holds it × Other it) formula
+leaves_both Holds Other (leaf it) hold also = (hold, also)
+leaves_both Holds Other (negated inside) hold also = leaves_both Holds Other inside hold also
+leaves_both Holds Other (either left right) hold also = (leaves_both Holds Other left hold.0 also.0, leaves_both Holds Other right hold.1 also.1)
+leaves_both Holds Other (both left right) hold also = (leaves_both Holds Other left hold.0 also.0, leaves_both Holds Other right hold.1 also.1)
+
+-- of one with another leaf for each
+leaves_with : {L M : Type 0} (change : L → M) (Holds : M → Type 0) (formula : Formula L) → AllLeaves Holds (with_leaves change formula) → AllLeaves (λ it. Holds (change it)) formula
+leaves_with change Holds (leaf it) hold = hold
+leaves_with change Holds (negated inside) hold = leaves_with change Holds inside hold
+leaves_with change Holds (either left right) hold = (leaves_with change Holds left hold.0, leaves_with change Holds right hold.1)
+leaves_with change Holds (both left right) hold = (leaves_with change Holds left hold.0, leaves_with change Holds right hold.1)
+
+-- the predicates of a default filter
+abbrev IsInDefault : FiltersetLeaf → Type 0
+IsInDefault it = HasReadable it × (is_default it ≡ false)
+
+-- ---- on a test
 
 -- a formula is something where its leaves are
-gives_some : (May : ℕ → Bool → Type 0) → ((place : ℕ) → (b : Bool) × May place b) → (formula : Formula ℕ) → (b : Bool) × Gives May formula b
-gives_some May some (leaf place) = let it = some place in (it.0, leaf_gives place it.0 it.1)
-gives_some May some (negated inside) = let it = gives_some May some inside in (not it.0, negated_gives inside it.0 it.1)
-gives_some May some (either left right) =
-    let one = gives_some May some left in
-    let other = gives_some May some right in
+gives_some : {L : Type 0} (May : L → Bool → Type 0) (Holds : L → Type 0) → ((it : L) → Holds it → (b : Bool) × May it b) → (formula : Formula L) → AllLeaves Holds formula → (b : Bool) × Gives May formula b
+gives_some May Holds some (leaf it) hold = let made = some it hold in (made.0, leaf_gives it made.0 made.1)
+gives_some May Holds some (negated inside) hold = let made = gives_some May Holds some inside hold in (not made.0, negated_gives inside made.0 made.1)
+gives_some May Holds some (either left right) hold =
+    let one = gives_some May Holds some left hold.0 in
+    let other = gives_some May Holds some right hold.1 in
     (_, either_gives left right one.0 other.0 one.1 other.1)
-gives_some May some (both left right) =
-    let one = gives_some May some left in
-    let other = gives_some May some right in
+gives_some May Holds some (both left right) hold =
+    let one = gives_some May Holds some left hold.0 in
+    let other = gives_some May Holds some right hold.1 in
     (_, both_gives left right one.0 other.0 one.1 other.1)
 
-filter_some : (it : Compiled) (May : FiltersetLeaf → Bool → Type 0) → ((place : ℕ) → (b : Bool) × May (leaf_at it.leaves place) b) → (b : Bool) × Gives May (filter_of it) b
-filter_some it May some =
-    let at = leaf_at it.leaves in
-    let made = gives_some (λ n. May (at n)) some (formula_of it.steps) in
-    (made.0, gives_with at May (formula_of it.steps) made.0 made.1)
-
 -- a filter holds on a test, or doesn't
-pub decided_on_test : (filter default : Compiled) → AreReadable filter → AreReadable default → list_any is_default default.leaves ≡ false → (test : Test) (member : Matcher → Bool)
-    → (b : Bool) × IsOn (filter_of filter) (filter_of default) test (λ m. member m ≡ true) b
-decided_on_test filter default readable default_readable none test member =
-    let Name : Matcher → Bool → Type 0 = λ m. Tells (MatchesName m test.name) in
-    let Known = MayBe test.binary Name (λ m. Tells (member m ≡ true)) in
-    let known = some_told test.binary test.name member in
-    let inner = filter_some default (Known Never)
-    (λ place. known Never (leaf_at default.leaves place) (readable_at default.leaves default_readable place) (λ is. let never = none_at is_default refl default.leaves place none in absurd cc)) in
+pub decided_on_test : (filter default : Compiled) → AreReadable (filter_of filter) → AreReadable (filter_of default) → AllLeaves (λ it. is_default it ≡ false) (filter_of default) → (test : Test) (Member : Matcher → Type 0)
+    → ((m : Matcher) → IsReadable m → (b : Bool) × Tells (Member m) b) → (b : Bool) × IsOn (filter_of filter) (filter_of default) test Member b
+decided_on_test filter default readable default_readable none test Member member =
+    let Known = MayBe test.binary (λ m. Tells (MatchesName m test.name)) (λ m. Tells (Member m)) in
+    let known = some_told test.binary test.name Member member in
+    let inner = gives_some (Known Never) IsInDefault (λ it (readable, never). known Never it readable (λ is. absurd cc)) (filter_of default)
+    (leaves_both HasReadable (λ it. is_default it ≡ false) (filter_of default) default_readable none) in
     let Default = Gives (Known Never) (filter_of default) in
-    filter_some filter (Known Default) (λ place. known Default (leaf_at filter.leaves place) (readable_at filter.leaves readable place) (λ is. inner))
+    gives_some (Known Default) HasReadable (λ it readable. known Default it readable (λ is. inner)) (filter_of filter) readable
 
 -- ---- on a binary
 
@@ -202,23 +210,23 @@ exact_on binary Default predicate.None readable default = exactly_one false
 from_of : (May : ℕ → Bool → Type 0) (formula : Formula ℕ) (values : Values) → AreOf May formula values → Exact (Gives May formula)
 from_of May formula values of = record { values = values; exact = of.0; some = of.1 }
 
-exact_formula : (May : ℕ → Bool → Type 0) → ((place : ℕ) → Exact (May place)) → (formula : Formula ℕ) → Exact (Gives May formula)
-exact_formula May there (leaf place) = let it = there place in from_of May (leaf place) it.values (leaf_values May place it.values it.exact it.some)
-exact_formula May there (negated inside) = let it = exact_formula May there inside in from_of May (negated inside) _ (values_negated May inside it.values (it.exact, it.some))
-exact_formula May there (either left right) =
-    let one = exact_formula May there left in
-    let other = exact_formula May there right in
+exact_formula : (May : ℕ → Bool → Type 0) (Holds : ℕ → Type 0) → ((place : ℕ) → Holds place → Exact (May place)) → (formula : Formula ℕ) → AllLeaves Holds formula → Exact (Gives May formula)
+exact_formula May Holds there (leaf place) hold = let it = there place hold in from_of May (leaf place) it.values (leaf_values May place it.values it.exact it.some)
+exact_formula May Holds there (negated inside) hold = let it = exact_formula May Holds there inside hold in from_of May (negated inside) _ (values_negated May inside it.values (it.exact, it.some))
+exact_formula May Holds there (either left right) hold =
+    let one = exact_formula May Holds there left hold.0 in
+    let other = exact_formula May Holds there right hold.1 in
     from_of May (either left right) _ (values_either May left right one.values other.values (one.exact, one.some) (other.exact, other.some))
-exact_formula May there (both left right) =
-    let one = exact_formula May there left in
-    let other = exact_formula May there right in
+exact_formula May Holds there (both left right) hold =
+    let one = exact_formula May Holds there left hold.0 in
+    let other = exact_formula May Holds there right hold.1 in
     from_of May (both left right) _ (values_both May left right one.values other.values (one.exact, one.some) (other.exact, other.some))
 
-exact_filter : (it : Compiled) (May : FiltersetLeaf → Bool → Type 0) → ((place : ℕ) → Exact (May (leaf_at it.leaves place))) → Exact (Gives May (filter_of it))
-exact_filter it May there =
+exact_filter : (it : Compiled) (May : FiltersetLeaf → Bool → Type 0) (Holds : FiltersetLeaf → Type 0) → ((one : FiltersetLeaf) → Holds one → Exact (May one)) → AllLeaves Holds (filter_of it) → Exact (Gives May (filter_of it))
+exact_filter it May Holds there hold =
     let at = leaf_at it.leaves in
     let steps = formula_of it.steps in
-    let made = exact_formula (λ n. May (at n)) there steps in
+    let made = exact_formula (λ n. May (at n)) (λ n. Holds (at n)) (λ n. there (at n)) steps (leaves_with at Holds steps hold) in
     let to = gives_with at May steps in
     let from = with_gives at May steps in
     record {
@@ -228,12 +236,12 @@ exact_filter it May there =
     }
 
 -- a filter has one value on a binary, or can be both
-pub decided_on_binary : (filter default : Compiled) → AreReadable filter → AreReadable default → list_any is_default default.leaves ≡ false → (binary : Binary)
+pub decided_on_binary : (filter default : Compiled) → AreReadable (filter_of filter) → AreReadable (filter_of default) → AllLeaves (λ it. is_default it ≡ false) (filter_of default) → (binary : Binary)
     → (v : Option Bool) × IsValue (CanBeOn (filter_of filter) (filter_of default) binary) v
 decided_on_binary filter default readable default_readable none binary =
     let Wide = MayBe binary Either Either in
-    let inner = exact_filter default (Wide Never)
-    (λ place. exact_on binary Never (leaf_at default.leaves place) (readable_at default.leaves default_readable place) (λ is. let never = none_at is_default refl default.leaves place none in absurd cc)) in
+    let inner = exact_filter default (Wide Never) IsInDefault (λ it (readable, never). exact_on binary Never it readable (λ is. absurd cc))
+    (leaves_both HasReadable (λ it. is_default it ≡ false) (filter_of default) default_readable none) in
     let Default = Gives (Wide Never) (filter_of default) in
-    let made = exact_filter filter (Wide Default) (λ place. exact_on binary Default (leaf_at filter.leaves place) (readable_at filter.leaves readable place) (λ is. inner)) in
+    let made = exact_filter filter (Wide Default) HasReadable (λ it readable. exact_on binary Default it readable (λ is. inner)) readable in
     (one_value made.values, is_value (CanBeOn (filter_of filter) (filter_of default) binary) made.values made.exact made.some)

@@ -28,7 +28,7 @@ may_wider binary Name Group Default Other there leaf.All value may = may
 may_wider binary Name Group Default Other there leaf.None value may = may
 
 -- what a filter is on a test, it can be on the binary
-on_test_can_be : (filter default : Formula FiltersetLeaf) (test : Test) (Member : Matcher → Type 0) (value : Bool) → IsOn filter default test Member value → CanBeOn filter default test.binary value
+pub on_test_can_be : (filter default : Formula FiltersetLeaf) (test : Test) (Member : Matcher → Type 0) (value : Bool) → IsOn filter default test Member value → CanBeOn filter default test.binary value
 on_test_can_be filter default test Member value =
     let Name : Matcher → Bool → Type 0 = λ m. Tells (MatchesName m test.name) in
     let Group : Matcher → Bool → Type 0 = λ m. Tells (Member m) in
@@ -72,9 +72,12 @@ same_without_groups filter default test member other value none none_there on =
     without_groups filter test.binary Name Group Other (Gives (Known Never) (filter_of default)) (Gives (Again Never) (filter_of default))
     (without_groups default test.binary Name Group Other Never Never (λ v never. never) none_there) none value on
 
-pub one_answer : OneAnswer
-one_answer filter default test member =
+-- a filter is one value on a test
+pub one_on_test : (filter default : Formula FiltersetLeaf) (test : Test) (Member : Matcher → Type 0) (a b : Bool) → IsOn filter default test Member a → IsOn filter default test Member b → a ≡ b
+one_on_test filter default test Member =
     let Name : Matcher → Bool → Type 0 = λ m. Tells (MatchesName m test.name) in
-    let Member : Matcher → Type 0 = λ m. member m ≡ true in
     let Known = MayBe test.binary Name (λ m. Tells (Member m)) in
     told_one test.binary test.name Member (Gives (Known Never) default) (told_one test.binary test.name Member Never (λ a b never other. absurd never) default) filter
+
+pub one_answer : OneAnswer
+one_answer filter default test member = one_on_test filter default test (λ m. member m ≡ true)

@@ -1,10 +1,9 @@
 -- Filters whose questions have answers.
 use Rattle.std.specs.Prelude.{◌≡◌, ⊤}
-use Rattle.std.specs.List.{All}
+use Rattle.nextest_filtering_formulas.specs.Formula.{Formula, leaf, negated, either, both}
 use Rattle.nextest_filtering_trees.specs.Tree.{IsGlobText, Matcher, glob, matcher_of}
-use Rattle.nextest_filtering_filters.specs.Filter.{Compiled}
 use Rattle.nextest_filtering_filters.specs.declared.leaf.FiltersetLeaf.{FiltersetLeaf}
-use Rattle.nextest_filtering_filters.specs.declared.leaf.FiltersetLeaf.TheVariants as leaf
+use Rattle.nextest_filtering_filters.specs.declared.leaf.FiltersetLeaf.TheVariants as predicate
 
 -- where it compares by a glob, its text is one
 abbrev pub IsReadable : Matcher → Type 0
@@ -12,17 +11,24 @@ IsReadable m = m.comparison ≡ glob → IsGlobText m.text
 
 -- the same of the matcher of a predicate, where it has one
 abbrev pub HasReadable : FiltersetLeaf → Type 0
-HasReadable (leaf.Packages set) = ⊤
-HasReadable (leaf.Kind m span) = IsReadable (matcher_of m)
-HasReadable (leaf.Platform p span) = ⊤
-HasReadable (leaf.Binary m span) = IsReadable (matcher_of m)
-HasReadable (leaf.BinaryId m span) = IsReadable (matcher_of m)
-HasReadable (leaf.Test m span) = IsReadable (matcher_of m)
-HasReadable (leaf.Group m span) = IsReadable (matcher_of m)
-HasReadable leaf.Default = ⊤
-HasReadable leaf.All = ⊤
-HasReadable leaf.None = ⊤
+HasReadable (predicate.Packages set) = ⊤
+HasReadable (predicate.Kind m span) = IsReadable (matcher_of m)
+HasReadable (predicate.Platform p span) = ⊤
+HasReadable (predicate.Binary m span) = IsReadable (matcher_of m)
+HasReadable (predicate.BinaryId m span) = IsReadable (matcher_of m)
+HasReadable (predicate.Test m span) = IsReadable (matcher_of m)
+HasReadable (predicate.Group m span) = IsReadable (matcher_of m)
+HasReadable predicate.Default = ⊤
+HasReadable predicate.All = ⊤
+HasReadable predicate.None = ⊤
 
--- and those of all predicates of a filter
-abbrev pub AreReadable : Compiled → Type 0
-AreReadable it = All HasReadable it.leaves
+-- each leaf of a formula is so
+abbrev pub AllLeaves : {L : Type 0} → (L → Type 0) → Formula L → Type 0
+AllLeaves Holds (leaf it) = Holds it
+AllLeaves Holds (negated inside) = AllLeaves Holds inside
+AllLeaves Holds (either left right) = AllLeaves Holds left × AllLeaves Holds right
+AllLeaves Holds (both left right) = AllLeaves Holds left × AllLeaves Holds right
+
+-- the matchers of all predicates that occur in a filter are
+abbrev pub AreReadable : Formula FiltersetLeaf → Type 0
+AreReadable = AllLeaves HasReadable

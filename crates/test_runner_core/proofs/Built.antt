@@ -1,5 +1,5 @@
 -- That a plan that was built is one, and which tests it has.
-use Rattle.std.proofs.Common.{◌≡◌, ℕ, ◌<◌, List, [], ◌∷◌, Option, Some, None, Result, Ok, Err, Bool, true, false, map, length, refl, ap, sym, subst, arith}
+use Rattle.std.proofs.Common.{ℕ, ◌<◌, List, [], ◌∷◌, Option, Some, None, Result, Ok, Err, Bool, true, false, map, length, ap, sym, subst, arith}
 use Rattle.std.specs.Prelude.{⊤, if◌then◌else◌}
 use Rattle.std.specs.List.{AllByRecursion}
 use Rattle.std.specs.Option.{option_map_or}
@@ -11,11 +11,8 @@ use Rattle.test_runner_core_inputs.specs.declared.source.ConfigSourceKind.{Confi
 use Rattle.test_runner_core_inputs.specs.declared.source.ConfigSourceKind.TheVariants as kinds
 use Rattle.test_runner_core_inputs.specs.declared.source.ConfigSourceOutcome.{ConfigSourceOutcome}
 use Rattle.test_runner_core_inputs.specs.declared.source.ConfigSourceOutcome.TheVariants as outcomes
-use Rattle.test_runner_core_listing.specs.Listing.{listing}
-use Rattle.test_runner_core_listing.specs.declared.listing_fault.ListingFault.{ListingFault}
-use Rattle.test_runner_core_listing.specs.declared.selection.Selection.{Selection}
 use Rattle.nextest_run_events_results.specs.declared.instance.OwnedTestInstanceId.{OwnedTestInstanceId}
-use Rattle.test_runner_core_plan.specs.Plan.{planned, Planned, IsPlanOf, plan_test, settings_in, settings_by, set_by, wanted_in, asks_for_more, filter_in, listed_in, found_by, has_too_many, workspace_of, ◌>>=◌}
+use Rattle.test_runner_core_plan.specs.Plan.{Planned, Plans, IsPlanOf, plan_test, settings_for, settings_in, settings_by, set_by, asks_for_more, workspace_of, ◌>>=◌}
 use Rattle.test_runner_core_plan.specs.declared.plan.Plan.{Plan}
 use Rattle.test_runner_core_plan.specs.declared.plan.PlanTest.{PlanTest}
 use Rattle.test_runner_core_plan.specs.declared.plan_fault.PlanFault.{PlanFault}
@@ -31,6 +28,7 @@ use Rattle.toml.specs.Parse.{parse_document}
 use Rattle.test_runner_core_workspace.specs.Lister.{Answer}
 use Rattle.test_runner_core_workspace.specs.Workspace.{refusal_of}
 use Rattle.test_runner_core_workspace.specs.declared.record.Binary.{Binary}
+use Rattle.test_runner_core_plan.proofs.Once.{parts_of}
 
 -- what holds of each value that is given
 abbrev Holds : {A : Type 0} → Result A PlanFault → (A → Type 0) → Type 0
@@ -105,41 +103,12 @@ sources_set_one (source ∷ []) = by_kind source.kind source.outcome
     by_kind (kinds.Tool name) outcome = tt
 sources_set_one (source ∷ other ∷ more) = tt
 
--- the settings of what is planned have a limit
-planned_is_sound : (answer : Binary → Answer) (inputs : Inputs)
-    → Holds (planned answer inputs) (λ it. IsSound it.wanted.settings)
-planned_is_sound answer inputs =
-    next_holds (wanted_in inputs) _ (λ asked. IsSound asked.settings) _ asked_is_sound
-    (λ asked sound. next_holds (found_by (listing answer asked.filter (listed_in inputs asked)))
-    _ (λ found. ⊤) _ (anything _)
-    (λ found _. unless_refused _ (has_too_many asked found) _ _ sound))
-  where
-    asked_is_sound : Holds (wanted_in inputs) (λ asked. IsSound asked.settings)
-    asked_is_sound =
-        next_holds (workspace_of inputs.workspace (refusal_of inputs.workspace)) _ (λ workspace. ⊤) _ (anything _)
-        (λ workspace _. next_holds (settings_in inputs.sources) _ IsSound _ (sources_set_one inputs.sources)
-        (λ settings sound. next_holds (if asks_for_more inputs then Err refused.NotYet else Ok settings)
-        _ (λ whole. ⊤) _ (anything _)
-        (λ whole _. next_holds (filter_in inputs.filterset) _ (λ chosen. ⊤) _ (anything _) (λ chosen _. sound))))
-
--- what is planned is listed
-itself : {A : Type 0} (given : Result A PlanFault) → Holds given (λ x. given ≡ Ok x)
-itself (Ok x) = refl
-itself (Err refusal) = tt
-
-listed_ok : (found : Result Selection ListingFault) (it : Selection) → found_by found ≡ Ok it → found ≡ Ok it
-listed_ok (Ok found) it e = ap Ok (let f = e in cc)
-listed_ok (Err refusal) it e = absurd (let f = e in cc)
-
-pub planned_lists : (answer : Binary → Answer) (inputs : Inputs) (it : Planned) → planned answer inputs ≡ Ok it
-    → listing answer it.wanted.filter (listed_in inputs it.wanted) ≡ Ok it.found
-planned_lists answer inputs it planned_it =
-    listed_ok (listing answer it.wanted.filter (listed_in inputs it.wanted)) it.found
-    (subst (λ (result : Result Planned PlanFault). Holds result (λ it. found_by (listing answer it.wanted.filter (listed_in inputs it.wanted)) ≡ Ok it.found)) planned_it
-    (next_holds (wanted_in inputs) _ (λ wanted. ⊤) _ (anything _)
-    (λ wanted _. next_holds (found_by (listing answer wanted.filter (listed_in inputs wanted)))
-    _ (λ found. found_by (listing answer wanted.filter (listed_in inputs wanted)) ≡ Ok found) _ (itself _)
-    (λ found listed. unless_refused _ (has_too_many wanted found) _ _ listed))))
+-- the settings that inputs ask for have a limit
+asked_is_sound : (inputs : Inputs) → Holds (settings_for inputs) IsSound
+asked_is_sound inputs =
+    next_holds (workspace_of inputs.workspace (refusal_of inputs.workspace)) _ (λ workspace. ⊤) _ (anything _)
+    (λ workspace _. next_holds (settings_in inputs.sources) _ IsSound _ (sources_set_one inputs.sources)
+    (λ settings sound. unless_refused IsSound (asks_for_more inputs) refused.NotYet settings sound))
 
 each_has_a_try : (settings : Settings) (tests : List OwnedTestInstanceId)
     → AllByRecursion (λ (test : RunTest). 0 < test.tries) (map run_test (map (plan_test settings) tests))
@@ -148,14 +117,13 @@ each_has_a_try settings (test ∷ tests) = (grind (arith), each_has_a_try settin
 
 -- a plan that was built is one
 pub built_is_plan : (answer : Binary → Answer) (inputs : Inputs) (it : Planned) (plan : Plan)
-    → planned answer inputs ≡ Ok it → IsPlanOf inputs it plan → IsPlan (run_plan plan)
-built_is_plan answer inputs it plan found built = record {
+    → Plans answer inputs (Ok it) → IsPlanOf inputs it plan → IsPlan (run_plan plan)
+built_is_plan answer inputs it plan planned built = record {
   no_lone_script = λ none. ap length built.scripts;
   tries =
       subst (λ (tests : List PlanTest). AllByRecursion (λ (test : RunTest). 0 < test.tries) (map run_test tests)) (sym built.tests)
-      (each_has_a_try it.wanted.settings built.selection.tests);
+      (each_has_a_try it.settings built.selection.tests);
   limit =
       subst (λ (limit : MaxFail). IsLimit limit) (sym built.limit)
-      (subst (λ (result : Result Planned PlanFault). Holds result (λ it. IsSound it.wanted.settings)) found
-      (planned_is_sound answer inputs));
+      (subst (λ (result : Result Settings PlanFault). Holds result IsSound) (parts_of answer inputs it planned).settings (asked_is_sound inputs));
 }

@@ -11,6 +11,7 @@ pub mod OneReport
 pub mod Built
 pub mod Selected
 pub mod Once
+pub mod Listed
 pub mod Due
 pub mod OneEnd
 pub mod Written

@@ -1,11 +1,11 @@
 -- A plan has no test twice.
-use Rattle.std.proofs.Common.{◌≡◌, ℕ, ◌==◌, List, [], ◌∷◌, ◌++◌, map, length, Bool, true, false, not, ◌&&◌, Option, None, Some, Result, Ok, Err, refl, sym, ap, ◌∙◌, subst, append_assoc}
+use Rattle.std.proofs.Common.{◌≡◌, ℕ, ◌==◌, List, [], ◌∷◌, ◌++◌, map, length, Bool, true, false, cond, not, ◌&&◌, Option, None, Some, Result, Ok, Err, refl, sym, ap, ◌∙◌, subst, append_assoc}
 use Rattle.std.specs.Prelude.{◌≢◌, IfOk, if◌then◌else◌}
 use Rattle.std.specs.Bool.{Decides}
 use Rattle.std.specs.Cmp.Lexicographic.{nat_list_eq_equiv}
 use Rattle.std.specs.List.{AllByRecursion, AllPairs, IsDistinct, filter, list_all, list_any}
 use Rattle.std.specs.Str.{bytes_eq}
-use Rattle.std.proofs.lemmas.Bool.{and_from, and_left, and_parts, and_right, or_parts}
+use Rattle.std.proofs.lemmas.Bool.{and_from, and_left, and_parts, and_right, or_from, or_parts}
 use Rattle.std.proofs.lemmas.List.{append-nil, map-id}
 use Rattle.std.proofs.lemmas.List.Kept.{AllPairs-filter}
 use Rattle.std.proofs.lemmas.Map.Keys.{IsDistinct-cons, IsDistinct-head, IsDistinct-IsPermutation, IsDistinct-push, IsDistinct-tail}
@@ -14,17 +14,15 @@ use Rattle.std.proofs.lemmas.Simd.{map-map}
 use Rattle.std.proofs.lemmas.Slice.Eq.{bytes_eq-Decides}
 use Rattle.nextest_run_events_results.specs.declared.instance.OwnedTestInstanceId.{OwnedTestInstanceId}
 use Rattle.test_runner_core_inputs.specs.declared.inputs.Inputs.{Inputs}
-use Rattle.test_runner_core_listing.specs.Filter.{holds, may_hold}
-use Rattle.test_runner_core_listing.specs.Listing.{accepted, accepted_names, refused_name, listed_of, listing, selected_in, skipped_in, tests_of, ◌>>=◌}
-use Rattle.test_runner_core_listing.specs.declared.filter.Filter.{Filter}
+use Rattle.test_runner_core_listing.specs.Answers.{Answers}
+use Rattle.test_runner_core_listing.specs.Listing.{Found, accepted, accepted_names, refused_name, ids_of, listing, selected_in, skipped_in, tests_of, ◌>>=◌}
 use Rattle.test_runner_core_listing.specs.declared.listing_fault.ListingFault.{ListingFault}
 use Rattle.test_runner_core_listing.specs.declared.listing_fault.ListingFault.TheVariants as refused
-use Rattle.test_runner_core_listing.specs.declared.selection.Selection.{Selection}
-use Rattle.test_runner_core_plan.specs.Plan.{Planned, listed_in, plan_test, planned, workspace_of}
+use Rattle.test_runner_core_plan.specs.Plan.{Planned, Plans, listed_in, plan_test, workspace_of}
 use Rattle.test_runner_core_plan.specs.Plan.{◌>>=◌ as ◌>>>◌}
 use Rattle.test_runner_core_plan.specs.declared.plan.PlanTest.{PlanTest}
 use Rattle.test_runner_core_plan.specs.declared.plan_fault.PlanFault.{PlanFault}
-use Rattle.test_runner_core_plan.specs.declared.wanted.Wanted.{Wanted}
+use Rattle.test_runner_core_settings.specs.declared.settings.Settings.{Settings}
 use Rattle.test_runner_core_workspace.specs.Lister.{Answer}
 use Rattle.test_runner_core_workspace.specs.Workspace.{binary_ids, has_repeat, has_separator, is_among, is_bad_id, is_known_link, package_ids, refusal_of}
 use Rattle.test_runner_core_workspace.specs.declared.record.Binary.{Binary}
@@ -32,7 +30,7 @@ use Rattle.test_runner_core_workspace.specs.declared.record.WorkspaceRecord.{Wor
 use Rattle.test_runner_core_workspace.specs.declared.workspace_fault.WorkspaceFault.{WorkspaceFault}
 use Rattle.test_runner_core_workspace.specs.declared.workspace_fault.WorkspaceFault.TheVariants as bad
 use Rattle.test_runner_core.specs.Laws.{HasNoneTwice}
-use Rattle.test_runner_core.proofs.Built.{planned_lists}
+use Rattle.test_runner_core_plan.proofs.Once.{parts_of}
 
 -- ---- tests that are the same
 
@@ -129,33 +127,30 @@ of_others id binary (name ∷ names) rest other others = (other, of_others id bi
 
 -- ---- what binaries give
 
-abbrev ids_of : List Binary → List (List ℕ)
-ids_of binaries = map (λ (binary : Binary). binary.id) binaries
-
 -- what binaries of different ids give has no test twice, and none of another binary
 record AreOnce (binaries : List Binary) (tests : List OwnedTestInstanceId) : Type 0 where
   once : IsDistinct same_test tests
   theirs : (id : List ℕ) → is_among (ids_of binaries) id ≡ false → OfOthers id tests
 
-listed_once : (answer : Binary → Answer) (chosen : Filter) (binaries : List Binary) → has_repeat (ids_of binaries) ≡ false
-    → IfOk (listing answer chosen binaries) (λ (found : Selection). AreOnce binaries found.tests)
+listed_once : (answer : Binary → Answer) (chosen : Answers) (binaries : List Binary) → has_repeat (ids_of binaries) ≡ false
+    → IfOk (listing answer chosen binaries) (λ (found : Found). AreOnce binaries found.tests)
 listed_once answer chosen [] e = record { once = none_distinct same_test; theirs = λ id apart. tt }
 listed_once answer chosen (binary ∷ binaries) e =
     let apart = or_parts (is_among (ids_of binaries) binary.id) (has_repeat (ids_of binaries)) e in
     by_answer apart.0 (accepted (answer binary)) (accepted_once (answer binary)) (listing answer chosen binaries) (listed_once answer chosen binaries apart.1)
   where
-    joined : List (List ℕ) → Selection → Selection
+    joined : List (List ℕ) → Found → Found
     joined names rest = record { tests = selected_in chosen binary names ++ rest.tests; skipped = skipped_in chosen binary names ++ rest.skipped }
 
     by_answer : is_among (ids_of binaries) binary.id ≡ false
         → (first : Result (List (List ℕ)) ListingFault) → IfOk first (IsDistinct bytes_eq)
-        → (more : Result Selection ListingFault) → IfOk more (λ (rest : Selection). AreOnce binaries rest.tests)
-        → IfOk (first >>= (λ names. more >>= (λ rest. Ok (joined names rest)))) (λ (found : Selection). AreOnce (binary ∷ binaries) found.tests)
+        → (more : Result Found ListingFault) → IfOk more (λ (rest : Found). AreOnce binaries rest.tests)
+        → IfOk (first >>= (λ names. more >>= (λ rest. Ok (joined names rest)))) (λ (found : Found). AreOnce (binary ∷ binaries) found.tests)
     by_answer new (Ok names) names_are (Ok rest) are = record {
-      once = tests_once binary (filter (holds chosen) names) rest.tests (filter_once (holds chosen) names names_are) (are.theirs binary.id new) are.once;
+      once = tests_once binary (filter (chosen.selects binary) names) rest.tests (filter_once (chosen.selects binary) names names_are) (are.theirs binary.id new) are.once;
       theirs = λ id apart.
           let parts = or_parts (bytes_eq id binary.id) (is_among (ids_of binaries) id) apart in
-          of_others id binary (filter (holds chosen) names) rest.tests parts.0 (are.theirs id parts.1);
+          of_others id binary (filter (chosen.selects binary) names) rest.tests parts.0 (are.theirs id parts.1);
     }
     by_answer new (Ok names) names_are (Err refusal) are = tt
     by_answer new (Err refusal) names_are more are = tt
@@ -178,35 +173,52 @@ ids_apart workspace e =
     by_tests false false true rest h = absurd (let f = h in cc)
     by_tests false false false rest h = refl
 
--- inputs whose workspace is refused have no plan
-not_refused : (workspace : WorkspaceRecord) (refusal : Option WorkspaceFault) (next : WorkspaceRecord → Result Wanted PlanFault) (more : Wanted → Result Planned PlanFault) (it : Planned)
-    → ((workspace_of workspace refusal >>> next) >>> more) ≡ Ok it → refusal ≡ None
-not_refused workspace None next more it e = refl
-not_refused workspace (Some refusal) next more it e = absurd (let f = e in cc)
+-- inputs whose workspace is refused ask for no settings
+not_refused : (workspace : WorkspaceRecord) (refusal : Option WorkspaceFault) (next : WorkspaceRecord → Result Settings PlanFault) (settings : Settings)
+    → (workspace_of workspace refusal >>> next) ≡ Ok settings → refusal ≡ None
+not_refused workspace None next settings e = refl
+not_refused workspace (Some refusal) next settings e = absurd (let f = e in cc)
 
-planned_apart : (answer : Binary → Answer) (inputs : Inputs) (it : Planned) → planned answer inputs ≡ Ok it → has_repeat (binary_ids inputs.workspace) ≡ false
-planned_apart answer inputs it planned_it =
-    ids_apart inputs.workspace (not_refused inputs.workspace (refusal_of inputs.workspace) _ _ it planned_it)
+pub planned_apart : (answer : Binary → Answer) (inputs : Inputs) (it : Planned) → Plans answer inputs (Ok it) → has_repeat (binary_ids inputs.workspace) ≡ false
+planned_apart answer inputs it planned =
+    ids_apart inputs.workspace (not_refused inputs.workspace (refusal_of inputs.workspace) _ it.settings (parts_of answer inputs it planned).settings)
 
-listed_apart : (chosen : Filter) (binaries : List Binary) → has_repeat (ids_of binaries) ≡ false → has_repeat (ids_of (listed_of chosen binaries)) ≡ false
-listed_apart chosen binaries apart = by_test (may_hold chosen)
+-- an id that no binary has is that of none of them that pass
+none_passes : (passes : Binary → Bool) (id : List ℕ) (binaries : List Binary) → is_among (ids_of binaries) id ≡ false → is_among (ids_of (filter passes binaries)) id ≡ false
+none_passes passes id [] apart = refl
+none_passes passes id (binary ∷ binaries) apart =
+    let parts = or_parts (bytes_eq id binary.id) (is_among (ids_of binaries) id) apart in
+    by_first (passes binary) parts.0 (none_passes passes id binaries parts.1)
   where
-    by_test : (may : Bool) → has_repeat (ids_of (if may then binaries else [])) ≡ false
-    by_test true = apart
-    by_test false = refl
+    by_first : (first : Bool) → bytes_eq id binary.id ≡ false → is_among (ids_of (filter passes binaries)) id ≡ false
+        → is_among (ids_of (cond first (binary ∷ filter passes binaries) (filter passes binaries))) id ≡ false
+    by_first true other none = or_from (bytes_eq id binary.id) (is_among (ids_of (filter passes binaries)) id) other none
+    by_first false other none = none
+
+-- so no id stands twice among those of the binaries that pass, where none does
+passing_apart : (passes : Binary → Bool) (binaries : List Binary) → has_repeat (ids_of binaries) ≡ false → has_repeat (ids_of (filter passes binaries)) ≡ false
+passing_apart passes [] apart = refl
+passing_apart passes (binary ∷ binaries) apart =
+    let parts = or_parts (is_among (ids_of binaries) binary.id) (has_repeat (ids_of binaries)) apart in
+    by_first (passes binary) (none_passes passes binary.id binaries parts.0) (passing_apart passes binaries parts.1)
+  where
+    by_first : (first : Bool) → is_among (ids_of (filter passes binaries)) binary.id ≡ false → has_repeat (ids_of (filter passes binaries)) ≡ false
+        → has_repeat (ids_of (cond first (binary ∷ filter passes binaries) (filter passes binaries))) ≡ false
+    by_first true new rest = or_from (is_among (ids_of (filter passes binaries)) binary.id) (has_repeat (ids_of (filter passes binaries))) new rest
+    by_first false new rest = rest
 
 -- ---- plans
 
-instances_of : (tests : List OwnedTestInstanceId) (it : Planned) → map (λ (t : PlanTest). t.instance) (map (plan_test it.wanted.settings) tests) ≡ tests
-instances_of tests it = map-map (λ (t : PlanTest). t.instance) (plan_test it.wanted.settings) tests ∙ map-id tests
+instances_of : (tests : List OwnedTestInstanceId) (it : Planned) → map (λ (t : PlanTest). t.instance) (map (plan_test it.settings) tests) ≡ tests
+instances_of tests it = map-map (λ (t : PlanTest). t.instance) (plan_test it.settings) tests ∙ map-id tests
 
 pub has_none_twice : HasNoneTwice
-has_none_twice answer inputs plan (it, planned_it, built) =
-    let apart = listed_apart it.wanted.filter inputs.workspace.binaries (planned_apart answer inputs it planned_it) in
-    let listed : AreOnce (listed_in inputs it.wanted) it.found.tests =
-    subst (λ (given : Result Selection ListingFault). IfOk given (λ (found : Selection). AreOnce (listed_in inputs it.wanted) found.tests))
-    (planned_lists answer inputs it planned_it)
-    (listed_once answer it.wanted.filter (listed_in inputs it.wanted) apart) in
+has_none_twice answer inputs plan (it, planned, built) =
+    let apart = passing_apart it.answers.lists inputs.workspace.binaries (planned_apart answer inputs it planned) in
+    let listed : AreOnce (listed_in inputs it.answers) it.found.tests =
+    subst (λ (given : Result Found ListingFault). IfOk given (λ (found : Found). AreOnce (listed_in inputs it.answers) found.tests))
+    (parts_of answer inputs it planned).listed
+    (listed_once answer it.answers (listed_in inputs it.answers) apart) in
     let selected : IsDistinct same_test built.selection.tests =
     IsDistinct-IsPermutation same_test same_test_turned it.found.tests built.selection.tests built.selected.tests listed.once in
     let instances : map (λ (t : PlanTest). t.instance) plan.tests ≡ built.selection.tests =

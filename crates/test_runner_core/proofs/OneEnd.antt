@@ -82,7 +82,7 @@ ends_as_due answer inputs log parts code before after composed (text, is, append
     (last.told, (last.final, last.is, subst (Appends before after) last.whole appends))
 
 -- so is one where the bytes of the log are known
-known_ends_as_due : (answer : Binary → Answer) (inputs : Inputs) (left : Option (List ℕ)) (parts : List Part) (code : ℕ) (before after : Option (List ℕ))
+pub known_ends_as_due : (answer : Binary → Answer) (inputs : Inputs) (left : Option (List ℕ)) (parts : List Part) (code : ℕ) (before after : Option (List ℕ))
     → IfSome left (λ bytes. Composed answer inputs (items 0 bytes) parts code) → IsWritten parts before after → IfSome left (λ bytes. EndsAsDue answer inputs (items 0 bytes) before after)
 known_ends_as_due answer inputs None parts code before after composed written = tt
 known_ends_as_due answer inputs (Some bytes) parts code before after composed written = ends_as_due answer inputs (items 0 bytes) parts code before after composed written

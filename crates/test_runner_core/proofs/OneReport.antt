@@ -2,7 +2,7 @@
 use Rattle.std.proofs.Common.{◌≡◌, ℕ, ◌+◌, List, [], ◌∷◌, ◌++◌, map, length, Option, Ok, Err, refl, sym, ap, ◌∙◌, subst, inl, inr, append_assoc, append-nil}
 use Rattle.test_runner_core_inputs.specs.declared.inputs.Inputs.{Inputs}
 use Rattle.test_runner_core_log_reader.specs.Items.{Item, Line}
-use Rattle.test_runner_core_plan.specs.Plan.{Builds, planned}
+use Rattle.test_runner_core_plan.specs.Plan.{Builds, Plans}
 use Rattle.test_runner_core_plan.specs.Texts.{status_of}
 use Rattle.test_runner_core_plan.specs.declared.plan.Plan.{Plan}
 use Rattle.test_runner_core_plan.specs.declared.plan_fault.PlanFault.{PlanFault}
@@ -16,7 +16,8 @@ use Rattle.test_runner_core.specs.Judging.{Finds}
 use Rattle.test_runner_core.specs.Laws.{EndsWithOneText, ToldFirst}
 use Rattle.test_runner_core.specs.Report.{Begun, Composed, Judged, SoFar, ending, exit_status, refused_plan}
 use Rattle.test_runner_core.specs.declared.refused_line.RefusedLine.{RefusedLine}
-use Rattle.test_runner_core.proofs.OneRun.{early_parts, err_once, finds_once, fronts_same, never_ok_and_err, one_plan, same_rest, so_far_once, stands_before}
+use Rattle.test_runner_core_plan.proofs.Once.{plans_once}
+use Rattle.test_runner_core.proofs.OneRun.{early_parts, finds_once, fronts_same, one_plan, same_rest, so_far_once, stands_before}
 
 -- ---- texts
 
@@ -113,14 +114,14 @@ first_lines_first plan log front rest last parts whole code is so_far judged =
 -- ---- inputs
 
 -- inputs that are refused have no plan
-pub never_planned : (answer : Binary → Answer) (inputs : Inputs) (plan : Plan) (refusal : PlanFault) → planned answer inputs ≡ Err refusal → Builds answer inputs (Ok plan) → ⊥
-never_planned answer inputs plan refusal refuses built = never_ok_and_err built.1 refuses
+pub never_planned : (answer : Binary → Answer) (inputs : Inputs) (plan : Plan) (refusal : PlanFault) → Plans answer inputs (Err refusal) → Builds answer inputs (Ok plan) → ⊥
+never_planned answer inputs plan refusal refuses built = absurd (let e = plans_once answer inputs (Ok built.0) (Err refusal) built.1 refuses in cc)
 
 -- inputs and a log have one report
 pub composed_once : (answer : Binary → Answer) (inputs : Inputs) (log : List Item) (parts others : List Part) (code other : ℕ)
     → Composed answer inputs log parts code → Composed answer inputs log others other → (parts ≡ others) × (code ≡ other)
 composed_once answer inputs log parts others code other (inl (refusal, refuses, is, code_is)) (inl (same, refuses_same, also, code_also)) =
-    let one : refusal ≡ same = err_once refuses refuses_same in
+    let one : refusal ≡ same = let e = plans_once answer inputs (Err refusal) (Err same) refuses refuses_same in cc in
     (is ∙ ap refused_plan one ∙ sym also, code_is ∙ ap status_of one ∙ sym code_also)
 composed_once answer inputs log parts others code other (inl (refusal, refuses, is, code_is)) (inr (plan, built, judged)) = absurd (never_planned answer inputs plan refusal refuses built)
 composed_once answer inputs log parts others code other (inr (plan, built, judged)) (inl (refusal, refuses, is, code_is)) = absurd (never_planned answer inputs plan refusal refuses built)

@@ -28,16 +28,17 @@ use Rattle.test_runner_core.specs.Report.{SoFar}
 use Rattle.test_runner_core.specs.declared.refused_line.LineRefusal.{LineRefusal}
 use Rattle.test_runner_core.specs.declared.refused_line.LineRefusal.TheVariants as refused
 use Rattle.test_runner_core.specs.declared.refused_line.RefusedLine.{RefusedLine}
+use Rattle.test_runner_core_plan.proofs.Once.{plans_once}
 use Rattle.test_runner_core.proofs.OneOrder.{one_rising}
 
 -- an answer is one
-pub ok_once : {A E : Type 0} {result : Result A E} {x y : A} → result ≡ Ok x → result ≡ Ok y → x ≡ y
+ok_once : {A E : Type 0} {result : Result A E} {x y : A} → result ≡ Ok x → result ≡ Ok y → x ≡ y
 ok_once to_x to_y = let e = sym to_x ∙ to_y in cc
 
-pub err_once : {A E : Type 0} {result : Result A E} {x y : E} → result ≡ Err x → result ≡ Err y → x ≡ y
+err_once : {A E : Type 0} {result : Result A E} {x y : E} → result ≡ Err x → result ≡ Err y → x ≡ y
 err_once to_x to_y = let e = sym to_x ∙ to_y in cc
 
-pub never_ok_and_err : {A E : Type 0} {result : Result A E} {x : A} {y : E} → result ≡ Ok x → result ≡ Err y → ⊥
+never_ok_and_err : {A E : Type 0} {result : Result A E} {x : A} {y : E} → result ≡ Ok x → result ≡ Err y → ⊥
 never_ok_and_err to_x to_y = absurd (let e = sym to_x ∙ to_y in cc)
 
 -- ---- plans
@@ -56,12 +57,12 @@ plans_of_one inputs it a b of_a of_b =
     let tests : of_a.selection.tests ≡ of_b.selection.tests =
     one_rising it.found.tests of_a.selection.tests of_b.selection.tests of_a.selected.tests of_b.selected.tests of_a.selected.order of_b.selected.order in
     plans_same a b (of_a.scripts ∙ sym of_b.scripts)
-    (of_a.tests ∙ ap (λ (xs : List OwnedTestInstanceId). map (plan_test it.wanted.settings) xs) tests ∙ sym of_b.tests)
+    (of_a.tests ∙ ap (λ (xs : List OwnedTestInstanceId). map (plan_test it.settings) xs) tests ∙ sym of_b.tests)
     (of_a.listed ∙ sym of_b.listed) (of_a.skipped ∙ sym of_b.skipped) (of_a.limit ∙ sym of_b.limit)
 
 pub one_plan : (answer : Binary → Answer) (inputs : Inputs) (a b : Plan) → Builds answer inputs (Ok a) → Builds answer inputs (Ok b) → a ≡ b
 one_plan answer inputs a b of_a of_b =
-    let same : of_a.0 ≡ of_b.0 = ok_once of_a.1 of_b.1 in
+    let same : of_a.0 ≡ of_b.0 = let e = plans_once answer inputs (Ok of_a.0) (Ok of_b.0) of_a.1 of_b.1 in cc in
     plans_of_one inputs of_b.0 a b (subst (λ (it : Planned). IsPlanOf inputs it a) same of_a.2) of_b.2
 
 -- ---- lines

@@ -1,5 +1,5 @@
 -- From what was told, to what a call of `judge` reports.
-use Rattle.std.proofs.Common.{◌≡◌, ℕ, false, List, [], ◌++◌, Option, Some, None, IfSome, Result, Ok, Err, refl, sym, ap, ◌∙◌, subst, inl, inr, append-nil}
+use Rattle.std.proofs.Common.{◌≡◌, ℕ, Bool, true, false, List, [], ◌++◌, Option, Some, None, IfSome, Result, Ok, Err, refl, sym, ap, ◌∙◌, subst, inl, inr, append-nil}
 use Rattle.std.specs.Io.KnownBytes.{Appends}
 use Rattle.std.specs.Result.{IsErrAnd}
 use Rattle.std.proofs.lemmas.Result.{err_from_is_err_and}
@@ -7,12 +7,14 @@ use Rattle.test_runner_core_inputs.specs.declared.inputs.Inputs.{Inputs}
 use Rattle.test_runner_core_log_reader.specs.Cursor.{Cursor, items_ahead}
 use Rattle.test_runner_core_log_reader.specs.Items.{Item}
 use Rattle.test_runner_core_listing.specs.Listing.{AsksFor}
-use Rattle.test_runner_core_plan.specs.Plan.{Asks, Builds, planned}
+use Rattle.test_runner_core_plan.specs.Plan as building
+use Rattle.test_runner_core_plan.specs.Plan.{Asks, AsksWith, Builds, Plans, asked_by}
 use Rattle.test_runner_core_plan.specs.declared.plan_error.PlanError.{PlanError}
 use Rattle.test_runner_core_plan.specs.declared.plan_error.PlanError.TheVariants as build_error
 use Rattle.test_runner_core_plan.specs.Texts.{status_of}
 use Rattle.test_runner_core_plan.specs.declared.plan.Plan.{Plan}
 use Rattle.test_runner_core_plan.specs.declared.plan_fault.PlanFault.{PlanFault}
+use Rattle.test_runner_core_settings.specs.declared.settings.Settings.{Settings}
 use Rattle.test_runner_core_telling.specs.Parts.{Part}
 use Rattle.test_runner_core_telling.specs.Telling.{TellsAll, TellsFront}
 use Rattle.test_runner_core_telling.specs.declared.fault.TellFault.{TellFault}
@@ -83,11 +85,11 @@ got_from_beginning answer inputs begin (Some bytes) (Some rest) fresh parts (fro
     (got.0, ap (λ (c : Cursor). c.waiting ++ bytes) (sym fresh) ∙ got.1, subst (λ (lines : List (List ℕ)). TellsSoFar answer inputs lines parts) (sym got.2) told)
 
 -- inputs that have no plan
-pub refused_composed : (answer : Binary → Answer) (inputs : Inputs) (refusal : PlanFault) (log : List Item) (code : ℕ) → planned answer inputs ≡ Err refusal → code ≡ status_of refusal
+pub refused_composed : (answer : Binary → Answer) (inputs : Inputs) (refusal : PlanFault) (log : List Item) (code : ℕ) → Plans answer inputs (Err refusal) → code ≡ status_of refusal
     → Composed answer inputs log (refused_plan refusal) code
 refused_composed answer inputs refusal log code is status = inl (refusal, is, refl, status)
 
-pub refused_begun : (answer : Binary → Answer) (inputs : Inputs) (refusal : PlanFault) (log : List Item) → planned answer inputs ≡ Err refusal → Begun answer inputs log (refused_plan refusal)
+pub refused_begun : (answer : Binary → Answer) (inputs : Inputs) (refusal : PlanFault) (log : List Item) → Plans answer inputs (Err refusal) → Begun answer inputs log (refused_plan refusal)
 refused_begun answer inputs refusal log is = inr (inr (status_of refusal, refused_composed answer inputs refusal log (status_of refusal) is refl))
 
 -- where the bytes are known
@@ -107,8 +109,17 @@ asks_all (Err (fault.Write cause)) old ids new h = h
 asks_all (Err fault.Memory) old ids new h = (ids, ([], (h, sym (append-nil ids))))
 
 -- why inputs have no plan
-pub refused_as : (answer : Binary → Answer) (inputs : Inputs) (error : PlanError) (refusal : PlanFault) → error ≡ build_error.Refused refusal → Builds answer inputs (Err error) → planned answer inputs ≡ Err refusal
+pub refused_as : (answer : Binary → Answer) (inputs : Inputs) (error : PlanError) (refusal : PlanFault) → error ≡ build_error.Refused refusal → Builds answer inputs (Err error) → Plans answer inputs (Err refusal)
 refused_as answer inputs error refusal is builds = subst (λ (e : PlanError). Builds answer inputs (Err e)) is builds
 
 pub asked_as : (error : PlanError) (refusal : PlanFault) (old ids new : List (List ℕ)) → error ≡ build_error.Refused refusal → Asks {A = Plan} (Err error) old ids new → AsksFor false old ids new
 asked_as error refusal old ids new is asks = subst (λ (e : PlanError). Asks {A = Plan} (Err e) old ids new) is asks
+
+pub asked_in_part : (error : PlanError) (old ids new : List (List ℕ)) → error ≡ build_error.OutOfMemory → Asks {A = Plan} (Err error) old ids new → AsksFor true old ids new
+asked_in_part error old ids new is asks = subst (λ (e : PlanError). Asks {A = Plan} (Err e) old ids new) is asks
+
+-- what a call asks the lister for is what the plan's building asked for
+pub asks_with : (answer : Binary → Answer) (inputs : Inputs) (given : Result Settings PlanFault) (built : Result Plan PlanError) (lacks : Bool) (old new : List (List ℕ))
+    → ((ids : List (List ℕ)) → Asks built old ids new → AsksFor lacks old ids new) → AsksWith answer inputs given (building.lacks_memory built) old new → AsksWith answer inputs given lacks old new
+asks_with answer inputs (Ok settings) built lacks old new also asks = λ chosen is. also (asked_by answer inputs chosen) (asks chosen is)
+asks_with answer inputs (Err refusal) built lacks old new also asks = asks

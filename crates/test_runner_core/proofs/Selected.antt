@@ -3,17 +3,21 @@ use Rattle.std.proofs.Common.{◌≡◌, ◌⊎◌, inl, inr, ℕ, suc, zero, Li
 use Rattle.std.specs.List.{Contains, filter}
 use Rattle.std.proofs.lemmas.List.Elements.{Contains-append_left, Contains-append_right, Contains-append_cases}
 use Rattle.std.proofs.lemmas.List.Sorted.{Contains-permutation, IsPermutation-sym}
+use Rattle.nextest_filtering_filters.specs.Meaning.{IsOn}
+use Rattle.nextest_filtering_filters.specs.declared.leaf.FiltersetLeaf.{FiltersetLeaf}
+use Rattle.nextest_filtering_formulas.specs.Formula.{Formula}
 use Rattle.nextest_run_events_results.specs.declared.instance.OwnedTestInstanceId.{OwnedTestInstanceId}
-use Rattle.test_runner_core_listing.specs.Filter.{holds}
-use Rattle.test_runner_core_listing.specs.Listing.{accepted, accepted_names, refused_name, listing, selected_in, skipped_in, ◌>>=◌}
-use Rattle.test_runner_core_listing.specs.declared.filter.Filter.{Filter}
+use Rattle.test_runner_core_listing.specs.Answers.{Answers, AreAnswers, IsOfGroup, seen_test}
+use Rattle.test_runner_core_listing.specs.Listing.{Found, accepted, accepted_names, refused_name, listing, selected_in, skipped_in, ◌>>=◌}
 use Rattle.test_runner_core_listing.specs.declared.listing_fault.ListingFault.{ListingFault}
-use Rattle.test_runner_core_listing.specs.declared.selection.Selection.{Selection}
+use Rattle.test_runner_core_inputs.specs.declared.inputs.Inputs.{Inputs}
+use Rattle.test_runner_core_plan.specs.Filtering.{everything}
 use Rattle.test_runner_core_plan.specs.Plan.{listed_in, plan_test}
 use Rattle.test_runner_core_plan.specs.declared.plan.PlanTest.{PlanTest}
 use Rattle.test_runner_core_settings.specs.declared.settings.Settings.{Settings}
-use Rattle.test_runner_core.specs.Laws.{HasExactlyTheWanted}
-use Rattle.test_runner_core.proofs.Built.{planned_lists}
+use Rattle.test_runner_core.specs.Laws.{HasExactlyTheWanted, IsWanted}
+use Rattle.nextest_filtering_filters.proofs.Sure.{on_test_can_be, one_on_test}
+use Rattle.test_runner_core_plan.proofs.Once.{answers_are, parts_of}
 use Rattle.test_runner_core_workspace.specs.Lister.{Answer}
 use Rattle.test_runner_core_workspace.specs.declared.record.Binary.{Binary}
 
@@ -29,10 +33,10 @@ pub has_cases : {X : Type 0} (x y : X) (xs : List X) → Contains (x ∷ xs) y �
 has_cases x y xs (zero, within, is) = inl is
 has_cases x y xs (suc k, within, is) = inr (k, omega (arith, within), is)
 
-none_has : {X : Type 0} (y : X) → Contains [] y → ⊥
+pub none_has : {X : Type 0} (y : X) → Contains [] y → ⊥
 none_has y (k, within, is) = absurd (omega (arith, within))
 
-map_has : {X Y : Type 0} (f : X → Y) (xs : List X) (x : X) → Contains xs x → Contains (map f xs) (f x)
+pub map_has : {X Y : Type 0} (f : X → Y) (xs : List X) (x : X) → Contains xs x → Contains (map f xs) (f x)
 map_has f [] x has = absurd (none_has x has)
 map_has {Y = Y} f (y ∷ xs) x has =
     elim (has_cases y x xs has) [
@@ -41,12 +45,12 @@ map_has {Y = Y} f (y ∷ xs) x has =
     ]
 
 -- what a map made an element of, and what a filter let pass
-record MadeOf {X Y : Type 0} (f : X → Y) (xs : List X) (y : Y) : Type 0 where
-  of : X
-  among : Contains xs of
-  made : f of ≡ y
+pub record MadeOf {X Y : Type 0} (f : X → Y) (xs : List X) (y : Y) : Type 0 where
+  pub of : X
+  pub among : Contains xs of
+  pub made : f of ≡ y
 
-has_of_map : {X Y : Type 0} (f : X → Y) (xs : List X) (y : Y) → Contains (map f xs) y → MadeOf f xs y
+pub has_of_map : {X Y : Type 0} (f : X → Y) (xs : List X) (y : Y) → Contains (map f xs) y → MadeOf f xs y
 has_of_map f [] y has = absurd (none_has y has)
 has_of_map f (x ∷ xs) y has =
     elim (has_cases (f x) y (map f xs) has) [
@@ -54,7 +58,7 @@ has_of_map f (x ∷ xs) y has =
       | inr more ↦ let there = has_of_map f xs y more in record { of = there.of; among = rest_has x there.of xs there.among; made = there.made }
     ]
 
-filter_has : {X : Type 0} (p : X → Bool) (xs : List X) (x : X) → Contains xs x → p x ≡ true → Contains (filter p xs) x
+pub filter_has : {X : Type 0} (p : X → Bool) (xs : List X) (x : X) → Contains xs x → p x ≡ true → Contains (filter p xs) x
 filter_has p [] x has passed = absurd (none_has x has)
 filter_has {X = X} p (y ∷ xs) x has passed = by_first (p y) refl (λ more. filter_has p xs x more passed)
   where
@@ -70,11 +74,11 @@ filter_has {X = X} p (y ∷ xs) x has passed = by_first (p y) refl (λ more. fil
           | inr more ↦ behind more
         ]
 
-record Passes {X : Type 0} (p : X → Bool) (xs : List X) (x : X) : Type 0 where
-  among : Contains xs x
-  passes : p x ≡ true
+pub record Passes {X : Type 0} (p : X → Bool) (xs : List X) (x : X) : Type 0 where
+  pub among : Contains xs x
+  pub passes : p x ≡ true
 
-has_of_filter : {X : Type 0} (p : X → Bool) (xs : List X) (x : X) → Contains (filter p xs) x → Passes p xs x
+pub has_of_filter : {X : Type 0} (p : X → Bool) (xs : List X) (x : X) → Contains (filter p xs) x → Passes p xs x
 has_of_filter p [] x has = absurd (none_has x has)
 has_of_filter {X = X} p (y ∷ xs) x has = by_first (p y) refl has (has_of_filter p xs x)
   where
@@ -88,15 +92,15 @@ has_of_filter {X = X} p (y ∷ xs) x has = by_first (p y) refl has (has_of_filte
 
 -- ---- what binaries give
 
--- a binary of a list answers a name on which the filter holds
-pub record IsListed (answer : Binary → Answer) (chosen : Filter) (binaries : List Binary) (test : OwnedTestInstanceId) : Type 0 where
+-- a binary of a list answers a name that is selected
+pub record IsListed (answer : Binary → Answer) (chosen : Answers) (binaries : List Binary) (test : OwnedTestInstanceId) : Type 0 where
   pub binary : Binary
   pub among : Contains binaries binary
   pub id : binary.id ≡ test.binary_id
   pub names : List (List ℕ)
   pub answered : answer binary ≡ Ok names
   pub named : Contains names test.test_name
-  pub chosen_name : holds chosen test.test_name ≡ true
+  pub chosen_name : chosen.selects binary test.test_name ≡ true
 
 accepted_is : (answered : Answer) (names : List (List ℕ)) → accepted answered ≡ Ok names → answered ≡ Ok names
 accepted_is (Ok found) names e = by_refusal (refused_name [] found) e
@@ -107,37 +111,37 @@ accepted_is (Ok found) names e = by_refusal (refused_name [] found) e
 accepted_is (Err cause) names e = absurd (let g = e in cc)
 
 -- a listing of binaries, at its first
-record Parts (answer : Binary → Answer) (chosen : Filter) (binary : Binary) (binaries : List Binary) (found : Selection) : Type 0 where
+record First (answer : Binary → Answer) (chosen : Answers) (binary : Binary) (binaries : List Binary) (found : Found) : Type 0 where
   names : List (List ℕ)
   answered : accepted (answer binary) ≡ Ok names
-  rest : Selection
+  rest : Found
   listed : listing answer chosen binaries ≡ Ok rest
   tests : found.tests ≡ selected_in chosen binary names ++ rest.tests
 
-parts_of : (answer : Binary → Answer) (chosen : Filter) (binary : Binary) (binaries : List Binary) (found : Selection)
-    → listing answer chosen (binary ∷ binaries) ≡ Ok found → Parts answer chosen binary binaries found
-parts_of answer chosen binary binaries found e = by_answer (accepted (answer binary)) refl (listing answer chosen binaries) refl e
+first_of : (answer : Binary → Answer) (chosen : Answers) (binary : Binary) (binaries : List Binary) (found : Found)
+    → listing answer chosen (binary ∷ binaries) ≡ Ok found → First answer chosen binary binaries found
+first_of answer chosen binary binaries found e = by_answer (accepted (answer binary)) refl (listing answer chosen binaries) refl e
   where
-    joined : List (List ℕ) → Selection → Selection
+    joined : List (List ℕ) → Found → Found
     joined names rest = record { tests = selected_in chosen binary names ++ rest.tests; skipped = skipped_in chosen binary names ++ rest.skipped }
 
-    by_answer : (first : Result (List (List ℕ)) ListingFault) → accepted (answer binary) ≡ first → (more : Result Selection ListingFault)
+    by_answer : (first : Result (List (List ℕ)) ListingFault) → accepted (answer binary) ≡ first → (more : Result Found ListingFault)
         → listing answer chosen binaries ≡ more → (first >>= (λ names. more >>= (λ rest. Ok (joined names rest)))) ≡ Ok found
-        → Parts answer chosen binary binaries found
-    by_answer (Ok names) a (Ok rest) m h = record { names = names; answered = a; rest = rest; listed = m; tests = let g : joined names rest ≡ found = cc in ap (λ (s : Selection). s.tests) (sym g) }
+        → First answer chosen binary binaries found
+    by_answer (Ok names) a (Ok rest) m h = record { names = names; answered = a; rest = rest; listed = m; tests = let g : joined names rest ≡ found = cc in ap (λ (s : Found). s.tests) (sym g) }
     by_answer (Ok names) a (Err refusal) m h = absurd (let g = h in cc)
     by_answer (Err refusal) a more m h = absurd (let g = h in cc)
 
-to_listed : (answer : Binary → Answer) (chosen : Filter) (binaries : List Binary) (found : Selection) → listing answer chosen binaries ≡ Ok found
+to_listed : (answer : Binary → Answer) (chosen : Answers) (binaries : List Binary) (found : Found) → listing answer chosen binaries ≡ Ok found
     → (test : OwnedTestInstanceId) → Contains found.tests test → IsListed answer chosen binaries test
 to_listed answer chosen [] found e test has =
-    absurd (none_has test (subst (λ (s : Selection). Contains s.tests test) (let g : found ≡ record { tests = []; skipped = [] } = cc in g) has))
+    absurd (none_has test (subst (λ (s : Found). Contains s.tests test) (let g : found ≡ record { tests = []; skipped = [] } = cc in g) has))
 to_listed answer chosen (binary ∷ binaries) found e test has =
-    let parts = parts_of answer chosen binary binaries found e in
+    let parts = first_of answer chosen binary binaries found e in
     elim (Contains-append_cases (selected_in chosen binary parts.names) parts.rest.tests test (subst (λ (tests : List OwnedTestInstanceId). Contains tests test) parts.tests has)) [
       | inl here ↦
-          let made = has_of_map (λ (name : List ℕ). record { binary_id = binary.id; test_name = name }) (filter (holds chosen) parts.names) test here in
-          let name = has_of_filter (holds chosen) parts.names made.of made.among in
+          let made = has_of_map (λ (name : List ℕ). record { binary_id = binary.id; test_name = name }) (filter (chosen.selects binary) parts.names) test here in
+          let name = has_of_filter (chosen.selects binary) parts.names made.of made.among in
           record {
             binary = binary;
             among = first_has binary binaries;
@@ -145,7 +149,7 @@ to_listed answer chosen (binary ∷ binaries) found e test has =
             names = parts.names;
             answered = accepted_is (answer binary) parts.names parts.answered;
             named = subst (λ (n : List ℕ). Contains parts.names n) (ap (λ (t : OwnedTestInstanceId). t.test_name) made.made) name.among;
-            chosen_name = ap (holds chosen) (sym (ap (λ (t : OwnedTestInstanceId). t.test_name) made.made)) ∙ name.passes;
+            chosen_name = ap (chosen.selects binary) (sym (ap (λ (t : OwnedTestInstanceId). t.test_name) made.made)) ∙ name.passes;
           }
       | inr more ↦
           let there = to_listed answer chosen binaries parts.rest parts.listed test more in
@@ -160,11 +164,11 @@ to_listed answer chosen (binary ∷ binaries) found e test has =
           }
     ]
 
-from_listed : (answer : Binary → Answer) (chosen : Filter) (binaries : List Binary) (found : Selection) → listing answer chosen binaries ≡ Ok found
+from_listed : (answer : Binary → Answer) (chosen : Answers) (binaries : List Binary) (found : Found) → listing answer chosen binaries ≡ Ok found
     → (test : OwnedTestInstanceId) → IsListed answer chosen binaries test → Contains found.tests test
 from_listed answer chosen [] found e test it = absurd (none_has it.binary it.among)
 from_listed answer chosen (binary ∷ binaries) found e test it =
-    let parts = parts_of answer chosen binary binaries found e in
+    let parts = first_of answer chosen binary binaries found e in
     subst (λ (tests : List OwnedTestInstanceId). Contains tests test) (sym parts.tests) (
     elim (has_cases binary it.binary binaries it.among) [
       | inl same ↦
@@ -173,8 +177,9 @@ from_listed answer chosen (binary ∷ binaries) found e test it =
           let made : record { binary_id = binary.id; test_name = test.test_name } ≡ test = ap (λ (id : List ℕ). record { binary_id = id; test_name = test.test_name }) (ap (λ (b : Binary). b.id) same ∙ it.id) in
           Contains-append_left (selected_in chosen binary parts.names) parts.rest.tests test
           (subst (λ (t : OwnedTestInstanceId). Contains (selected_in chosen binary parts.names) t) made
-          (map_has (λ (name : List ℕ). record { binary_id = binary.id; test_name = name }) (filter (holds chosen) parts.names) test.test_name
-          (filter_has (holds chosen) parts.names test.test_name (subst (λ (ns : List (List ℕ)). Contains ns test.test_name) names it.named) it.chosen_name)))
+          (map_has (λ (name : List ℕ). record { binary_id = binary.id; test_name = name }) (filter (chosen.selects binary) parts.names) test.test_name
+          (filter_has (chosen.selects binary) parts.names test.test_name (subst (λ (ns : List (List ℕ)). Contains ns test.test_name) names it.named)
+          (ap (λ (b : Binary). chosen.selects b test.test_name) same ∙ it.chosen_name))))
       | inr more ↦
           Contains-append_right (selected_in chosen binary parts.names) parts.rest.tests test
           (from_listed answer chosen binaries parts.rest parts.listed test
@@ -185,27 +190,58 @@ instances_of : (settings : Settings) (tests : List OwnedTestInstanceId) → map 
 instances_of settings [] = refl
 instances_of settings (test ∷ tests) = ap (λ (ts : List OwnedTestInstanceId). test ∷ ts) (instances_of settings tests)
 
+-- ---- filters
+
+-- a binary one of whose tests a filter holds on is listed
+is_listed : (filter : Formula FiltersetLeaf) (answers : Answers) (binary : Binary) (name : List ℕ) → AreAnswers filter everything answers
+    → IsOn filter everything (seen_test binary name) IsOfGroup true → answers.lists binary ≡ true
+is_listed filter answers binary name are on = (are.lists binary).1 (on_test_can_be filter everything (seen_test binary name) IsOfGroup true on)
+
+-- and the test is selected
+is_selected : (filter : Formula FiltersetLeaf) (answers : Answers) (binary : Binary) (name : List ℕ) → AreAnswers filter everything answers
+    → IsOn filter everything (seen_test binary name) IsOfGroup true → answers.selects binary name ≡ true
+is_selected filter answers binary name are on =
+    one_on_test filter everything (seen_test binary name) IsOfGroup (answers.selects binary name) true (are.selects binary name) on
+
+-- a selected test of a listed binary is wanted
+wanted_of : (answer : Binary → Answer) (inputs : Inputs) (filter : Formula FiltersetLeaf) (answers : Answers) (test : OwnedTestInstanceId) → AreAnswers filter everything answers
+    → IsListed answer answers (listed_in inputs answers) test → IsWanted answer inputs filter test
+wanted_of answer inputs filter answers test are it = record {
+  binary = it.binary;
+  among = (has_of_filter answers.lists inputs.workspace.binaries it.binary it.among).among;
+  id = it.id;
+  names = it.names;
+  answered = it.answered;
+  named = it.named;
+  holds = subst (λ (value : Bool). IsOn filter everything (seen_test it.binary test.test_name) IsOfGroup value) it.chosen_name (are.selects it.binary test.test_name);
+}
+
+of_wanted : (answer : Binary → Answer) (inputs : Inputs) (filter : Formula FiltersetLeaf) (answers : Answers) (test : OwnedTestInstanceId) → AreAnswers filter everything answers
+    → IsWanted answer inputs filter test → IsListed answer answers (listed_in inputs answers) test
+of_wanted answer inputs filter answers test are it = record {
+  binary = it.binary;
+  among = filter_has answers.lists inputs.workspace.binaries it.binary it.among (is_listed filter answers it.binary test.test_name are it.holds);
+  id = it.id;
+  names = it.names;
+  answered = it.answered;
+  named = it.named;
+  chosen_name = is_selected filter answers it.binary test.test_name are it.holds;
+}
+
 pub exactly_the_wanted : HasExactlyTheWanted
-exactly_the_wanted answer inputs it plan planned_it built test =
-    let listed = planned_lists answer inputs it planned_it in
+exactly_the_wanted answer inputs plan filter (it, planned, built) in_force test =
+    let parts = parts_of answer inputs it planned in
+    let are = answers_are inputs.workspace inputs.filterset filter it.answers in_force parts.chosen in
+    let listed = listed_in inputs it.answers in
     let instances : map (λ (t : PlanTest). t.instance) plan.tests ≡ built.selection.tests =
-    ap (map (λ (t : PlanTest). t.instance)) built.tests ∙ instances_of it.wanted.settings built.selection.tests in (
+    ap (map (λ (t : PlanTest). t.instance)) built.tests ∙ instances_of it.settings built.selection.tests in (
       λ has.
-          let there = to_listed answer it.wanted.filter (listed_in inputs it.wanted) it.found listed test
+          wanted_of answer inputs filter it.answers test are
+          (to_listed answer it.answers listed it.found parts.listed test
           (Contains-permutation built.selection.tests it.found.tests test (IsPermutation-sym it.found.tests built.selection.tests built.selected.tests)
-          (subst (λ (tests : List OwnedTestInstanceId). Contains tests test) instances has)) in
-          record {
-            binary = there.binary;
-            listed = there.among;
-            id = there.id;
-            names = there.names;
-            answered = there.answered;
-            named = there.named;
-            chosen = there.chosen_name;
-          },
+          (subst (λ (tests : List OwnedTestInstanceId). Contains tests test) instances has))),
       λ wanted.
           subst (λ (tests : List OwnedTestInstanceId). Contains tests test) (sym instances)
           (Contains-permutation it.found.tests built.selection.tests test built.selected.tests
-          (from_listed answer it.wanted.filter (listed_in inputs it.wanted) it.found listed test
-          (record { binary = wanted.binary; among = wanted.listed; id = wanted.id; names = wanted.names; answered = wanted.answered; named = wanted.named; chosen_name = wanted.chosen }))),
+          (from_listed answer it.answers listed it.found parts.listed test (of_wanted answer inputs filter it.answers test are wanted))),
     )

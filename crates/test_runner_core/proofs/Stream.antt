@@ -13,7 +13,7 @@ use Rattle.test_runner_core_log_reader.specs.Feeds.{IsPlain, before_feed, behind
 use Rattle.test_runner_core_log_reader.specs.declared.fault.LogFault.{LogFault}
 use Rattle.test_runner_core_log_reader.specs.declared.fault.LogFault.TheVariants as unread
 use Rattle.test_runner_core_log_reader.specs.Items.{Item, items, whole_lines}
-use Rattle.test_runner_core_plan.specs.Plan.{planned}
+use Rattle.test_runner_core_plan.specs.Plan.{Plans}
 use Rattle.test_runner_core_plan.specs.declared.plan_fault.PlanFault.{PlanFault}
 use Rattle.test_runner_core_plan.specs.declared.plan.Plan.{Plan}
 use Rattle.test_runner_core_runs.specs.State.{State, initial}
@@ -126,7 +126,7 @@ begun_nothing (Some bytes) = by_line (read_inputs (before_feed bytes))
 -- a stream whose inputs have no plan is read for its first line alone
 pub first_line_alone : (inputs : Inputs) (left rest : Option (List ℕ)) (lines : Cursor) (first last most : ℕ)
     → IfSome left (λ bytes. PartsAtFirst bytes (Some lines) rest) → read_inputs lines.line ≡ Ok inputs → first ≤ most
-    → ((refusal : PlanFault) → planned (table_of inputs) inputs ≡ Err refusal → last ≡ first)
+    → ((refusal : PlanFault) → Plans (table_of inputs) inputs (Err refusal) → last ≡ first)
     → IfSome left (λ bytes. HasNoPlan (read_inputs (before_feed bytes)) → last ≤ most)
 first_line_alone inputs None rest lines first last most parts read few unread = tt
 first_line_alone inputs (Some bytes) None lines first last most parts read few unread = absurd parts

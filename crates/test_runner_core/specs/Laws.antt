@@ -2,14 +2,17 @@
 use Rattle.std.specs.Prelude.{◌≡◌, ◌≢◌, ◌↔◌, ℕ, true, List, ◌++◌, map, Option, None, Result, Ok, ⊤}
 use Rattle.std.specs.Io.KnownBytes.{Appends}
 use Rattle.std.specs.List.{AllPairs, Contains}
+use Rattle.nextest_filtering_filters.specs.Meaning.{CanBeOn, IsOn}
+use Rattle.nextest_filtering_filters.specs.declared.leaf.FiltersetLeaf.{FiltersetLeaf}
+use Rattle.nextest_filtering_formulas.specs.Formula.{Formula}
 use Rattle.nextest_run_events_results.specs.declared.instance.OwnedTestInstanceId.{OwnedTestInstanceId}
 use Rattle.test_runner_core_inputs.specs.declared.inputs.Inputs.{Inputs}
 use Rattle.test_runner_core_log_reader.specs.Items.{Item}
-use Rattle.test_runner_core_listing.specs.Filter.{holds}
-use Rattle.test_runner_core_plan.specs.Plan.{Builds, IsPlanOf, Planned, listed_in, planned}
+use Rattle.test_runner_core_listing.specs.Answers.{IsOfGroup, seen, seen_test}
+use Rattle.test_runner_core_plan.specs.Filtering.{IsInForce, everything}
+use Rattle.test_runner_core_plan.specs.Plan.{Builds}
 use Rattle.test_runner_core_plan.specs.declared.plan.Plan.{Plan}
 use Rattle.test_runner_core_plan.specs.declared.plan.PlanTest.{PlanTest}
-use Rattle.test_runner_core_plan.specs.declared.wanted.Wanted.{Wanted}
 use Rattle.test_runner_core_runs.specs.Assignment.{Assignment, IsUnstopped}
 use Rattle.test_runner_core_runs.specs.Ends.{EndedWhole}
 use Rattle.test_runner_core_runs.specs.RunPlan.{IsPlan}
@@ -82,21 +85,29 @@ SucceedsWhole =
 abbrev pub BuiltIsPlan : Type 0
 BuiltIsPlan = (answer : Binary → Answer) (inputs : Inputs) (plan : Plan) → Builds answer inputs (Ok plan) → IsPlan (run_plan plan)
 
--- a test is wanted: a binary that is listed has its binary's id and answered its name, and the filter holds on it
-pub record IsWanted (answer : Binary → Answer) (inputs : Inputs) (wanted : Wanted) (test : OwnedTestInstanceId) : Type 0 where
+-- a test is wanted: a binary of the workspace has its binary's id and answered its name, and the filter in force holds on it
+pub record IsWanted (answer : Binary → Answer) (inputs : Inputs) (filter : Formula FiltersetLeaf) (test : OwnedTestInstanceId) : Type 0 where
   pub binary : Binary
-  pub listed : Contains (listed_in inputs wanted) binary
+  pub among : Contains inputs.workspace.binaries binary
   pub id : binary.id ≡ test.binary_id
   pub names : List (List ℕ)
   pub answered : answer binary ≡ Ok names
   pub named : Contains names test.test_name
-  pub chosen : holds wanted.filter test.test_name ≡ true
+  pub holds : IsOn filter everything (seen_test binary test.test_name) IsOfGroup true
 
 -- a plan has exactly the tests that are wanted
 abbrev pub HasExactlyTheWanted : Type 0
 HasExactlyTheWanted =
-    (answer : Binary → Answer) (inputs : Inputs) (it : Planned) (plan : Plan) → planned answer inputs ≡ Ok it → IsPlanOf inputs it plan
-    → (test : OwnedTestInstanceId) → Contains (map (λ (t : PlanTest). t.instance) plan.tests) test ↔ IsWanted answer inputs it.wanted test
+    (answer : Binary → Answer) (inputs : Inputs) (plan : Plan) (filter : Formula FiltersetLeaf)
+    → Builds answer inputs (Ok plan) → IsInForce inputs.workspace inputs.filterset filter
+    → (test : OwnedTestInstanceId) → Contains (map (λ (t : PlanTest). t.instance) plan.tests) test ↔ IsWanted answer inputs filter test
+
+-- a plan lists exactly the binaries on which the filter in force can hold, by some answers to what it asks of their tests
+abbrev pub ListsExactly : Type 0
+ListsExactly =
+    (answer : Binary → Answer) (inputs : Inputs) (plan : Plan) (filter : Formula FiltersetLeaf)
+    → Builds answer inputs (Ok plan) → IsInForce inputs.workspace inputs.filterset filter
+    → (binary : Binary) → Contains inputs.workspace.binaries binary → Contains plan.listed binary.id ↔ CanBeOn filter everything (seen binary) true
 
 -- a plan has no test twice: no two of its tests have the same binary's id and the same name
 abbrev pub HasNoneTwice : Type 0

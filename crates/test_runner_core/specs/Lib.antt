@@ -33,10 +33,11 @@ pub use Rattle.test_runner_core_progress.specs.Progress
 pub use Rattle.test_runner_core_progress.specs.Statuses
 -- plans, and which tests they select
 pub use Rattle.test_runner_core_plan.specs.Plan
+pub use Rattle.test_runner_core_plan.specs.Filtering
 pub use Rattle.test_runner_core_plan.specs.Refusals
 pub use Rattle.test_runner_core_plan.specs.Texts as PlanTexts
 pub use Rattle.test_runner_core_listing.specs.Listing
-pub use Rattle.test_runner_core_listing.specs.Filter
+pub use Rattle.test_runner_core_listing.specs.Answers
 pub use Rattle.test_runner_core_settings.specs.Settings
 -- inputs, workspaces and listers
 pub use Rattle.test_runner_core_inputs.specs.Reading as InputsReading

@@ -7,7 +7,7 @@ use Rattle.test_runner_core_inputs.specs.declared.inputs.Inputs.{Inputs}
 use Rattle.test_runner_core_inputs.specs.declared.inputs_error.InputsRefusal.{InputsRefusal}
 use Rattle.test_runner_core_log_reader.specs.Feeds.{IsPlain, before_feed, behind_feed}
 use Rattle.test_runner_core_log_reader.specs.Items.{Item, Line, items, whole_lines}
-use Rattle.test_runner_core_plan.specs.Plan.{Builds, planned}
+use Rattle.test_runner_core_plan.specs.Plan.{Builds, Plans}
 use Rattle.test_runner_core_plan.specs.declared.plan.Plan.{Plan}
 use Rattle.test_runner_core_plan.specs.declared.plan_fault.PlanFault.{PlanFault}
 use Rattle.test_runner_core_runs.specs.Assignment.{Assignment, IsUnstopped, due_status}
@@ -86,7 +86,7 @@ LineBegun (Err refusal) log parts = (parts ≡ []) ⊎ (parts ≡ refused_inputs
 
 -- a first line has no plan: it is no inputs, or they are refused
 abbrev pub HasNoPlan : Result Inputs InputsRefusal → Type 0
-HasNoPlan (Ok inputs) = (refusal : PlanFault) × (planned (table_of inputs) inputs ≡ Err refusal)
+HasNoPlan (Ok inputs) = (refusal : PlanFault) × Plans (table_of inputs) inputs (Err refusal)
 HasNoPlan (Err refusal) = ⊤
 
 -- the report of a stream: the bytes before its first line feed are the inputs, those behind it the log

@@ -5,7 +5,7 @@ use Rattle.test_runner_core_inputs.specs.declared.inputs.Inputs.{Inputs}
 use Rattle.test_runner_core_inputs.specs.declared.inputs_error.InputsRefusal.{InputsRefusal}
 use Rattle.test_runner_core_inputs.specs.declared.inputs_error.InputsRefusal.TheVariants as unread
 use Rattle.test_runner_core_log_reader.specs.Items.{Item, Line, whole_lines}
-use Rattle.test_runner_core_plan.specs.Plan.{Builds, planned}
+use Rattle.test_runner_core_plan.specs.Plan.{Builds, Plans}
 use Rattle.test_runner_core_plan.specs.Texts.{name_of, status_of}
 use Rattle.test_runner_core_plan.specs.declared.plan.Plan.{Plan}
 use Rattle.test_runner_core_plan.specs.declared.plan_fault.PlanFault.{PlanFault}
@@ -75,7 +75,7 @@ pub record Judged (plan : Plan) (log : List Item) (parts : List Part) (code : �
 -- the report of inputs and a log and its exit status: the inputs have no plan, or their run is judged
 abbrev pub Composed : (Binary → Answer) → Inputs → List Item → List Part → ℕ → Type 0
 Composed answer inputs log parts code =
-    ((refusal : PlanFault) × (planned answer inputs ≡ Err refusal) × (parts ≡ refused_plan refusal) × (code ≡ status_of refusal))
+    ((refusal : PlanFault) × Plans answer inputs (Err refusal) × (parts ≡ refused_plan refusal) × (code ≡ status_of refusal))
     ⊎ ((plan : Plan) × Builds answer inputs (Ok plan) × Judged plan log parts code)
 
 -- what lines tell of the run of these inputs

@@ -9,8 +9,7 @@ ghost use Rattle.test_runner_core.specs.Outcome.{EndsAsDue, HasNoPlan, IsDue, Is
 ghost use Rattle.test_runner_core.specs.Inside.{IsGotOf};
 ghost use Rattle.test_runner_core.specs.Report.{Begun, Composed, GotTo, Reports, TellsSoFar};
 ghost use Rattle.test_runner_core_log_reader.specs.Cursor.{items_ahead};
-ghost use Rattle.test_runner_core_listing.specs.Listing.{AsksFor};
-ghost use Rattle.test_runner_core_plan.specs.Plan.{Builds, asked_for, wanted_in, planned};
+ghost use Rattle.test_runner_core_plan.specs.Plan.{AsksWith, Builds, Plans, settings_for};
 ghost use Rattle.test_runner_core_plan.specs.declared.plan_fault.PlanFault.{PlanFault};
 ghost use Rattle.test_runner_core_workspace.specs.declared.record.Binary.{Binary};
 
@@ -52,8 +51,8 @@ pub fn judge<L: Lister, R: LogReader, W: ReportWriter>(
     ensures no_milder { IfOk result (λ code. IfSome (R.left log.old) (λ bytes. IsNoMilderThanDue (L.answer lister.old) inputs.now (items 0 bytes) code)) }
     ensures one_report { IfOk result (λ code. IfSome (R.left log.old) (λ bytes. EndsAsDue (L.answer lister.old) inputs.now (items 0 bytes) (W.taken report.old) (W.taken report.new))) }
     ensures stays { (other : Binary) → L.answer lister.new other ≡ L.answer lister.old other }
-    ensures asks { AsksFor (lacks_memory result) (L.asked lister.old) (asked_for (L.answer lister.old) inputs.now (wanted_in inputs.now)) (L.asked lister.new) }
-    ensures unread { (refusal : PlanFault) → planned (L.answer lister.old) inputs.now ≡ Err refusal → R.calls log.new ≡ R.calls log.old }
+    ensures asks { AsksWith (L.answer lister.old) inputs.now (settings_for inputs.now) (lacks_memory result) (L.asked lister.old) (L.asked lister.new) }
+    ensures unread { (refusal : PlanFault) → Plans (L.answer lister.old) inputs.now (Err refusal) → R.calls log.new ≡ R.calls log.old }
     ensures reads { R.calls log.new ≤ R.calls log.old + log_reads }
     ensures read_failures { TellsRead result (R.failures log.old) (R.failures log.new) (R.last_failed log.new) }
     ensures write_failures { TellsWrite result (W.failures report.old) (W.failures report.new) (W.last_failed report.new) }
@@ -115,7 +114,7 @@ fn judge_by_table<R: LogReader, W: ReportWriter>(
         (λ parts. (front : List (List ℕ)) × IsGotOf lines.old (R.left log.old) (R.left log.new) front × TellsSoFar (table_of inputs) inputs front parts)
         (λ parts. IfSome (R.left log.old) (λ bytes. Begun (table_of inputs) inputs (items_ahead lines.old bytes) parts))
         (W.taken report.old) (W.taken report.new) }
-    ensures unread { (refusal : PlanFault) → planned (table_of inputs) inputs ≡ Err refusal → R.calls log.new ≡ R.calls log.old }
+    ensures unread { (refusal : PlanFault) → Plans (table_of inputs) inputs (Err refusal) → R.calls log.new ≡ R.calls log.old }
     ensures reads { R.calls log.new ≤ R.calls log.old + log_reads }
     ensures read_failures { TellsRead result (R.failures log.old) (R.failures log.new) (R.last_failed log.new) }
     ensures write_failures { TellsWrite result (W.failures report.old) (W.failures report.new) (W.last_failed report.new) }

@@ -1,6 +1,6 @@
 //! What holds of every run that a log tells. Each function does nothing, and its contract is the law. The laws over runs
 //! hold of the run of each plan that is built (`built_plan`).
-ghost use Rattle.test_runner_core.specs.Laws.{BuiltIsPlan, EndsNoMilder, EndsWithDueStatus, EndsWithOneText, HasExactlyTheWanted, HasNoneTwice, HasOneReport, StopsWhereDue, SucceedsWhole, ToldFirst, WrittenFirst};
+ghost use Rattle.test_runner_core.specs.Laws.{BuiltIsPlan, EndsNoMilder, EndsWithDueStatus, EndsWithOneText, HasExactlyTheWanted, HasNoneTwice, HasOneReport, ListsExactly, StopsWhereDue, SucceedsWhole, ToldFirst, WrittenFirst};
 
 pub use test_runner_core_runs::laws::{after_a_reason, no_dead_end};
 
@@ -50,9 +50,14 @@ pub fn built_plan()
     ensures { BuiltIsPlan }
 {}
 
-/// A test is selected exactly if a listed binary answers its name and the filter in force holds on it.
+/// A test is selected exactly if a binary of the workspace answers its name and the filter in force holds on it.
 pub fn selected()
     ensures { HasExactlyTheWanted }
+{}
+
+/// A binary is listed exactly if the filter in force can hold on it, by some answers to what it asks of the binary's tests.
+pub fn listed()
+    ensures { ListsExactly }
 {}
 
 /// A plan that was built has each selected test once: no two of its tests have the same binary's id and the same name.

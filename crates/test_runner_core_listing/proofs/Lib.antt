@@ -1,5 +1,6 @@
-pub mod Parts
 pub mod OneByOne
 pub mod Rising
 pub mod Strict
 pub mod Walk
+pub mod Told
+pub mod Answering

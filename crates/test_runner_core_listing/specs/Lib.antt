@@ -1,2 +1,3 @@
-pub mod Filter
+pub mod Answers
 pub mod Listing
+pub mod Laws

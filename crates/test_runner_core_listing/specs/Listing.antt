@@ -8,8 +8,7 @@ use Rattle.nextest_run_events_results.specs.declared.instance.OwnedTestInstanceI
 use Rattle.test_runner_core_workspace.specs.Lister.{Answer}
 use Rattle.test_runner_core_workspace.specs.Workspace.{is_among, has_separator}
 use Rattle.test_runner_core_workspace.specs.declared.record.Binary.{Binary}
-use Rattle.test_runner_core_listing.specs.Filter.{holds, may_hold}
-use Rattle.test_runner_core_listing.specs.declared.filter.Filter.{Filter}
+use Rattle.test_runner_core_listing.specs.Answers.{Answers}
 use Rattle.test_runner_core_listing.specs.declared.listing_error.ListingError.{ListingError}
 use Rattle.test_runner_core_listing.specs.declared.listing_error.ListingError.TheVariants as error
 use Rattle.test_runner_core_listing.specs.declared.listing_fault.ListingFault.{ListingFault}
@@ -41,20 +40,28 @@ Accepts (Err (error.Refused refusal)) given = given ≡ Err refusal
 Accepts (Err error.OutOfMemory) given = ⊤
 
 -- the listed binaries: those of which some test may be selected
-abbrev pub listed_of : Filter → List Binary → List Binary
-listed_of chosen binaries = if may_hold chosen then binaries else []
+abbrev pub listed_of : Answers → List Binary → List Binary
+listed_of chosen binaries = filter chosen.lists binaries
+
+abbrev pub ids_of : List Binary → List (List ℕ)
+ids_of binaries = map (λ binary. binary.id) binaries
 
 -- tests of a binary, by their names
 abbrev pub tests_of : Binary → List (List ℕ) → List OwnedTestInstanceId
 tests_of binary names = map (λ name. record { binary_id = binary.id; test_name = name }) names
 
--- the tests of a binary on which a filter holds
-abbrev pub selected_in : Filter → Binary → List (List ℕ) → List OwnedTestInstanceId
-selected_in chosen binary names = tests_of binary (filter (holds chosen) names)
+-- the tests of a binary that are selected
+abbrev pub selected_in : Answers → Binary → List (List ℕ) → List OwnedTestInstanceId
+selected_in chosen binary names = tests_of binary (filter (chosen.selects binary) names)
 
 -- the others
-abbrev pub skipped_in : Filter → Binary → List (List ℕ) → List OwnedTestInstanceId
-skipped_in chosen binary names = tests_of binary (filter (λ name. not (holds chosen name)) names)
+abbrev pub skipped_in : Answers → Binary → List (List ℕ) → List OwnedTestInstanceId
+skipped_in chosen binary names = tests_of binary (filter (λ name. not (chosen.selects binary name)) names)
+
+-- the tests that are found in binaries
+pub record Found : Type 0 where
+  pub tests : List OwnedTestInstanceId
+  pub skipped : List OwnedTestInstanceId
 
 infixl 10 ◌>>=◌
 abbrev pub ◌>>=◌ : {A B : Type 0} → Result A ListingFault → (A → Result B ListingFault) → Result B ListingFault
@@ -62,7 +69,7 @@ Ok x >>= next = next x
 Err refusal >>= next = Err refusal
 
 -- what binaries give one after another, up to the first whose answer is refused
-abbrev pub listing : (Binary → Answer) → Filter → List Binary → Result Selection ListingFault
+abbrev pub listing : (Binary → Answer) → Answers → List Binary → Result Found ListingFault
 listing answer chosen [] = Ok (record { tests = []; skipped = [] })
 listing answer chosen (binary ∷ binaries) = do
   names ← accepted (answer binary)
@@ -78,34 +85,46 @@ abbrev pub asked_of : (Binary → Answer) → List Binary → List (List ℕ)
 asked_of answer [] = []
 asked_of answer (binary ∷ binaries) = binary.id ∷ asked_after (accepted (answer binary)) (asked_of answer binaries)
 
--- one binary's tests are added to what was found; want of memory says nothing
-abbrev pub Adds : {T : Type 0} → Result T ListingError → Result (List (List ℕ)) ListingFault → Filter → Binary → Selection → Selection → Type 0
-Adds (Ok done) answered chosen binary old new =
-    (names : List (List ℕ)) × (answered ≡ Ok names) × (new.tests ≡ old.tests ++ selected_in chosen binary names) × (new.skipped ≡ old.skipped ++ skipped_in chosen binary names)
-Adds (Err (error.Refused refusal)) answered chosen binary old new = answered ≡ Err refusal
-Adds (Err error.OutOfMemory) answered chosen binary old new = ⊤
+-- one binary's tests are added to what was found where it is listed; want of memory says nothing
+abbrev pub AddsListed : {T : Type 0} → Result T ListingError → Result (List (List ℕ)) ListingFault → Answers → Binary → Selection → Selection → Type 0
+AddsListed (Ok done) answered chosen binary old new =
+    (names : List (List ℕ)) × (answered ≡ Ok names) × (new.listed ≡ old.listed ++ binary.id ∷ [])
+    × (new.tests ≡ old.tests ++ selected_in chosen binary names) × (new.skipped ≡ old.skipped ++ skipped_in chosen binary names)
+AddsListed (Err (error.Refused refusal)) answered chosen binary old new = answered ≡ Err refusal
+AddsListed (Err error.OutOfMemory) answered chosen binary old new = ⊤
+
+-- and nothing is where it isn't
+abbrev pub Stays : {T : Type 0} → Result T ListingError → Selection → Selection → Type 0
+Stays (Ok done) old new = new ≡ old
+Stays (Err (error.Refused refusal)) old new = ⊥
+Stays (Err error.OutOfMemory) old new = ⊤
+
+abbrev pub Adds : {T : Type 0} → Bool → Result T ListingError → Result (List (List ℕ)) ListingFault → Answers → Binary → Selection → Selection → Type 0
+Adds true result answered chosen binary old new = AddsListed result answered chosen binary old new
+Adds false result answered chosen binary old new = Stays result old new
 
 -- a call lists these binaries; want of memory says nothing
-abbrev pub Lists : Result Selection ListingError → Result Selection ListingFault → Type 0
-Lists (Ok found) given = given ≡ Ok found
-Lists (Err (error.Refused refusal)) given = given ≡ Err refusal
-Lists (Err error.OutOfMemory) given = ⊤
+abbrev pub Lists : Result Selection ListingError → Result Found ListingFault → List Binary → Type 0
+Lists (Ok found) given listed = (given ≡ Ok (record { tests = found.tests; skipped = found.skipped })) × (found.listed ≡ ids_of listed)
+Lists (Err (error.Refused refusal)) given listed = given ≡ Err refusal
+Lists (Err error.OutOfMemory) given listed = ⊤
 
 -- tests rise by binary id, and then by name, by bytes
 abbrev pub instance_cmp : OwnedTestInstanceId → OwnedTestInstanceId → Ordering
 instance_cmp a b = ordering_then (slice_cmp nat_cmp a.binary_id b.binary_id) (slice_cmp nat_cmp a.test_name b.test_name)
 
--- a selection has the listed tests in rising order, and leaves out the others as they were listed
-pub record Selects (listed : Selection) (selection : Selection) : Type 0 where
-  pub tests : IsPermutation listed.tests selection.tests
+-- a selection has the ids of the listed binaries, the selected tests in rising order, and leaves out the others as they were listed
+pub record Selects (binaries : List Binary) (found : Found) (selection : Selection) : Type 0 where
+  pub listed : selection.listed ≡ ids_of binaries
+  pub tests : IsPermutation found.tests selection.tests
   pub order : IsSorted instance_cmp selection.tests
-  pub skipped : selection.skipped ≡ listed.skipped
+  pub skipped : selection.skipped ≡ found.skipped
 
--- a call gives what the listed binaries give; want of memory says nothing
-abbrev pub Gives : Result Selection ListingError → Result Selection ListingFault → Type 0
-Gives (Ok selection) found = (listed : Selection) × (found ≡ Ok listed) × Selects listed selection
-Gives (Err (error.Refused refusal)) found = found ≡ Err refusal
-Gives (Err error.OutOfMemory) found = ⊤
+-- a call gives what these binaries give; want of memory says nothing
+abbrev pub Gives : Result Selection ListingError → Result Found ListingFault → List Binary → Type 0
+Gives (Ok selection) given listed = (found : Found) × (given ≡ Ok found) × Selects listed found selection
+Gives (Err (error.Refused refusal)) given listed = given ≡ Err refusal
+Gives (Err error.OutOfMemory) given listed = ⊤
 
 -- the list of ids asked for grows by these; where memory was wanting by a front of them
 abbrev pub AsksFor : Bool → List (List ℕ) → List (List ℕ) → List (List ℕ) → Type 0

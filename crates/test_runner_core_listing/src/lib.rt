@@ -1,15 +1,15 @@
-//! Which tests a run selects: the listed binaries are asked for their tests, and a filter is tried on each.
+//! Which tests a run selects: the binaries on which a filter can hold are asked for their tests, and it is tried on each.
 #![tactic(auto)]
 
-mod filter;
 mod keyed_state;
+pub mod laws;
 mod listing;
 mod listing_error;
 mod listing_fault;
 mod names;
+mod query;
 mod selection;
 
-pub use filter::Filter;
 pub use keyed_state::{KeyedState, TextsDigest};
 pub use listing::select;
 pub use listing_error::ListingError;

@@ -1,11 +1,13 @@
-// The selected tests, and those that are left out.
+// The listed binaries, the selected tests, and those that are left out.
 use nextest_run_events_results::OwnedTestInstanceId;
-use nextest_text::Listing;
+use nextest_text::{Listing, Text};
 
-/// The selected tests, and those that are left out.
+/// The listed binaries, the selected tests, and those that are left out.
 #[derive(Clone, Debug, PartialEq, Eq, Drop)]
 pub struct Selection {
-    /// The selected ones, rising by binary id and then by name.
+    /// The ids of the listed binaries, in their order.
+    pub listed: Listing<Text>,
+    /// The selected tests, rising by binary id and then by name.
     pub tests: Listing<OwnedTestInstanceId>,
     /// Those that are listed and not selected, as they were listed.
     pub skipped: Listing<OwnedTestInstanceId>,

@@ -1,45 +1,103 @@
 -- How a plan follows from its parts.
-use Rattle.std.proofs.Common.{◌≡◌, ◌<◌, ◌^◌, ◌+◌, ◌==◌, ◌&&◌, ℕ, ◌∷◌, ◌++◌, [], List, Bool, true, false, length, map, min, nat_lt, Result, Ok, Err, refl, ap, sym, ◌∙◌, cond, arith}
+use Rattle.std.proofs.Common.{◌≡◌, ◌⊎◌, inl, inr, ◌<◌, ◌^◌, ◌+◌, ◌==◌, ◌&&◌, ℕ, ◌∷◌, ◌++◌, [], List, Bool, true, false, length, map, min, nat_lt, Option, Result, Ok, Err, refl, ap, sym, ◌∙◌, subst, cond, arith}
 use Rattle.std.proofs.lemmas.Bool.{eqb-false, le-leb}
 use Rattle.std.proofs.lemmas.List.{append-nil}
 use Rattle.std.proofs.lemmas.List.Sorted.{length_permutation}
+use Rattle.nextest_filtering_filters.specs.declared.leaf.FiltersetLeaf.{FiltersetLeaf}
+use Rattle.nextest_filtering_formulas.specs.Formula.{Formula}
 use Rattle.nextest_run_events_results.specs.declared.instance.OwnedTestInstanceId.{OwnedTestInstanceId}
 use Rattle.test_runner_core_inputs.specs.declared.inputs.Inputs.{Inputs}
-use Rattle.test_runner_core_listing.specs.Listing.{Selects, listing, listed_of}
+use Rattle.test_runner_core_listing.specs.Answers.{Answers, AreAnswers}
+use Rattle.test_runner_core_listing.specs.Listing.{AsksFor, Found, Selects, asked_of, listing}
 use Rattle.test_runner_core_listing.specs.declared.selection.Selection.{Selection}
+use Rattle.test_runner_core_listing.specs.declared.listing_fault.ListingFault.{ListingFault}
 use Rattle.test_runner_core_settings.specs.declared.settings.Settings.{Settings}
 use Rattle.test_runner_core_workspace.specs.Lister.{Answer}
 use Rattle.test_runner_core_workspace.specs.declared.record.Binary.{Binary}
-use Rattle.test_runner_core_plan.specs.Plan.{◌>>=◌, wanted_in, listed_in, found_by, has_too_many, Planned, planned, asked_for, plan_test, with_tries, tries_of, Gives, Asks}
-use Rattle.test_runner_core_plan.specs.declared.wanted.Wanted.{Wanted}
+use Rattle.test_runner_core_plan.specs.Filtering.{IsChosen, IsInForce, everything}
+use Rattle.test_runner_core_plan.specs.Inside.{IsWanted}
+use Rattle.test_runner_core_plan.specs.Plan.{◌>>=◌, AsksWith, lacks_memory, Builds, Planned, Plans, PlansWith, Selected, asked_by, found_by, has_too_many, listed_in, plan_test, planned_by, settings_for, tries_of, with_tries}
+use Rattle.test_runner_core_plan.specs.Refusals.{of_listing}
 use Rattle.test_runner_core_plan.specs.declared.plan.Plan.{Plan}
 use Rattle.test_runner_core_plan.specs.declared.plan_error.PlanError.{PlanError}
 use Rattle.test_runner_core_plan.specs.declared.plan_error.PlanError.TheVariants as errors
 use Rattle.test_runner_core_plan.specs.declared.plan_fault.PlanFault.{PlanFault}
 use Rattle.test_runner_core_plan.specs.declared.plan_fault.PlanFault.TheVariants as refused
+use Rattle.test_runner_core_plan.proofs.Once.{answers_are, chosen_once, never_both}
 
-nothing : (answer : Binary → Answer) (inputs : Inputs) (refusal : PlanFault) (old : List (List ℕ)) (given : Result Wanted PlanFault) → given ≡ Err refusal → old ≡ old ++ asked_for answer inputs given
-nothing answer inputs refusal old given e = sym (ap (λ (g : Result Wanted PlanFault). old ++ asked_for answer inputs g) e ∙ append-nil old)
+-- ---- inputs that are refused before a binary is asked
 
--- nobody is asked where the inputs are refused before
-pub asks_nothing : (answer : Binary → Answer) (inputs : Inputs) (error : PlanError) (old : List (List ℕ)) → Gives {A = Wanted} (Err error) (wanted_in inputs)
-    → Asks {A = Plan} (Err error) old (asked_for answer inputs (wanted_in inputs)) old
-asks_nothing answer inputs (errors.Refused refusal) old g = nothing answer inputs refusal old (wanted_in inputs) g
-asks_nothing answer inputs errors.OutOfMemory old g = ([], (asked_for answer inputs (wanted_in inputs), (sym (append-nil old), refl)))
+pub refused_before : (answer : Binary → Answer) (inputs : Inputs) (error : PlanError) → IsWanted inputs (Err error) → Builds answer inputs (Err error)
+refused_before answer inputs (errors.Refused refusal) (inl known) = subst (λ (s : Result Settings PlanFault). PlansWith answer inputs s (Err refusal)) (sym known) refl
+refused_before answer inputs (errors.Refused refusal) (inr (settings, known, is)) =
+    subst (λ (s : Result Settings PlanFault). PlansWith answer inputs s (Err refusal)) (sym known) (Err refusal, is, refl)
+refused_before answer inputs errors.OutOfMemory wanted = tt
 
--- what is planned once all tests are listed
-abbrev pub finished : Wanted → Selection → Result Planned PlanFault
-finished wanted found = cond (has_too_many wanted found) (Err refused.RetriesTooMany) (Ok (record { wanted = wanted; found = found }))
+-- nobody is asked
+pub asks_nothing : (answer : Binary → Answer) (inputs : Inputs) (error : PlanError) (old : List (List ℕ)) → IsWanted inputs (Err error)
+    → AsksWith answer inputs (settings_for inputs) (lacks_memory {A = Plan} (Err error)) old old
+asks_nothing answer inputs (errors.Refused refusal) old (inl known) =
+    subst (λ (s : Result Settings PlanFault). AsksWith answer inputs s false old old) (sym known) refl
+asks_nothing answer inputs (errors.Refused refusal) old (inr (settings, known, is)) =
+    subst (λ (s : Result Settings PlanFault). AsksWith answer inputs s false old old) (sym known)
+    (λ chosen also.
+    sym (append-nil old)
+    ∙ ap (λ (c : Result Answers PlanFault). old ++ asked_by answer inputs c) (chosen_once inputs.workspace inputs.filterset (Err refusal) chosen is also))
+asks_nothing answer inputs errors.OutOfMemory old wanted = by_settings (settings_for inputs)
+  where
+    by_settings : (settings : Result Settings PlanFault) → AsksWith answer inputs settings true old old
+    by_settings (Ok settings) = λ chosen is. ([], (asked_by answer inputs chosen, (sym (append-nil old), refl)))
+    by_settings (Err refusal) = refl
 
-pub planned_is : (answer : Binary → Answer) (inputs : Inputs) (wanted : Wanted) (found : Selection) → wanted_in inputs ≡ Ok wanted → listing answer wanted.filter (listed_in inputs wanted) ≡ Ok found
-    → planned answer inputs ≡ finished wanted found
-planned_is answer inputs wanted found a f =
-    ap (λ (r : Result Wanted PlanFault). r >>= λ x. found_by (listing answer x.filter (listed_in inputs x)) >>= finished x) a
-    ∙ ap (λ r. found_by r >>= finished wanted) f
+-- ---- inputs whose binaries are asked
+
+-- whatever is chosen, it is what the filter in force answers
+pub asks_with : (answer : Binary → Answer) (inputs : Inputs) (settings : Settings) (filter : Formula FiltersetLeaf) (lacks : Bool) (old new : List (List ℕ))
+    → settings_for inputs ≡ Ok settings → IsInForce inputs.workspace inputs.filterset filter
+    → ((answers : Answers) → AreAnswers filter everything answers → AsksFor lacks old (asked_of answer (listed_in inputs answers)) new)
+    → AsksWith answer inputs (settings_for inputs) lacks old new
+asks_with answer inputs settings filter lacks old new known in_force asks =
+    subst (λ (s : Result Settings PlanFault). AsksWith answer inputs s lacks old new) (sym known) by_chosen
+  where
+    by_chosen : (chosen : Result Answers PlanFault) → IsChosen inputs.workspace inputs.filterset chosen → AsksFor lacks old (asked_by answer inputs chosen) new
+    by_chosen (Ok answers) is = asks answers (answers_are inputs.workspace inputs.filterset filter answers in_force is)
+    by_chosen (Err refusal) is = absurd (never_both inputs.workspace inputs.filterset filter in_force is.1)
+
+-- all were asked, and then memory was wanting
+pub asks_lacking : (old ids new : List (List ℕ)) → AsksFor false old ids new → AsksFor true old ids new
+asks_lacking old ids new asks = (ids, ([], (asks, sym (append-nil ids))))
+
+-- a listing that is refused
+pub refused_listing : (answer : Binary → Answer) (inputs : Inputs) (settings : Settings) (filter : Formula FiltersetLeaf) (answers : Answers) (error : PlanError)
+    → settings_for inputs ≡ Ok settings → IsInForce inputs.workspace inputs.filterset filter → AreAnswers filter everything answers
+    → Selected (Err error) (listing answer answers (listed_in inputs answers)) (listed_in inputs answers) → Builds answer inputs (Err error)
+refused_listing answer inputs settings filter answers (errors.Refused refusal) known in_force are (fault, listed, is) =
+    subst (λ (s : Result Settings PlanFault). PlansWith answer inputs s (Err refusal)) (sym known) (
+      Ok answers,
+      (filter, in_force, are),
+      ap (λ (given : Result Found ListingFault). found_by given >>= λ found. cond (has_too_many settings found.tests) (Err refused.RetriesTooMany) (Ok (record { settings = settings; answers = answers; found = found }))) listed
+          ∙ ap (λ (r : PlanFault). Err r) (sym is),
+    )
+refused_listing answer inputs settings filter answers errors.OutOfMemory known in_force are selected = tt
 
 -- the sorted tests are as many as the listed ones
-pub as_many : (wanted : Wanted) (found selection : Selection) → Selects found selection → has_too_many wanted found ≡ has_too_many wanted selection
-as_many wanted found selection s = ap (λ (n : ℕ). wanted.settings.retries == 4294967295 && nat_lt 0 n) (sym (length_permutation found.tests selection.tests s.tests))
+as_many : (settings : Settings) (listed : List Binary) (found : Found) (selection : Selection) → Selects listed found selection → has_too_many settings found.tests ≡ has_too_many settings selection.tests
+as_many settings listed found selection s = ap (λ (n : ℕ). settings.retries == 4294967295 && nat_lt 0 n) (sym (length_permutation found.tests selection.tests s.tests))
+
+-- what is planned once all tests are listed: nothing where they have too many retries
+pub plans_found : (answer : Binary → Answer) (inputs : Inputs) (settings : Settings) (filter : Formula FiltersetLeaf) (answers : Answers) (found : Found) (selection : Selection) (many : Bool)
+    → settings_for inputs ≡ Ok settings → IsInForce inputs.workspace inputs.filterset filter → AreAnswers filter everything answers
+    → listing answer answers (listed_in inputs answers) ≡ Ok found → Selects (listed_in inputs answers) found selection → has_too_many settings selection.tests ≡ many
+    → Plans answer inputs (cond many (Err refused.RetriesTooMany) (Ok (record { settings = settings; answers = answers; found = found })))
+plans_found answer inputs settings filter answers found selection many known in_force are listed selects is =
+    subst (λ (s : Result Settings PlanFault). PlansWith answer inputs s (cond many (Err refused.RetriesTooMany) (Ok (record { settings = settings; answers = answers; found = found })))) (sym known) (
+      Ok answers,
+      (filter, in_force, are),
+      ap (λ (given : Result Found ListingFault). found_by given >>= λ found. cond (has_too_many settings found.tests) (Err refused.RetriesTooMany) (Ok (record { settings = settings; answers = answers; found = found }))) listed
+          ∙ ap (λ (b : Bool). cond b (Err refused.RetriesTooMany) (Ok (record { settings = settings; answers = answers; found = found }))) (as_many settings (listed_in inputs answers) found selection selects ∙ is),
+    )
+
+-- ---- tries
 
 few_tries : (retries : ℕ) (is_last some : Bool) → retries < 2 ^ 32 → (retries == 4294967295) ≡ is_last → some ≡ true → (is_last && some) ≡ false → min (retries + 1) 4294967295 ≡ retries + 1
 few_tries retries true true fits e h f = absurd (let g : true ≡ false = f in cc)
@@ -47,17 +105,8 @@ few_tries retries true false fits e h f = absurd (let g : false ≡ true = h in 
 few_tries retries false some fits e h f = let g : retries ≡ 4294967295 → ⊥ = eqb-false retries 4294967295 e in omega arith
 
 -- the tries of a test that isn't refused
-pub tries_fit : (settings : Settings) (tests : List OwnedTestInstanceId) → settings.retries < 2 ^ 32 → (settings.retries == 4294967295 && nat_lt 0 (length tests)) ≡ false
-    → map (with_tries (tries_of settings)) tests ≡ map (plan_test settings) tests
+pub tries_fit : (settings : Settings) (tests : List OwnedTestInstanceId) → settings.retries < 2 ^ 32 → has_too_many settings tests ≡ false → map (with_tries (tries_of settings)) tests ≡ map (plan_test settings) tests
 tries_fit settings [] fits few = refl
 tries_fit settings (test ∷ tests) fits few =
     let some : nat_lt 0 (length (test ∷ tests)) ≡ true = le-leb 1 (length (test ∷ tests)) (omega arith) in
     ap (λ (n : ℕ). map (with_tries n) (test ∷ tests)) (few_tries settings.retries (settings.retries == 4294967295) (nat_lt 0 (length (test ∷ tests))) fits refl some few)
-
--- what is refused for too many retries
-pub refused_tries : (answer : Binary → Answer) (inputs : Inputs) (wanted : Wanted) (binaries : List Binary) (found selection : Selection) (test : Bool) → binaries ≡ inputs.workspace.binaries
-    → wanted_in inputs ≡ Ok wanted → listing answer wanted.filter (listed_of wanted.filter binaries) ≡ Ok found → Selects found selection → has_too_many wanted selection ≡ test
-    → planned answer inputs ≡ cond test (Err refused.RetriesTooMany) (Ok (record { wanted = wanted; found = found }))
-refused_tries answer inputs wanted binaries found selection test same a f s t =
-    planned_is answer inputs wanted found a (ap (λ (bs : List Binary). listing answer wanted.filter (listed_of wanted.filter bs)) (sym same) ∙ f)
-    ∙ ap (λ (b : Bool). cond b (Err refused.RetriesTooMany) (Ok (record { wanted = wanted; found = found }))) (as_many wanted found selection s ∙ t)

@@ -1,1 +1,4 @@
 pub mod Building
+pub mod Answering
+pub mod Context
+pub mod Once

@@ -10,10 +10,8 @@ use Rattle.test_runner_core_inputs.specs.declared.source.ConfigSourceKind.{Confi
 use Rattle.test_runner_core_inputs.specs.declared.source.ConfigSourceKind.TheVariants as kinds
 use Rattle.test_runner_core_inputs.specs.declared.source.ConfigSourceOutcome.{ConfigSourceOutcome}
 use Rattle.test_runner_core_inputs.specs.declared.source.ConfigSourceOutcome.TheVariants as outcomes
-use Rattle.test_runner_core_listing.specs.Filter.{filter_of}
-use Rattle.test_runner_core_listing.specs.Listing.{AsksFor, Selects, listing, listed_of, asked_of}
-use Rattle.test_runner_core_listing.specs.declared.filter.Filter.{Filter}
-use Rattle.test_runner_core_listing.specs.declared.filter.Filter.TheVariants as filters
+use Rattle.test_runner_core_listing.specs.Answers.{Answers}
+use Rattle.test_runner_core_listing.specs.Listing.{AsksFor, Found, Selects, listing, listed_of, asked_of}
 use Rattle.test_runner_core_listing.specs.declared.listing_fault.ListingFault.{ListingFault}
 use Rattle.test_runner_core_listing.specs.declared.selection.Selection.{Selection}
 use Rattle.test_runner_core_settings.specs.Settings.{settings_of, default_settings}
@@ -24,8 +22,8 @@ use Rattle.test_runner_core_workspace.specs.Workspace.{refusal_of}
 use Rattle.test_runner_core_workspace.specs.declared.record.Binary.{Binary}
 use Rattle.test_runner_core_workspace.specs.declared.record.WorkspaceRecord.{WorkspaceRecord}
 use Rattle.test_runner_core_workspace.specs.declared.workspace_fault.WorkspaceFault.{WorkspaceFault}
+use Rattle.test_runner_core_plan.specs.Filtering.{IsChosen}
 use Rattle.test_runner_core_plan.specs.Refusals.{of_workspace, of_settings, of_listing}
-use Rattle.test_runner_core_plan.specs.declared.wanted.Wanted.{Wanted}
 use Rattle.test_runner_core_plan.specs.declared.plan.Plan.{Plan}
 use Rattle.test_runner_core_plan.specs.declared.plan.PlanTest.{PlanTest}
 use Rattle.test_runner_core_plan.specs.declared.plan_error.PlanError.{PlanError}
@@ -65,47 +63,52 @@ asks_for_more inputs =
     || (nat_lt 0 (length inputs.host.triple) || nat_lt 0 (length inputs.host.facts))
     || is_some inputs.target
 
--- the filter in force: the filterset, where one is given
-abbrev pub filter_in : Option (List ℕ) → Result Filter PlanFault
-filter_in None = Ok filters.All
-filter_in (Some text) = option_map_or Ok (filter_of text) (Err refused.NotYet)
-
--- what inputs ask for
-abbrev pub wanted_in : Inputs → Result Wanted PlanFault
-wanted_in inputs = do
+-- the settings that inputs ask for, or the first reason before their filterset why they have no plan
+abbrev pub settings_for : Inputs → Result Settings PlanFault
+settings_for inputs = do
   workspace ← workspace_of inputs.workspace (refusal_of inputs.workspace)
   settings ← settings_in inputs.sources
-  whole ← if asks_for_more inputs then Err refused.NotYet else Ok settings
-  chosen ← filter_in inputs.filterset
-  Ok (record { settings = settings; filter = chosen })
+  if asks_for_more inputs then Err refused.NotYet else Ok settings
 
--- the binaries that are listed
-abbrev pub listed_in : Inputs → Wanted → List Binary
-listed_in inputs wanted = listed_of wanted.filter inputs.workspace.binaries
-
-abbrev pub found_by : Result Selection ListingFault → Result Selection PlanFault
+abbrev pub found_by : Result Found ListingFault → Result Found PlanFault
 found_by (Ok found) = Ok found
 found_by (Err refusal) = Err (of_listing refusal)
 
 -- a selected test has more retries than can be counted with its first attempt
-abbrev pub has_too_many : Wanted → Selection → Bool
-has_too_many wanted found = wanted.settings.retries == 4294967295 && nat_lt 0 (length found.tests)
+abbrev pub has_too_many : Settings → List OwnedTestInstanceId → Bool
+has_too_many settings tests = settings.retries == 4294967295 && nat_lt 0 (length tests)
 
 -- what inputs ask for and the tests that are selected, or the first reason why there is no plan
 pub record Planned : Type 0 where
-  pub wanted : Wanted
-  pub found : Selection
+  pub settings : Settings
+  pub answers : Answers
+  pub found : Found
 
-abbrev pub planned : (Binary → Answer) → Inputs → Result Planned PlanFault
-planned answer inputs = do
-  wanted ← wanted_in inputs
-  found ← found_by (listing answer wanted.filter (listed_in inputs wanted))
-  if has_too_many wanted found then Err refused.RetriesTooMany else Ok (record { wanted = wanted; found = found })
+-- the binaries that are listed
+abbrev pub listed_in : Inputs → Answers → List Binary
+listed_in inputs answers = listed_of answers inputs.workspace.binaries
 
--- the ids that the lister is asked for: none where the inputs are refused before
-abbrev pub asked_for : (Binary → Answer) → Inputs → Result Wanted PlanFault → List (List ℕ)
-asked_for answer inputs (Ok wanted) = asked_of answer (listed_in inputs wanted)
-asked_for answer inputs (Err refusal) = []
+-- what is planned where the filter in force answers so, or its filterset is refused
+abbrev pub planned_by : (Binary → Answer) → Inputs → Settings → Result Answers PlanFault → Result Planned PlanFault
+planned_by answer inputs settings chosen = do
+  answers ← chosen
+  found ← found_by (listing answer answers (listed_in inputs answers))
+  if has_too_many settings found.tests then Err refused.RetriesTooMany else Ok (record { settings = settings; answers = answers; found = found })
+
+-- with the settings that inputs ask for
+abbrev pub PlansWith : (Binary → Answer) → Inputs → Result Settings PlanFault → Result Planned PlanFault → Type 0
+PlansWith answer inputs (Ok settings) it =
+    (chosen : Result Answers PlanFault) × IsChosen inputs.workspace inputs.filterset chosen × (planned_by answer inputs settings chosen ≡ it)
+PlansWith answer inputs (Err refusal) it = it ≡ Err refusal
+
+-- inputs have this planned, or this is the first reason why they have no plan
+abbrev pub Plans : (Binary → Answer) → Inputs → Result Planned PlanFault → Type 0
+Plans answer inputs = PlansWith answer inputs (settings_for inputs)
+
+-- the ids that the lister is asked for where the filter in force answers so: none where its filterset is refused
+abbrev pub asked_by : (Binary → Answer) → Inputs → Result Answers PlanFault → List (List ℕ)
+asked_by answer inputs (Ok answers) = asked_of answer (listed_in inputs answers)
+asked_by answer inputs (Err refusal) = []
 
 -- a selected test with its settings
 abbrev pub plan_test : Settings → OwnedTestInstanceId → PlanTest
@@ -114,17 +117,17 @@ plan_test settings instance = record { instance = instance; settings = record { 
 -- the plan of what is selected
 pub record IsPlanOf (inputs : Inputs) (it : Planned) (plan : Plan) : Type 0 where
   pub selection : Selection
-  pub selected : Selects it.found selection
-  pub tests : plan.tests ≡ map (plan_test it.wanted.settings) selection.tests
+  pub selected : Selects (listed_in inputs it.answers) it.found selection
+  pub tests : plan.tests ≡ map (plan_test it.settings) selection.tests
   pub skipped : plan.skipped ≡ it.found.skipped
-  pub listed : plan.listed ≡ map (λ binary. binary.id) (listed_in inputs it.wanted)
-  pub limit : plan.limit ≡ it.wanted.settings.max_fail
+  pub listed : plan.listed ≡ map (λ binary. binary.id) (listed_in inputs it.answers)
+  pub limit : plan.limit ≡ it.settings.max_fail
   pub scripts : plan.scripts ≡ []
 
 -- a call builds the plan, or refuses as is written; want of memory says nothing
 abbrev pub Builds : (Binary → Answer) → Inputs → Result Plan PlanError → Type 0
-Builds answer inputs (Ok plan) = (it : Planned) × (planned answer inputs ≡ Ok it) × IsPlanOf inputs it plan
-Builds answer inputs (Err (error.Refused refusal)) = planned answer inputs ≡ Err refusal
+Builds answer inputs (Ok plan) = (it : Planned) × Plans answer inputs (Ok it) × IsPlanOf inputs it plan
+Builds answer inputs (Err (error.Refused refusal)) = Plans answer inputs (Err refusal)
 Builds answer inputs (Err error.OutOfMemory) = ⊤
 
 -- a call answers what a part of this gives; want of memory says nothing
@@ -133,11 +136,27 @@ Gives (Ok x) given = given ≡ Ok x
 Gives (Err (error.Refused refusal)) given = given ≡ Err refusal
 Gives (Err error.OutOfMemory) given = ⊤
 
+-- a call gives what the listed binaries give; want of memory says nothing
+abbrev pub Selected : Result Selection PlanError → Result Found ListingFault → List Binary → Type 0
+Selected (Ok selection) given listed = (found : Found) × (given ≡ Ok found) × Selects listed found selection
+Selected (Err (error.Refused refusal)) given listed = (fault : ListingFault) × (given ≡ Err fault) × (refusal ≡ of_listing fault)
+Selected (Err error.OutOfMemory) given listed = ⊤
+
+-- there was no memory
+abbrev pub lacks_memory : {A : Type 0} → Result A PlanError → Bool
+lacks_memory (Ok done) = false
+lacks_memory (Err (error.Refused refusal)) = false
+lacks_memory (Err error.OutOfMemory) = true
+
 -- the list of ids asked for grows by those that the lister is asked for; where there was no memory by a front of them
 abbrev pub Asks : {A : Type 0} → Result A PlanError → List (List ℕ) → List (List ℕ) → List (List ℕ) → Type 0
-Asks (Ok done) old ids new = AsksFor false old ids new
-Asks (Err (error.Refused refusal)) old ids new = AsksFor false old ids new
-Asks (Err error.OutOfMemory) old ids new = AsksFor true old ids new
+Asks result = AsksFor (lacks_memory result)
+
+-- by those that the filter in force lists; by none where the inputs are refused before
+abbrev pub AsksWith : (Binary → Answer) → Inputs → Result Settings PlanFault → Bool → List (List ℕ) → List (List ℕ) → Type 0
+AsksWith answer inputs (Ok settings) lacks old new =
+    (chosen : Result Answers PlanFault) → IsChosen inputs.workspace inputs.filterset chosen → AsksFor lacks old (asked_by answer inputs chosen) new
+AsksWith answer inputs (Err refusal) lacks old new = new ≡ old
 
 -- how many attempts a test has: what can't be counted is refused before
 abbrev pub tries_of : Settings → ℕ

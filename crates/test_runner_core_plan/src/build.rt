@@ -1,19 +1,24 @@
 // How a plan is built.
 ghost use Rattle.std.specs.Prelude.{◌≡◌, ◌<◌, ◌^◌, [], IfOk, map};
-ghost use Rattle.test_runner_core_listing.specs.Listing.{listed_of};
+ghost use Rattle.nextest_filtering_filters.specs.Filter.{filter_of};
+ghost use Rattle.test_runner_core_listing.specs.Answers.{Answers, AreAnswers};
+ghost use Rattle.test_runner_core_listing.specs.Listing.{asked_of, listing};
+ghost use Rattle.test_runner_core_plan.specs.Filtering.{everything};
 ghost use Rattle.test_runner_core_plan.specs.Plan as words;
 ghost use Rattle.test_runner_core_workspace.specs.declared.record.Binary.{Binary};
 
 use crate::plan::{Plan, PlanSettings, PlanTest};
 use crate::plan_error::PlanError;
 use crate::plan_fault::PlanFault;
-use crate::wanted::{Wanted, wanted_in};
+use crate::wanted::wanted_in;
 use nextest_config_elements_plain::FlakyResult;
+use nextest_filtering_filters::{CompiledExpr, EvalContext};
 use nextest_run_events_results::OwnedTestInstanceId;
-use nextest_text::{Listing, Text};
+use nextest_text::Listing;
 use std::alloc::{AllocError, Global};
 use test_runner_core_inputs::Inputs;
 use test_runner_core_listing::{Selection, select};
+use test_runner_core_settings::Settings;
 use test_runner_core_workspace::{Binary, Lister};
 
 impl Plan {
@@ -28,52 +33,63 @@ impl Plan {
     ) -> Result<Plan, PlanError>
         ensures builds { words.Builds (L.answer lister.old) inputs.now result }
         ensures stays { (other : Binary) → L.answer lister.new other ≡ L.answer lister.old other }
-        ensures asks { words.Asks result (L.asked lister.old) (words.asked_for (L.answer lister.old) inputs.now (words.wanted_in inputs.now)) (L.asked lister.new) }
+        ensures asks { words.AsksWith (L.answer lister.old) inputs.now (words.settings_for inputs.now) (words.lacks_memory result) (L.asked lister.old) (L.asked lister.new) }
     {
         let wanted = wanted_in(alloc, inputs)?;
-        let binaries = inputs.workspace.binaries.as_slice();
-        let selection = select(alloc, binaries, &wanted.filter, lister)?;
-        if has_too_many(&wanted, &selection) {
+        let selection = selection_by(alloc, inputs, &wanted.filter, lister)?;
+        if has_too_many(&wanted.settings, selection.tests.as_slice()) {
             return Err(PlanError::Refused(PlanFault::RetriesTooMany));
         }
-        Ok(plan_of(alloc, binaries, wanted, selection)?)
+        Ok(plan_of(alloc, &wanted.settings, selection)?)
     }
 }
 
-// Whether a selected test has more retries than can be counted with its first attempt.
-fn has_too_many(wanted: &Wanted, selection: &Selection) -> bool
-    ensures value { result ≡ words.has_too_many wanted.now selection.now }
-    ensures fits { wanted.now.settings.retries < 2 ^ 32 }
+// What the filter in force selects, where the default filter holds on every test.
+fn selection_by<L: Lister>(
+    alloc: Global,
+    inputs: &Inputs,
+    filter: &CompiledExpr,
+    lister: &mut L,
+) -> Result<Selection, PlanError>
+    ensures selects { (chosen : Answers) → AreAnswers (filter_of filter.now) everything chosen → words.Selected result (listing (L.answer lister.old) chosen (words.listed_in inputs.now chosen)) (words.listed_in inputs.now chosen) }
+    ensures stays { (other : Binary) → L.answer lister.new other ≡ L.answer lister.old other }
+    ensures asks { (chosen : Answers) → AreAnswers (filter_of filter.now) everything chosen → words.Asks result (L.asked lister.old) (asked_of (L.answer lister.old) (words.listed_in inputs.now chosen)) (L.asked lister.new) }
 {
-    let retries = wanted.settings.retries;
-    retries == u32::MAX && !selection.tests.is_empty()
+    let all = CompiledExpr::all(alloc)?;
+    let ecx = EvalContext::new(&all);
+    let binaries = inputs.workspace.binaries.as_slice();
+    Ok(select(alloc, binaries, filter, &ecx, lister)?)
+}
+
+// Whether a selected test has more retries than can be counted with its first attempt.
+fn has_too_many(settings: &Settings, tests: &[OwnedTestInstanceId]) -> bool
+    ensures value { result ≡ words.has_too_many settings.now tests.now }
+    ensures fits { settings.now.retries < 2 ^ 32 }
+{
+    let retries = settings.retries;
+    retries == u32::MAX && !tests.is_empty()
 }
 
 // The plan of what is selected.
-fn plan_of(
-    alloc: Global,
-    binaries: &[Binary],
-    wanted: Wanted,
-    selection: Selection,
-) -> Result<Plan, AllocError>
-    ensures tests { IfOk result (λ plan. plan.tests ≡ map (words.with_tries (words.tries_of wanted.settings)) selection.tests) }
+fn plan_of(alloc: Global, settings: &Settings, selection: Selection) -> Result<Plan, AllocError>
+    ensures tests { IfOk result (λ plan. plan.tests ≡ map (words.with_tries (words.tries_of settings.now)) selection.tests) }
     ensures skipped { IfOk result (λ plan. plan.skipped ≡ selection.skipped) }
-    ensures listed { IfOk result (λ plan. plan.listed ≡ map (λ binary. binary.id) (listed_of wanted.filter binaries.now)) }
-    ensures limit { IfOk result (λ plan. plan.limit ≡ wanted.settings.max_fail) }
+    ensures listed { IfOk result (λ plan. plan.listed ≡ selection.listed) }
+    ensures limit { IfOk result (λ plan. plan.limit ≡ settings.now.max_fail) }
     ensures scripts { IfOk result (λ plan. plan.scripts ≡ []) }
 {
-    let listed = if wanted.filter.may_hold() {
-        binaries
-    } else {
-        &[]
-    };
-    let tries = wanted.settings.retries.saturating_add(1);
+    let tries = settings.retries.saturating_add(1);
+    let Selection {
+        listed,
+        tests,
+        skipped,
+    } = selection;
     Ok(Plan {
         scripts: Listing::new(alloc),
-        tests: with_tries(alloc, selection.tests, tries)?,
-        listed: ids_of(alloc, listed)?,
-        skipped: selection.skipped,
-        limit: wanted.settings.max_fail,
+        tests: with_tries(alloc, tests, tries)?,
+        listed,
+        skipped,
+        limit: settings.max_fail,
     })
 }
 
@@ -96,15 +112,4 @@ fn with_tries(
         })
         .collect(alloc)?;
     Ok(Listing::from(tests))
-}
-
-// The ids of binaries.
-fn ids_of(alloc: Global, binaries: &[Binary]) -> Result<Listing<Text>, AllocError>
-    ensures { IfOk result (λ ids. ids ≡ map (λ binary. binary.id) binaries.now) }
-{
-    let mut ids = Listing::new(alloc);
-    for binary in binaries {
-        ids.push(binary.id.clone()?)?;
-    }
-    Ok(ids)
 }

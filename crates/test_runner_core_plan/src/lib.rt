@@ -2,6 +2,7 @@
 #![tactic(auto)]
 
 mod build;
+mod filtering;
 mod plan;
 mod plan_error;
 mod plan_fault;

@@ -43,6 +43,9 @@ pub enum PlanFault {
     /// The inputs ask for what isn't built yet; looked for last among the reasons of the part that it belongs to.
     #[error("NotYet")]
     NotYet,
+    /// The filterset isn't one that the workspace accepts.
+    #[error("Filterset")]
+    Filterset,
     /// A binary can't list its tests, for this cause.
     #[error("ListFault: {0}")]
     ListFault(Text),
@@ -72,6 +75,7 @@ impl Drop for PlanFault {
             Self::VersionSource => {}
             Self::Load(_) => {}
             Self::NotYet => {}
+            Self::Filterset => {}
             Self::ListFault(_) => {}
             Self::EmptyTestName => {}
             Self::BadTestName => {}
@@ -98,6 +102,7 @@ impl PlanFault {
             PlanFault::VersionSource => "VersionSource",
             PlanFault::Load(LoadFault::BadValue) => "Load.BadValue",
             PlanFault::NotYet => "NotYet",
+            PlanFault::Filterset => "Filterset",
             PlanFault::ListFault(_) => "ListFault",
             PlanFault::EmptyTestName => "EmptyTestName",
             PlanFault::BadTestName => "BadTestName",

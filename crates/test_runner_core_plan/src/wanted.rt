@@ -1,29 +1,21 @@
 // What inputs ask for.
-ghost use Rattle.std.specs.Prelude.{◌≡◌, IfOk};
+ghost use Rattle.std.specs.Prelude.{◌≡◌};
+ghost use Rattle.test_runner_core_plan.specs.Inside.{IsWanted};
 ghost use Rattle.test_runner_core_plan.specs.Plan as words;
 
+use crate::filtering::filter_in;
 use crate::plan_error::PlanError;
 use crate::plan_fault::PlanFault;
-use nextest_text::Text;
+use nextest_filtering_filters::CompiledExpr;
 use std::alloc::Global;
 use test_runner_core_inputs::{ConfigSource, ConfigSourceKind, ConfigSourceOutcome, Inputs};
-use test_runner_core_listing::Filter;
 use test_runner_core_settings::Settings;
 
 // What inputs ask for.
+#[derive(Drop)]
 pub(crate) struct Wanted {
     pub(crate) settings: Settings,
-    pub(crate) filter: Filter,
-}
-
-// One call drops it, whoever holds it.
-impl Drop for Wanted {
-    fn drop(self) {
-        let Self {
-            settings: _,
-            filter: _,
-        } = self;
-    }
+    pub(crate) filter: CompiledExpr,
 }
 
 // What the sources set.
@@ -59,28 +51,23 @@ fn asks_for_more(inputs: &Inputs) -> bool
         || inputs.target.is_some()
 }
 
-// The filter in force.
-fn filter_in(alloc: Global, filterset: &Option<Text>) -> Result<Filter, PlanError>
-    ensures { words.Gives result (words.filter_in filterset.now) }
-{
-    let Some(text) = filterset else {
-        return Ok(Filter::All);
-    };
-    match Filter::from_text(alloc, text.as_str())? {
-        Some(filter) => Ok(filter),
-        None => Err(PlanError::Refused(PlanFault::NotYet)),
-    }
-}
-
-// What inputs ask for.
-pub(crate) fn wanted_in(alloc: Global, inputs: &Inputs) -> Result<Wanted, PlanError>
-    ensures { words.Gives result (words.wanted_in inputs.now) }
+// The settings that inputs ask for, unless they are refused before their filterset is looked at.
+fn settings_for(alloc: Global, inputs: &Inputs) -> Result<Settings, PlanError>
+    ensures { words.Gives result (words.settings_for inputs.now) }
 {
     inputs.workspace.check(alloc)?;
     let settings = settings_in(alloc, inputs.sources.as_slice())?;
     if asks_for_more(inputs) {
         return Err(PlanError::Refused(PlanFault::NotYet));
     }
-    let filter = filter_in(alloc, &inputs.filterset)?;
+    Ok(settings)
+}
+
+// What inputs ask for.
+pub(crate) fn wanted_in(alloc: Global, inputs: &Inputs) -> Result<Wanted, PlanError>
+    ensures { IsWanted inputs.now result }
+{
+    let settings = settings_for(alloc, inputs)?;
+    let filter = filter_in(alloc, &inputs.workspace, &inputs.filterset)?;
     Ok(Wanted { settings, filter })
 }

@@ -3,7 +3,6 @@
 
 mod agreeing;
 mod changes;
-mod filters;
 mod inputs;
 mod judged;
 mod log_lines;
@@ -17,11 +16,10 @@ mod told_tests;
 use agreeing::Agreeing;
 use anyhow::Result;
 use changes::Changed;
-use filters::Filters;
 use inputs::{ChangedInputs, OtherInputs, WholeInputs};
 use log_lines::LogLines;
 use pairs::Pairs;
-use plans::Plans;
+use plans::{Plans, Selected};
 use refused_lines::RefusedLines;
 use runs::Runs;
 use settings::SettingsTexts;
@@ -40,8 +38,8 @@ fn main(rt: HostRuntime) -> Result<ExitCode> {
         rows_hold(&rt, &LogLines)?,
         rows_hold(&rt, &RefusedLines)?,
         rows_hold(&rt, &SettingsTexts)?,
-        rows_hold(&rt, &Filters)?,
         rows_hold(&rt, &Plans(&plan))?,
+        rows_hold(&rt, &Selected)?,
         cases_hold(&rt, &Runs)?,
         rows_hold(&rt, &ToldTests)?,
         rows_hold(&rt, &Pairs(&plan))?,

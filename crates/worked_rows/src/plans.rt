@@ -18,17 +18,35 @@ impl Table for Plans<'_> {
 
     fn answer(&self, alloc: Global, input: &str) -> Result<String> {
         let text = self.0.by(alloc, input)?;
-        let inputs = Inputs::from_json(alloc, text.as_bytes())?;
-        let mut lister = TableLister::new(alloc, &inputs.workspace)?;
-        let mut told = match Plan::build(alloc, &inputs, &mut lister) {
-            Ok(plan) => shown(alloc, &plan)?,
-            Err(PlanError::Refused(fault)) => String::from_str(alloc, fault.name())?,
-            Err(PlanError::OutOfMemory) => return Err(anyhow!("out of memory")),
-        };
-        told.push_str("; asked")?;
-        push_all(&mut told, lister.asked())?;
-        Ok(told)
+        planned(alloc, text.as_str())
     }
+}
+
+/// Whole inputs, each with the same.
+#[derive(Clone, Copy)]
+pub struct Selected;
+
+impl Table for Selected {
+    fn name(&self) -> &'static str {
+        "selected"
+    }
+
+    fn answer(&self, alloc: Global, input: &str) -> Result<String> {
+        planned(alloc, input)
+    }
+}
+
+fn planned(alloc: Global, text: &str) -> Result<String> {
+    let inputs = Inputs::from_json(alloc, text.as_bytes())?;
+    let mut lister = TableLister::new(alloc, &inputs.workspace)?;
+    let mut told = match Plan::build(alloc, &inputs, &mut lister) {
+        Ok(plan) => shown(alloc, &plan)?,
+        Err(PlanError::Refused(fault)) => String::from_str(alloc, fault.name())?,
+        Err(PlanError::OutOfMemory) => return Err(anyhow!("out of memory")),
+    };
+    told.push_str("; asked")?;
+    push_all(&mut told, lister.asked())?;
+    Ok(told)
 }
 
 fn push_all(told: &mut String, ids: &[Text]) -> Result<()> {

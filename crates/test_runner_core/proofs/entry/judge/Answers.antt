@@ -1,12 +1,15 @@
-use Rattle.std.proofs.Common.{[], IfSome, refl, inl, subst}
+use Rattle.std.proofs.Common.{[], IfSome, Ok, Err, true, false, refl, inl, subst}
 use Rattle.test_runner_core_log_reader.specs.Cursor.{Cursor, items_ahead}
 use Rattle.test_runner_core_log_reader.specs.Items.{items}
+use Rattle.test_runner_core_plan.specs.Plan.{settings_for}
 use Rattle.test_runner_core_telling.proofs.Told.{front_none}
+use Rattle.test_runner_core.specs.Faults.{lacks_memory}
 use Rattle.test_runner_core.specs.Inside.{IsBegun, IsGot, IsJudged}
 use Rattle.test_runner_core.specs.Report.{Begun, Composed, GotTo, refused_plan}
-use Rattle.test_runner_core.proofs.Due.{status_is_due, status_is_no_milder}
-use Rattle.test_runner_core.proofs.OneEnd.{report_ends_as_due}
-use Rattle.test_runner_core.proofs.Reported.{all_is_written, asked_as, asks_all, begun_of, got_from_beginning, got_of, if_known, judged_composed, refused_as, refused_begun, refused_composed, reports_as, reports_front}
+use Rattle.test_runner_core.proofs.Due.{known_is_due, known_is_no_milder, status_is_due, status_is_no_milder}
+use Rattle.test_runner_core.proofs.OneEnd.{known_ends_as_due, report_ends_as_due}
+use Rattle.test_runner_core.proofs.OneReport.{never_planned}
+use Rattle.test_runner_core.proofs.Reported.{all_is_written, asked_as, asked_in_part, asks_all, asks_with, begun_of, got_from_beginning, got_of, if_known, judged_composed, refused_as, refused_begun, refused_composed, reports_as, reports_front}
 use Rattle.test_runner_core.proofs.entry.judge.Goals as goal
 
 pub returns-in-Ok-clause-reports : goal.returns-in-Ok-clause-reports
@@ -54,9 +57,45 @@ returns-in_err-refuse_plan-in-Err-Refused-clause-reports g c =
     (if_known (λ bytes. Begun answer inputs (items 0 bytes) (refused_plan refusal)) known (λ bytes. refused_begun answer inputs refusal (items 0 bytes) is))
     c.in_err-refuse_plan-in-Err-Refused.ensures.tells
 
+pub returns-in_ok-refuse_plan-in-Err-Refused-clause-asks : goal.returns-in_ok-refuse_plan-in-Err-Refused-clause-asks
+returns-in_ok-refuse_plan-in-Err-Refused-clause-asks g c =
+    let asked = g.L.Lister.asked in
+    let old = asked c.args.lister.now in
+    let new = asked c.build.new.lister in
+    let error = c.in-Err-Refused.field-0 in
+    asks_with (g.L.Lister.answer c.args.lister.now) c.args.inputs.now (settings_for c.args.inputs.now) (Err error) false old new
+    (λ ids. asked_as error c.in-Err-Refused.refusal old ids new c.in-Err-Refused.field-0-is) c.in-Err-Refused.ensures.asks
+
 pub returns-in_err-refuse_plan-in-Err-Refused-clause-asks : goal.returns-in_err-refuse_plan-in-Err-Refused-clause-asks
 returns-in_err-refuse_plan-in-Err-Refused-clause-asks g c =
-    asks_all c.from_residual.result _ _ _ (asked_as c.in-Err-Refused.field-0 c.in-Err-Refused.refusal _ _ _ c.in-Err-Refused.field-0-is c.in-Err-Refused.ensures.asks)
+    let asked = g.L.Lister.asked in
+    let old = asked c.args.lister.now in
+    let new = asked c.build.new.lister in
+    let error = c.in-Err-Refused.field-0 in
+    let result = c.from_residual.result in
+    asks_with (g.L.Lister.answer c.args.lister.now) c.args.inputs.now (settings_for c.args.inputs.now) (Err error) (lacks_memory result) old new
+    (λ ids asks. asks_all result old ids new (asked_as error c.in-Err-Refused.refusal old ids new c.in-Err-Refused.field-0-is asks)) c.in-Err-Refused.ensures.asks
+
+pub returns-in-Ok-clause-asks : goal.returns-in-Ok-clause-asks
+returns-in-Ok-clause-asks g c =
+    let asked = g.L.Lister.asked in
+    let old = asked c.args.lister.now in
+    let new = asked c.build.new.lister in
+    asks_with (g.L.Lister.answer c.args.lister.now) c.args.inputs.now (settings_for c.args.inputs.now) (Ok c.in-Ok.plan) (lacks_memory c.judge_plan.result) old new
+    (λ ids. asks_all c.judge_plan.result old ids new) c.in-Ok.ensures.asks
+
+pub returns-in-Err-OutOfMemory-clause-asks : goal.returns-in-Err-OutOfMemory-clause-asks
+returns-in-Err-OutOfMemory-clause-asks g c =
+    let asked = g.L.Lister.asked in
+    let old = asked c.args.lister.now in
+    let new = asked c.build.new.lister in
+    let error = c.in-Err-OutOfMemory.field-0 in
+    asks_with (g.L.Lister.answer c.args.lister.now) c.args.inputs.now (settings_for c.args.inputs.now) (Err error) true old new
+    (λ ids. asked_in_part error old ids new c.in-Err-OutOfMemory.field-0-is) c.in-Err-OutOfMemory.ensures.asks
+
+pub returns-in-Ok-clause-unread : goal.returns-in-Ok-clause-unread
+returns-in-Ok-clause-unread g c = λ refusal refuses.
+    absurd (never_planned (g.L.Lister.answer c.args.lister.now) c.args.inputs.now c.in-Ok.plan refusal refuses c.in-Ok.ensures.builds)
 
 pub returns-in-Err-OutOfMemory-clause-reports : goal.returns-in-Err-OutOfMemory-clause-reports
 returns-in-Err-OutOfMemory-clause-reports g c =
@@ -75,3 +114,19 @@ pub returns-in-Ok-clause-one_report : goal.returns-in-Ok-clause-one_report
 returns-in-Ok-clause-one_report g c =
     report_ends_as_due (g.L.Lister.answer c.args.lister.now) c.args.inputs.now (g.R.LogReader.left c.args.log.now) _ _ c.judge_plan.result (g.W.ReportWriter.taken c.args.report.now) (g.W.ReportWriter.taken c.judge_plan.new.report)
     (returns-in-Ok-clause-reports g c)
+
+pub returns-in_ok-refuse_plan-in-Err-Refused-clause-due : goal.returns-in_ok-refuse_plan-in-Err-Refused-clause-due
+returns-in_ok-refuse_plan-in-Err-Refused-clause-due g c =
+    let report = returns-in_ok-refuse_plan-in-Err-Refused-clause-reports g c in
+    known_is_due (g.L.Lister.answer c.args.lister.now) c.args.inputs.now (g.R.LogReader.left c.args.log.now) report.0 c.in_ok-refuse_plan-in-Err-Refused.field-0 report.1
+
+pub returns-in_ok-refuse_plan-in-Err-Refused-clause-no_milder : goal.returns-in_ok-refuse_plan-in-Err-Refused-clause-no_milder
+returns-in_ok-refuse_plan-in-Err-Refused-clause-no_milder g c =
+    let report = returns-in_ok-refuse_plan-in-Err-Refused-clause-reports g c in
+    known_is_no_milder (g.L.Lister.answer c.args.lister.now) c.args.inputs.now (g.R.LogReader.left c.args.log.now) report.0 c.in_ok-refuse_plan-in-Err-Refused.field-0 report.1
+
+pub returns-in_ok-refuse_plan-in-Err-Refused-clause-one_report : goal.returns-in_ok-refuse_plan-in-Err-Refused-clause-one_report
+returns-in_ok-refuse_plan-in-Err-Refused-clause-one_report g c =
+    let report = returns-in_ok-refuse_plan-in-Err-Refused-clause-reports g c in
+    known_ends_as_due (g.L.Lister.answer c.args.lister.now) c.args.inputs.now (g.R.LogReader.left c.args.log.now) report.0 c.in_ok-refuse_plan-in-Err-Refused.field-0
+    (g.W.ReportWriter.taken c.args.report.now) (g.W.ReportWriter.taken c.refuse_plan.new.report) report.1 report.2

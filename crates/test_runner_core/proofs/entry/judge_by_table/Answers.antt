@@ -4,6 +4,7 @@ use Rattle.test_runner_core_telling.proofs.Told.{front_none}
 use Rattle.test_runner_core.specs.Inside.{IsBegun, IsGot, IsGotOf, IsJudged}
 use Rattle.test_runner_core.specs.Outcome.{table_of}
 use Rattle.test_runner_core.specs.Report.{Begun, Composed, TellsSoFar, refused_plan}
+use Rattle.test_runner_core.proofs.OneReport.{never_planned}
 use Rattle.test_runner_core.proofs.Reported.{all_is_written, begun_of, got_of, if_known, judged_composed, refused_as, refused_begun, refused_composed, reports_as, reports_front}
 use Rattle.test_runner_core.proofs.entry.judge_by_table.Goals as goal
 
@@ -23,6 +24,10 @@ returns-in-Ok-clause-reports g c =
     (taken c.args.report.now) (taken c.judge_plan.new.report)
     (judged_composed answer inputs c.in-Ok.plan begin known built) (got_of answer inputs c.in-Ok.plan begin known rest built) (begun_of answer inputs c.in-Ok.plan begin known built)
     c.judge_plan.ensures.reports
+
+pub returns-in-Ok-clause-unread : goal.returns-in-Ok-clause-unread
+returns-in-Ok-clause-unread g c = λ refusal refuses.
+    absurd (never_planned (table_of c.args.inputs) c.args.inputs c.in-Ok.plan refusal refuses c.in-Ok.ensures)
 
 pub returns-in_ok-refuse_plan-in-Err-Refused-clause-reports : goal.returns-in_ok-refuse_plan-in-Err-Refused-clause-reports
 returns-in_ok-refuse_plan-in-Err-Refused-clause-reports g c =

@@ -1,0 +1,72 @@
+#!/usr/bin/env python3
+"""Times the planning of many listed tests with a filterset by the built program, and prints a table.
+
+    bench/planning.py [FILTERSET]
+
+Build the program first by `make run`. A plan of 300,000 tests of 300 binaries is timed as the difference between two runs over the same
+inputs, the least of seven of each, in turns: one whose filterset is refused (`all`, as long as the other by blanks), so that the inputs are read and no
+more, and one that is planned and then meets a log whose first line is refused, so that no report is written. Beside the filterset of the issue (or the
+one that is given) it times none, and filtersets made to be hostile: each has to take time in proportion to the names' bytes.
+"""
+import json
+import pathlib
+import subprocess
+import sys
+import time
+
+PROGRAM = pathlib.Path(__file__).resolve().parent.parent / "crates/test_runner/out/test_runner"
+BINARIES, TESTS, TIMES = 300, 1_000, 7
+FILTERSET = r"(test(~a) | test(/x\d+$/)) & !test(#*slow*{_b\,_c}) & (package(p*) | deps(=q))"
+HOSTILE = {
+    "glob *a*a*a*a*b": "test(#*a*a*a*a*b)",
+    "regex (a*)*b": "test(/(a*)*b/)",
+    "regex of a thousand alternatives": "test(/" + "|".join(f"w{at}" for at in range(1_000)) + "/)",
+}
+
+
+def name(at):
+    word = ("alpha", "slow_reader", "codec", "writer_slow", "parse")[at % 5]
+    tail = ("_b", "_c", f"_x{at}", "", "::deep")[at // 5 % 5]
+    return f"module_{at // 40}::{word}::case_{at:04}{tail}"
+
+
+def inputs(filterset):
+    packages = [f"p{at}" for at in range(30)] + ["q"] + [f"r{at}" for at in range(30)]
+    links = [["q", f"r{at}"] for at in range(15)]
+    names = [name(at) for at in range(TESTS)]
+    binaries = [
+        {"id": f"b{at:03}", "name": f"b{at:03}", "package": packages[at % len(packages)], "kind": "test", "platform": "target", "tests": names}
+        for at in range(BINARIES)
+    ]
+    workspace = {"packages": [{"id": it, "name": it} for it in packages], "links": links, "binaries": binaries}
+    whole = {"workspace": workspace, "sources": [], "current_version": "0.9.100"}
+    if filterset is not None:
+        whole["filterset"] = filterset
+    return json.dumps(whole, separators=(",", ":")).encode() + b"\nno line\n"
+
+
+def seconds(given, ends_with):
+    began = time.perf_counter()
+    ended = subprocess.run([PROGRAM], input=given, stdout=subprocess.PIPE)
+    took = time.perf_counter() - began
+    if not ended.stdout.endswith(ends_with):
+        sys.exit(f"unexpected report: {ended.stdout[-200:]}")
+    return took
+
+
+def main():
+    filtersets = {"no filterset": None, "filterset": sys.argv[1] if len(sys.argv) > 1 else FILTERSET, **HOSTILE}
+    print(f"{'':40}{'read':>8}{'plan':>8}{'tests a second':>18}")
+    for words, filterset in filtersets.items():
+        length = len(filterset or "")
+        given, refused = inputs(filterset), inputs("all" + " " * max(length - 3, 1))
+        reads, wholes = [], []
+        for _ in range(TIMES):
+            reads.append(seconds(refused, b"refused\tFilterset\n"))
+            wholes.append(seconds(given, b"refused\tline\t1\tBadLine\n"))
+        read, plan = min(reads), min(wholes) - min(reads)
+        print(f"{words:40}{read:8.3f}{plan:8.3f}{BINARIES * TESTS / plan:18,.0f}")
+
+
+if __name__ == "__main__":
+    main()

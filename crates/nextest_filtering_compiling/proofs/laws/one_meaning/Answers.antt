@@ -1,0 +1,5 @@
+use Rattle.nextest_filtering_compiling.proofs.Meaning.{one_meaning}
+use Rattle.nextest_filtering_compiling.proofs.laws.one_meaning.Goals as goal
+
+pub returns : goal.returns
+returns c = one_meaning

@@ -1,0 +1,16 @@
+-- What holds of all trees that are compiled.
+use Rattle.std.specs.Prelude.{◌≡◌, ◌↔◌, Bool, true}
+use Rattle.nextest_filtering_filters.specs.Meaning.{CanBeOn, IsOn}
+use Rattle.nextest_filtering_filters.specs.Query.{Binary, Test}
+use Rattle.nextest_filtering_filters.specs.declared.leaf.FiltersetLeaf.{FiltersetLeaf}
+use Rattle.nextest_filtering_formulas.specs.Formula.{Formula}
+use Rattle.nextest_filtering_graph.specs.Graph.{Graph}
+use Rattle.nextest_filtering_trees.specs.Tree.{Matcher, Tree}
+use Rattle.nextest_filtering_compiling.specs.Compiling.{IsCompiled}
+
+-- however a tree is compiled, the filter is the same on every binary and on every test
+abbrev pub OneMeaning : Type 0
+OneMeaning =
+    (graph : Graph) (tree : Tree) (a b default : Formula FiltersetLeaf) → IsCompiled graph tree a → IsCompiled graph tree b
+    → ((binary : Binary) (value : Bool) → CanBeOn a default binary value ↔ CanBeOn b default binary value)
+    × ((test : Test) (member : Matcher → Bool) (value : Bool) → IsOn a default test (λ m. member m ≡ true) value ↔ IsOn b default test (λ m. member m ≡ true) value)

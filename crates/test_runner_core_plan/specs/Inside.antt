@@ -1,0 +1,26 @@
+-- What calls inside of this crate give: the filter in force, and all that inputs ask for.
+use Rattle.std.specs.Prelude.{◌≡◌, ◌⊎◌, ℕ, List, Option, Result, Ok, Err, ⊤}
+use Rattle.nextest_filtering_filters.specs.Filter.{Compiled, filter_of}
+use Rattle.test_runner_core_inputs.specs.declared.inputs.Inputs.{Inputs}
+use Rattle.test_runner_core_settings.specs.declared.settings.Settings.{Settings}
+use Rattle.test_runner_core_workspace.specs.declared.record.WorkspaceRecord.{WorkspaceRecord}
+use Rattle.test_runner_core_plan.specs.Filtering.{IsChosen, IsInForce}
+use Rattle.test_runner_core_plan.specs.Plan.{settings_for}
+use Rattle.test_runner_core_plan.specs.declared.plan_error.PlanError.{PlanError}
+use Rattle.test_runner_core_plan.specs.declared.plan_error.PlanError.TheVariants as error
+use Rattle.test_runner_core_plan.specs.declared.plan_fault.PlanFault.{PlanFault}
+use Rattle.test_runner_core_plan.specs.declared.wanted.Wanted.{Wanted}
+
+-- a call gives the filter in force, or refuses it; want of memory says nothing
+abbrev pub GivesInForce : WorkspaceRecord → Option (List ℕ) → Result Compiled PlanError → Type 0
+GivesInForce workspace filterset (Ok filter) = IsInForce workspace filterset (filter_of filter)
+GivesInForce workspace filterset (Err (error.Refused refusal)) = IsChosen workspace filterset (Err refusal)
+GivesInForce workspace filterset (Err error.OutOfMemory) = ⊤
+
+-- a call gives all that inputs ask for, or refuses them
+abbrev pub IsWanted : Inputs → Result Wanted PlanError → Type 0
+IsWanted inputs (Ok wanted) = (settings_for inputs ≡ Ok wanted.settings) × IsInForce inputs.workspace inputs.filterset (filter_of wanted.filter)
+IsWanted inputs (Err (error.Refused refusal)) =
+    (settings_for inputs ≡ Err refusal)
+    ⊎ ((settings : Settings) × (settings_for inputs ≡ Ok settings) × IsChosen inputs.workspace inputs.filterset (Err refusal))
+IsWanted inputs (Err error.OutOfMemory) = ⊤
