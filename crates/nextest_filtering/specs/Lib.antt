@@ -1,6 +1,7 @@
 -- What the contracts of the items that this crate hands on speak of.
 -- filtersets: which texts they are, and how they print
 pub use Rattle.nextest_filtering_trees.specs.Tree
+pub use Rattle.nextest_filtering_syntax.specs.Parsed
 pub use Rattle.nextest_filtering_trees.specs.Grammar
 pub use Rattle.nextest_filtering_trees.specs.Words
 pub use Rattle.nextest_filtering_trees.specs.Printing
@@ -44,7 +45,6 @@ pub use Rattle.nextest_filtering_globs.specs.Syntax as GlobSyntax
 pub use Rattle.nextest_filtering_globs.specs.Meaning as GlobMeaning
 pub use Rattle.nextest_filtering_globs.specs.Laws as GlobLaws
 -- types
-pub use Rattle.nextest_filtering_trees.specs.declared.tree.ParsedExpr
 pub use Rattle.nextest_filtering_trees.specs.declared.leaf.ParsedLeaf
 pub use Rattle.nextest_filtering_trees.specs.declared.leaf.BuildPlatform
 pub use Rattle.nextest_filtering_trees.specs.declared.leaf.SourceSpan
@@ -70,6 +70,7 @@ pub use Rattle.nextest_filtering_graph.specs.declared.graph_error.GraphError
 pub use Rattle.nextest_filtering_graph.specs.declared.graph_fault.GraphFault
 pub use Rattle.nextest_filtering_syntax.specs.declared.reading.Reading as ReadingType
 pub use Rattle.nextest_filtering_syntax.specs.declared.reading.ParseError
+pub use Rattle.nextest_filtering_syntax.specs.declared.tree.ParsedExpr
 pub use Rattle.nextest_filtering_globs.specs.declared.construct_error.GlobConstructError
 pub use Rattle.nextest_filtering_globs.specs.declared.token.ClassRange
 pub use Rattle.nextest_filtering_globs.specs.declared.token.GlobToken

@@ -2,7 +2,7 @@
 //! workspace, and what they are on binaries and tests.
 //!
 //! What the contracts of these speak of is handed on as `Rattle.nextest_filtering.specs`. A crate with a clause on a
-//! function that takes or gives a `ParsedExpr` itself also names `nextest_filtering_trees` among the libraries that it
+//! function that takes or gives a `ParsedExpr` itself also names `nextest_filtering_syntax` among the libraries that it
 //! stands on, since this type is recursive.
 #![tactic(auto)]
 
@@ -17,10 +17,10 @@ pub use nextest_filtering_globs::{
     ClassRange, GenericGlob, GlobConstructError, GlobMatcher, GlobToken,
 };
 pub use nextest_filtering_graph::{GraphError, GraphFault, PackageGraph};
-pub use nextest_filtering_syntax::{ParseError, Reading, needs_deps, parse, read};
+pub use nextest_filtering_syntax::{ParseError, ParsedExpr, Reading, needs_deps, read};
 pub use nextest_filtering_trees::{
     AndOperator, BuildPlatform, DifferenceOperator, NameMatcher, NameMatching, NotOperator,
-    OrOperator, ParsedExpr, ParsedLeaf, Pattern, PatternError, SourceSpan,
+    OrOperator, ParsedLeaf, Pattern, PatternError, SourceSpan,
 };
 
 /// The laws of the language over its definitions.

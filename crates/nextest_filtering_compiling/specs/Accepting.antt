@@ -6,8 +6,9 @@ use Rattle.nextest_filtering_arguments.specs.declared.error.ParseSingleError.{Pa
 use Rattle.nextest_filtering_filters.specs.Filter.{filter_of}
 use Rattle.nextest_filtering_syntax.specs.Places.{StandsWhole}
 use Rattle.nextest_filtering_trees.specs.Grammar.{IsFilterset}
-use Rattle.nextest_filtering_trees.specs.Tree.{Tree, tree_of, negation, union, intersection, difference, parens, set}
-use Rattle.nextest_filtering_trees.specs.declared.tree.ParsedExpr.{ParsedExpr}
+use Rattle.nextest_filtering_trees.specs.Tree.{Tree, negation, union, intersection, difference, parens, set}
+use Rattle.nextest_filtering_syntax.specs.Parsed.{tree_of}
+use Rattle.nextest_filtering_syntax.specs.declared.tree.ParsedExpr.{ParsedExpr}
 use Rattle.nextest_filtering_compiling.specs.Bans.{ban_of, banned}
 use Rattle.nextest_filtering_compiling.specs.Compiling.{IsCompiled}
 use Rattle.nextest_filtering_compiling.specs.Context.{Context}

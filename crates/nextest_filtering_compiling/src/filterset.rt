@@ -18,8 +18,7 @@ use crate::parse_context::ParseContext;
 use crate::shape::shape_of;
 use nextest_filtering_arguments::{FiltersetKind, ParseSingleError};
 use nextest_filtering_filters::{BinaryQuery, CompiledExpr, EvalContext, GroupLookup, TestQuery};
-use nextest_filtering_syntax::{Reading, needs_deps, read};
-use nextest_filtering_trees::ParsedExpr;
+use nextest_filtering_syntax::{ParsedExpr, Reading, needs_deps, read};
 use nextest_text::Text;
 use std::alloc::{AllocError, Global};
 

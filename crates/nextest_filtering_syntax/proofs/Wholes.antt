@@ -2,8 +2,9 @@
 use Rattle.std.specs.Prelude.{◌≡◌, ◌≢◌, refl, ℕ, List, [], ◌∷◌, length, Some, None, Result, Ok, Err, IfSome}
 use Rattle.std.proofs.Common.{arith}
 use Rattle.std.proofs.Math.Path.{ap, sym, subst, ◌∙◌}
-use Rattle.nextest_filtering_trees.specs.declared.tree.ParsedExpr.{ParsedExpr}
-use Rattle.nextest_filtering_trees.specs.Tree.{Tree, tree_of}
+use Rattle.nextest_filtering_syntax.specs.declared.tree.ParsedExpr.{ParsedExpr}
+use Rattle.nextest_filtering_trees.specs.Tree.{Tree}
+use Rattle.nextest_filtering_syntax.specs.Parsed.{tree_of}
 use Rattle.nextest_filtering_trees.specs.Grammar.{IsFilterset}
 use Rattle.nextest_filtering_arguments.specs.declared.error.ParseSingleError.{ParseSingleError}
 use Rattle.nextest_filtering_arguments.specs.declared.stop.Stop.{Stop}

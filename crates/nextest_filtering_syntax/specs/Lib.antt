@@ -1,4 +1,5 @@
 pub mod Names
+pub mod Parsed
 pub mod Parsing
 pub mod Places
 pub mod Reading

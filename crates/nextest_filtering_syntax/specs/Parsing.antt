@@ -2,8 +2,9 @@
 use Rattle.std.specs.Prelude.{◌≡◌, ◌⊎◌, ℕ, ◌<◌, ◌≤◌, List, [], ◌∷◌, length, Option, Some, None, Result, Ok, Err}
 use Rattle.std.specs.Borrow.{Bor}
 use Rattle.nextest_filtering_trees.specs.declared.operators.OrOperator.{OrOperator}
-use Rattle.nextest_filtering_trees.specs.declared.tree.ParsedExpr.{ParsedExpr}
-use Rattle.nextest_filtering_trees.specs.Tree.{Matcher, Leaf, matching, built_for, default_filter, everything, nothing, Tree, set, tree_of}
+use Rattle.nextest_filtering_syntax.specs.declared.tree.ParsedExpr.{ParsedExpr}
+use Rattle.nextest_filtering_trees.specs.Tree.{Matcher, Leaf, matching, built_for, default_filter, everything, nothing, Tree, set}
+use Rattle.nextest_filtering_syntax.specs.Parsed.{tree_of}
 use Rattle.nextest_filtering_trees.specs.Grammar.{unblanked, Behind, ReadsOr, ReadsLeaf, ReadsArgument}
 use Rattle.nextest_filtering_trees.specs.declared.leaf.BuildPlatform.{BuildPlatform}
 use Rattle.nextest_filtering_arguments.specs.Matchers.{subject_of}

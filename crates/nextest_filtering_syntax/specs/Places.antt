@@ -6,8 +6,8 @@ use Rattle.nextest_filtering_trees.specs.declared.operators.Joint.TheVariants.{A
 use Rattle.nextest_filtering_trees.specs.declared.leaf.SourceSpan.{SourceSpan}
 use Rattle.nextest_filtering_trees.specs.declared.leaf.ParsedLeaf.{ParsedLeaf}
 use Rattle.nextest_filtering_trees.specs.declared.leaf.ParsedLeaf.TheVariants as leaf
-use Rattle.nextest_filtering_trees.specs.declared.tree.ParsedExpr.{ParsedExpr}
-use Rattle.nextest_filtering_trees.specs.declared.tree.ParsedExpr.TheVariants as tree
+use Rattle.nextest_filtering_syntax.specs.declared.tree.ParsedExpr.{ParsedExpr}
+use Rattle.nextest_filtering_syntax.specs.declared.tree.ParsedExpr.TheVariants as tree
 use Rattle.nextest_filtering_arguments.specs.Faults.{IsSuffix, Lies, here, spanned}
 
 -- the span of a predicate; `all` and `none` have none

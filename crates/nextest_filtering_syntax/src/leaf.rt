@@ -11,11 +11,12 @@ ghost use Rattle.nextest_filtering_syntax.specs.Parsing.{Anywhere, Finds, FindsA
 
 use crate::closing::{close, close_argument, split_close};
 use crate::name::{Name, predicate_name};
+use crate::tree::ParsedExpr;
 use nextest_filtering_arguments::{
     Faults, ParseSingleError, Stop, Subject, behind, matcher, platform, skip_blanks,
     trim_blanks_end,
 };
-use nextest_filtering_trees::{NameMatcher, ParsedExpr, ParsedLeaf, SourceSpan};
+use nextest_filtering_trees::{NameMatcher, ParsedLeaf, SourceSpan};
 use std::alloc::{AllocError, Global};
 
 // The predicate on a subject with this matcher.

@@ -1,4 +1,4 @@
-//! The filterset language: reading texts as trees, with recovery from faults.
+//! The filterset language: trees as they are parsed and printed, and reading texts as trees, with recovery from faults.
 #![tactic(auto)]
 
 mod closing;
@@ -8,9 +8,12 @@ mod name;
 mod operators;
 mod parser;
 mod reading;
+mod runtime;
+mod tree;
 mod whole;
 
 pub use deps::needs_deps;
 pub use nextest_filtering_arguments::ParseSingleError;
 pub use reading::{ParseError, Reading};
-pub use whole::{parse, read};
+pub use tree::ParsedExpr;
+pub use whole::read;

@@ -1,6 +1,6 @@
 // What reading a text answers.
+use crate::tree::ParsedExpr;
 use nextest_filtering_arguments::ParseSingleError;
-use nextest_filtering_trees::ParsedExpr;
 use std::alloc::AllocError;
 use thiserror::Error;
 

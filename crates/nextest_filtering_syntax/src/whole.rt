@@ -6,8 +6,8 @@ ghost use Rattle.nextest_filtering_syntax.specs.Reading.{IsReadingOf, Parses, Re
 
 use crate::parser::expression;
 use crate::reading::{ParseError, Reading};
+use crate::tree::ParsedExpr;
 use nextest_filtering_arguments::{Faults, ParseSingleError, Stop, skip_blanks};
-use nextest_filtering_trees::ParsedExpr;
 use std::alloc::{AllocError, Global};
 
 // Reads a whole text: an expression, and nothing but blanks behind it.
@@ -57,14 +57,16 @@ pub fn read(alloc: Global, text: &str) -> Result<Reading, AllocError>
     }
 }
 
-/// Parses a filterset: its tree, or, where none could be made, its faults. It is lenient: a tree that could be made in spite
-/// of faults is answered without them, so use `read` where they matter.
-pub fn parse(alloc: Global, text: &str) -> Result<ParsedExpr, ParseError>
-    ensures { Parses text.now result }
-{
-    let Reading { tree, faults } = read(alloc, text)?;
-    match tree {
-        Some(tree) => Ok(tree),
-        None => Err(ParseError::Faults(faults)),
+impl ParsedExpr {
+    /// Parses a filterset: its tree, or, where none could be made, its faults. It is lenient: a tree that could be made in
+    /// spite of faults is answered without them, so use `read` where they matter.
+    pub fn parse(alloc: Global, text: &str) -> Result<ParsedExpr, ParseError>
+        ensures { Parses text.now result }
+    {
+        let Reading { tree, faults } = read(alloc, text)?;
+        match tree {
+            Some(tree) => Ok(tree),
+            None => Err(ParseError::Faults(faults)),
+        }
     }
 }

@@ -1,7 +1,7 @@
 // Many levels, trees that no text is read as, copies, the page of names, what refusals print, and the laws called.
 use nextest_filtering::{
     FILTERSET_REFERENCE_MD, GenericGlob, GlobConstructError, NameMatcher, NotOperator, OrOperator,
-    ParseError, ParsedExpr, ParsedLeaf, Pattern, PatternError, SourceSpan, laws, parse, read,
+    ParseError, ParsedExpr, ParsedLeaf, Pattern, PatternError, SourceSpan, laws, read,
 };
 use nextest_filtering_texts::laws as text_laws;
 use nextest_text::Text;
@@ -30,7 +30,7 @@ fn a_thousand_levels_are_read(rt: HostRuntime) -> Result<(), Fail> {
         ("", "all()", " - all()"),
     ] {
         let text = nested(alloc, front, middle, end)?;
-        match parse(alloc, text.as_str()) {
+        match ParsedExpr::parse(alloc, text.as_str()) {
             Ok(tree) => assert!(rt; format!(in alloc; "{tree}")?.as_str() == text.as_str()),
             Err(_) => assert!(rt; false, "{middle}"),
         }
@@ -162,7 +162,7 @@ fn the_page_has_each_predicate(rt: HostRuntime) -> Result<(), Fail> {
         "all()",
         "none()",
     ] {
-        let printed = format!(in alloc; "{}", parse(alloc, text)?)?;
+        let printed = format!(in alloc; "{}", ParsedExpr::parse(alloc, text)?)?;
         for name in printed.as_str().split('(').take(1) {
             page.push_str(format!(in alloc; "{name}\n")?.as_str())?;
         }

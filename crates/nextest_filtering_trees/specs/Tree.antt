@@ -13,8 +13,6 @@ use Rattle.nextest_filtering_trees.specs.declared.leaf.ParsedLeaf.{ParsedLeaf}
 use Rattle.nextest_filtering_trees.specs.declared.leaf.ParsedLeaf.TheVariants as leaf
 use Rattle.nextest_filtering_trees.specs.declared.matcher.NameMatcher.{NameMatcher}
 use Rattle.nextest_filtering_trees.specs.declared.matcher.NameMatcher.TheVariants as matcher
-use Rattle.nextest_filtering_trees.specs.declared.tree.ParsedExpr.{ParsedExpr}
-use Rattle.nextest_filtering_trees.specs.declared.tree.ParsedExpr.TheVariants as tree
 
 -- the text is a regular expression, and doesn't nest too deep for one
 abbrev pub IsRegex : List ℕ → Type 0
@@ -84,12 +82,3 @@ leaf_of (leaf.Group m span) = matching group (matcher_of m)
 leaf_of (leaf.Default span) = default_filter
 leaf_of leaf.All = everything
 leaf_of leaf.None = nothing
-
--- the filterset that a value stands for
-abbrev pub tree_of : ParsedExpr → Tree
-tree_of (tree.Not' op p t) = negation op (tree_of t)
-tree_of (tree.Union' op p a q b) = union op (tree_of a) (tree_of b)
-tree_of (tree.Intersection' op p a q b) = intersection op (tree_of a) (tree_of b)
-tree_of (tree.Difference' op p a q b) = difference op (tree_of a) (tree_of b)
-tree_of (tree.Parens' p t) = parens (tree_of t)
-tree_of (tree.Set it) = set (leaf_of it)

@@ -1,4 +1,5 @@
-//! The trees of the filterset language: operators, leaves and matchers as they are written, and how they print.
+//! What trees of the filterset language are made of: operators, leaves and matchers as they are written, and how they
+//! print; and the grammar of trees.
 #![tactic(auto)]
 
 mod copying;
@@ -9,11 +10,9 @@ mod operators;
 mod pattern;
 mod printing;
 mod runtime;
-mod tree;
 
 pub use leaf::{BuildPlatform, ParsedLeaf, SourceSpan};
 pub use matcher::NameMatcher;
 pub use matching::NameMatching;
 pub use operators::{AndOperator, DifferenceOperator, Joint, NotOperator, OrOperator};
 pub use pattern::{Pattern, PatternError, PatternMatcher};
-pub use tree::ParsedExpr;

@@ -8,31 +8,32 @@ use regex::{Error as RegexError, Matcher, Regex};
 use std::alloc::{AllocError, AllocFailed, Global};
 use std::fmt;
 use std::marker::Model;
+use std::sync::Arc;
 use thiserror::Error;
 
-/// A regular expression that `regex` reads. In a clause it is the list of its text's bytes. It stands behind a pointer, so
-/// that trees are small.
+/// A regular expression that `regex` reads. In a clause it is the list of its text's bytes. It stands behind a shared
+/// pointer: trees are small, and copies share what was read.
 pub struct Pattern {
-    regex: Box<Regex>,
-    alloc: Global,
+    regex: Arc<Regex>,
 }
 
 impl Model for Pattern {
     ghost use Rattle.std.specs.Prelude.{List, ℕ, ◌≡◌};
+    ghost use Rattle.std.specs.Arc.{arc_value};
     ghost use Rattle.regex.specs.Strings.{regex_source, regex_config, IsReadFromSource};
     ghost use Rattle.regex.specs.Patterns.{default_config};
 
     ghost Value = { List ℕ };
 
-    ghost view = { λ p. regex_source p.regex.value };
+    ghost view = { λ p. regex_source (arc_value p.regex) };
 
-    ghost invariant = { λ p. (regex_config p.regex.value ≡ default_config) × IsReadFromSource p.regex.value };
+    ghost invariant = { λ p. (regex_config (arc_value p.regex) ≡ default_config) × IsReadFromSource (arc_value p.regex) };
 }
 
 // Code that drops one calls this, and doesn't look into it.
 impl Drop for Pattern {
     fn drop(self) {
-        let Pattern { regex: _, alloc: _ } = self;
+        let Pattern { regex: _ } = self;
     }
 }
 
@@ -66,8 +67,7 @@ impl Pattern {
     {
         match Regex::new(alloc, text) {
             Ok(regex) => Ok(Pattern {
-                regex: Box::new(alloc, regex)?,
-                alloc,
+                regex: Arc::new(alloc, regex)?,
             }),
             Err(RegexError::Syntax(_)) => Err(PatternError::Syntax),
             Err(_) => Err(PatternError::OutOfMemory),
@@ -136,15 +136,13 @@ impl fmt::Debug for Pattern {
     }
 }
 
-// The copy is read anew from the text, which fails only on allocation.
+// The copy shares the regular expression, which isn't read again.
 impl Clone for Pattern {
     ghost is_clone = { λ original copy. copy ≡ original };
 
     fn clone(&self) -> Result<Pattern, AllocError> {
-        match Pattern::new(self.alloc, self.as_str()) {
-            Ok(copy) => Ok(copy),
-            Err(PatternError::OutOfMemory) => Err(AllocError),
-            Err(PatternError::Syntax) => unreachable!(),
-        }
+        Ok(Pattern {
+            regex: self.regex.clone()?,
+        })
     }
 }

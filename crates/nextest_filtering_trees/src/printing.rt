@@ -1,4 +1,4 @@
-// How filtersets print.
+// How predicates and matchers print.
 ghost use Rattle.std.specs.Prelude.{◌≡◌};
 ghost use Rattle.nextest_filtering_trees.specs.Tree.{leaf_of};
 ghost use Rattle.nextest_filtering_trees.specs.Grammar.{leaf_word};
@@ -6,8 +6,6 @@ ghost use Rattle.nextest_filtering_trees.specs.Printing.{written_sign};
 
 use crate::leaf::{BuildPlatform, ParsedLeaf};
 use crate::matcher::NameMatcher;
-use crate::operators::NotOperator;
-use crate::tree::ParsedExpr;
 use nextest_filtering_texts::{escaped_text, slashed_text};
 use std::fmt;
 
@@ -98,26 +96,6 @@ impl fmt::Display for ParsedLeaf {
             | ParsedLeaf::Group(matcher, _) => write!(f, "{word}({matcher})"),
             ParsedLeaf::Platform(platform, _) => write!(f, "{word}({platform})"),
             ParsedLeaf::Default(_) | ParsedLeaf::All | ParsedLeaf::None => write!(f, "{word}()"),
-        }
-    }
-}
-
-impl fmt::Display for ParsedExpr {
-    ghost use Rattle.std.specs.Prelude.{Some};
-    ghost use Rattle.nextest_filtering_trees.specs.Tree.{tree_of};
-    ghost use Rattle.nextest_filtering_trees.specs.Printing.{printed};
-
-    ghost output = { λ it. Some (printed (tree_of it)) };
-
-    fn fmt<W: fmt::Write>(&self, f: &mut fmt::Formatter<W>) -> fmt::Result {
-        match self {
-            ParsedExpr::Not(NotOperator::LiteralNot, operand) => write!(f, "not {operand}"),
-            ParsedExpr::Not(NotOperator::Exclamation, operand) => write!(f, "!{operand}"),
-            ParsedExpr::Union(op, left, right) => write!(f, "{left} {op} {right}"),
-            ParsedExpr::Intersection(op, left, right) => write!(f, "{left} {op} {right}"),
-            ParsedExpr::Difference(op, left, right) => write!(f, "{left} {op} {right}"),
-            ParsedExpr::Parens(inside) => write!(f, "({inside})"),
-            ParsedExpr::Set(leaf) => write!(f, "{leaf}"),
         }
     }
 }

@@ -1,7 +1,7 @@
 // The tables of whole filtersets.
 use crate::faults::tell_faults;
 use anyhow::Result;
-use nextest_filtering::{ParseError, needs_deps, parse, read};
+use nextest_filtering::{ParseError, ParsedExpr, needs_deps, read};
 use std::alloc::{AllocError, Global};
 use worked_tables::Table;
 
@@ -33,7 +33,7 @@ impl Table for Parsed {
     }
 
     fn answer(&self, alloc: Global, input: &str) -> Result<String> {
-        match parse(alloc, input) {
+        match ParsedExpr::parse(alloc, input) {
             Ok(tree) => Ok(format!(in alloc; "{tree}")?),
             Err(ParseError::Faults(faults)) => {
                 let mut answer = String::from_str(alloc, "-")?;
@@ -73,7 +73,7 @@ impl Table for Leaves {
     }
 
     fn answer(&self, alloc: Global, input: &str) -> Result<String> {
-        let Ok(tree) = parse(alloc, input) else {
+        let Ok(tree) = ParsedExpr::parse(alloc, input) else {
             return Ok(String::from_str(alloc, "-")?);
         };
         let leaves = tree.runtime_only_leaves(alloc)?;

@@ -1,5 +1,5 @@
 use Rattle.nextest_filtering_syntax.proofs.Wholes.{parse_some, parse_none}
-use Rattle.nextest_filtering_syntax.proofs.whole.parse.Goals as goal
+use Rattle.nextest_filtering_syntax.proofs.tree.ParsedExpr.parse.Goals as goal
 
 pub returns-in-Some : goal.returns-in-Some
 returns-in-Some c = parse_some _ c.in_ok-tree.field-0 _ c.in-Some.is c.in_ok-tree.ensures

@@ -1,6 +1,8 @@
 // The tree of a filterset.
-use crate::leaf::ParsedLeaf;
-use crate::operators::{AndOperator, DifferenceOperator, NotOperator, OrOperator};
+use nextest_filtering_trees::{
+    AndOperator, DifferenceOperator, NotOperator, OrOperator, ParsedLeaf,
+};
+use std::fmt;
 
 /// A filterset as it was written, blanks aside. It prints as it was written, with one space on both sides of an operator
 /// and behind `not`.
@@ -32,6 +34,26 @@ impl Drop for ParsedExpr {
                 ParsedExpr::Difference(_, left, _) => self = Box::into_inner(left),
                 ParsedExpr::Set(_) => return,
             }
+        }
+    }
+}
+
+impl fmt::Display for ParsedExpr {
+    ghost use Rattle.std.specs.Prelude.{Some};
+    ghost use Rattle.nextest_filtering_syntax.specs.Parsed.{tree_of};
+    ghost use Rattle.nextest_filtering_trees.specs.Printing.{printed};
+
+    ghost output = { λ it. Some (printed (tree_of it)) };
+
+    fn fmt<W: fmt::Write>(&self, f: &mut fmt::Formatter<W>) -> fmt::Result {
+        match self {
+            ParsedExpr::Not(NotOperator::LiteralNot, operand) => write!(f, "not {operand}"),
+            ParsedExpr::Not(NotOperator::Exclamation, operand) => write!(f, "!{operand}"),
+            ParsedExpr::Union(op, left, right) => write!(f, "{left} {op} {right}"),
+            ParsedExpr::Intersection(op, left, right) => write!(f, "{left} {op} {right}"),
+            ParsedExpr::Difference(op, left, right) => write!(f, "{left} {op} {right}"),
+            ParsedExpr::Parens(inside) => write!(f, "({inside})"),
+            ParsedExpr::Set(leaf) => write!(f, "{leaf}"),
         }
     }
 }

@@ -1,6 +1,6 @@
 use Rattle.std.proofs.Common.{◌≤◌}
-use Rattle.nextest_filtering_trees.specs.declared.tree.ParsedExpr.{size-ParsedExpr}
-use Rattle.nextest_filtering_trees.proofs.tree.ParsedExpr.+drop.Given as goal
+use Rattle.nextest_filtering_syntax.specs.declared.tree.ParsedExpr.{size-ParsedExpr}
+use Rattle.nextest_filtering_syntax.proofs.tree.ParsedExpr.+drop.Given as goal
 
 -- what is left is no deeper
 abbrev pub invariant-loop-self : goal.invariant-loop-self
