@@ -1,5 +1,5 @@
 #!/usr/bin/env python3
-"""Runs the built program on two samples, one of which has outputs shown, and lets each of its requests for memory fail in turn.
+"""Runs the built program on three samples, of which one has outputs shown and one a filterset, and lets each of its requests for memory fail in turn.
 
 Build it first by `make run`; a C compiler `cc` is needed. Each run has to end as the whole one does, or to exit 74 and
 write a front of its report. The last run is the first that meets no failure.
@@ -11,7 +11,11 @@ import tempfile
 
 ROOT = pathlib.Path(__file__).resolve().parent.parent
 PROGRAM = ROOT / "crates/test_runner/out/test_runner"
-SAMPLES = [ROOT / "examples/retried-test.txt", ROOT / "crates/worked_rows/data/runs/limit-finishes-tests-between-attempts.in"]
+SAMPLES = [
+    ROOT / "examples/retried-test.txt",
+    ROOT / "examples/filterset.txt",
+    ROOT / "crates/worked_rows/data/runs/limit-finishes-tests-between-attempts.in",
+]
 
 # Stands before the C library's calls: the request of the chosen number fails, counted from the program's first.
 FAILS = r"""
