@@ -11,3 +11,4 @@ pub mod Ends
 pub mod Fold
 pub mod Loops
 pub mod Walks
+pub mod Nowhere

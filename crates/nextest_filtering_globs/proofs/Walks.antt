@@ -1,11 +1,12 @@
 -- How far the tokens of a glob were taken.
-use Rattle.std.proofs.Common.{◌≡◌, ℕ, ◌+◌, Bool, List, [], ◌∷◌, ◌++◌, length, subst, sym, ◌∙◌, refl, ap, arith}
+use Rattle.std.proofs.Common.{◌≡◌, ℕ, ◌+◌, ◌<◌, Bool, List, [], ◌∷◌, ◌++◌, length, drop, get_or, subst, sym, ◌∙◌, refl, ap, arith}
 use Rattle.std.proofs.lemmas.Bool.{false≢true}
 use Rattle.std.proofs.lemmas.List.{length-append}
 use Rattle.nextest_filtering_globs.specs.declared.token.GlobToken.{GlobToken}
 use Rattle.nextest_filtering_globs.specs.declared.token.GlobToken.TheVariants as token
 use Rattle.nextest_filtering_globs.specs.Syntax.{SpellsFrom, depth_behind}
 use Rattle.nextest_filtering_globs.specs.Inside.{Level, state, step, run, Changes, HasRoom, IsSpelled, IsStack}
+use Rattle.nextest_filtering_globs.proofs.Loops.{from_here}
 
 -- with the tokens that are left the same comes out as of all from the start, and they are spelled from where so many
 -- braces are open
@@ -67,7 +68,7 @@ depth_kept text token.Close more current [] spelled k = absurd (false≢true k.1
 depth_kept text token.Close more current (inner ∷ outer) spelled k = omega arith
 
 -- one token more
-pub walked_one : (text : List ℕ) (tokens : List GlobToken) (start : List Bool) (t : GlobToken) (more left : List GlobToken)
+walked_one : (text : List ℕ) (tokens : List GlobToken) (start : List Bool) (t : GlobToken) (more left : List GlobToken)
     (current stack current_after stack_after : List Bool) → left ≡ t ∷ more
     → length current_after ≡ length current → Walked text tokens start left current stack
     → Changes (step text t) current stack current_after stack_after
@@ -88,3 +89,14 @@ walked_one text tokens start t more left current stack current_after stack_after
       spells = subst (λ d. SpellsFrom d more begun.0) (depth_kept text t more current walked.levels walked.spelled begun)
           begun.2;
     }
+
+-- the token at a place of the list
+pub walked_at : (text : List ℕ) (tokens : List GlobToken) (start : List Bool) (i : ℕ) (t : GlobToken)
+    (current stack current_after stack_after : List Bool) → i < length tokens → t ≡ get_or tokens i t
+    → length current_after ≡ length current → Walked text tokens start (drop i tokens) current stack
+    → Changes (step text t) current stack current_after stack_after
+    → Walked text tokens start (drop (i + 1) tokens) current_after stack_after
+walked_at text tokens start i t current stack current_after stack_after h is kept walked changes =
+    let more = drop (i + 1) tokens in
+    walked_one text tokens start t more (drop i tokens) current stack current_after stack_after
+    (from_here tokens i t h ∙ ap (λ x. x ∷ more) (sym is)) kept walked changes

@@ -1,6 +1,6 @@
 // Sets of places in a text. A set has a `bool` for the place in front of each character, and one for the end.
-ghost use Rattle.std.specs.Prelude.{◌≡◌, ◌+◌, false, length, chars, OnOk};
-ghost use Rattle.nextest_filtering_globs.specs.Inside.{fits, moved, later, either_of, start_of, has_last};
+ghost use Rattle.std.specs.Prelude.{◌≡◌, ◌+◌, ◌-◌, ◌≤◌, ◌==◌, ◌↔◌, true, false, ◌++◌, length, take, replicate, chars, IsTrue, OnOk};
+ghost use Rattle.nextest_filtering_globs.specs.Inside.{fits, moved, later, either_of, none_of, start_of, has_last};
 
 use super::fitting::fits;
 use super::token::GlobToken;
@@ -10,11 +10,30 @@ use std::alloc::AllocError;
 pub fn read_characters(text: &str, characters: &mut Vec<char>) -> Result<(), AllocError>
     ensures { OnOk result (characters.new.items ≡ chars text.now) }
 {
-    characters.clear();
-    for c in text.chars() {
-        characters.push(c)?;
+    if text.is_ascii() {
+        return read_bytes(text.as_bytes(), characters);
     }
+    characters.clear();
+    characters.extend(text.chars())
+}
+
+// Each byte as a character, in place of others.
+fn read_bytes(bytes: &[u8], characters: &mut Vec<char>) -> Result<(), AllocError>
+    ensures { OnOk result (characters.new.items ≡ bytes.now) }
+{
+    characters.resize(bytes.len(), ' ')?;
+    widen(bytes, characters.as_mut_slice());
     Ok(())
+}
+
+// Each byte as a character.
+fn widen(bytes: &[u8], characters: &mut [char])
+    requires { length characters.old ≡ length bytes.now }
+    ensures { characters.new ≡ bytes.now }
+{
+    for (place, byte) in bytes.iter().enumerate() {
+        characters[place] = char::from(*byte);
+    }
 }
 
 /// The set that has just the place in front of the text, in place of another.
@@ -23,10 +42,7 @@ pub fn begin(text: &[char], places: &mut Vec<bool>) -> Result<(), AllocError>
 {
     places.clear();
     places.push(true)?;
-    for _character in text {
-        places.push(false)?;
-    }
-    Ok(())
+    places.resize(text.len() + 1, false)
 }
 
 /// Whether the end of the text is in the set.
@@ -39,8 +55,47 @@ pub fn has_last(places: &[bool]) -> bool
     }
 }
 
+/// Whether no place is in the set.
+pub fn is_nowhere(places: &[bool]) -> bool
+    ensures { IsTrue result ↔ (places.now ≡ none_of places.now) }
+{
+    !places.contains(&true)
+}
+
 /// Moves each place on by one where the token fits the character behind it, and takes it away elsewhere.
 pub fn advance(token: &GlobToken, text: &[char], places: &mut [bool])
+    requires { length places.old ≡ length text.now + 1 }
+    ensures { places.new ≡ moved (fits token.now) false text.now places.old }
+{
+    match token {
+        GlobToken::Literal(letter) => advance_letter(*letter, text, places),
+        GlobToken::Any => advance_any(text, places),
+        _ => advance_fitting(token, text, places),
+    }
+}
+
+// Where the character is this one.
+fn advance_letter(letter: char, text: &[char], places: &mut [bool])
+    requires { length places.old ≡ length text.now + 1 }
+    ensures { places.new ≡ moved (λ c. c == letter) false text.now places.old }
+{
+    for place in (0..text.len()).rev() {
+        places[place + 1] = places[place] & (text[place] == letter);
+    }
+    places[0] = false;
+}
+
+// Whatever the character is.
+fn advance_any(text: &[char], places: &mut [bool])
+    requires { length places.old ≡ length text.now + 1 }
+    ensures { places.new ≡ moved (λ _. true) false text.now places.old }
+{
+    places.copy_within(..text.len(), 1);
+    places[0] = false;
+}
+
+// Where the token fits the character.
+fn advance_fitting(token: &GlobToken, text: &[char], places: &mut [bool])
     requires { length places.old ≡ length text.now + 1 }
     ensures { places.new ≡ moved (fits token.now) false text.now places.old }
 {
@@ -53,15 +108,25 @@ pub fn advance(token: &GlobToken, text: &[char], places: &mut [bool])
     places[text.len()] = carried;
 }
 
+// The first place that is in the set, or how many places there are.
+fn first_place(places: &[bool]) -> usize
+    ensures within { result ≤ length places.now }
+    ensures first { later false places.now ≡ take result places.now ++ replicate (length places.now - result) true }
+{
+    for (place, is_there) in places.iter().enumerate() {
+        if *is_there {
+            return place;
+        }
+    }
+    places.len()
+}
+
 /// Adds to each place all later ones.
 pub fn add_later(places: &mut [bool])
     ensures { places.new ≡ later false places.old }
 {
-    let mut seen = false;
-    for place in places.iter_mut() {
-        seen |= *place;
-        *place = seen;
-    }
+    let first = first_place(places);
+    places[first..].fill(true);
 }
 
 /// Adds the places of another set.

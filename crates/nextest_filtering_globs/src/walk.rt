@@ -1,9 +1,9 @@
 // What the tokens of a glob make of a set of places. The opened braces wait in a stack, which has two sets for each:
 // the places in front of the brace, and those behind one of its alternatives so far.
-ghost use Rattle.std.specs.Prelude.{◌≡◌, ◌+◌, ◌*◌, ◌≤◌, ◌++◌, [], length, vec_len, OnOk};
+ghost use Rattle.std.specs.Prelude.{◌≡◌, ◌+◌, ◌*◌, ◌≤◌, ◌++◌, [], length, vec_len, IsTrue, OnOk};
 ghost use Rattle.nextest_filtering_globs.specs.Inside.{closed, further, none_of, run, state, step, Changes, HasRoom, IsSpelled};
 
-use super::places::{add_later, advance, join};
+use super::places::{add_later, advance, is_nowhere, join};
 use super::token::GlobToken;
 use std::alloc::AllocError;
 
@@ -12,10 +12,8 @@ fn open(current: &[bool], stack: &mut Vec<bool>) -> Result<(), AllocError>
     ensures { OnOk result (stack.new.items ≡ (stack.old.items ++ current.now) ++ none_of current.now) }
 {
     stack.extend_from_slice(current)?;
-    for _place in current {
-        stack.push(false)?;
-    }
-    Ok(())
+    let size = stack.len() + current.len();
+    stack.resize(size, false)
 }
 
 // A further alternative begins.
@@ -61,6 +59,19 @@ fn take_one(
     Ok(())
 }
 
+// No place is in the set, and no brace is open, so there won't be any more. This is asked behind tokens that match one
+// character alone, which may take the last place away: `false` promises nothing.
+fn is_over(token: &GlobToken, current: &[bool], stack: &[bool]) -> bool
+    ensures { IsTrue result → (stack.now ≡ []) × (current.now ≡ none_of current.now) }
+{
+    match token {
+        GlobToken::Literal(_) | GlobToken::Any | GlobToken::Class { .. } if stack.is_empty() => {
+            is_nowhere(current)
+        }
+        _ => false,
+    }
+}
+
 /// All tokens of a glob, with an empty stack.
 pub fn take_all(
     tokens: &[GlobToken],
@@ -75,6 +86,9 @@ pub fn take_all(
 {
     for token in tokens {
         take_one(token, text, current, stack)?;
+        if is_over(token, current, stack.as_slice()) {
+            return Ok(());
+        }
     }
     Ok(())
 }

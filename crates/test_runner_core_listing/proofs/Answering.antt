@@ -1,5 +1,5 @@
 -- What filters answer of binaries and tests: there is an answer, and it is one.
-use Rattle.std.proofs.Common.{◌≡◌, ℕ, Bool, true, false, List, Option, None, Some, codes, refl}
+use Rattle.std.proofs.Common.{ℕ, Bool, true, false, List, Option, None, Some, codes, refl}
 use Rattle.nextest_filtering_filters.specs.Filter.{filter_of}
 use Rattle.nextest_filtering_filters.specs.Meaning.{CanBeOn, IsOn, Tells}
 use Rattle.nextest_filtering_filters.proofs.Deciding.{decided_name, decided_on_binary, decided_on_test}

@@ -1,5 +1,5 @@
 -- What a filter in force answers, however its filterset is compiled.
-use Rattle.std.proofs.Common.{◌≡◌, Bool, true, List, [], ◌∷◌, refl}
+use Rattle.std.proofs.Common.{true, [], ◌∷◌, refl}
 use Rattle.nextest_filtering_compiling.specs.Compiling.{IsCompiled}
 use Rattle.nextest_filtering_compiling.proofs.Meaning.{same_on_binary, same_on_test}
 use Rattle.nextest_filtering_filters.specs.Deciding.{AreReadable}

@@ -1,5 +1,5 @@
 -- How a plan follows from its parts.
-use Rattle.std.proofs.Common.{◌≡◌, ◌⊎◌, inl, inr, ◌<◌, ◌^◌, ◌+◌, ◌==◌, ◌&&◌, ℕ, ◌∷◌, ◌++◌, [], List, Bool, true, false, length, map, min, nat_lt, Option, Result, Ok, Err, refl, ap, sym, ◌∙◌, subst, cond, arith}
+use Rattle.std.proofs.Common.{◌≡◌, inl, inr, ◌<◌, ◌^◌, ◌+◌, ◌==◌, ◌&&◌, ℕ, ◌∷◌, ◌++◌, [], List, Bool, true, false, length, map, min, nat_lt, Result, Ok, Err, refl, ap, sym, ◌∙◌, subst, cond, arith}
 use Rattle.std.proofs.lemmas.Bool.{eqb-false, le-leb}
 use Rattle.std.proofs.lemmas.List.{append-nil}
 use Rattle.std.proofs.lemmas.List.Sorted.{length_permutation}
@@ -16,8 +16,7 @@ use Rattle.test_runner_core_workspace.specs.Lister.{Answer}
 use Rattle.test_runner_core_workspace.specs.declared.record.Binary.{Binary}
 use Rattle.test_runner_core_plan.specs.Filtering.{IsChosen, IsInForce, everything}
 use Rattle.test_runner_core_plan.specs.Inside.{IsWanted}
-use Rattle.test_runner_core_plan.specs.Plan.{◌>>=◌, AsksWith, lacks_memory, Builds, Planned, Plans, PlansWith, Selected, asked_by, found_by, has_too_many, listed_in, plan_test, planned_by, settings_for, tries_of, with_tries}
-use Rattle.test_runner_core_plan.specs.Refusals.{of_listing}
+use Rattle.test_runner_core_plan.specs.Plan.{◌>>=◌, AsksWith, lacks_memory, Builds, Plans, PlansWith, Selected, asked_by, found_by, has_too_many, listed_in, plan_test, settings_for, tries_of, with_tries}
 use Rattle.test_runner_core_plan.specs.declared.plan.Plan.{Plan}
 use Rattle.test_runner_core_plan.specs.declared.plan_error.PlanError.{PlanError}
 use Rattle.test_runner_core_plan.specs.declared.plan_error.PlanError.TheVariants as errors

@@ -1,5 +1,5 @@
 -- The graph of a workspace: a checked one has it, and it is one.
-use Rattle.std.proofs.Common.{◌≡◌, ℕ, ◌+◌, Bool, true, false, not, ◌&&◌, ◌||◌, List, [], ◌∷◌, map, Option, None, Some, Err, cond, refl, sym, ap, ◌∙◌}
+use Rattle.std.proofs.Common.{◌≡◌, ℕ, ◌+◌, Bool, true, false, not, ◌||◌, List, [], ◌∷◌, map, Option, None, Some, Err, cond, refl, sym, ap, ◌∙◌}
 use Rattle.std.specs.List.{list_all, list_any, position_from}
 use Rattle.std.specs.Prelude.{is_none, if◌then◌else◌}
 use Rattle.std.specs.Str.{bytes_eq}
@@ -7,7 +7,7 @@ use Rattle.std.proofs.lemmas.Bool.{and_parts}
 use Rattle.nextest_filtering_compiling.specs.Context.{Context}
 use Rattle.nextest_filtering_graph.specs.Graph.{Graph, both, ids, place_of, placed}
 use Rattle.nextest_filtering_graph.specs.Graph as making
-use Rattle.nextest_filtering_graph.specs.Making.{IsGraphOf, Makes, has_unknown}
+use Rattle.nextest_filtering_graph.specs.Making.{Makes, has_unknown}
 use Rattle.nextest_filtering_graph.specs.declared.graph_error.GraphError.TheVariants as error
 use Rattle.nextest_filtering_graph.specs.declared.graph_fault.GraphFault.{GraphFault}
 use Rattle.nextest_filtering_graph.specs.declared.graph_fault.GraphFault.TheVariants as bad

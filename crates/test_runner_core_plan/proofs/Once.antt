@@ -1,8 +1,6 @@
 -- What is planned of inputs is one.
-use Rattle.std.proofs.Common.{◌≡◌, ◌⊎◌, ℕ, ◌++◌, List, [], Bool, true, false, Option, None, Some, Result, Ok, Err, cond, refl, sym, ap, ◌∙◌, subst}
+use Rattle.std.proofs.Common.{◌≡◌, ℕ, List, Bool, true, false, Option, None, Some, Result, Ok, Err, refl, sym, ap, ◌∙◌, subst}
 use Rattle.std.specs.Prelude.{if◌then◌else◌}
-use Rattle.std.proofs.lemmas.List.{append-nil}
-use Rattle.nextest_filtering_compiling.specs.Accepting.{IsAccepted}
 use Rattle.nextest_filtering_compiling.specs.Compiling.{IsCompiled}
 use Rattle.nextest_filtering_compiling.specs.Context.{Context}
 use Rattle.nextest_filtering_compiling.proofs.Meaning.{readable}
@@ -20,7 +18,7 @@ use Rattle.test_runner_core_settings.specs.declared.settings.Settings.{Settings}
 use Rattle.test_runner_core_workspace.specs.Lister.{Answer}
 use Rattle.test_runner_core_workspace.specs.declared.record.Binary.{Binary}
 use Rattle.test_runner_core_workspace.specs.declared.record.WorkspaceRecord.{WorkspaceRecord}
-use Rattle.test_runner_core_plan.specs.Filtering.{IsChosen, IsContextOf, IsFiltersetOf, IsInForce, IsNoFilterset, IsRefused, IsTaken, everything}
+use Rattle.test_runner_core_plan.specs.Filtering.{IsChosen, IsFiltersetOf, IsInForce, IsRefused, IsTaken, everything}
 use Rattle.test_runner_core_plan.specs.Plan.{◌>>=◌, Planned, Plans, PlansWith, found_by, has_too_many, listed_in, planned_by, settings_for}
 use Rattle.test_runner_core_plan.specs.declared.plan_fault.PlanFault.{PlanFault}
 use Rattle.test_runner_core_plan.specs.declared.plan_fault.PlanFault.TheVariants as refused

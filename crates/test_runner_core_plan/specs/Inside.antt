@@ -8,7 +8,6 @@ use Rattle.test_runner_core_plan.specs.Filtering.{IsChosen, IsInForce}
 use Rattle.test_runner_core_plan.specs.Plan.{settings_for}
 use Rattle.test_runner_core_plan.specs.declared.plan_error.PlanError.{PlanError}
 use Rattle.test_runner_core_plan.specs.declared.plan_error.PlanError.TheVariants as error
-use Rattle.test_runner_core_plan.specs.declared.plan_fault.PlanFault.{PlanFault}
 use Rattle.test_runner_core_plan.specs.declared.wanted.Wanted.{Wanted}
 
 -- a call gives the filter in force, or refuses it; want of memory says nothing

@@ -1,6 +1,5 @@
 -- Which inputs have a plan, and which: what is refused is looked for in this order.
 use Rattle.std.specs.Prelude.{◌≡◌, ℕ, ◌+◌, ◌==◌, Bool, true, false, ◌&&◌, ◌||◌, not, length, List, [], ◌∷◌, min, codes, Option, None, Some, Result, Ok, Err, ⊤, map, is_some, nat_lt, if◌then◌else◌}
-use Rattle.std.specs.Option.{option_map_or}
 use Rattle.std.specs.Str.{bytes_eq}
 use Rattle.nextest_config_elements_plain.specs.declared.timeouts.FlakyResult.TheVariants as flaky
 use Rattle.nextest_run_events_results.specs.declared.instance.OwnedTestInstanceId.{OwnedTestInstanceId}

@@ -1,11 +1,18 @@
-use Rattle.std.proofs.Common.{◌∙◌, sym}
+use Rattle.std.proofs.Common.{◌++◌, ◌∙◌, sym, ap, chars}
+use Rattle.std.proofs.lemmas.Result.{on_ok_weaker}
+use Rattle.std.proofs.lemmas.Str.{chars-IsAscii}
 use Rattle.std.proofs.lemmas.Iterator.{YieldsList-from_chars}
-use Rattle.std.proofs.lemmas.Iterator.Consumers.{YieldsList-end}
-use Rattle.nextest_filtering_globs.proofs.Loops.{map_same}
+use Rattle.std.proofs.lemmas.Iterator.Adapters.{items_from_extend}
 use Rattle.nextest_filtering_globs.proofs.places.read_characters.Goals as goal
+
+pub returns-then-is_ascii : goal.returns-then-is_ascii
+returns-then-is_ascii c =
+    let text = c.args.text.now in
+    on_ok_weaker c.read_bytes.result
+    (λ read. read ∙ (c.as_bytes.ensures.value ∙ sym (chars-IsAscii text c.if-is_ascii.ensures.cases))) c.read_bytes.ensures
 
 pub returns : goal.returns
 returns c =
-    let t = YieldsList-end (YieldsList-from_chars c.args.text.now c.utf8.text cc) c.loop-c.yielded _ c.loop-c.yielded_by _ _
-    c.in-None.is c.next.ensures.steps in
-    c.loop-c.invariant ∙ (sym (map_same c.loop-c.yielded) ∙ t.0)
+    let text = c.args.text.now in
+    on_ok_weaker c.extend.result (λ read. read.0 ∙ ap (λ x. x ++ chars text) c.clear.ensures.items)
+    (items_from_extend c.extend.result c.extend.ensures.ran (YieldsList-from_chars text c.utf8.text c.chars.ensures.rest))

@@ -1,7 +1,6 @@
 use Rattle.std.proofs.Common.{List, ℕ, Err, ap, ◌∙◌, subst}
 use Rattle.nextest_filtering_graph.specs.Making.{lent, Makes}
 use Rattle.nextest_filtering_graph.specs.declared.graph_error.GraphError.{GraphError}
-use Rattle.nextest_filtering_graph.specs.declared.graph_error.GraphError.TheVariants as error
 use Rattle.test_runner_core_plan.specs.Filtering.{pairs_of_links, pairs_of_packages}
 use Rattle.test_runner_core_plan.proofs.Context.{never_refused}
 use Rattle.test_runner_core_plan.proofs.filtering.graph_of.Goals as goal

@@ -2,7 +2,7 @@ use Rattle.std.proofs.Common.{◌≡◌, false, length, subst, arith}
 use Rattle.std.proofs.Math.ListN.{set}
 use Rattle.nextest_filtering_globs.specs.Inside.{fits, moved}
 use Rattle.nextest_filtering_globs.proofs.Loops.{moved_end}
-use Rattle.nextest_filtering_globs.proofs.places.advance.Goals as goal
+use Rattle.nextest_filtering_globs.proofs.places.advance_fitting.Goals as goal
 
 pub returns : goal.returns
 returns c =

@@ -1,6 +1,6 @@
 use Rattle.std.proofs.Common.{◌≡◌, false, ◌++◌, take, drop}
 use Rattle.nextest_filtering_globs.specs.Inside.{fits, moved}
-use Rattle.nextest_filtering_globs.proofs.places.advance.Given as goal
+use Rattle.nextest_filtering_globs.proofs.places.advance_fitting.Given as goal
 
 abbrev pub invariant-loop-place : goal.invariant-loop-place
 invariant-loop-place l = moved (fits l.token) false l.text l.initial.places
