@@ -7,6 +7,7 @@ each as it is done.
 `rt run` would prove one after another, without a word; what this leaves, it finds built. It works by the parts of the kit's
 own `rt`, so `rt` has to be on the PATH. The exit status is 1 where a library isn't proved, and what was said of it is printed.
 """
+import collections
 import concurrent.futures
 import copy
 import importlib.machinery
@@ -57,12 +58,22 @@ def prove(crate):
         return status == 0, crate.out.read()
 
 
+def by_chain(crates):
+    """The libraries, those first on which the longest chain of others stands."""
+    above = collections.Counter()
+    for crate in sorted(crates, key=lambda it: -len(it.below())):
+        for it in crate.below():
+            above[it.name] = max(above[it.name], above[crate.name] + 1)
+    return sorted(crates, key=lambda it: -above[it.name])
+
+
 def prove_all(crates, count):
     """Proves libraries, each once its own are proved: whether all are."""
     began, waiting, running, done = time.time(), list(crates), {}, set()
     with concurrent.futures.ThreadPoolExecutor(count) as pool:
         while waiting or running:
-            for crate in [it for it in waiting if not {below.name for below in it.below()} - done]:
+            ready = [it for it in waiting if not {below.name for below in it.below()} - done]
+            for crate in ready[: count - len(running)]:
                 waiting.remove(crate)
                 running[pool.submit(prove, crate)] = crate
             for ended in concurrent.futures.wait(running, return_when=concurrent.futures.FIRST_COMPLETED).done:
@@ -80,7 +91,7 @@ def main(name):
     parts = kit()
     crates = parts.crates_below(str(ROOT))
     program = next(it for it in crates if it.name == name)
-    below = sorted(program.below(), key=lambda it: len(it.below()))
+    below = by_chain(program.below())
     held = parts.lock(below)
     if all(it.is_built() for it in below):
         return 0
