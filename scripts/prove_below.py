@@ -22,7 +22,7 @@ import time
 ROOT = pathlib.Path(__file__).resolve().parent.parent
 
 # What it takes from nothing, on the machine that docs/PROVING.md tells of.
-PROCESSOR_SECONDS = 1_500
+PROCESSOR_SECONDS = 3_000
 
 # The most memory that one of these proofs took, with some room.
 BYTES = 2_500_000_000
