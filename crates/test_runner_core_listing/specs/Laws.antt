@@ -1,4 +1,4 @@
--- What holds of all filters: there is one that they answer.
+-- What holds of all filters: each has answers, and they are one.
 use Rattle.std.specs.Prelude.{◌≡◌, false}
 use Rattle.nextest_filtering_filters.specs.Deciding.{AllLeaves, AreReadable}
 use Rattle.nextest_filtering_filters.specs.Filter.{Compiled, filter_of, is_default}

@@ -93,12 +93,13 @@ AddsListed (Ok done) answered chosen binary old new =
 AddsListed (Err (error.Refused refusal)) answered chosen binary old new = answered ≡ Err refusal
 AddsListed (Err error.OutOfMemory) answered chosen binary old new = ⊤
 
--- and nothing is where it isn't
+-- nothing is added where it isn't listed
 abbrev pub Stays : {T : Type 0} → Result T ListingError → Selection → Selection → Type 0
 Stays (Ok done) old new = new ≡ old
 Stays (Err (error.Refused refusal)) old new = ⊥
 Stays (Err error.OutOfMemory) old new = ⊤
 
+-- one or the other, by whether it is listed
 abbrev pub Adds : {T : Type 0} → Bool → Result T ListingError → Result (List (List ℕ)) ListingFault → Answers → Binary → Selection → Selection → Type 0
 Adds true result answered chosen binary old new = AddsListed result answered chosen binary old new
 Adds false result answered chosen binary old new = Stays result old new

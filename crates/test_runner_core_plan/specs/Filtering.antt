@@ -41,7 +41,7 @@ pub record IsContextOf (workspace : WorkspaceRecord) (cx : Context) : Type 0 whe
 abbrev pub IsTaken : Context → List ℕ → Tree → Type 0
 IsTaken cx = IsAccepted cx filterset.Test (groups.Known [])
 
--- it is compiled to this filter
+-- the workspace accepts a text as a filterset, and it is compiled to this filter
 pub record IsFiltersetOf (workspace : WorkspaceRecord) (text : List ℕ) (filter : Formula FiltersetLeaf) : Type 0 where
   pub cx : Context
   pub context : IsContextOf workspace cx
@@ -49,7 +49,7 @@ pub record IsFiltersetOf (workspace : WorkspaceRecord) (text : List ℕ) (filter
   pub taken : IsTaken cx text tree
   pub compiled : IsCompiled cx.graph tree filter
 
--- it isn't accepted
+-- the workspace accepts a text as no filterset
 pub record IsNoFilterset (workspace : WorkspaceRecord) (text : List ℕ) : Type 0 where
   pub cx : Context
   pub context : IsContextOf workspace cx
@@ -64,7 +64,7 @@ abbrev pub IsInForce : WorkspaceRecord → Option (List ℕ) → Formula Filters
 IsInForce workspace None filter = filter ≡ everything
 IsInForce workspace (Some text) filter = IsFiltersetOf workspace text filter
 
--- a filterset is given, and isn't accepted
+-- a filterset is given, and the workspace doesn't accept it
 abbrev pub IsRefused : WorkspaceRecord → Option (List ℕ) → Type 0
 IsRefused workspace None = ⊥
 IsRefused workspace (Some text) = IsNoFilterset workspace text
