@@ -5,10 +5,12 @@
 //! duration.
 #![tactic(auto)]
 
+mod config_duration;
 pub mod laws;
 mod number;
 mod parse;
 mod runs;
 mod units;
 
+pub use config_duration::ConfigDuration;
 pub use parse::{BadDuration, parse_duration};

@@ -7,7 +7,9 @@
 
 mod invalid_identifier;
 mod plain;
+mod source_kind;
 mod tool_name;
 
 pub use invalid_identifier::InvalidIdentifier;
+pub use source_kind::ConfigSourceKind;
 pub use tool_name::ToolName;

@@ -1,0 +1,1 @@
+// What a JUnit report has.

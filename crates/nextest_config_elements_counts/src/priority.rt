@@ -1,0 +1,1 @@
+// In which order tests run.

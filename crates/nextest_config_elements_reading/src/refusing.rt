@@ -1,0 +1,73 @@
+// How a value is refused.
+ghost use Rattle.std.specs.Prelude.{◌≡◌, ◌++◌, [], ◌∷◌, IfOk};
+ghost use Rattle.nextest_config_elements_reading.specs.Paths.{IsRefusedAt, texts};
+
+use crate::bad_value::BadValue;
+use crate::key_path::KeyPath;
+use crate::value_error::ValueError;
+use nextest_text::Text;
+use std::alloc::{AllocError, Global};
+use toml::Value;
+
+/// Refuses what stands at a path, or that nothing does.
+pub fn refused(
+    alloc: Global,
+    path: &[&str],
+    found: Option<&Value>,
+    expected: &'static str,
+) -> ValueError
+    ensures { IsRefusedAt (texts path.now) result }
+{
+    match bad_value(alloc, path, &[], found, expected) {
+        Ok(bad) => ValueError::Refused(bad),
+        Err(AllocError) => ValueError::OutOfMemory,
+    }
+}
+
+/// Refuses what stands at a key of the table at a path, or that nothing does.
+pub fn refused_below(
+    alloc: Global,
+    path: &[&str],
+    key: &str,
+    found: Option<&Value>,
+    expected: &'static str,
+) -> ValueError
+    ensures { IsRefusedAt (texts path.now ++ key.now ∷ []) result }
+{
+    match bad_value(alloc, path, &[key], found, expected) {
+        Ok(bad) => ValueError::Refused(bad),
+        Err(AllocError) => ValueError::OutOfMemory,
+    }
+}
+
+// A value that is refused.
+fn bad_value(
+    alloc: Global,
+    path: &[&str],
+    further: &[&str],
+    found: Option<&Value>,
+    expected: &'static str,
+) -> Result<BadValue, AllocError>
+    ensures { IfOk result (λ bad. bad.path.keys ≡ texts path.now ++ texts further.now) }
+{
+    Ok(BadValue {
+        path: KeyPath::of_keys(alloc, path, further)?,
+        expected,
+        found: told(alloc, found)?,
+    })
+}
+
+// What stands there, in words.
+fn told(alloc: Global, found: Option<&Value>) -> Result<Text, AllocError> {
+    let text = match found {
+        None => String::from_str(alloc, "nothing")?,
+        Some(Value::String(text)) => format!(in alloc; "{text:?}")?,
+        Some(Value::Integer(number)) => format!(in alloc; "{number}")?,
+        Some(Value::Boolean(truth)) => format!(in alloc; "{truth}")?,
+        Some(Value::Float(_)) => String::from_str(alloc, "a float")?,
+        Some(Value::Datetime(_)) => String::from_str(alloc, "a date or time")?,
+        Some(Value::Array(_)) => String::from_str(alloc, "an array")?,
+        Some(Value::Table(_)) => String::from_str(alloc, "a table")?,
+    };
+    Ok(Text::from(text))
+}

@@ -1,0 +1,80 @@
+-- What a source asks for: at most one required and one recommended version, and features by name.
+use Rattle.std.specs.Prelude.{ℕ, ◌+◌, Bool, true, false, List, [], ◌∷◌, ◌++◌, Option, None, Some, Ok, Err, codes, decimal, option_map}
+use Rattle.std.specs.Option.{option_map_or, option_or}
+use Rattle.toml.specs.Data.{Data, string, boolean, array, table, Items, no_items, item, Members, no_members, member, as_bool, as_str, get_member}
+use Rattle.semver.specs.Parse.{Parts}
+use Rattle.nextest_version.specs.Reading.{version_of}
+use Rattle.nextest_config_elements_reading.specs.Reading.{Reading, ◌>>=◌, leaf, optional, under}
+
+-- the version that a text asks for: the one that it is, or with `.0` behind it, so that `X.Y` is `X.Y.0`
+abbrev pub asked_version : List ℕ → Option Parts
+asked_version text = option_or (version_of text) (version_of (text ++ codes ".0"))
+
+abbrev pub version : Data → Option Parts
+version (string text) = asked_version text
+version given = None
+
+-- the versions that a source asks for
+pub record Asked : Type 0 where
+  pub required : Option Parts
+  pub recommended : Option Parts
+
+abbrev pub only_required : Parts → Asked
+only_required version = record { required = Some version; recommended = None }
+
+abbrev pub both : Members → Reading Asked
+both members = do
+  recommended ← optional (codes "recommended") version members
+  required ← optional (codes "required") version members
+  Ok (record { required = required; recommended = recommended })
+
+-- `nextest-version`: a text asks for a required version, a table for one of each
+abbrev pub versions : Data → Reading Asked
+versions (string text) = option_map_or (λ version. Ok (only_required version)) (asked_version text) (Err [])
+versions (table members) = both members
+versions given = Err []
+
+-- each name of a list is asked for
+abbrev pub names_in : ℕ → Items → Reading (List (List ℕ))
+names_in position no_items = Ok []
+names_in position (item given more) = do
+  name ← under (decimal position) (leaf as_str given)
+  names ← names_in (position + 1) more
+  Ok (name ∷ names)
+
+-- each key of a table that is true is asked for, one that is false isn't
+abbrev pub if_asked : Bool → List ℕ → List (List ℕ) → List (List ℕ)
+if_asked true name names = name ∷ names
+if_asked false name names = names
+
+abbrev pub keys_in : Members → Reading (List (List ℕ))
+keys_in no_members = Ok []
+keys_in (member name given more) = do
+  asked ← under name (leaf as_bool given)
+  names ← keys_in more
+  Ok (if_asked asked name names)
+
+-- `experimental`: the names of features
+abbrev pub features : Data → Reading (List (List ℕ))
+features (array items) = names_in 0 items
+features (table members) = keys_in members
+features given = Err []
+
+-- what a configuration asks for
+pub record Demand : Type 0 where
+  pub versions : Asked
+  pub features : List (List ℕ)
+
+-- what asks for nothing
+abbrev pub no_versions : Asked
+no_versions = record { required = None; recommended = None }
+
+abbrev pub no_demand : Demand
+no_demand = record { versions = no_versions; features = [] }
+
+-- the top table of a text; other keys are read past
+abbrev pub demand_of : Members → Reading Demand
+demand_of top = do
+  names ← under (codes "experimental") (option_map_or features (get_member (codes "experimental") top) (Ok []))
+  asked ← under (codes "nextest-version") (option_map_or versions (get_member (codes "nextest-version") top) (Ok no_versions))
+  Ok (record { versions = asked; features = names })

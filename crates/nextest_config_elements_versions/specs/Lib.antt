@@ -1,0 +1,5 @@
+pub mod Demand
+pub mod Features
+pub mod Laws
+pub mod Sources
+pub mod Verdict
