@@ -11,6 +11,7 @@ use Rattle.test_runner_core_runs.specs.Step.{step}
 use Rattle.test_runner_core_runs.specs.declared.event.Event.{Event}
 use Rattle.test_runner_core_runs.specs.declared.step_refusal.StepRefusal.{StepRefusal}
 use Rattle.test_runner_core_session.specs.Session.{SessionState, run_plan, run_test}
+use Rattle.test_runner_core_telling.specs.Opening.{opening}
 use Rattle.test_runner_core_telling.specs.Parts.{Part}
 use Rattle.test_runner_core_telling.specs.Steps.{parts_after, progress, step_parts}
 use Rattle.test_runner_core.specs.Inside.{IsReached}
@@ -48,8 +49,8 @@ progress_more plan old (first ∷ told) mid new event (next, here, run) taken =
     ∙ sym (append_assoc (step_parts plan first old next) (progress plan (Ok next) told) (step_parts plan event mid new))
     ∙ ap (λ (r : Result State StepRefusal). (parts_after plan first old r ++ progress plan r told) ++ step_parts plan event mid new) (sym here)
 
-pub so_far_none : (plan : Plan) → SoFar plan [] (initial (run_plan plan)) []
-so_far_none plan = record { events = []; leads = record { events = tt; run = refl }; told = refl }
+pub so_far_none : (plan : Plan) → SoFar plan [] (initial (run_plan plan)) (opening plan)
+so_far_none plan = record { events = []; leads = record { events = tt; run = refl }; told = sym (append-nil (opening plan)) }
 
 pub so_far_same : (plan : Plan) (front : List (List ℕ)) (last : State) (parts : List Part) (bytes : List ℕ) → SoFar plan front last parts → bytes ≡ [] → SoFar plan (front ++ bytes ∷ []) last parts
 so_far_same plan front last parts bytes so_far empty =
@@ -70,7 +71,8 @@ so_far_more plan front last next parts bytes line so_far spells taken =
       };
       told =
           ap (λ (t : List Part). t ++ step_parts plan (event_of plan line) last next) so_far.told
-          ∙ sym (progress_more plan (initial (run_plan plan)) so_far.events last next (event_of plan line) so_far.leads.run taken);
+          ∙ append_assoc (opening plan) (progress plan (Ok (initial (run_plan plan))) so_far.events) (step_parts plan (event_of plan line) last next)
+          ∙ ap (λ (t : List Part). opening plan ++ t) (sym (progress_more plan (initial (run_plan plan)) so_far.events last next (event_of plan line) so_far.leads.run taken));
     }
 
 -- what holds of a session whose run went so far

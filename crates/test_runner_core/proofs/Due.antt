@@ -14,6 +14,7 @@ use Rattle.test_runner_core_runs.specs.Runs.{IsNoMilder}
 use Rattle.test_runner_core_runs.specs.State.{initial}
 use Rattle.test_runner_core_session.specs.Session.{run_plan}
 use Rattle.test_runner_core_telling.specs.Final.{final_parts}
+use Rattle.test_runner_core_telling.specs.Opening.{opening}
 use Rattle.test_runner_core_telling.specs.Parts.{Part}
 use Rattle.test_runner_core_telling.specs.Steps.{progress}
 use Rattle.test_runner_core_workspace.specs.Lister.{Answer}
@@ -27,7 +28,7 @@ use Rattle.test_runner_core.proofs.OneReport.{composed_once}
 
 -- what a run tells before its end
 abbrev pub told_of : {answer : Binary → Answer} {inputs : Inputs} {log : List Item} → IsRun answer inputs log → List Part
-told_of run = progress run.plan (Ok (initial (run_plan run.plan))) run.events
+told_of run = opening run.plan ++ progress run.plan (Ok (initial (run_plan run.plan))) run.events
 
 -- a log without a refused line has its run's report
 run_composes : (answer : Binary → Answer) (inputs : Inputs) (log : List Item) (run : IsRun answer inputs log)

@@ -19,6 +19,7 @@ use Rattle.test_runner_core_runs.specs.Step.{step}
 use Rattle.test_runner_core_runs.specs.declared.event.Event.{Event}
 use Rattle.test_runner_core_runs.specs.declared.step_refusal.StepRefusal.{StepRefusal}
 use Rattle.test_runner_core_session.specs.Session.{run_plan}
+use Rattle.test_runner_core_telling.specs.Opening.{opening}
 use Rattle.test_runner_core_telling.specs.Parts.{Part}
 use Rattle.test_runner_core_telling.specs.Steps.{parts_after, progress}
 use Rattle.test_runner_core_workspace.specs.Lister.{Answer}
@@ -99,7 +100,7 @@ pub so_far_once : (plan : Plan) (front : List (List ℕ)) (a b : State) (one oth
 so_far_once plan front a b one other first second =
     let same = leads_once plan front first.events second.events a b first.leads second.leads in (
       same.1,
-      first.told ∙ ap (λ (told : List Event). progress plan (Ok (initial (run_plan plan))) told) same.0 ∙ sym second.told,
+      first.told ∙ ap (λ (told : List Event). opening plan ++ progress plan (Ok (initial (run_plan plan))) told) same.0 ∙ sym second.told,
     )
 
 -- ---- refused lines
@@ -281,6 +282,7 @@ early_parts plan front more a b parts whole so_far to_end =
     let begin : Result State StepRefusal = Ok (initial (run_plan plan)) in
     let behind = early_progress plan early.early early.late begin in (
       behind.0,
-      to_end.told ∙ ap (λ (events : List Event). progress plan begin events) early.whole ∙ behind.1
-          ∙ ap (λ (events : List Event). progress plan begin events ++ behind.0) same ∙ ap (λ (told : List Part). told ++ behind.0) (sym so_far.told),
+      to_end.told ∙ ap (λ (events : List Event). opening plan ++ progress plan begin events) early.whole ∙ ap (λ (parts : List Part). opening plan ++ parts) behind.1
+          ∙ ap (λ (events : List Event). opening plan ++ (progress plan begin events ++ behind.0)) same
+          ∙ sym (append_assoc (opening plan) (progress plan begin so_far.events) behind.0) ∙ ap (λ (told : List Part). told ++ behind.0) (sym so_far.told),
     )

@@ -50,17 +50,6 @@ stream_begun inputs (Some bytes) (Some behind) lines at fresh read parts is =
     subst (λ (r : Result Inputs InputsRefusal). LineBegun r (items 0 (behind_feed bytes)) parts) (sym (ap read_inputs (sym at.0) ∙ read))
     (subst (λ (log : List Item). Begun (table_of inputs) inputs log parts) (log_behind bytes behind lines at fresh) is)
 
--- no lines tell nothing
-no_lines : (plan : Plan) (last : State) (parts : List Part) → SoFar plan [] last parts → parts ≡ []
-no_lines plan last parts so_far = so_far.told ∙ by_events so_far.events so_far.leads.events
-  where
-    by_events : (events : List Event) → TellsEvents plan [] events → progress plan (Ok (initial (run_plan plan))) events ≡ []
-    by_events [] told = refl
-    by_events (event ∷ more) told = absurd told
-
-nothing_told : (inputs : Inputs) (got : List ℕ) (parts : List Part) → got ≡ [] → TellsSoFar (table_of inputs) inputs (whole_lines got) parts → parts ≡ []
-nothing_told inputs got parts none (plan, built, (last, so_far)) = no_lines plan last parts (subst (λ (g : List ℕ). SoFar plan (whole_lines g) last parts) none so_far)
-
 -- where two lists make nothing, neither has anything
 both_none : (one other : List ℕ) → one ++ other ≡ [] → (one ≡ []) × (other ≡ [])
 both_none [] other none = (refl, none)
@@ -85,7 +74,11 @@ stream_got inputs (Some bytes) (Some log) (Some behind) lines at read parts (fro
     by_feed (inl (plain, none)) =
         let empty = log_is ∙ none in
         let nothing = both_none got.0 behind empty in
-        (bytes, sym (append-nil bytes) ∙ ap (λ (t : List ℕ). bytes ++ t) (sym nothing.1), inl (plain, nothing_told inputs got.0 parts nothing.0 tells))
+        (
+          bytes,
+          sym (append-nil bytes) ∙ ap (λ (t : List ℕ). bytes ++ t) (sym nothing.1),
+          inr (inputs, ap read_inputs (sym at.0) ∙ read, subst (λ (t : List ℕ). TellsSoFar (table_of inputs) inputs (whole_lines t) parts) (nothing.0 ∙ sym none) tells),
+        )
     by_feed (inr (plain, whole)) =
         let first = before_feed bytes in (
           first ++ 10 ∷ got.0,

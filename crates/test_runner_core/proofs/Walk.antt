@@ -13,8 +13,9 @@ use Rattle.test_runner_core_log_reader.specs.declared.limits.TheConstants.{LOG_L
 use Rattle.test_runner_core_log_reader.specs.declared.fault.LineFault.{LineFault}
 use Rattle.test_runner_core_log_reader.specs.declared.next.Next.TheVariants as found_is
 use Rattle.test_runner_core_plan.specs.declared.plan.Plan.{Plan}
-use Rattle.test_runner_core_runs.specs.State.{State}
-use Rattle.test_runner_core_session.specs.Session.{SessionState}
+use Rattle.test_runner_core_runs.specs.State.{State, initial}
+use Rattle.test_runner_core_session.specs.Session.{SessionState, run_plan}
+use Rattle.test_runner_core_telling.specs.Opening.{opening}
 use Rattle.test_runner_core_telling.specs.Parts.{Part}
 use Rattle.test_runner_core_telling.specs.Steps.{step_parts}
 use Rattle.test_runner_core_telling.specs.Telling.{MovesOn, TellsAll, TellsFront}
@@ -29,7 +30,7 @@ use Rattle.test_runner_core.specs.declared.refused_line.RefusedLine.{RefusedLine
 use Rattle.test_runner_core.specs.Judging.{Refuses, event_of, refusal_of}
 use Rattle.test_runner_core.specs.Report.{SoFar}
 use Rattle.test_runner_core.specs.declared.refused_line.LineRefusal.{LineRefusal}
-use Rattle.test_runner_core.proofs.Course.{so_far_more, so_far_same}
+use Rattle.test_runner_core.proofs.Course.{so_far_more, so_far_none, so_far_same}
 
 -- the items ahead are what these lines leave of the log, where its bytes are known
 abbrev pub LeavesAhead : Cursor → Option (List ℕ) → List (List ℕ) → Cursor → Option (List ℕ) → Type 0
@@ -112,6 +113,26 @@ unfolding rest_behind
 log_somewhere begin cursor None left front ahead = tt
 log_somewhere begin cursor (Some log) None front ahead = absurd ahead
 log_somewhere begin cursor (Some log) (Some left) front ahead = ahead
+
+-- the opening of a plan is told, where nothing waited before
+pub told_from_nothing : (plan lent : Plan) (before after : Option (List ℕ)) (waited waits : List ℕ) → lent ≡ plan → waited ≡ [] → TellsAll (opening lent) before waited after waits
+    → TellsAll (opening plan) before [] after waits
+told_from_nothing plan lent before after waited waits same none told =
+    subst (λ (p : Plan). TellsAll (opening p) before [] after waits) same (subst (λ (w : List ℕ). TellsAll (opening lent) before w after waits) none told)
+
+-- or it fails to be told
+pub opening_failed : (plan lent : Plan) (begin : Cursor) (known before after : Option (List ℕ)) (waited : List ℕ) → lent ≡ plan → waited ≡ [] → TellsFront (opening lent) before waited after
+    → BegunLines plan begin known before after
+opening_failed plan lent begin known before after waited same none failed =
+    record {
+      front = [];
+      rest = rest_behind begin known;
+      whole = log_somewhere begin begin known known [] (nothing_ahead begin known);
+      last = initial (run_plan plan);
+      parts = opening plan;
+      so_far = so_far_none plan;
+      told = subst (λ (p : Plan). TellsFront (opening p) before [] after) same (subst (λ (w : List ℕ). TellsFront (opening lent) before w after) none failed);
+    }
 
 -- told so far, and nothing more
 told_still : (parts : List Part) (before middle after : Option (List ℕ)) (mid waits : List ℕ) → TellsAll parts before [] middle mid → TellsAll [] middle mid after waits → TellsAll parts before [] after waits

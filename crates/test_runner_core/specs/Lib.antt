@@ -11,6 +11,7 @@ pub mod Inside
 pub use Rattle.test_runner_core_telling.specs.Parts
 pub use Rattle.test_runner_core_telling.specs.Telling
 pub use Rattle.test_runner_core_telling.specs.RunEnd
+pub use Rattle.test_runner_core_telling.specs.Opening
 pub use Rattle.test_runner_core_telling.specs.Final
 pub use Rattle.test_runner_core_telling.specs.Steps
 pub use Rattle.test_runner_core_report.specs.Report as TestReport
@@ -83,7 +84,7 @@ pub use Rattle.nextest_run_events_results.specs.declared.record.Record
 pub use Rattle.nextest_run_events_results.specs.declared.record.RecordOutput
 pub use Rattle.nextest_run_events_results.specs.declared.instance.TestInstanceId
 pub use Rattle.test_runner_core_inputs.specs.declared.source.ConfigSource
-pub use Rattle.test_runner_core_inputs.specs.declared.source.ConfigSourceKind
+pub use Rattle.nextest_config_elements_identifiers.specs.declared.source_kind.ConfigSourceKind
 pub use Rattle.test_runner_core_inputs.specs.declared.source.ConfigSourceOutcome
 pub use Rattle.test_runner_core_inputs.specs.declared.platform.FactRecord
 pub use Rattle.test_runner_core_inputs.specs.declared.inputs.Inputs

@@ -96,7 +96,8 @@ StreamComposed bytes = LineComposed (read_inputs (before_feed bytes)) (items 0 (
 abbrev pub StreamBegun : List ℕ → List Part → Type 0
 StreamBegun bytes = LineBegun (read_inputs (before_feed bytes)) (items 0 (behind_feed bytes))
 
--- what the bytes that were got of a stream tell: nothing before the first line feed, and then the whole lines behind it
+-- what the bytes that were got of a stream tell: nothing while the first line isn't whole, and then its plan's warnings and the whole
+-- lines behind it
 abbrev pub StreamTells : List ℕ → List Part → Type 0
 StreamTells got parts =
     (IsPlain got × (parts ≡ []))

@@ -14,6 +14,7 @@ use Rattle.test_runner_core_runs.specs.State.{State, initial}
 use Rattle.test_runner_core_runs.specs.declared.event.Event.{Event}
 use Rattle.test_runner_core_session.specs.Session.{run_plan}
 use Rattle.test_runner_core_telling.specs.Final.{final_parts}
+use Rattle.test_runner_core_telling.specs.Opening.{opening}
 use Rattle.test_runner_core_telling.specs.Parts.{IsText, Part, Said}
 use Rattle.test_runner_core_telling.specs.RunEnd.{LF, TAB}
 use Rattle.test_runner_core_telling.specs.Steps.{progress}
@@ -53,13 +54,13 @@ abbrev pub exit_status : State → Option RefusedLine → ℕ
 exit_status last None = status last
 exit_status last (Some found) = 96
 
--- what lines tell: the progress of the run that they lead
+-- what lines tell: the warnings of the plan, and the progress of the run that they lead
 pub record SoFar (plan : Plan) (front : List (List ℕ)) (last : State) (parts : List Part) : Type 0 where
   pub events : List Event
   pub leads : Leads plan front events last
-  pub told : parts ≡ progress plan (Ok (initial (run_plan plan))) events
+  pub told : parts ≡ opening plan ++ progress plan (Ok (initial (run_plan plan))) events
 
--- the report of a planned run and its exit status: the progress up to the first refused line, or the log's end, and the ending
+-- the report of a planned run and its exit status: the warnings and the progress up to the first refused line, or the log's end, and the ending
 pub record Judged (plan : Plan) (log : List Item) (parts : List Part) (code : ℕ) : Type 0 where
   pub front : List (List ℕ)
   pub rest : List Item

@@ -14,11 +14,11 @@ use std::alloc::Global;
 use test_runner_core_log_reader::{LogLines, Next};
 use test_runner_core_session::Session;
 use test_runner_core_streams::{LogReader, ReportWriter};
-use test_runner_core_telling::{TellFault, write_waiting};
+use test_runner_core_telling::{TellFault, tell_opening, write_waiting};
 
 // Takes the run of a plan from its beginning by the lines of a log, as `lines` cuts them from the reader, up to the first
-// that is refused, which changes nothing and is answered; `None` where all are accepted. What the steps finish is told, and
-// is written before the reader is asked for more.
+// that is refused, which changes nothing and is answered; `None` where all are accepted. The plan's warnings are told first, and
+// then what the steps finish; all that is told is written before the reader is asked for more.
 pub(crate) fn judge_lines<R: LogReader, W: ReportWriter>(
     alloc: Global,
     session: &mut Session<'_>,
@@ -38,6 +38,7 @@ pub(crate) fn judge_lines<R: LogReader, W: ReportWriter>(
     ensures read_failures { TellsRead result (R.failures log.old) (R.failures log.new) (R.last_failed log.new) }
     ensures write_failures { TellsWrite result (W.failures report.old) (W.failures report.new) (W.last_failed report.new) }
 {
+    tell_opening(alloc, text, report, session.plan())?;
     let mut number = 1;
     loop {
         match next_line(lines, log, text, report)? {

@@ -3,8 +3,8 @@ use Rattle.std.proofs.Common.{◌≡◌, ◌⊎◌, inl, inr, ℕ, suc, ◌∷�
 use Rattle.serde_json.specs.Data.{Data}
 use Rattle.serde_json.specs.Find.{as_object}
 use Rattle.nextest_config_elements_plain.specs.declared.run_mode.NextestRunMode.TheVariants as modes
-use Rattle.test_runner_core_inputs.specs.declared.source.ConfigSourceKind.{ConfigSourceKind}
-use Rattle.test_runner_core_inputs.specs.declared.source.ConfigSourceKind.TheVariants as kinds
+use Rattle.nextest_config_elements_identifiers.specs.declared.source_kind.ConfigSourceKind.{ConfigSourceKind}
+use Rattle.nextest_config_elements_identifiers.specs.declared.source_kind.ConfigSourceKind.TheVariants as kinds
 use Rattle.test_runner_core_inputs.specs.declared.source.ConfigSourceOutcome.{ConfigSourceOutcome}
 use Rattle.test_runner_core_inputs.specs.declared.source.ConfigSourceOutcome.TheVariants as outcomes
 use Rattle.test_runner_core_inputs.specs.declared.source_word.SourceWord.{SourceWord}

@@ -1,6 +1,5 @@
 pub mod Given
 pub mod Values
-pub mod Versions
 pub mod Reading
 pub mod Calls
 pub mod Shape

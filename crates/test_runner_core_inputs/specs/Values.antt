@@ -1,10 +1,10 @@
 -- The values of the parts that have no parts.
 use Rattle.std.specs.Prelude.{ℕ, Bool, true, false, List, codes, Option, None, Some, Result, Ok, Err, nat_lt, if◌then◌else◌, option_and_then}
 use Rattle.std.specs.Str.{bytes_eq}
-use Rattle.semver.specs.Parse.{Parts, version_parts}
-use Rattle.semver.specs.declared.error.Error.{Error as Refused}
+use Rattle.semver.specs.Parse.{Parts}
 use Rattle.serde_json.specs.Data.{Data}
 use Rattle.serde_json.specs.Find.{as_bool, as_number, as_str, as_u64}
+use Rattle.nextest_version.specs.Reading.{version_of}
 use Rattle.nextest_config_elements_identifiers.specs.Identifier.{tool_name}
 use Rattle.nextest_config_elements_identifiers.specs.declared.invalid_identifier.InvalidIdentifier.{InvalidIdentifier}
 use Rattle.test_runner_core_inputs.specs.declared.leaves.OnlyTrue.{OnlyTrue}
@@ -71,13 +71,9 @@ positive_of count = if nat_lt 0 count then Some count else None
 abbrev pub positive : Data → Option ℕ
 positive given = option_and_then positive_of (option_and_then as_u64 (as_number given))
 
--- the parts of a text that is a version
-abbrev pub parts_of_version : Result Parts Refused → Option Parts
-parts_of_version (Ok parts) = Some parts
-parts_of_version (Err refused) = None
-
+-- a text that is a version
 abbrev pub version : Data → Option Parts
-version given = option_and_then (λ written. parts_of_version (version_parts written)) (as_str given)
+version given = option_and_then version_of (as_str given)
 
 -- the name of a tool
 abbrev pub name_of_tool : Result (List ℕ) InvalidIdentifier → Option (List ℕ)

@@ -6,7 +6,6 @@ ghost use Rattle.test_runner_core_inputs.specs.Calls.{Parses, Reads};
 ghost use Rattle.test_runner_core_inputs.specs.Given as given;
 ghost use Rattle.test_runner_core_inputs.specs.Reading as read;
 
-use crate::current_version::CurrentVersion;
 use crate::inputs_error::{InputsError, InputsRefusal};
 use crate::leaves::Positive;
 use crate::platform::PlatformRecord;
@@ -17,6 +16,7 @@ use nextest_json::{
     required,
 };
 use nextest_text::{Listing, Text};
+use nextest_version::PlainVersion;
 use std::alloc::Global;
 use test_runner_core_workspace::WorkspaceRecord;
 
@@ -31,7 +31,7 @@ pub struct Inputs {
     /// The sources of the configuration.
     pub sources: Listing<ConfigSource>,
     /// The version that the configuration's demands are judged by.
-    pub current_version: CurrentVersion,
+    pub current_version: PlainVersion,
     /// The name of the chosen profile.
     pub profile: Text,
     /// What is run.

@@ -7,6 +7,7 @@ use nextest_config_elements_identifiers::{InvalidIdentifier, ToolName};
 use nextest_config_elements_plain::NextestRunMode;
 use nextest_json::{Fault, Form, JsonValue, text, truth};
 use nextest_text::Text;
+use nextest_version::{PlainVersion, VersionError};
 use std::alloc::Global;
 use std::marker::Model;
 use test_runner_core_workspace::{BinaryKind, BuildPlatform, has_separator};
@@ -24,6 +25,21 @@ impl Form<Inputs> for bool {
 
     fn from_value(alloc: Global, value: &JsonValue<'_, '_>) -> Result<bool, Fault> {
         truth(alloc, value)
+    }
+}
+
+impl Form<Inputs> for PlainVersion {
+    ghost reading = { read.leaf value_of.version };
+
+    fn from_value(alloc: Global, value: &JsonValue<'_, '_>) -> Result<PlainVersion, Fault> {
+        let Some(text) = value.as_str() else {
+            return Err(Fault::here(alloc));
+        };
+        match PlainVersion::parse(alloc, text) {
+            Ok(version) => Ok(version),
+            Err(VersionError::NoVersion) => Err(Fault::here(alloc)),
+            Err(VersionError::OutOfMemory) => Err(Fault::OutOfMemory),
+        }
     }
 }
 

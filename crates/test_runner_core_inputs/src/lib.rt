@@ -2,7 +2,6 @@
 //! missing, ill-typed or not allowed.
 #![tactic(auto)]
 
-mod current_version;
 mod inputs;
 mod inputs_error;
 pub mod laws;
@@ -12,8 +11,7 @@ mod source;
 mod source_word;
 mod workspace;
 
-pub use current_version::CurrentVersion;
 pub use inputs::{Inputs, MAX_INPUTS_LEN};
 pub use inputs_error::{InputsError, InputsRefusal};
 pub use platform::{FactRecord, PlatformRecord};
-pub use source::{ConfigSource, ConfigSourceKind, ConfigSourceOutcome};
+pub use source::{ConfigSource, ConfigSourceOutcome};

@@ -7,31 +7,10 @@ ghost use Rattle.test_runner_core_inputs.specs.Reading as read;
 use crate::inputs::Inputs;
 use crate::leaves::{OnlyTrue, UndividedText};
 use crate::source_word::SourceWord;
-use nextest_config_elements_identifiers::ToolName;
+use nextest_config_elements_identifiers::ConfigSourceKind;
 use nextest_json::{Fault, Form, JsonValue, has_member, required};
 use nextest_text::Text;
 use std::alloc::Global;
-
-/// Where a source of the configuration comes from.
-#[derive(Clone, Debug, PartialEq, Eq)]
-pub enum ConfigSourceKind {
-    /// A tool brings it.
-    Tool(ToolName),
-    /// It is the repository's, and was named.
-    ExplicitRepository,
-    /// It is the repository's, and was looked for.
-    DiscoveredRepository,
-}
-
-impl Drop for ConfigSourceKind {
-    fn drop(self) {
-        match self {
-            ConfigSourceKind::Tool(_) => {}
-            ConfigSourceKind::ExplicitRepository => {}
-            ConfigSourceKind::DiscoveredRepository => {}
-        }
-    }
-}
 
 /// What came of reading a source.
 #[derive(Clone, Debug, PartialEq, Eq)]

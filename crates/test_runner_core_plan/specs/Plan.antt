@@ -5,8 +5,6 @@ use Rattle.nextest_config_elements_plain.specs.declared.timeouts.FlakyResult.The
 use Rattle.nextest_run_events_results.specs.declared.instance.OwnedTestInstanceId.{OwnedTestInstanceId}
 use Rattle.test_runner_core_inputs.specs.declared.inputs.Inputs.{Inputs}
 use Rattle.test_runner_core_inputs.specs.declared.source.ConfigSource.{ConfigSource}
-use Rattle.test_runner_core_inputs.specs.declared.source.ConfigSourceKind.{ConfigSourceKind}
-use Rattle.test_runner_core_inputs.specs.declared.source.ConfigSourceKind.TheVariants as kinds
 use Rattle.test_runner_core_inputs.specs.declared.source.ConfigSourceOutcome.{ConfigSourceOutcome}
 use Rattle.test_runner_core_inputs.specs.declared.source.ConfigSourceOutcome.TheVariants as outcomes
 use Rattle.test_runner_core_listing.specs.Answers.{Answers}
@@ -16,13 +14,16 @@ use Rattle.test_runner_core_listing.specs.declared.selection.Selection.{Selectio
 use Rattle.test_runner_core_settings.specs.Settings.{settings_of, default_settings}
 use Rattle.test_runner_core_settings.specs.declared.settings.Settings.{Settings}
 use Rattle.test_runner_core_settings.specs.declared.settings_fault.SettingsFault.{SettingsFault}
+use Rattle.test_runner_core_versions.specs.Pass.{pass_of}
+use Rattle.test_runner_core_versions.specs.declared.pass.VersionPass.{VersionPass}
+use Rattle.test_runner_core_versions.specs.declared.pass_error.VersionPassFault.{VersionPassFault}
 use Rattle.test_runner_core_workspace.specs.Lister.{Answer}
 use Rattle.test_runner_core_workspace.specs.Workspace.{refusal_of}
 use Rattle.test_runner_core_workspace.specs.declared.record.Binary.{Binary}
 use Rattle.test_runner_core_workspace.specs.declared.record.WorkspaceRecord.{WorkspaceRecord}
 use Rattle.test_runner_core_workspace.specs.declared.workspace_fault.WorkspaceFault.{WorkspaceFault}
 use Rattle.test_runner_core_plan.specs.Filtering.{IsChosen}
-use Rattle.test_runner_core_plan.specs.Refusals.{of_workspace, of_settings, of_listing}
+use Rattle.test_runner_core_plan.specs.Refusals.{of_listing, of_pass, of_settings, of_workspace}
 use Rattle.test_runner_core_plan.specs.declared.plan.Plan.{Plan}
 use Rattle.test_runner_core_plan.specs.declared.plan.PlanTest.{PlanTest}
 use Rattle.test_runner_core_plan.specs.declared.plan_error.PlanError.{PlanError}
@@ -45,14 +46,14 @@ abbrev pub set_by : Result Settings SettingsFault → Result Settings PlanFault
 set_by (Ok settings) = Ok settings
 set_by (Err refusal) = Err (of_settings refusal)
 
--- what the sources set: none, or the text of one explicit source; other sources aren't read yet
-abbrev pub settings_by : ConfigSourceKind → ConfigSourceOutcome → Result Settings PlanFault
-settings_by kinds.ExplicitRepository (outcomes.Text text) = set_by (settings_of text)
-settings_by kind outcome = Err refused.NotYet
+-- what the sources set: none, or the text of one; more sources, and one without a text, aren't read yet
+abbrev pub settings_by : ConfigSourceOutcome → Result Settings PlanFault
+settings_by (outcomes.Text text) = set_by (settings_of text)
+settings_by outcome = Err refused.NotYet
 
 abbrev pub settings_in : List ConfigSource → Result Settings PlanFault
 settings_in [] = Ok default_settings
-settings_in (source ∷ []) = settings_by source.kind source.outcome
+settings_in (source ∷ []) = settings_by source.outcome
 settings_in (source ∷ other ∷ more) = Err refused.NotYet
 
 -- the parts of inputs that aren't read yet: another profile, and platforms
@@ -62,12 +63,26 @@ asks_for_more inputs =
     || (nat_lt 0 (length inputs.host.triple) || nat_lt 0 (length inputs.host.facts))
     || is_some inputs.target
 
+-- the version pass
+abbrev pub passed_by : Result VersionPass VersionPassFault → Result VersionPass PlanFault
+passed_by (Ok passed) = Ok passed
+passed_by (Err refusal) = Err (of_pass refusal)
+
 -- the settings that inputs ask for, or the first reason before their filterset why they have no plan
 abbrev pub settings_for : Inputs → Result Settings PlanFault
 settings_for inputs = do
   workspace ← workspace_of inputs.workspace (refusal_of inputs.workspace)
+  passed ← passed_by (pass_of inputs)
   settings ← settings_in inputs.sources
   if asks_for_more inputs then Err refused.NotYet else Ok settings
+
+-- the warnings of what passed
+abbrev pub warnings_in : Result VersionPass VersionPassFault → List (List ℕ)
+warnings_in (Ok passed) = passed.warnings
+warnings_in (Err refusal) = []
+
+abbrev pub warnings_of : Inputs → List (List ℕ)
+warnings_of inputs = warnings_in (pass_of inputs)
 
 abbrev pub found_by : Result Found ListingFault → Result Found PlanFault
 found_by (Ok found) = Ok found
@@ -122,6 +137,7 @@ pub record IsPlanOf (inputs : Inputs) (it : Planned) (plan : Plan) : Type 0 wher
   pub listed : plan.listed ≡ map (λ binary. binary.id) (listed_in inputs it.answers)
   pub limit : plan.limit ≡ it.settings.max_fail
   pub scripts : plan.scripts ≡ []
+  pub warnings : plan.warnings ≡ warnings_of inputs
 
 -- a call builds the plan, or refuses as is written; want of memory says nothing
 abbrev pub Builds : (Binary → Answer) → Inputs → Result Plan PlanError → Type 0

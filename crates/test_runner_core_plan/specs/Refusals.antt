@@ -7,6 +7,10 @@ use Rattle.test_runner_core_settings.specs.declared.settings_error.SettingsError
 use Rattle.test_runner_core_settings.specs.declared.settings_error.SettingsError.TheVariants as settings_error
 use Rattle.test_runner_core_settings.specs.declared.settings_fault.SettingsFault.{SettingsFault}
 use Rattle.test_runner_core_settings.specs.declared.settings_fault.SettingsFault.TheVariants as set
+use Rattle.test_runner_core_versions.specs.declared.pass_error.VersionPassError.{VersionPassError}
+use Rattle.test_runner_core_versions.specs.declared.pass_error.VersionPassError.TheVariants as pass_error
+use Rattle.test_runner_core_versions.specs.declared.pass_error.VersionPassFault.{VersionPassFault}
+use Rattle.test_runner_core_versions.specs.declared.pass_error.VersionPassFault.TheVariants as passing
 use Rattle.test_runner_core_workspace.specs.declared.workspace_error.WorkspaceError.{WorkspaceError}
 use Rattle.test_runner_core_workspace.specs.declared.workspace_error.WorkspaceError.TheVariants as workspace_error
 use Rattle.test_runner_core_workspace.specs.declared.workspace_fault.WorkspaceFault.{WorkspaceFault}
@@ -24,9 +28,13 @@ of_workspace workspace.RepeatedBinary = fault.RepeatedBinary
 of_workspace workspace.UnknownPackage = fault.UnknownPackage
 of_workspace workspace.BadId = fault.BadId
 
+abbrev pub of_pass : VersionPassFault → PlanFault
+of_pass passing.VersionSource = fault.VersionSource
+of_pass passing.VersionError = fault.VersionError
+of_pass passing.UnknownFeature = fault.UnknownFeature
+
 abbrev pub of_settings : SettingsFault → PlanFault
 of_settings set.Syntax = fault.VersionSource
-of_settings set.VersionNotYet = fault.NotYet
 of_settings set.BadValue = fault.Load load.BadValue
 of_settings set.NotYet = fault.NotYet
 
@@ -39,6 +47,10 @@ of_listing listed.RepeatedTest = fault.RepeatedTest
 abbrev pub error_of_workspace : WorkspaceError → PlanError
 error_of_workspace (workspace_error.Refused refusal) = error.Refused (of_workspace refusal)
 error_of_workspace workspace_error.OutOfMemory = error.OutOfMemory
+
+abbrev pub error_of_pass : VersionPassError → PlanError
+error_of_pass (pass_error.Refused refusal) = error.Refused (of_pass refusal)
+error_of_pass pass_error.OutOfMemory = error.OutOfMemory
 
 abbrev pub error_of_settings : SettingsError → PlanError
 error_of_settings (settings_error.Refused refusal) = error.Refused (of_settings refusal)

@@ -11,6 +11,8 @@ name_of fault.RepeatedBinary = codes "RepeatedBinary"
 name_of fault.UnknownPackage = codes "UnknownPackage"
 name_of fault.BadId = codes "BadId"
 name_of fault.VersionSource = codes "VersionSource"
+name_of fault.VersionError = codes "VersionError"
+name_of fault.UnknownFeature = codes "UnknownFeature"
 name_of (fault.Load load.BadValue) = codes "Load.BadValue"
 name_of fault.NotYet = codes "NotYet"
 name_of fault.Filterset = codes "Filterset"
@@ -20,6 +22,7 @@ name_of fault.BadTestName = codes "BadTestName"
 name_of fault.RepeatedTest = codes "RepeatedTest"
 name_of fault.RetriesTooMany = codes "RetriesTooMany"
 
--- 96; a refusal by the version's verdict, which isn't read yet, will have 92
+-- 92 where a version is required that is above the current one, else 96
 abbrev pub status_of : PlanFault → ℕ
+status_of fault.VersionError = 92
 status_of refusal = 96

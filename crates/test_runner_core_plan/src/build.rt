@@ -14,7 +14,7 @@ use crate::wanted::wanted_in;
 use nextest_config_elements_plain::FlakyResult;
 use nextest_filtering_filters::{CompiledExpr, EvalContext};
 use nextest_run_events_results::OwnedTestInstanceId;
-use nextest_text::Listing;
+use nextest_text::{Listing, Text};
 use std::alloc::{AllocError, Global};
 use test_runner_core_inputs::Inputs;
 use test_runner_core_listing::{Selection, select};
@@ -40,7 +40,7 @@ impl Plan {
         if has_too_many(&wanted.settings, selection.tests.as_slice()) {
             return Err(PlanError::Refused(PlanFault::RetriesTooMany));
         }
-        Ok(plan_of(alloc, &wanted.settings, selection)?)
+        Ok(plan_of(alloc, &wanted.settings, selection, wanted.warnings)?)
     }
 }
 
@@ -71,12 +71,18 @@ fn has_too_many(settings: &Settings, tests: &[OwnedTestInstanceId]) -> bool
 }
 
 // The plan of what is selected.
-fn plan_of(alloc: Global, settings: &Settings, selection: Selection) -> Result<Plan, AllocError>
+fn plan_of(
+    alloc: Global,
+    settings: &Settings,
+    selection: Selection,
+    warnings: Listing<Text>,
+) -> Result<Plan, AllocError>
     ensures tests { IfOk result (λ plan. plan.tests ≡ map (words.with_tries (words.tries_of settings.now)) selection.tests) }
     ensures skipped { IfOk result (λ plan. plan.skipped ≡ selection.skipped) }
     ensures listed { IfOk result (λ plan. plan.listed ≡ selection.listed) }
     ensures limit { IfOk result (λ plan. plan.limit ≡ settings.now.max_fail) }
     ensures scripts { IfOk result (λ plan. plan.scripts ≡ []) }
+    ensures warnings { IfOk result (λ plan. plan.warnings ≡ warnings) }
 {
     let tries = settings.retries.saturating_add(1);
     let Selection {
@@ -90,6 +96,7 @@ fn plan_of(alloc: Global, settings: &Settings, selection: Selection) -> Result<P
         listed,
         skipped,
         limit: settings.max_fail,
+        warnings,
     })
 }
 

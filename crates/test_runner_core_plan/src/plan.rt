@@ -45,6 +45,8 @@ pub struct Plan {
     pub skipped: Listing<OwnedTestInstanceId>,
     /// How many failing tests stop the run.
     pub limit: MaxFail,
+    /// The warnings, as the report tells them.
+    pub warnings: Listing<Text>,
 }
 
 // One call drops it, whoever holds it.
@@ -56,6 +58,7 @@ impl Drop for Plan {
             listed: _,
             skipped: _,
             limit: _,
+            warnings: _,
         } = self;
     }
 }

@@ -3,6 +3,7 @@ use crate::plan_fault::PlanFault;
 use std::alloc::{AllocError, AllocFailed};
 use test_runner_core_listing::ListingError;
 use test_runner_core_settings::SettingsError;
+use test_runner_core_versions::VersionPassError;
 use test_runner_core_workspace::WorkspaceError;
 use thiserror::Error;
 
@@ -49,6 +50,20 @@ impl From<WorkspaceError> for PlanError {
         match error {
             WorkspaceError::Refused(fault) => PlanError::Refused(PlanFault::from(fault)),
             WorkspaceError::OutOfMemory => PlanError::OutOfMemory,
+        }
+    }
+}
+
+impl From<VersionPassError> for PlanError {
+    ghost use Rattle.std.specs.Prelude.{◌≡◌};
+    ghost use Rattle.test_runner_core_plan.specs.Refusals.{error_of_pass};
+
+    ghost from_gives = { λ part error. error ≡ error_of_pass part };
+
+    fn from(error: VersionPassError) -> PlanError {
+        match error {
+            VersionPassError::Refused(fault) => PlanError::Refused(PlanFault::from(fault)),
+            VersionPassError::OutOfMemory => PlanError::OutOfMemory,
         }
     }
 }

@@ -2,11 +2,15 @@
 use nextest_text::Text;
 use test_runner_core_listing::ListingFault;
 use test_runner_core_settings::SettingsFault;
+use test_runner_core_versions::VersionPassFault;
 use test_runner_core_workspace::WorkspaceFault;
 use thiserror::Error;
 
 // The exit status of a run whose inputs are refused.
 const REFUSED: u8 = 96;
+
+// The same where the current version is below one that is required.
+const REQUIRED_VERSION_NOT_MET: u8 = 92;
 
 /// Why a configuration isn't loaded.
 #[derive(Clone, Copy, Debug, PartialEq, Eq, Hash, Error)]
@@ -34,9 +38,16 @@ pub enum PlanFault {
     /// A binary's id is empty, or has a tab, a line feed or a carriage return in it.
     #[error("BadId")]
     BadId,
-    /// A source's text is no TOML.
+    /// A source's text is no TOML, what it asks for of versions and features has not their forms, or a tool asks for a
+    /// feature.
     #[error("VersionSource")]
     VersionSource,
+    /// A version is required that is above the current one.
+    #[error("VersionError")]
+    VersionError,
+    /// A feature is asked for that isn't known.
+    #[error("UnknownFeature")]
+    UnknownFeature,
     /// The configuration isn't loaded.
     #[error("Load.{0}")]
     Load(LoadFault),
@@ -73,6 +84,8 @@ impl Drop for PlanFault {
             Self::UnknownPackage => {}
             Self::BadId => {}
             Self::VersionSource => {}
+            Self::VersionError => {}
+            Self::UnknownFeature => {}
             Self::Load(_) => {}
             Self::NotYet => {}
             Self::Filterset => {}
@@ -100,6 +113,8 @@ impl PlanFault {
             PlanFault::UnknownPackage => "UnknownPackage",
             PlanFault::BadId => "BadId",
             PlanFault::VersionSource => "VersionSource",
+            PlanFault::VersionError => "VersionError",
+            PlanFault::UnknownFeature => "UnknownFeature",
             PlanFault::Load(LoadFault::BadValue) => "Load.BadValue",
             PlanFault::NotYet => "NotYet",
             PlanFault::Filterset => "Filterset",
@@ -115,7 +130,10 @@ impl PlanFault {
     pub fn status(&self) -> u8
         ensures { result ≡ status_of self.now }
     {
-        REFUSED
+        match self {
+            PlanFault::VersionError => REQUIRED_VERSION_NOT_MET,
+            _ => REFUSED,
+        }
     }
 }
 
@@ -136,6 +154,21 @@ impl From<WorkspaceFault> for PlanFault {
     }
 }
 
+impl From<VersionPassFault> for PlanFault {
+    ghost use Rattle.std.specs.Prelude.{◌≡◌};
+    ghost use Rattle.test_runner_core_plan.specs.Refusals.{of_pass};
+
+    ghost from_gives = { λ part fault. fault ≡ of_pass part };
+
+    fn from(fault: VersionPassFault) -> PlanFault {
+        match fault {
+            VersionPassFault::VersionSource => PlanFault::VersionSource,
+            VersionPassFault::VersionError => PlanFault::VersionError,
+            VersionPassFault::UnknownFeature => PlanFault::UnknownFeature,
+        }
+    }
+}
+
 impl From<SettingsFault> for PlanFault {
     ghost use Rattle.std.specs.Prelude.{◌≡◌};
     ghost use Rattle.test_runner_core_plan.specs.Refusals.{of_settings};
@@ -145,7 +178,6 @@ impl From<SettingsFault> for PlanFault {
     fn from(fault: SettingsFault) -> PlanFault {
         match fault {
             SettingsFault::Syntax => PlanFault::VersionSource,
-            SettingsFault::VersionNotYet => PlanFault::NotYet,
             SettingsFault::BadValue => PlanFault::Load(LoadFault::BadValue),
             SettingsFault::NotYet => PlanFault::NotYet,
         }

@@ -1,21 +1,24 @@
 // What inputs ask for.
 ghost use Rattle.std.specs.Prelude.{◌≡◌};
-ghost use Rattle.test_runner_core_plan.specs.Inside.{IsWanted};
+ghost use Rattle.test_runner_core_plan.specs.Inside.{AreSettled, IsWanted};
 ghost use Rattle.test_runner_core_plan.specs.Plan as words;
 
 use crate::filtering::filter_in;
 use crate::plan_error::PlanError;
 use crate::plan_fault::PlanFault;
 use nextest_filtering_filters::CompiledExpr;
+use nextest_text::{Listing, Text};
 use std::alloc::Global;
-use test_runner_core_inputs::{ConfigSource, ConfigSourceKind, ConfigSourceOutcome, Inputs};
+use test_runner_core_inputs::{ConfigSource, ConfigSourceOutcome, Inputs};
 use test_runner_core_settings::Settings;
+use test_runner_core_versions::{VersionPass, version_pass};
 
 // What inputs ask for.
 #[derive(Drop)]
 pub(crate) struct Wanted {
     pub(crate) settings: Settings,
     pub(crate) filter: CompiledExpr,
+    pub(crate) warnings: Listing<Text>,
 }
 
 // What the sources set.
@@ -24,20 +27,20 @@ fn settings_in(alloc: Global, sources: &[ConfigSource]) -> Result<Settings, Plan
 {
     match sources {
         [] => Ok(Settings::default()),
-        [source] => settings_by(alloc, source),
+        [source] => settings_by(alloc, &source.outcome),
         _ => Err(PlanError::Refused(PlanFault::NotYet)),
     }
 }
 
 // What one source sets.
-fn settings_by(alloc: Global, source: &ConfigSource) -> Result<Settings, PlanError>
-    ensures { words.Gives result (words.settings_by source.now.kind source.now.outcome) }
+fn settings_by(alloc: Global, outcome: &ConfigSourceOutcome) -> Result<Settings, PlanError>
+    ensures { words.Gives result (words.settings_by outcome.now) }
 {
-    match (&source.kind, &source.outcome) {
-        (ConfigSourceKind::ExplicitRepository, ConfigSourceOutcome::Text(text)) => {
-            Ok(Settings::from_toml(alloc, text.as_str())?)
+    match outcome {
+        ConfigSourceOutcome::Text(text) => Ok(Settings::from_toml(alloc, text.as_str())?),
+        ConfigSourceOutcome::NotFound | ConfigSourceOutcome::Failed(_) => {
+            Err(PlanError::Refused(PlanFault::NotYet))
         }
-        _ => Err(PlanError::Refused(PlanFault::NotYet)),
     }
 }
 
@@ -51,23 +54,29 @@ fn asks_for_more(inputs: &Inputs) -> bool
         || inputs.target.is_some()
 }
 
-// The settings that inputs ask for, unless they are refused before their filterset is looked at.
-fn settings_for(alloc: Global, inputs: &Inputs) -> Result<Settings, PlanError>
-    ensures { words.Gives result (words.settings_for inputs.now) }
+// The settings that inputs ask for, and what passing tells, unless they are refused before their filterset is looked at.
+fn settings_for(alloc: Global, inputs: &Inputs) -> Result<(Settings, VersionPass), PlanError>
+    ensures { AreSettled inputs.now result }
 {
     inputs.workspace.check(alloc)?;
+    let passed = version_pass(alloc, inputs)?;
     let settings = settings_in(alloc, inputs.sources.as_slice())?;
     if asks_for_more(inputs) {
         return Err(PlanError::Refused(PlanFault::NotYet));
     }
-    Ok(settings)
+    Ok((settings, passed))
 }
 
 // What inputs ask for.
 pub(crate) fn wanted_in(alloc: Global, inputs: &Inputs) -> Result<Wanted, PlanError>
     ensures { IsWanted inputs.now result }
 {
-    let settings = settings_for(alloc, inputs)?;
+    let (settings, passed) = settings_for(alloc, inputs)?;
     let filter = filter_in(alloc, &inputs.workspace, &inputs.filterset)?;
-    Ok(Wanted { settings, filter })
+    let VersionPass { warnings } = passed;
+    Ok(Wanted {
+        settings,
+        filter,
+        warnings,
+    })
 }

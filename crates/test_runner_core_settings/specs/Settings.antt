@@ -1,5 +1,5 @@
 -- What a configuration's text sets.
-use Rattle.std.specs.Prelude.{◌≡◌, ℕ, ◌^◌, pos, Bool, false, not, ◌||◌, nat_lt, is_some, codes, List, [], ◌∷◌, Option, Some, Result, Ok, Err, ⊤, if◌then◌else◌}
+use Rattle.std.specs.Prelude.{◌≡◌, ℕ, ◌^◌, pos, Bool, false, not, ◌||◌, nat_lt, codes, List, [], ◌∷◌, Option, Some, Result, Ok, Err, ⊤, if◌then◌else◌}
 use Rattle.std.specs.Option.{option_map_or}
 use Rattle.toml.specs.Data.{Data, integer, boolean, table}
 use Rattle.toml.specs.Parse.{parse_document}
@@ -29,12 +29,6 @@ retries top = value_at (codes "profile" ∷ codes "default" ∷ codes "retries" 
 abbrev pub fail_fast : Data → Option Data
 fail_fast top = value_at (codes "profile" ∷ codes "default" ∷ codes "fail-fast" ∷ []) (Some top)
 
--- the top demands a version or names features
-abbrev pub demands_version : Data → Bool
-demands_version top =
-    is_some (value_at (codes "nextest-version" ∷ []) (Some top))
-    || is_some (value_at (codes "experimental" ∷ []) (Some top))
-
 -- neither nothing, nor a table, nor a number of 32 bits
 abbrev pub is_bad_retries : Option Data → Bool
 is_bad_retries (Some (integer (pos count))) = not (nat_lt count (2 ^ 32))
@@ -57,10 +51,10 @@ has_bad_setting top = is_bad_retries (retries top) || is_bad_fail_fast (fail_fas
 abbrev pub has_bad_value : Data → Bool
 has_bad_value top = has_bad_table top || has_bad_setting top
 
--- a key stands beside those that are read
+-- a key stands beside those that are read; what the top asks for of versions and features is read elsewhere
 abbrev pub has_more_keys : Data → Bool
 has_more_keys top =
-    (has_other_key (codes "profile" ∷ []) (Some top) || has_other_key (codes "default" ∷ []) (profiles top))
+    (has_other_key (codes "profile" ∷ codes "nextest-version" ∷ codes "experimental" ∷ []) (Some top) || has_other_key (codes "default" ∷ []) (profiles top))
     || has_other_key (codes "retries" ∷ codes "fail-fast" ∷ []) (default_profile top)
 
 -- a setting is a table
@@ -88,8 +82,7 @@ default_settings = record { retries = 0; max_fail = Count 1 Wait }
 -- what a table sets, or why it isn't read: each reason is looked for in the whole table before the next
 abbrev pub set_in : Data → Result Settings SettingsFault
 set_in top =
-    if demands_version top then Err refused.VersionNotYet
-    else if has_bad_value top then Err refused.BadValue
+    if has_bad_value top then Err refused.BadValue
     else if has_more top then Err refused.NotYet
     else Ok (record { retries = retries_of (retries top); max_fail = max_fail_of (fail_fast top) })
 

@@ -33,10 +33,3 @@ pub(crate) fn fail_fast(top: &Value) -> Option<&Value>
 {
     default_profile(top)?.get("fail-fast")
 }
-
-// Whether the top demands a version or names features.
-pub(crate) fn demands_version(top: &Value) -> bool
-    ensures { result ≡ setting.demands_version (view top.now) }
-{
-    top.get("nextest-version").is_some() || top.get("experimental").is_some()
-}

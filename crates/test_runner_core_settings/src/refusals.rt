@@ -32,7 +32,10 @@ pub(crate) fn has_bad_value(top: &Value) -> bool
 fn has_more_keys(top: &Value) -> bool
     ensures { result ≡ setting.has_more_keys (view top.now) }
 {
-    if has_other_key(Some(top), &["profile"]) || has_other_key(profiles(top), &["default"]) {
+    if has_other_key(Some(top), &["profile", "nextest-version", "experimental"]) {
+        return true;
+    }
+    if has_other_key(profiles(top), &["default"]) {
         return true;
     }
     has_other_key(default_profile(top), &["retries", "fail-fast"])

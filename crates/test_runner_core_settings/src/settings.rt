@@ -4,7 +4,7 @@ ghost use Rattle.toml.specs.Errors.{IsBlank};
 ghost use Rattle.toml.specs.View.{view};
 ghost use Rattle.test_runner_core_settings.specs.Settings as setting;
 
-use crate::places::{demands_version, fail_fast, retries};
+use crate::places::{fail_fast, retries};
 use crate::refusals::{has_bad_value, has_more};
 use crate::settings_error::SettingsError;
 use crate::settings_fault::SettingsFault;
@@ -72,9 +72,6 @@ fn top_of(alloc: Global, text: &str) -> Result<Value, SettingsError>
 fn set_in(top: &Value) -> Result<Settings, SettingsFault>
     ensures { result ≡ setting.set_in (view top.now) }
 {
-    if demands_version(top) {
-        return Err(SettingsFault::VersionNotYet);
-    }
     if has_bad_value(top) {
         return Err(SettingsFault::BadValue);
     }

@@ -7,9 +7,6 @@ pub enum SettingsFault {
     /// It is no TOML.
     #[error("the configuration is no TOML")]
     Syntax,
-    /// It demands a version or names features, which isn't read yet: the top has `nextest-version` or `experimental`.
-    #[error("the configuration demands a version or names features, which isn't read yet")]
-    VersionNotYet,
     /// A value that is read has a type or range that it can't have.
     #[error("a value of the configuration has a type or range that it can't have")]
     BadValue,

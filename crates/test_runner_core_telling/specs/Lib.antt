@@ -3,3 +3,4 @@ pub mod Parts
 pub mod Telling
 pub mod Final
 pub mod Steps
+pub mod Opening

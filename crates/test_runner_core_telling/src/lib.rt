@@ -3,12 +3,14 @@
 
 mod fault;
 mod final_text;
+mod opening;
 mod run_end;
 mod steps;
 mod telling;
 
 pub use fault::TellFault;
 pub use final_text::tell_final;
+pub use opening::tell_opening;
 pub use run_end::RunEnd;
 pub use steps::tell_step;
 pub use telling::{tell_done, tell_shown, tell_words, write_waiting};

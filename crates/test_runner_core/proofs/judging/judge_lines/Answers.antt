@@ -3,14 +3,13 @@ use Rattle.test_runner_core_log_reader.specs.Calls.{Hands, HandsAhead, HandsByte
 use Rattle.test_runner_core_log_reader.specs.declared.next.Next.{Next}
 use Rattle.test_runner_core_log_reader.proofs.WholeLines.{takes_none}
 use Rattle.test_runner_core_session.specs.Session.{SessionState}
-use Rattle.test_runner_core_telling.specs.Telling.{TellsAll}
-use Rattle.test_runner_core_telling.proofs.Told.{all_none}
+use Rattle.test_runner_core_telling.specs.Opening.{opening}
 use Rattle.test_runner_core.specs.Inside.{JudgedLines, JudgesLine}
 use Rattle.test_runner_core.specs.Report.{SoFar}
 use Rattle.test_runner_core.specs.declared.refused_line.LineRefusal.{LineRefusal}
 use Rattle.test_runner_core.specs.declared.refused_line.RefusedLine.{RefusedLine}
 use Rattle.test_runner_core.proofs.Course.{reached, so_far_none}
-use Rattle.test_runner_core.proofs.Walk.{judges_line_fails, judges_next_fails, line_accepted, line_failed, line_refused, log_faulty, log_over, nothing_ahead}
+use Rattle.test_runner_core.proofs.Walk.{judges_line_fails, judges_next_fails, line_accepted, line_failed, line_refused, log_faulty, log_over, nothing_ahead, opening_failed, told_from_nothing}
 use Rattle.test_runner_core.proofs.judging.judge_lines.Goals as goal
 
 pub loop-fault-init : goal.loop-fault-init
@@ -20,10 +19,11 @@ loop-fault-init g c =
     record {
       here = record {
         front = [];
-        parts = [];
+        parts = opening plan;
         planned = refl;
-        so_far = subst (λ (s : SessionState). SoFar plan [] s.run []) (sym begins) (so_far_none plan);
-        told = subst (λ (w : List ℕ). TellsAll [] (g.W.ReportWriter.taken c.args.report.now) [] (g.W.ReportWriter.taken c.args.report.now) w) (sym c.requires.empty) (all_none (g.W.ReportWriter.taken c.args.report.now) []);
+        so_far = subst (λ (s : SessionState). SoFar plan [] s.run (opening plan)) (sym begins) (so_far_none plan);
+        told = told_from_nothing plan c.plan.result.now (g.W.ReportWriter.taken c.args.report.now) (g.W.ReportWriter.taken c.tell_opening.new.report) (string_bytes c.args.text.now) (string_bytes c.tell_opening.new.text)
+            c.plan.ensures c.requires.empty c.in_ok-tell_opening.ensures.tells;
         items = nothing_ahead c.args.lines.now (g.R.LogReader.left c.args.log.now);
         bytes = takes_none c.args.lines.now (g.R.LogReader.left c.args.log.now);
         numbered = refl;
@@ -31,9 +31,19 @@ loop-fault-init g c =
       reads = omega arith;
       within = omega arith;
       unfailed = refl;
-      unfailed_writes = refl;
+      unfailed_writes = c.in_ok-tell_opening.ensures.failures;
       counted = omega arith;
     }
+
+pub returns-in_err-tell_opening-clause-judged : goal.returns-in_err-tell_opening-clause-judged
+returns-in_err-tell_opening-clause-judged g c =
+    let plan = c.args.session.now.plan in
+    let left = g.R.LogReader.left in
+    let taken = g.W.ReportWriter.taken in
+    judges_line_fails c.from_residual.result c.in_err-tell_opening.field-0.0 plan _ c.args.lines.now (left c.args.log.now) (taken c.args.report.now) (left c.args.log.now) (taken c.tell_opening.new.report) _
+    c.from_residual.ensures.1
+    (opening_failed plan c.plan.result.now c.args.lines.now (left c.args.log.now) (taken c.args.report.now) (taken c.tell_opening.new.report) (string_bytes c.args.text.now)
+    c.plan.ensures c.requires.empty c.in_err-tell_opening.ensures.tells)
 
 pub returns-in_err-next_line-clause-judged : goal.returns-in_err-next_line-clause-judged
 returns-in_err-next_line-clause-judged g c =

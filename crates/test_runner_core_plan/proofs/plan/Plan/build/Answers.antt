@@ -88,6 +88,7 @@ returns-clause-builds g c =
         listed = plan.listed ∙ selects.2.listed;
         limit = plan.limit;
         scripts = plan.scripts;
+        warnings = plan.warnings ∙ known.2;
       },
     )
 

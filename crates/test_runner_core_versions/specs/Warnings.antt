@@ -1,0 +1,25 @@
+-- The texts of warnings.
+use Rattle.std.specs.Prelude.{ℕ, ◌==◌, Bool, true, false, ◌||◌, List, [], ◌∷◌, ◌++◌, chars, codes, encode_utf8, nat_lt, if◌then◌else◌}
+use Rattle.std.specs.Fmt.{digits}
+use Rattle.std.specs.List.{flat_map}
+use Rattle.semver.specs.Identifiers.{parts_text}
+use Rattle.semver.specs.Parse.{Parts}
+
+-- a character: one below a space, and the one behind `~`, prints as `\u{h}`, h its number in hexadecimal digits
+abbrev pub shown_character : ℕ → List ℕ
+shown_character character =
+    if nat_lt character 32 || character == 127 then 92 ∷ 117 ∷ 123 ∷ digits 16 false character ++ 125 ∷ []
+    else encode_utf8 character
+
+-- a path, on one line
+abbrev pub shown : List ℕ → List ℕ
+shown path = flat_map shown_character (chars path)
+
+-- that the current version is below one that the source at a path asks for
+abbrev pub version_text : List ℕ → Parts → Parts → List ℕ → List ℕ
+version_text role asked current path =
+    codes "version " ++ role ++ codes " " ++ parts_text asked ++ codes " current " ++ parts_text current ++ codes " by " ++ shown path
+
+-- the same where it is passed over
+abbrev pub overridden_text : List ℕ → Parts → Parts → List ℕ → List ℕ
+overridden_text role asked current path = version_text role asked current path ++ codes " (overridden)"
