@@ -1,10 +1,12 @@
 -- What a source asks for: at most one required and one recommended version, and features by name.
-use Rattle.std.specs.Prelude.{ℕ, ◌+◌, Bool, true, false, List, [], ◌∷◌, ◌++◌, Option, None, Some, Ok, Err, codes, decimal, option_map}
+use Rattle.std.specs.Prelude.{ℕ, ◌+◌, Bool, true, false, List, [], ◌∷◌, ◌++◌, Option, None, Some, Ok, Err, codes, decimal}
 use Rattle.std.specs.Option.{option_map_or, option_or}
-use Rattle.toml.specs.Data.{Data, string, boolean, array, table, Items, no_items, item, Members, no_members, member, as_bool, as_str, get_member}
+use Rattle.toml.specs.Data.{Data, string, array, table, Items, no_items, item, Members, no_members, member, as_bool, as_str, get_member}
 use Rattle.semver.specs.Parse.{Parts}
 use Rattle.nextest_version.specs.Reading.{version_of}
 use Rattle.nextest_config_elements_reading.specs.Reading.{Reading, ◌>>=◌, leaf, optional, under}
+use Rattle.nextest_config_elements_versions.specs.declared.asked_versions.AskedVersions.{AskedVersions}
+use Rattle.nextest_config_elements_versions.specs.declared.demand.VersionDemand.{VersionDemand}
 
 -- the version that a text asks for: the one that it is, or with `.0` behind it, so that `X.Y` is `X.Y.0`
 abbrev pub asked_version : List ℕ → Option Parts
@@ -15,21 +17,17 @@ version (string text) = asked_version text
 version given = None
 
 -- the versions that a source asks for
-pub record Asked : Type 0 where
-  pub required : Option Parts
-  pub recommended : Option Parts
-
-abbrev pub only_required : Parts → Asked
+abbrev pub only_required : Parts → AskedVersions
 only_required version = record { required = Some version; recommended = None }
 
-abbrev pub both : Members → Reading Asked
+abbrev pub both : Members → Reading AskedVersions
 both members = do
   recommended ← optional (codes "recommended") version members
   required ← optional (codes "required") version members
   Ok (record { required = required; recommended = recommended })
 
 -- `nextest-version`: a text asks for a required version, a table for one of each
-abbrev pub versions : Data → Reading Asked
+abbrev pub versions : Data → Reading AskedVersions
 versions (string text) = option_map_or (λ version. Ok (only_required version)) (asked_version text) (Err [])
 versions (table members) = both members
 versions given = Err []
@@ -60,21 +58,23 @@ features (array items) = names_in 0 items
 features (table members) = keys_in members
 features given = Err []
 
--- what a configuration asks for
-pub record Demand : Type 0 where
-  pub versions : Asked
-  pub features : List (List ℕ)
-
 -- what asks for nothing
-abbrev pub no_versions : Asked
+abbrev pub no_versions : AskedVersions
 no_versions = record { required = None; recommended = None }
 
-abbrev pub no_demand : Demand
+abbrev pub no_demand : VersionDemand
 no_demand = record { versions = no_versions; features = [] }
 
+-- the two keys of the top table of a text
+abbrev pub experimental_in : Members → Reading (List (List ℕ))
+experimental_in top = under (codes "experimental") (option_map_or features (get_member (codes "experimental") top) (Ok []))
+
+abbrev pub nextest_version_in : Members → Reading AskedVersions
+nextest_version_in top = under (codes "nextest-version") (option_map_or versions (get_member (codes "nextest-version") top) (Ok no_versions))
+
 -- the top table of a text; other keys are read past
-abbrev pub demand_of : Members → Reading Demand
+abbrev pub demand_of : Members → Reading VersionDemand
 demand_of top = do
-  names ← under (codes "experimental") (option_map_or features (get_member (codes "experimental") top) (Ok []))
-  asked ← under (codes "nextest-version") (option_map_or versions (get_member (codes "nextest-version") top) (Ok no_versions))
+  names ← experimental_in top
+  asked ← nextest_version_in top
   Ok (record { versions = asked; features = names })

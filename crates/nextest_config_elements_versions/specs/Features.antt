@@ -1,10 +1,11 @@
 -- Which features are known.
-use Rattle.std.specs.Prelude.{ℕ, Bool, true, false, ◌||◌, List, Option, None, Some, codes, is_some, is_none, if◌then◌else◌}
+use Rattle.std.specs.Prelude.{ℕ, Bool, ◌||◌, ◌≡◌, List, Option, None, Some, Result, Ok, Err, codes, is_none, if◌then◌else◌}
 use Rattle.std.specs.List.{list_any, filter}
 use Rattle.std.specs.Str.{bytes_eq}
 use Rattle.nextest_config_elements_versions.specs.declared.feature.ConfigExperimental.{ConfigExperimental}
 use Rattle.nextest_config_elements_versions.specs.declared.feature.ConfigExperimental.TheVariants as feature
 use Rattle.nextest_config_elements_versions.specs.declared.feature.FeatureSet.{FeatureSet}
+use Rattle.nextest_config_elements_versions.specs.declared.feature.UnknownFeature.{UnknownFeature}
 
 -- the name of a feature
 abbrev pub text_of : ConfigExperimental → List ℕ
@@ -19,6 +20,11 @@ feature_of name =
     else if bytes_eq name (codes "wrapper-scripts") then Some feature.WrapperScripts
     else if bytes_eq name (codes "benchmarks") then Some feature.Benchmarks
     else None
+
+-- a call gives the feature of a name
+abbrev pub KnownBy : List ℕ → Result ConfigExperimental UnknownFeature → Type 0
+KnownBy name (Ok feature) = feature_of name ≡ Some feature
+KnownBy name (Err unknown) = feature_of name ≡ None
 
 -- the variable of the environment that turns a feature on
 abbrev pub env_var : ConfigExperimental → Option (List ℕ)
@@ -38,9 +44,9 @@ is_named it names = list_any (bytes_eq (text_of it)) names
 
 abbrev pub known_in : List (List ℕ) → FeatureSet
 known_in names = record {
-    setup_scripts = is_named feature.SetupScripts names;
-    wrapper_scripts = is_named feature.WrapperScripts names;
-    benchmarks = is_named feature.Benchmarks names;
+  setup_scripts = is_named feature.SetupScripts names;
+  wrapper_scripts = is_named feature.WrapperScripts names;
+  benchmarks = is_named feature.Benchmarks names;
 }
 
 -- the names that are no feature's, in their order
@@ -50,7 +56,7 @@ unknown_in names = filter (λ name. is_none (feature_of name)) names
 -- what is in one of two sets
 abbrev pub union : FeatureSet → FeatureSet → FeatureSet
 union one other = record {
-    setup_scripts = one.setup_scripts || other.setup_scripts;
-    wrapper_scripts = one.wrapper_scripts || other.wrapper_scripts;
-    benchmarks = one.benchmarks || other.benchmarks;
+  setup_scripts = one.setup_scripts || other.setup_scripts;
+  wrapper_scripts = one.wrapper_scripts || other.wrapper_scripts;
+  benchmarks = one.benchmarks || other.benchmarks;
 }

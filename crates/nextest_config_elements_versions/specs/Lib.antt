@@ -1,4 +1,5 @@
 pub mod Demand
+pub mod Eval
 pub mod Features
 pub mod Laws
 pub mod Sources

@@ -1,12 +1,13 @@
 -- Which of the versions that a list of sources asks for counts, and what a version is by them.
-use Rattle.std.specs.Prelude.{◌≡◌, ℕ, Bool, true, false, not, List, [], ◌∷◌, ◌++◌, Option, None, Some, map, if◌then◌else◌}
-use Rattle.std.specs.List.{All, list_all}
+use Rattle.std.specs.Prelude.{◌≡◌, true, not, List, [], ◌∷◌, ◌++◌, Option, None, Some, if◌then◌else◌}
+use Rattle.std.specs.List.{list_all}
 use Rattle.semver.specs.Parse.{Parts}
 use Rattle.nextest_version.specs.Order.{is_above}
-use Rattle.nextest_config_elements_versions.specs.declared.nextest_version.NextestVersionConfig.{NextestVersionConfig}
-use Rattle.nextest_config_elements_versions.specs.declared.nextest_version.NextestVersionReq.{NextestVersionReq}
-use Rattle.nextest_config_elements_versions.specs.declared.nextest_version.NextestVersionReq.TheVariants as req
-use Rattle.nextest_config_elements_versions.specs.declared.source.VersionOrigin.{VersionOrigin}
+use Rattle.nextest_config_elements_versions.specs.declared.asked_versions.AskedVersions.{AskedVersions}
+use Rattle.nextest_config_elements_versions.specs.declared.version_config.NextestVersionConfig.{NextestVersionConfig}
+use Rattle.nextest_config_elements_versions.specs.declared.version_req.NextestVersionReq.{NextestVersionReq}
+use Rattle.nextest_config_elements_versions.specs.declared.version_req.NextestVersionReq.TheVariants as req
+use Rattle.nextest_config_elements_versions.specs.declared.origin.VersionOrigin.{VersionOrigin}
 
 -- a version that is asked for, and by which source
 abbrev pub Ask : Type 0
@@ -25,6 +26,22 @@ pub record Counts (asks : List Ask) (ask : Ask) : Type 0 where
 abbrev pub IsReq : List Ask → NextestVersionReq → Type 0
 IsReq asks (req.Version version source) = Counts asks (version, source)
 IsReq asks req.None = asks ≡ []
+
+-- the version that is kept
+abbrev pub kept : NextestVersionReq → Option Parts
+kept (req.Version version source) = Some version
+kept req.None = None
+
+-- what counts of one source, and of none
+abbrev pub asked_by : Option Parts → VersionOrigin → NextestVersionReq
+asked_by (Some version) source = req.Version version source
+asked_by None source = req.None
+
+abbrev pub asked_in : AskedVersions → VersionOrigin → NextestVersionConfig
+asked_in asked source = record { required = asked_by asked.required source; recommended = asked_by asked.recommended source }
+
+abbrev pub none_asked : NextestVersionConfig
+none_asked = record { required = req.None; recommended = req.None }
 
 -- what a version is by those that count: required is judged first
 pub data Verdict : Type 0 where

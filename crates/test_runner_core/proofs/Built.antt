@@ -7,12 +7,10 @@ use Rattle.nextest_config_elements_plain.specs.declared.max_fail.MaxFail.{MaxFai
 use Rattle.toml.specs.Data.{Data, string, integer, float, boolean, datetime, array, table, Members}
 use Rattle.test_runner_core_inputs.specs.declared.inputs.Inputs.{Inputs}
 use Rattle.test_runner_core_inputs.specs.declared.source.ConfigSource.{ConfigSource}
-use Rattle.nextest_config_elements_identifiers.specs.declared.source_kind.ConfigSourceKind.{ConfigSourceKind}
-use Rattle.nextest_config_elements_identifiers.specs.declared.source_kind.ConfigSourceKind.TheVariants as kinds
 use Rattle.test_runner_core_inputs.specs.declared.source.ConfigSourceOutcome.{ConfigSourceOutcome}
 use Rattle.test_runner_core_inputs.specs.declared.source.ConfigSourceOutcome.TheVariants as outcomes
 use Rattle.nextest_run_events_results.specs.declared.instance.OwnedTestInstanceId.{OwnedTestInstanceId}
-use Rattle.test_runner_core_plan.specs.Plan.{Planned, Plans, IsPlanOf, plan_test, settings_for, settings_in, settings_by, set_by, asks_for_more, workspace_of, ◌>>=◌}
+use Rattle.test_runner_core_plan.specs.Plan.{Planned, Plans, IsPlanOf, passed_by, plan_test, settings_for, settings_in, settings_by, set_by, asks_for_more, workspace_of, ◌>>=◌}
 use Rattle.test_runner_core_plan.specs.declared.plan.Plan.{Plan}
 use Rattle.test_runner_core_plan.specs.declared.plan.PlanTest.{PlanTest}
 use Rattle.test_runner_core_plan.specs.declared.plan_fault.PlanFault.{PlanFault}
@@ -20,11 +18,12 @@ use Rattle.test_runner_core_plan.specs.declared.plan_fault.PlanFault.TheVariants
 use Rattle.test_runner_core_runs.specs.RunPlan.{IsPlan, IsLimit}
 use Rattle.test_runner_core_runs.specs.declared.run_test.RunTest.{RunTest}
 use Rattle.test_runner_core_session.specs.Session.{run_plan, run_test}
-use Rattle.test_runner_core_settings.specs.Settings.{settings_of, set_in, max_fail_of, demands_version, has_bad_value, has_more, retries_of, retries, fail_fast}
+use Rattle.test_runner_core_settings.specs.Settings.{settings_of, set_in, max_fail_of, has_bad_value, has_more, retries_of, retries, fail_fast}
 use Rattle.test_runner_core_settings.specs.declared.settings.Settings.{Settings}
 use Rattle.test_runner_core_settings.specs.declared.settings_fault.SettingsFault.{SettingsFault}
 use Rattle.test_runner_core_settings.specs.declared.settings_fault.SettingsFault.TheVariants as not_read
 use Rattle.toml.specs.Parse.{parse_document}
+use Rattle.test_runner_core_versions.specs.Pass.{pass_of}
 use Rattle.test_runner_core_workspace.specs.Lister.{Answer}
 use Rattle.test_runner_core_workspace.specs.Workspace.{refusal_of}
 use Rattle.test_runner_core_workspace.specs.declared.record.Binary.{Binary}
@@ -69,16 +68,14 @@ Sets (Ok settings) = IsSound settings
 Sets (Err refusal) = ⊤
 
 sets_one : (top : Data) → Sets (set_in top)
-sets_one top = by_refusals (demands_version top) (has_bad_value top) (has_more top)
+sets_one top = by_refusals (has_bad_value top) (has_more top)
   where
-    by_refusals : (version bad more : Bool) →
-        Sets (if version then Err not_read.VersionNotYet else if bad then Err not_read.BadValue
-        else if more then Err not_read.NotYet
+    by_refusals : (bad more : Bool) →
+        Sets (if bad then Err not_read.BadValue else if more then Err not_read.NotYet
         else Ok (record { retries = retries_of (retries top); max_fail = max_fail_of (fail_fast top) }))
-    by_refusals true bad more = tt
-    by_refusals false true more = tt
-    by_refusals false false true = tt
-    by_refusals false false false = limit_is_one (fail_fast top)
+    by_refusals true more = tt
+    by_refusals false true = tt
+    by_refusals false false = limit_is_one (fail_fast top)
 
 text_sets_one : (text : List ℕ) → Sets (settings_of text)
 text_sets_one text = by_reading (parse_document text)
@@ -93,22 +90,21 @@ set_holds (Err refusal) sound = tt
 
 sources_set_one : (sources : List ConfigSource) → Holds (settings_in sources) IsSound
 sources_set_one [] = grind (arith)
-sources_set_one (source ∷ []) = by_kind source.kind source.outcome
+sources_set_one (source ∷ []) = by_outcome source.outcome
   where
-    by_kind : (kind : ConfigSourceKind) (outcome : ConfigSourceOutcome) → Holds (settings_by kind outcome) IsSound
-    by_kind kinds.ExplicitRepository (outcomes.Text text) = set_holds (settings_of text) (text_sets_one text)
-    by_kind kinds.ExplicitRepository outcomes.NotFound = tt
-    by_kind kinds.ExplicitRepository (outcomes.Failed cause) = tt
-    by_kind kinds.DiscoveredRepository outcome = tt
-    by_kind (kinds.Tool name) outcome = tt
+    by_outcome : (outcome : ConfigSourceOutcome) → Holds (settings_by outcome) IsSound
+    by_outcome (outcomes.Text text) = set_holds (settings_of text) (text_sets_one text)
+    by_outcome outcomes.NotFound = tt
+    by_outcome (outcomes.Failed cause) = tt
 sources_set_one (source ∷ other ∷ more) = tt
 
 -- the settings that inputs ask for have a limit
 asked_is_sound : (inputs : Inputs) → Holds (settings_for inputs) IsSound
 asked_is_sound inputs =
     next_holds (workspace_of inputs.workspace (refusal_of inputs.workspace)) _ (λ workspace. ⊤) _ (anything _)
-    (λ workspace _. next_holds (settings_in inputs.sources) _ IsSound _ (sources_set_one inputs.sources)
-    (λ settings sound. unless_refused IsSound (asks_for_more inputs) refused.NotYet settings sound))
+    (λ workspace _. next_holds (passed_by (pass_of inputs)) _ (λ passed. ⊤) _ (anything _)
+    (λ passed _. next_holds (settings_in inputs.sources) _ IsSound _ (sources_set_one inputs.sources)
+    (λ settings sound. unless_refused IsSound (asks_for_more inputs) refused.NotYet settings sound)))
 
 each_has_a_try : (settings : Settings) (tests : List OwnedTestInstanceId)
     → AllByRecursion (λ (test : RunTest). 0 < test.tries) (map run_test (map (plan_test settings) tests))

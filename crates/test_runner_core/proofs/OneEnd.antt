@@ -4,7 +4,10 @@ use Rattle.std.specs.Io.KnownBytes.{Appends}
 use Rattle.test_runner_core_inputs.specs.declared.inputs.Inputs.{Inputs}
 use Rattle.test_runner_core_log_reader.specs.Feeds.{behind_feed}
 use Rattle.test_runner_core_log_reader.specs.Items.{Item, Line, Refused, items}
+use Rattle.test_runner_core_plan.specs.Texts.{status_of}
 use Rattle.test_runner_core_plan.specs.declared.plan.Plan.{Plan}
+use Rattle.test_runner_core_plan.specs.declared.plan_fault.PlanFault.{PlanFault}
+use Rattle.test_runner_core_plan.specs.declared.plan_fault.PlanFault.TheVariants as plan_refused
 use Rattle.test_runner_core_runs.proofs.OneEnd as runs
 use Rattle.test_runner_core_runs.proofs.WholeRuns as whole_runs
 use Rattle.test_runner_core_runs.specs.Assignment.{Assignment, IsUnstopped}
@@ -126,8 +129,27 @@ judged_well answer inputs log parts plan judged None is =
       sym (judged.status ∙ ap (exit_status judged.last) is),
     )
 
+-- no refusal has status 0
+never_zero : (refusal : PlanFault) → 0 ≡ status_of refusal → ⊥
+never_zero plan_refused.RepeatedPackage zero = absurd (let none : 0 ≡ 96 = zero in cc)
+never_zero plan_refused.UnknownLink zero = absurd (let none : 0 ≡ 96 = zero in cc)
+never_zero plan_refused.RepeatedBinary zero = absurd (let none : 0 ≡ 96 = zero in cc)
+never_zero plan_refused.UnknownPackage zero = absurd (let none : 0 ≡ 96 = zero in cc)
+never_zero plan_refused.BadId zero = absurd (let none : 0 ≡ 96 = zero in cc)
+never_zero plan_refused.VersionSource zero = absurd (let none : 0 ≡ 96 = zero in cc)
+never_zero plan_refused.VersionError zero = absurd (let none : 0 ≡ 92 = zero in cc)
+never_zero plan_refused.UnknownFeature zero = absurd (let none : 0 ≡ 96 = zero in cc)
+never_zero (plan_refused.Load why) zero = absurd (let none : 0 ≡ 96 = zero in cc)
+never_zero plan_refused.NotYet zero = absurd (let none : 0 ≡ 96 = zero in cc)
+never_zero plan_refused.Filterset zero = absurd (let none : 0 ≡ 96 = zero in cc)
+never_zero (plan_refused.ListFault cause) zero = absurd (let none : 0 ≡ 96 = zero in cc)
+never_zero plan_refused.EmptyTestName zero = absurd (let none : 0 ≡ 96 = zero in cc)
+never_zero plan_refused.BadTestName zero = absurd (let none : 0 ≡ 96 = zero in cc)
+never_zero plan_refused.RepeatedTest zero = absurd (let none : 0 ≡ 96 = zero in cc)
+never_zero plan_refused.RetriesTooMany zero = absurd (let none : 0 ≡ 96 = zero in cc)
+
 pub succeeds_whole : SucceedsWhole
-succeeds_whole answer inputs log parts (inl (refusal, refuses, is, code)) = absurd (let none : 0 ≡ 96 = code in cc)
+succeeds_whole answer inputs log parts (inl (refusal, refuses, is, code)) = absurd (never_zero refusal code)
 succeeds_whole answer inputs log parts (inr (plan, built, judged)) =
     let well = judged_well answer inputs log parts plan judged judged.found refl in
     let run : IsRun answer inputs log = record {

@@ -73,8 +73,7 @@ stream_got inputs (Some bytes) (Some log) (Some behind) lines at read parts (fro
     by_feed : (IsPlain bytes × (behind_feed bytes ≡ [])) ⊎ (IsPlain (before_feed bytes) × (bytes ≡ before_feed bytes ++ 10 ∷ behind_feed bytes)) → StreamGotTo bytes behind parts
     by_feed (inl (plain, none)) =
         let empty = log_is ∙ none in
-        let nothing = both_none got.0 behind empty in
-        (
+        let nothing = both_none got.0 behind empty in (
           bytes,
           sym (append-nil bytes) ∙ ap (λ (t : List ℕ). bytes ++ t) (sym nothing.1),
           inr (inputs, ap read_inputs (sym at.0) ∙ read, subst (λ (t : List ℕ). TellsSoFar (table_of inputs) inputs (whole_lines t) parts) (nothing.0 ∙ sym none) tells),

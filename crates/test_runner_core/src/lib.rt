@@ -18,6 +18,7 @@ mod whole_report;
 pub use check::first_refused;
 pub use entry::{judge, judge_stream};
 pub use judge_fault::JudgeFault;
+pub use nextest_config_elements_identifiers::ConfigSourceKind;
 pub use nextest_config_elements_plain::{
     FlakyResult, LeakTimeoutResult, MaxFail, NextestRunMode, SlowTimeoutResult, TerminateMode,
 };
@@ -29,10 +30,11 @@ pub use nextest_run_events_results::{
     OwnedTestInstanceId, Record, RecordOutput, TestInstanceId,
 };
 pub use nextest_text::{Listing, Text};
+pub use nextest_version::PlainVersion;
 pub use refused_line::{LineRefusal, RefusedLine};
 pub use test_runner_core_inputs::{
-    ConfigSource, ConfigSourceKind, ConfigSourceOutcome, CurrentVersion, FactRecord, Inputs,
-    InputsError, InputsRefusal, PlatformRecord,
+    ConfigSource, ConfigSourceOutcome, FactRecord, Inputs, InputsError, InputsRefusal,
+    PlatformRecord,
 };
 pub use test_runner_core_line_syntax::{
     HexDigits, HexText, LentLine, LentOutput, LentRecord, LentStream, LogLine, ParseLineError,

@@ -40,7 +40,8 @@ impl Plan {
         if has_too_many(&wanted.settings, selection.tests.as_slice()) {
             return Err(PlanError::Refused(PlanFault::RetriesTooMany));
         }
-        Ok(plan_of(alloc, &wanted.settings, selection, wanted.warnings)?)
+        let settings = wanted.settings;
+        Ok(plan_of(alloc, &settings, selection, wanted.warnings)?)
     }
 }
 

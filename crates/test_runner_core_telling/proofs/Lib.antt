@@ -1,3 +1,4 @@
 pub mod Told
 pub mod Named
 pub mod Done
+pub mod Opened

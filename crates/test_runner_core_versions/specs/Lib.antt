@@ -1,2 +1,4 @@
+pub mod Counting
 pub mod Pass
+pub mod Told
 pub mod Warnings

@@ -15,11 +15,14 @@ shown_character character =
 abbrev pub shown : List ℕ → List ℕ
 shown path = flat_map shown_character (chars path)
 
--- that the current version is below one that the source at a path asks for
-abbrev pub version_text : List ℕ → Parts → Parts → List ℕ → List ℕ
-version_text role asked current path =
-    codes "version " ++ role ++ codes " " ++ parts_text asked ++ codes " current " ++ parts_text current ++ codes " by " ++ shown path
+-- how a warning ends where it is let pass, and where it isn't
+abbrev pub overridden : List ℕ
+overridden = codes " (overridden)"
 
--- the same where it is passed over
-abbrev pub overridden_text : List ℕ → Parts → Parts → List ℕ → List ℕ
-overridden_text role asked current path = version_text role asked current path ++ codes " (overridden)"
+abbrev pub plain : List ℕ
+plain = []
+
+-- that the current version is below one that the source at a path asks for
+abbrev pub version_text : List ℕ → Parts → Parts → List ℕ → List ℕ → List ℕ
+version_text role asked current path end =
+    codes "version " ++ (role ++ (codes " " ++ (parts_text asked ++ (codes " current " ++ (parts_text current ++ (codes " by " ++ (shown path ++ end)))))))

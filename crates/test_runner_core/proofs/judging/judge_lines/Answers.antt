@@ -49,9 +49,9 @@ pub returns-in_err-next_line-clause-judged : goal.returns-in_err-next_line-claus
 returns-in_err-next_line-clause-judged g c =
     let left = g.R.LogReader.left in
     let taken = g.W.ReportWriter.taken in
-    judges_next_fails c.from_residual.result c.in_err-next_line.field-0.0 c.args.session.now.plan _ c.args.lines.now (left c.args.log.now) (taken c.args.report.now) c.loop-fault.session c.loop-fault.lines c.next_line.new.lines
+    judges_next_fails c.from_residual-in_err-next_line.result c.in_err-next_line.field-0.0 c.args.session.now.plan _ c.args.lines.now (left c.args.log.now) (taken c.args.report.now) c.loop-fault.session c.loop-fault.lines c.next_line.new.lines
     (left c.loop-fault.log) (left c.next_line.new.log) (taken c.loop-fault.report) (taken c.next_line.new.report) (string_bytes c.loop-fault.text) (string_bytes c.next_line.new.text) _ c.loop-fault.number
-    c.from_residual.ensures.1 c.loop-fault.invariant.here c.in_err-next_line.ensures.items
+    c.from_residual-in_err-next_line.ensures.1 c.loop-fault.invariant.here c.in_err-next_line.ensures.items
 
 pub returns-in-Refused-clause-judged : goal.returns-in-Refused-clause-judged
 returns-in-Refused-clause-judged g c =

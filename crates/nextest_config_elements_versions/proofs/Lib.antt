@@ -1,0 +1,3 @@
+pub mod Comings
+pub mod Counting
+pub mod Names

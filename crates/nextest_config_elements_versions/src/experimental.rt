@@ -1,0 +1,120 @@
+// The features that sources ask for.
+ghost use Rattle.std.specs.Prelude.{◌≡◌, ◌++◌, IfOk};
+ghost use Rattle.nextest_config_elements_versions.specs.Features.{unknown_in};
+ghost use Rattle.nextest_config_elements_versions.specs.Sources.{experimental_of, merged_features, no_experimental};
+
+use crate::feature::{ConfigExperimental, FeatureSet, known_in};
+use crate::origin::VersionOrigin;
+use nextest_text::{Listing, Text};
+use std::alloc::{AllocError, Global};
+
+/// A source that asks for features which aren't known.
+#[derive(Clone, Debug, PartialEq, Eq)]
+pub struct UnknownFeatures {
+    /// The source.
+    pub source: VersionOrigin,
+    /// Those names, in their order.
+    pub names: Listing<Text>,
+}
+
+// One call drops it, whoever holds it.
+impl Drop for UnknownFeatures {
+    fn drop(self) {
+        let Self {
+            source: _,
+            names: _,
+        } = self;
+    }
+}
+
+/// The features that a list of sources asks for.
+#[derive(Debug, PartialEq, Eq, Drop)]
+pub struct ExperimentalConfig {
+    known: FeatureSet,
+    unknown: Listing<UnknownFeatures>,
+}
+
+impl ExperimentalConfig {
+    /// Those that are known.
+    pub fn known(&self) -> FeatureSet
+        ensures { result ≡ self.now.known }
+    {
+        self.known
+    }
+
+    /// The sources that ask for others, in their order.
+    pub fn source_errors(&self) -> &[UnknownFeatures]
+        ensures { result.now ≡ self.now.unknown }
+    {
+        self.unknown.as_slice()
+    }
+
+    // What no sources ask for.
+    pub(crate) fn none(alloc: Global) -> ExperimentalConfig
+        ensures { result ≡ no_experimental }
+    {
+        ExperimentalConfig {
+            known: FeatureSet::default(),
+            unknown: Listing::new(alloc),
+        }
+    }
+
+    // What one source asks for.
+    pub(crate) fn of_source(
+        alloc: Global,
+        names: &[Text],
+        source: &VersionOrigin,
+    ) -> Result<ExperimentalConfig, AllocError>
+        ensures { IfOk result (λ it. it ≡ experimental_of names.now source.now) }
+    {
+        let mut unknown = Listing::new(alloc);
+        let strange = unknown_in(alloc, names)?;
+        if !strange.is_empty() {
+            unknown.push(UnknownFeatures {
+                source: source.clone()?,
+                names: strange,
+            })?;
+        }
+        Ok(ExperimentalConfig {
+            known: known_in(names),
+            unknown,
+        })
+    }
+
+    /// What two parts of a list ask for, that of the other behind. It fails only on allocation.
+    pub fn merge(self, other: ExperimentalConfig) -> Result<ExperimentalConfig, AllocError>
+        ensures { IfOk result (λ it. it ≡ merged_features self other) }
+    {
+        let ExperimentalConfig { known, unknown } = self;
+        Ok(ExperimentalConfig {
+            known: known.union(other.known),
+            unknown: joined(unknown, other.unknown)?,
+        })
+    }
+}
+
+// Two lists in a row.
+fn joined(
+    mut front: Listing<UnknownFeatures>,
+    behind: Listing<UnknownFeatures>,
+) -> Result<Listing<UnknownFeatures>, AllocError>
+    ensures { IfOk result (λ it. it ≡ front ++ behind) }
+{
+    for unknown in Vec::from(behind) {
+        front.push(unknown)?;
+    }
+    Ok(front)
+}
+
+// The names that are no feature's, in their order.
+fn unknown_in(alloc: Global, names: &[Text]) -> Result<Listing<Text>, AllocError>
+    ensures { IfOk result (λ it. it ≡ unknown_in names.now) }
+{
+    let mut unknown = Listing::new(alloc);
+    for name in names {
+        if ConfigExperimental::from_text(name.as_str()).is_err() {
+            unknown.push(name.clone()?)?;
+        }
+    }
+    Ok(unknown)
+}

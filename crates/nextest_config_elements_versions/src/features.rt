@@ -1,0 +1,61 @@
+// How the names of features are read.
+ghost use Rattle.toml.specs.View.{view, items_view, table_view};
+ghost use Rattle.nextest_config_elements_reading.specs.Paths.{Gives};
+ghost use Rattle.nextest_config_elements_versions.specs.Demand.{features, keys_in, names_in};
+
+use nextest_config_elements_reading::{ValueError, refused, refused_below};
+use nextest_text::{Listing, Text};
+use std::alloc::Global;
+use toml::{Table, Value};
+
+/// The names of the features that `value`, at `path`, asks for: an array of texts, or a table of truth values, of which
+/// `false` asks for nothing. Another value is refused with the path of the first thing that is none.
+pub fn deserialize_experimental(
+    alloc: Global,
+    value: &Value,
+    path: &[&str],
+) -> Result<Listing<Text>, ValueError>
+    ensures { Gives path.now result (features (view value.now)) }
+{
+    match value {
+        Value::Array(items) => names_in(alloc, items.as_slice(), path),
+        Value::Table(table) => keys_in(alloc, table, path),
+        _ => Err(refused(
+            alloc,
+            path,
+            Some(value),
+            "an array of strings, or a table of booleans",
+        )),
+    }
+}
+
+// Each name of a list.
+fn names_in(alloc: Global, items: &[Value], path: &[&str]) -> Result<Listing<Text>, ValueError>
+    ensures { Gives path.now result (names_in 0 (items_view items.now)) }
+{
+    let mut names = Listing::new(alloc);
+    for (place, item) in items.iter().enumerate() {
+        let Value::String(name) = item else {
+            let key = format!(in alloc; "{place}")?;
+            return Err(refused_below(alloc, path, key.as_str(), Some(item), "a string"));
+        };
+        names.push(Text::from_str(alloc, name.as_str())?)?;
+    }
+    Ok(names)
+}
+
+// Each key of a table that is true.
+fn keys_in(alloc: Global, table: &Table, path: &[&str]) -> Result<Listing<Text>, ValueError>
+    ensures { Gives path.now result (keys_in (table_view table.now)) }
+{
+    let mut names = Listing::new(alloc);
+    for (name, given) in table {
+        let Value::Boolean(is_asked) = given else {
+            return Err(refused_below(alloc, path, name.as_str(), Some(given), "a boolean"));
+        };
+        if *is_asked {
+            names.push(Text::from_str(alloc, name.as_str())?)?;
+        }
+    }
+    Ok(names)
+}
