@@ -1,6 +1,6 @@
 -- The form of the identifiers of tools.
 use Rattle.std.proofs.Common.{◌≡◌, ℕ, ◌+◌, ◌<◌, Bool, true, false, List, [], ◌∷◌, ◌++◌, length, drop, get_or, Option, Some, None, is_some, Ok, chars, eqb, eqb-true, refl, sym, ap, ◌∙◌, subst, arith}
-use Rattle.std.specs.Prelude.{IsUtf8, codes, not}
+use Rattle.std.specs.Prelude.{IfSome, IsUtf8, codes, not}
 use Rattle.std.specs.Borrow.{Bor}
 use Rattle.std.specs.List.{list_any, list_all, starts_with}
 use Rattle.std.specs.Str.{NonePass, NoCharPasses}
@@ -13,7 +13,7 @@ use Rattle.std.proofs.lemmas.Str.{encodes-chars, IsUtf8-drop, IsCharBoundary-aft
 use Rattle.unicode_ident.proofs.IdentLemmas.{is_xid_continue-ascii, is_xid_start-is_xid_continue}
 use Rattle.nextest_config_elements_identifiers.specs.Identifier.{composed, is_plain, is_further}
 use Rattle.nextest_config_elements_identifiers.specs.Config.{IsIdentifier, identifier_of, is_empty, is_tool, named_by}
-use Rattle.nextest_config_elements_identifiers.specs.Parts.{is_colon, parted, tool_parts, behind}
+use Rattle.nextest_config_elements_identifiers.specs.Parts.{IsOfTool, is_colon, parted, tool_parts, behind}
 use Rattle.nextest_config_elements_identifiers.specs.Laws.{ToolIdentifier}
 use Rattle.nextest_config_elements_identifiers.proofs.Division.{parted_whole}
 use Rattle.nextest_config_elements_identifiers.proofs.Reading.{identifier_same}
@@ -129,15 +129,32 @@ plain_lacks text utf8 plain =
         let yes : not (is_further 58) ≡ true = rw continue refl in
         absurd (false≢true (sym no ∙ yes))
 
+-- an identifier of these two parts is of their form
+of_tool : (text : List ℕ) (parts : List ℕ × List ℕ) → IsUtf8 text → IsNamed (tool_parts text) → tool_parts text ≡ Some parts
+    → IsOfTool text parts.0 parts.1
+of_tool text parts utf8 read are =
+    let made = whole text parts are in
+    let both : Some read.parts ≡ Some parts = sym read.are ∙ are in
+    let same : read.parts ≡ parts = cc in
+    let own : is_plain (chars parts.1) ≡ true = subst (λ (names : List ℕ × List ℕ). is_plain (chars names.1) ≡ true) same read.own in
+    record {
+      whole = made.0;
+      tool = made.1;
+      own = plain_lacks parts.1 (own_utf8 text parts.0 parts.1 utf8 made.0) own;
+    }
+
 pub tool_identifier : ToolIdentifier
 tool_identifier text utf8 is tool =
     let read = named text (tool_parts text) (by_its_parts text (as_it_stands text is) tool) in
-    let made = whole text read.parts read.are in (
-      read.parts.0,
-      read.parts.1,
-      record {
-        whole = made.0;
-        tool = made.1;
-        own = plain_lacks read.parts.1 (own_utf8 text read.parts.0 read.parts.1 utf8 made.0) read.own;
-      },
-    )
+    (read.parts.0, read.parts.1, of_tool text read.parts utf8 read read.are)
+
+-- the parts that are lent of an identifier are those of its form
+pub lent_form : (text : List ℕ) (lent : Option (Bor (List ℕ) × Bor (List ℕ))) → IsUtf8 text → IsIdentifier text
+    → behind lent ≡ tool_parts text → IfSome lent (λ names. IsOfTool text names.0.now names.1.now)
+lent_form text None utf8 is are = tt
+lent_form text (Some names) utf8 is are = go (is_tool text) refl
+  where
+    go : (tool : Bool) → is_tool text ≡ tool → IsOfTool text names.0.now names.1.now
+    go true e =
+        of_tool text (names.0.now, names.1.now) utf8 (named text (tool_parts text) (by_its_parts text (as_it_stands text is) e)) (sym are)
+    go false e = let none = no_parts text e in cc

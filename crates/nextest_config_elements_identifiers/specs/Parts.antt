@@ -1,5 +1,5 @@
 -- How a text is divided into the names in it.
-use Rattle.std.specs.Prelude.{ℕ, ◌==◌, Bool, List, Option, Some, None, drop, codes, nat_eq, if◌then◌else◌}
+use Rattle.std.specs.Prelude.{◌≡◌, ℕ, ◌==◌, Bool, false, List, ◌∷◌, ◌++◌, Option, Some, None, drop, codes, nat_eq, if◌then◌else◌}
 use Rattle.std.specs.Borrow.{Bor}
 use Rattle.std.specs.List.{list_any, before_first, after_first, starts_with}
 
@@ -19,3 +19,9 @@ tool_parts text = if starts_with nat_eq text (codes "@tool:") then parted (drop 
 abbrev pub behind : Option (Bor (List ℕ) × Bor (List ℕ)) → Option (List ℕ × List ℕ)
 behind None = None
 behind (Some parts) = Some (parts.0.now, parts.1.now)
+
+-- a text is `@tool:`, the first part, `:` and the second, and neither part has a `:`
+pub record IsOfTool (text first second : List ℕ) : Type 0 where
+  pub whole : text ≡ codes "@tool:" ++ (first ++ (58 ∷ second))
+  pub tool : list_any is_colon first ≡ false
+  pub own : list_any is_colon second ≡ false

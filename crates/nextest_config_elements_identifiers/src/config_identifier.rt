@@ -1,11 +1,11 @@
 // The identifiers of a configuration.
-ghost use Rattle.std.specs.Prelude.{◌≡◌, nat_eq, Some, is_some, refl};
+ghost use Rattle.std.specs.Prelude.{◌≡◌, nat_eq, Some, IfSome, is_some, refl};
 ghost use Rattle.std.specs.Cmp.{partial_equiv_from_equiv};
 ghost use Rattle.std.specs.Cmp.Lexicographic.{pointwise, slice_cmp, nat_list_eq_equiv, nat_list_cmp_total, texts_ties, texts_po};
 ghost use Rattle.std.specs.Hash as fed;
 ghost use Rattle.std.specs.Ordering.{nat_cmp};
 ghost use Rattle.nextest_config_elements_identifiers.specs.Config.{Answers, IsIdentifier, identifier, identifier_of, is_tool, named_by};
-ghost use Rattle.nextest_config_elements_identifiers.specs.Parts.{behind, tool_parts};
+ghost use Rattle.nextest_config_elements_identifiers.specs.Parts.{IsOfTool, behind, tool_parts};
 
 use crate::invalid_identifier::InvalidIdentifier;
 use crate::plain::is_plain;
@@ -60,6 +60,7 @@ impl ConfigIdentifier {
     pub fn tool_components(&self) -> Option<(&str, &str)>
         ensures names { behind result ≡ tool_parts self.now }
         ensures tool { is_some result ≡ is_tool self.now }
+        ensures form { IfSome result (λ names. IsOfTool self.now names.0.now names.1.now) }
     {
         tool_parts(self.name.as_str())
     }
