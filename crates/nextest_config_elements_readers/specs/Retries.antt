@@ -1,5 +1,5 @@
 -- How a failing test is tried again: a count alone, or a table.
-use Rattle.std.specs.Prelude.{◌==◌, Bool, false, ◌&&◌, [], ◌∷◌, codes, Option, None, Some, Ok, Err, nat_lt, if◌then◌else◌}
+use Rattle.std.specs.Prelude.{ℕ, ◌==◌, Bool, false, ◌&&◌, [], ◌∷◌, codes, Option, None, Some, Ok, Err, nat_lt, if◌then◌else◌}
 use Rattle.toml.specs.Data.{Data, table, Members}
 use Rattle.nextest_config_elements_counts.specs.declared.retries.RetryPolicy.{RetryPolicy}
 use Rattle.nextest_config_elements_counts.specs.declared.retries.RetryPolicy.TheVariants.{Fixed, Exponential}
@@ -54,10 +54,13 @@ policy_in members = do
   policy_by found members
 
 -- so many more attempts, without delay
+abbrev pub only_count : ℕ → RetryPolicy
+only_count count = Fixed count no_delay false
+
 abbrev pub plain_policy : Data → Reading RetryPolicy
 plain_policy given = do
   count ← leaf number_32 given
-  Ok (Fixed count no_delay false)
+  Ok (only_count count)
 
 abbrev pub retry_policy_in : Data → Reading RetryPolicy
 retry_policy_in (table members) = policy_in members

@@ -16,10 +16,13 @@ abbrev pub ten_seconds : ConfigDuration
 ten_seconds = record { nanos = 10_000_000_000 }
 
 -- only a period: nothing is ended
+abbrev pub only_period : ConfigDuration → SlowTimeout
+only_period period = record { period = period; terminate_after = None; grace_period = ten_seconds; on_timeout = slow.Fail }
+
 abbrev pub plain_slow : Data → Reading SlowTimeout
 plain_slow given = do
   period ← leaf positive_duration given
-  Ok (record { period = period; terminate_after = None; grace_period = ten_seconds; on_timeout = slow.Fail })
+  Ok (only_period period)
 
 abbrev pub slow_in : Members → Reading SlowTimeout
 slow_in members = do
