@@ -49,6 +49,7 @@ pub record IsExponential (members : Members) (count : ℕ) (delay : ConfigDurati
   pub most : MayHave members (codes "max-delay") duration longest
   pub reaches : (it : ConfigDuration) → longest ≡ Some it → delay.nanos ≤ it.nanos
 
+-- a table sets a policy
 abbrev pub IsTableOf : Members → RetryPolicy → Type 0
 IsTableOf members (Fixed count delay jitter) = IsFixed members count delay jitter
 IsTableOf members (Exponential count delay jitter longest) = IsExponential members count delay jitter longest

@@ -17,6 +17,7 @@ accepted (Err refusal) = None
 abbrev pub tool : Data → Option (List ℕ)
 tool given = option_and_then (λ written. accepted (tool_name written)) (as_str given)
 
+-- how the name of a tool is read
 abbrev pub tool_name_in : Data → Reading (List ℕ)
 tool_name_in = leaf tool
 
@@ -24,6 +25,7 @@ tool_name_in = leaf tool
 abbrev pub name : Data → Option (List ℕ)
 name given = option_and_then (λ written. accepted (identifier written)) (as_str given)
 
+-- how an identifier is read
 abbrev pub config_identifier_in : Data → Reading (List ℕ)
 config_identifier_in = leaf name
 
@@ -31,5 +33,6 @@ config_identifier_in = leaf name
 abbrev pub group : Data → Option TestGroup
 group given = option_and_then (λ written. accepted (group_of written)) (as_str given)
 
+-- how a group of tests is read
 abbrev pub test_group_in : Data → Reading TestGroup
 test_group_in = leaf group

@@ -44,10 +44,12 @@ exponential_in members = do
   longest ← optional (codes "max-delay") duration members
   if is_shorter longest delay then Err (codes "max-delay" ∷ []) else Ok (Exponential count delay jitter longest)
 
+-- the policy of each backoff
 abbrev pub policy_by : Backoff → Members → Reading RetryPolicy
 policy_by delays.Fixed members = fixed_in members
 policy_by delays.Exponential members = exponential_in members
 
+-- a table has a backoff, and what belongs to it
 abbrev pub policy_in : Members → Reading RetryPolicy
 policy_in members = do
   found ← required (codes "backoff") backoff members
@@ -57,11 +59,13 @@ policy_in members = do
 abbrev pub only_count : ℕ → RetryPolicy
 only_count count = Fixed count no_delay false
 
+-- an integer is a count alone
 abbrev pub plain_policy : Data → Reading RetryPolicy
 plain_policy given = do
   count ← leaf number_32 given
   Ok (only_count count)
 
+-- a table, or a count alone
 abbrev pub retry_policy_in : Data → Reading RetryPolicy
 retry_policy_in (table members) = policy_in members
 retry_policy_in given = plain_policy given
