@@ -3,6 +3,7 @@
 #![tactic(auto)]
 
 mod junit;
+pub mod laws;
 mod priority;
 mod retries;
 mod threads;

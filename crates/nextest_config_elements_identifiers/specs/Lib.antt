@@ -1,1 +1,6 @@
+pub mod Config
+pub mod Groups
 pub mod Identifier
+pub mod Laws
+pub mod Parts
+pub mod Tools

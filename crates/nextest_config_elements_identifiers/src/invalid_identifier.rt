@@ -12,6 +12,15 @@ pub enum InvalidIdentifier {
     /// It isn't empty and isn't a plain identifier: the text, in its NFC.
     #[error("invalid identifier `{0}`")]
     InvalidXid(Text),
+    /// It begins with `@` and isn't `@tool:`, a name, `:` and a name: the text, in its NFC.
+    #[error("tool identifier not of the form `@tool:tool-name:identifier`: `{0}`")]
+    ToolIdentifierInvalidFormat(Text),
+    /// It is an identifier of a tool in which one of the two names is empty: the text, in its NFC.
+    #[error("tool identifier has empty component: `{0}`")]
+    ToolComponentEmpty(Text),
+    /// It is an identifier of a tool in which one of the two names is no plain identifier: the text, in its NFC.
+    #[error("tool identifier contains invalid identifier: `{0}`")]
+    ToolIdentifierInvalidXid(Text),
     /// There was no memory for it, which says nothing of the text.
     #[error("out of memory")]
     OutOfMemory,

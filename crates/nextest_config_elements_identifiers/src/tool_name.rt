@@ -62,7 +62,7 @@ impl ToolName {
 }
 
 // The NFC of a text.
-fn composed(alloc: Global, text: &str) -> Result<Text, AllocError>
+pub(crate) fn composed(alloc: Global, text: &str) -> Result<Text, AllocError>
     ensures text { IfOk result (λ name. name ≡ composed text.now) }
     ensures characters { IfOk result (λ name. chars name ≡ nfc (chars text.now)) }
 {

@@ -1,4 +1,5 @@
 pub mod Display
+pub mod Flaky
 pub mod Laws
 pub mod Levels
 pub mod MaxFail

@@ -9,7 +9,7 @@ mod run_mode;
 mod status_level;
 mod timeouts;
 
-pub use max_fail::{MaxFail, TerminateMode};
+pub use max_fail::{BadText, MaxFail, TerminateMode};
 pub use output_display::TestOutputDisplay;
 pub use run_mode::NextestRunMode;
 pub use status_level::{FinalStatusLevel, StatusLevel};
