@@ -1,5 +1,6 @@
 pub mod Fronts
 pub mod Meanings
+pub mod Nanos
 pub mod Numbers
 pub mod Parts
 pub mod Sums

@@ -31,7 +31,7 @@ zero_of text before (first ∷ further) blank whole zero =
 pub is_zero_text : (text : List ℕ) → is_zero (behind is_blank text) ≡ true → IsZero text 0
 is_zero_text text zero = zero_of text (run is_blank text) (behind is_blank text) (run_passes is_blank text) (run_behind is_blank text) zero
 
-zero_ahead : (text : List ℕ) (nanos : ℕ) → IsZero text nanos → is_zero (behind is_blank text) ≡ true
+pub zero_ahead : (text : List ℕ) (nanos : ℕ) → IsZero text nanos → is_zero (behind is_blank text) ≡ true
 zero_ahead text nanos zero =
     let rest : behind is_blank text ≡ 48 ∷ zero.after
     = ap (behind is_blank) zero.whole ∙ behind_front is_blank zero.before (48 ∷ zero.after) zero.blank_before refl in
@@ -60,7 +60,7 @@ parts_ahead text nanos sum =
     let end = end_no_blank (flat_map written sum.parts) (parts_end sum.parts sum.each) in
     ap (behind is_blank) sum.whole ∙ behind_front is_blank sum.before (flat_map written sum.parts) sum.blank_before end
 
-sum_ahead : (text : List ℕ) (nanos : ℕ) → IsSum text nanos → Reads (behind is_blank text) nanos
+pub sum_ahead : (text : List ℕ) (nanos : ℕ) → IsSum text nanos → Reads (behind is_blank text) nanos
 sum_ahead text nanos sum =
     record { parts = sum.parts; each = sum.each; whole = parts_ahead text nanos sum; adds_up = sum.adds_up }
 
@@ -103,7 +103,7 @@ some_left text nanos sum = some_of (behind is_blank text) sum.parts sum.some sum
     some_of rest [] some each whole = absurd (omega arith)
     some_of rest (part ∷ further) some each whole = part_some rest part further each whole
 
-zero_no_sum : (text : List ℕ) (one other : ℕ) → IsZero text one → IsSum text other → ⊥
+pub zero_no_sum : (text : List ℕ) (one other : ℕ) → IsZero text one → IsSum text other → ⊥
 zero_no_sum text one other zero sum =
     let start = reads_start (behind is_blank text) other (some_left text other sum) (sum_ahead text other sum) in
     zero_no_part (behind is_blank text) start.0 (zero_ahead text one zero) start.1

@@ -2,3 +2,4 @@ pub mod Ahead
 pub mod Class
 pub mod Duration
 pub mod Laws
+pub mod Nanos

@@ -1,9 +1,11 @@
 // Which texts are durations, and which.
-ghost use Rattle.std.specs.Prelude.{◌≡◌, ◌^◌, ◌<◌, ◌≤◌, ℕ, length, IfSome, IfNone, IfOk, OnErr};
+ghost use Rattle.std.specs.Prelude.{◌≡◌, ◌^◌, ◌<◌, ◌≤◌, ℕ, IfSome, IfNone, IfOk, OnErr};
 ghost use Rattle.std.specs.Duration.{as_nanos};
 ghost use Rattle.nextest_config_elements_durations.specs.Duration.{IsDuration};
+ghost use Rattle.nextest_config_elements_durations.specs.Nanos.{nanos_in};
 ghost use Rattle.nextest_config_elements_durations.specs.Ahead.{StartsWith, behind_part, Reads, is_zero};
 
+use crate::config_duration::ConfigDuration;
 use crate::number::number_of;
 use crate::runs::{Class, are_blanks, skip_blanks, split_run};
 use crate::units::unit_nanos;
@@ -19,21 +21,42 @@ pub struct BadDuration;
 /// tab, line feed, carriage return) may stand before, behind and between numbers and units. Units are `ns`, `us`, `ms`,
 /// `s`, `m`, `h`, `d`, `w`, `M` (months of 2,630,016 seconds) and `y` (years of 31,557,600 seconds), and their longer
 /// words. An `Err` for every other text, and above `u64::MAX` nanoseconds.
+#[tactic(auto, using(crate::proofs::Nanos::nanos_is_duration))]
 pub fn parse_duration(text: &str) -> Result<Duration, BadDuration>
     ensures found { IfOk result (λ duration. IsDuration text.now (as_nanos duration)) }
     ensures refused { OnErr result ((nanos : ℕ) → ¬ (IsDuration text.now nanos)) }
 {
-    let rest = skip_blanks(text.as_bytes());
-    if is_zero(rest) {
-        return Ok(Duration::from_nanos(0));
-    }
-    if rest.is_empty() {
-        return Err(BadDuration);
-    }
-    match sum_of_parts(rest) {
+    match nanos_in(text) {
         Some(nanos) => Ok(Duration::from_nanos(nanos)),
         None => Err(BadDuration),
     }
+}
+
+impl ConfigDuration {
+    /// The duration that `text` is, by the same rules. An `Err` for every other text.
+    pub fn parse(text: &str) -> Result<ConfigDuration, BadDuration>
+        ensures found { IfOk result (λ duration. nanos_in text.now ≡ Some duration.nanos) }
+        ensures refused { OnErr result (nanos_in text.now ≡ None) }
+    {
+        match nanos_in(text) {
+            Some(nanos) => Ok(ConfigDuration::from_nanos(nanos)),
+            None => Err(BadDuration),
+        }
+    }
+}
+
+// The nanoseconds of a text that is a duration.
+fn nanos_in(text: &str) -> Option<u64>
+    ensures { result ≡ nanos_in text.now }
+{
+    let rest = skip_blanks(text.as_bytes());
+    if is_zero(rest) {
+        return Some(0);
+    }
+    if rest.is_empty() {
+        return None;
+    }
+    sum_of_parts(rest)
 }
 
 // Whether a text is `0` and blanks.
@@ -49,6 +72,7 @@ fn is_zero(text: &[u8]) -> bool
 // The sum of the parts that a text is, in nanoseconds. `None` where it isn't parts, and above `u64::MAX` nanoseconds.
 fn sum_of_parts(text: &[u8]) -> Option<u64>
     ensures found { IfSome result (λ nanos. Reads text.now nanos) }
+    ensures fits { IfSome result (λ nanos. nanos < 2 ^ 64) }
     ensures none { IfNone result ((nanos : ℕ) → Reads text.now nanos → 2 ^ 64 ≤ nanos) }
 {
     let mut rest = text;

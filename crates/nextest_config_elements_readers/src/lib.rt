@@ -1,2 +1,33 @@
 //! How each value of a configuration is read from a TOML value.
+//!
+//! A reader is handed a value and its path. Of a table it looks at the keys that it knows by the order of their bytes, and
+//! reads past all others; the first value that is none is refused with its path, and a key that is missing at its own.
 #![tactic(auto)]
+
+mod backoff;
+mod config_value;
+mod fail_fast;
+mod levels;
+mod limit;
+mod names;
+mod retries;
+mod threads;
+mod timeouts;
+mod values;
+mod words;
+
+pub use config_value::{ConfigValue, defaulted, optional, required, whole};
+pub use fail_fast::deserialize_fail_fast;
+pub use levels::{
+    deserialize_final_status_level, deserialize_flaky_result, deserialize_status_level,
+    deserialize_test_output_display,
+};
+pub use names::deserialize_tool_name;
+pub use retries::deserialize_retry_policy;
+pub use threads::{
+    deserialize_test_group_config, deserialize_test_threads, deserialize_threads_required,
+};
+pub use timeouts::{
+    deserialize_global_timeout, deserialize_leak_timeout, deserialize_slow_timeout,
+};
+pub use values::{Any, Positive};

@@ -28,6 +28,7 @@ loop-rest-preserved c =
           let ahead = reads_more c.loop-rest.rest.now c.in-Some.nanos left c.in-Some.ensures.found (subst (λ (text : List ℕ). Reads text left) rest reads) in
           let same : c.loop-rest.sum + (c.in-Some.nanos + left) ≡ c.in-Some-checked_add.more + left = omega (arith, sums) in
           subst (λ (n : ℕ). Reads c.args.text.now n) same (c.loop-rest.invariant.more (c.in-Some.nanos + left) ahead);
+      fits = omega arith;
       less = λ nanos reads.
           let split = c.loop-rest.invariant.less nanos reads in
           let left = reads_less c.loop-rest.rest.now c.in-Some.nanos split.0 c.in-Some.ensures.found split.2 in

@@ -1,0 +1,28 @@
+// The names of a configuration.
+ghost use Rattle.toml.specs.View.{view};
+ghost use Rattle.nextest_config_elements_reading.specs.Paths.{Gives};
+ghost use Rattle.nextest_config_elements_readers.specs.Names as read;
+
+use nextest_config_elements_identifiers::{InvalidIdentifier, ToolName};
+use nextest_config_elements_reading::{ValueError, refused};
+use std::alloc::Global;
+use toml::Value;
+
+/// The name of a tool: a text that is a plain identifier in its NFC. An `Err` for everything else.
+pub fn deserialize_tool_name(
+    alloc: Global,
+    value: &Value,
+    path: &[&str],
+) -> Result<ToolName, ValueError>
+    ensures { Gives path.now result (read.tool_name_in (view value.now)) }
+{
+    let expected = "the name of a tool, a plain identifier";
+    let Some(text) = value.as_str() else {
+        return Err(refused(alloc, path, Some(value), expected));
+    };
+    match ToolName::new(alloc, text) {
+        Ok(name) => Ok(name),
+        Err(InvalidIdentifier::OutOfMemory) => Err(ValueError::OutOfMemory),
+        Err(_) => Err(refused(alloc, path, Some(value), expected)),
+    }
+}
