@@ -1,0 +1,4 @@
+pub mod Backoffs
+pub mod Keys
+pub mod Policies
+pub mod Slow

@@ -1,3 +1,5 @@
+pub mod Accepted
+pub mod Laws
 pub mod Levels
 pub mod Limits
 pub mod Names

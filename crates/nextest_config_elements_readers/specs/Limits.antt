@@ -23,6 +23,7 @@ abbrev pub stopped_at : Limit → TerminateMode → MaxFail
 stopped_at (limits.Count number) mode = Count number mode
 stopped_at limits.All mode = All
 
+-- a table has a limit, and may have how a run stops there
 abbrev pub limit_in : Members → Reading MaxFail
 limit_in members = do
   found ← required (codes "max-fail") limit members
@@ -34,11 +35,13 @@ abbrev pub switched : Bool → MaxFail
 switched true = Count 1 Wait
 switched false = All
 
+-- a truth value switches
 abbrev pub switch_in : Data → Reading MaxFail
 switch_in given = do
   stops ← leaf truth given
   Ok (switched stops)
 
+-- a table, or a truth value alone
 abbrev pub fail_fast_in : Data → Reading MaxFail
 fail_fast_in (table members) = limit_in members
 fail_fast_in given = switch_in given

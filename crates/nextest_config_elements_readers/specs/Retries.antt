@@ -1,5 +1,5 @@
 -- How a failing test is tried again: a count alone, or a table.
-use Rattle.std.specs.Prelude.{◌==◌, Bool, false, ◌&&◌, [], ◌∷◌, codes, Option, None, Some, Ok, Err, nat_lt, if◌then◌else◌}
+use Rattle.std.specs.Prelude.{ℕ, ◌==◌, Bool, false, ◌&&◌, [], ◌∷◌, codes, Option, None, Some, Ok, Err, nat_lt, if◌then◌else◌}
 use Rattle.toml.specs.Data.{Data, table, Members}
 use Rattle.nextest_config_elements_counts.specs.declared.retries.RetryPolicy.{RetryPolicy}
 use Rattle.nextest_config_elements_counts.specs.declared.retries.RetryPolicy.TheVariants.{Fixed, Exponential}
@@ -44,21 +44,28 @@ exponential_in members = do
   longest ← optional (codes "max-delay") duration members
   if is_shorter longest delay then Err (codes "max-delay" ∷ []) else Ok (Exponential count delay jitter longest)
 
+-- the policy of each backoff
 abbrev pub policy_by : Backoff → Members → Reading RetryPolicy
 policy_by delays.Fixed members = fixed_in members
 policy_by delays.Exponential members = exponential_in members
 
+-- a table has a backoff, and what belongs to it
 abbrev pub policy_in : Members → Reading RetryPolicy
 policy_in members = do
   found ← required (codes "backoff") backoff members
   policy_by found members
 
 -- so many more attempts, without delay
+abbrev pub only_count : ℕ → RetryPolicy
+only_count count = Fixed count no_delay false
+
+-- an integer is a count alone
 abbrev pub plain_policy : Data → Reading RetryPolicy
 plain_policy given = do
   count ← leaf number_32 given
-  Ok (Fixed count no_delay false)
+  Ok (only_count count)
 
+-- a table, or a count alone
 abbrev pub retry_policy_in : Data → Reading RetryPolicy
 retry_policy_in (table members) = policy_in members
 retry_policy_in given = plain_policy given

@@ -16,11 +16,13 @@ abbrev pub threads_of : ℤ → Option TestThreads
 threads_of (pos number) = option_map threads.Count (above_none number)
 threads_of (negsuc less) = Some (threads.CpusLess (less + 1))
 
+-- an integer other than 0, or one word
 abbrev pub test_threads : Data → Option TestThreads
 test_threads (integer number) = threads_of number
 test_threads (string text) = if bytes_eq text (codes "num-cpus") then Some threads.NumCpus else None
 test_threads given = None
 
+-- how the number of tests that run at a time is read
 abbrev pub test_threads_in : Data → Reading TestThreads
 test_threads_in = leaf test_threads
 
@@ -34,6 +36,7 @@ threads_required (integer number) = option_map taken.Count (positive (integer nu
 threads_required (string text) = threads_named text
 threads_required given = None
 
+-- how the number of threads that a test takes is read
 abbrev pub threads_required_in : Data → Reading ThreadsRequired
 threads_required_in = leaf threads_required
 
@@ -43,6 +46,7 @@ group_in members = do
   max_threads ← required (codes "max-threads") test_threads members
   Ok (record { max_threads = max_threads })
 
+-- a table
 abbrev pub test_group_config_in : Data → Reading TestGroupConfig
 test_group_config_in (table members) = group_in members
 test_group_config_in given = Err []

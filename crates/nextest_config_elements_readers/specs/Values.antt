@@ -36,5 +36,6 @@ duration given = None
 abbrev pub above_zero : ConfigDuration → Option ConfigDuration
 above_zero it = if it.nanos == 0 then None else Some it
 
+-- a text that is a duration, and not none
 abbrev pub positive_duration : Data → Option ConfigDuration
 positive_duration given = option_and_then above_zero (duration given)

@@ -26,23 +26,29 @@ named_in (row ∷ rows) word = if bytes_eq word row.0 then Some row.1 else named
 abbrev pub one_of : {A : Type 0} → List (List ℕ × A) → Data → Option A
 one_of rows given = option_and_then (named_in rows) (as_str given)
 
+-- what becomes of a test that passes on a later attempt
 abbrev pub flaky_result : Data → Option FlakyResult
 flaky_result = one_of ((codes "pass", flaky.Pass) ∷ (codes "fail", flaky.Fail) ∷ [])
 
+-- what becomes of a process that leaves handles open
 abbrev pub leak_result : Data → Option LeakTimeoutResult
 leak_result = one_of ((codes "pass", leak.Pass) ∷ (codes "fail", leak.Fail) ∷ [])
 
+-- what becomes of a process that is ended since it took too long
 abbrev pub slow_result : Data → Option SlowTimeoutResult
 slow_result = one_of ((codes "fail", slow.Fail) ∷ (codes "pass", slow.Pass) ∷ [])
 
+-- how a run stops
 abbrev pub terminate_mode : Data → Option TerminateMode
 terminate_mode = one_of ((codes "wait", terminate.Wait) ∷ (codes "immediate", terminate.Immediate) ∷ [])
 
+-- when an output is shown
 abbrev pub output_display : Data → Option TestOutputDisplay
 output_display = one_of (
     (codes "immediate", shown.Immediate) ∷ (codes "immediate-final", shown.ImmediateFinal) ∷
     (codes "final", shown.Final) ∷ (codes "never", shown.Never) ∷ [])
 
+-- which statuses are shown while tests run
 abbrev pub status_level : Data → Option StatusLevel
 status_level = one_of (
     (codes "none", level.None) ∷ (codes "fail", level.Fail) ∷ (codes "retry", level.Retry) ∷ (codes "slow", level.Slow) ∷

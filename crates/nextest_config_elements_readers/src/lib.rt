@@ -7,6 +7,7 @@
 mod backoff;
 mod config_value;
 mod fail_fast;
+pub mod laws;
 mod levels;
 mod limit;
 mod names;
@@ -22,7 +23,7 @@ pub use levels::{
     deserialize_final_status_level, deserialize_flaky_result, deserialize_status_level,
     deserialize_test_output_display,
 };
-pub use names::deserialize_tool_name;
+pub use names::{deserialize_config_identifier, deserialize_test_group, deserialize_tool_name};
 pub use retries::deserialize_retry_policy;
 pub use threads::{
     deserialize_test_group_config, deserialize_test_threads, deserialize_threads_required,

@@ -3,7 +3,9 @@ ghost use Rattle.toml.specs.View.{view};
 ghost use Rattle.nextest_config_elements_reading.specs.Paths.{Gives};
 ghost use Rattle.nextest_config_elements_readers.specs.Names as read;
 
-use nextest_config_elements_identifiers::{InvalidIdentifier, ToolName};
+use nextest_config_elements_identifiers::{
+    ConfigIdentifier, InvalidIdentifier, TestGroup, ToolName,
+};
 use nextest_config_elements_reading::{ValueError, refused};
 use std::alloc::Global;
 use toml::Value;
@@ -22,6 +24,44 @@ pub fn deserialize_tool_name(
     };
     match ToolName::new(alloc, text) {
         Ok(name) => Ok(name),
+        Err(InvalidIdentifier::OutOfMemory) => Err(ValueError::OutOfMemory),
+        Err(_) => Err(refused(alloc, path, Some(value), expected)),
+    }
+}
+
+/// An identifier: a text that is one in its NFC, plain or a tool's. An `Err` for everything else.
+pub fn deserialize_config_identifier(
+    alloc: Global,
+    value: &Value,
+    path: &[&str],
+) -> Result<ConfigIdentifier, ValueError>
+    ensures { Gives path.now result (read.config_identifier_in (view value.now)) }
+{
+    let expected = "an identifier, plain or `@tool:TOOL:NAME`";
+    let Some(text) = value.as_str() else {
+        return Err(refused(alloc, path, Some(value), expected));
+    };
+    match ConfigIdentifier::new(alloc, text) {
+        Ok(name) => Ok(name),
+        Err(InvalidIdentifier::OutOfMemory) => Err(ValueError::OutOfMemory),
+        Err(_) => Err(refused(alloc, path, Some(value), expected)),
+    }
+}
+
+/// A group of tests: the text `@global` or an identifier. An `Err` for everything else.
+pub fn deserialize_test_group(
+    alloc: Global,
+    value: &Value,
+    path: &[&str],
+) -> Result<TestGroup, ValueError>
+    ensures { Gives path.now result (read.test_group_in (view value.now)) }
+{
+    let expected = "`@global` or an identifier, plain or `@tool:TOOL:NAME`";
+    let Some(text) = value.as_str() else {
+        return Err(refused(alloc, path, Some(value), expected));
+    };
+    match TestGroup::from_text(alloc, text) {
+        Ok(group) => Ok(group),
         Err(InvalidIdentifier::OutOfMemory) => Err(ValueError::OutOfMemory),
         Err(_) => Err(refused(alloc, path, Some(value), expected)),
     }
