@@ -1,8 +1,10 @@
 pub mod Accepted
+pub mod Junit
 pub mod Laws
 pub mod Levels
 pub mod Limits
 pub mod Names
+pub mod Priority
 pub mod Retries
 pub mod Threads
 pub mod Timeouts

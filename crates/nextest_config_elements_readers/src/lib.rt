@@ -7,10 +7,12 @@
 mod backoff;
 mod config_value;
 mod fail_fast;
+mod junit;
 pub mod laws;
 mod levels;
 mod limit;
 mod names;
+mod priority;
 mod retries;
 mod threads;
 mod timeouts;
@@ -19,11 +21,13 @@ mod words;
 
 pub use config_value::{ConfigValue, defaulted, optional, required, whole};
 pub use fail_fast::deserialize_fail_fast;
+pub use junit::{deserialize_junit_flaky_fail_status, deserialize_report_skip_policy};
 pub use levels::{
     deserialize_final_status_level, deserialize_flaky_result, deserialize_status_level,
     deserialize_test_output_display,
 };
 pub use names::{deserialize_config_identifier, deserialize_test_group, deserialize_tool_name};
+pub use priority::deserialize_test_priority;
 pub use retries::deserialize_retry_policy;
 pub use threads::{
     deserialize_test_group_config, deserialize_test_threads, deserialize_threads_required,
