@@ -26,9 +26,13 @@ pub use Rattle.nextest_config_elements_counts.specs.Threads
 -- reading: what a value is by its key, and where the first thing stands that is none
 pub use Rattle.nextest_config_elements_reading.specs.Paths
 pub use Rattle.nextest_config_elements_reading.specs.Reading
+pub use Rattle.nextest_config_elements_readers.specs.Accepted
+pub use Rattle.nextest_config_elements_readers.specs.Junit as JunitReadings
+pub use Rattle.nextest_config_elements_readers.specs.Laws as ReadingLaws
 pub use Rattle.nextest_config_elements_readers.specs.Levels as LevelReadings
 pub use Rattle.nextest_config_elements_readers.specs.Limits
 pub use Rattle.nextest_config_elements_readers.specs.Names
+pub use Rattle.nextest_config_elements_readers.specs.Priority as PriorityReadings
 pub use Rattle.nextest_config_elements_readers.specs.Retries as RetryReadings
 pub use Rattle.nextest_config_elements_readers.specs.Threads as ThreadReadings
 pub use Rattle.nextest_config_elements_readers.specs.Timeouts

@@ -6,3 +6,4 @@ pub use nextest_config_elements_identifiers::laws::{one_identifier, tool_identif
 pub use nextest_config_elements_plain::laws::{
     final_levels_rise, levels_rise, reads_back as limit_reads_back,
 };
+pub use nextest_config_elements_readers::laws::{accepted_policy, accepted_slow_timeout};

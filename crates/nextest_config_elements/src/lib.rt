@@ -20,11 +20,13 @@ pub use nextest_config_elements_plain::{
     SlowTimeoutResult, StatusLevel, TerminateMode, TestOutputDisplay,
 };
 pub use nextest_config_elements_readers::{
-    Any, ConfigValue, Positive, defaulted, deserialize_fail_fast, deserialize_final_status_level,
-    deserialize_flaky_result, deserialize_global_timeout, deserialize_leak_timeout,
+    Any, ConfigValue, Positive, defaulted, deserialize_config_identifier, deserialize_fail_fast,
+    deserialize_final_status_level, deserialize_flaky_result, deserialize_global_timeout,
+    deserialize_junit_flaky_fail_status, deserialize_leak_timeout, deserialize_report_skip_policy,
     deserialize_retry_policy, deserialize_slow_timeout, deserialize_status_level,
-    deserialize_test_group_config, deserialize_test_output_display, deserialize_test_threads,
-    deserialize_threads_required, deserialize_tool_name, optional, required, whole,
+    deserialize_test_group, deserialize_test_group_config, deserialize_test_output_display,
+    deserialize_test_priority, deserialize_test_threads, deserialize_threads_required,
+    deserialize_tool_name, optional, required, whole,
 };
 pub use nextest_config_elements_reading::{BadValue, KeyPath, ValueError, refused, refused_below};
 pub use nextest_text::{Listing, Text};
