@@ -459,6 +459,7 @@ def some_limit(number):
 
 COUNT, POSITIVE_COUNT = numbers(0, MOST_32), numbers(1, MOST_32)
 PERIODS = numbers(1, MOST_COUNT)
+PRIORITY = Rule("an integer from -100 to 100", lambda it: record("TestPriority", number=it) if type(it) is int and -100 <= it <= 100 else None)
 TRUTH = Rule("true or false", lambda it: it if isinstance(it, bool) else None)
 DURATION = duration_from(0, "a duration, as `1h 30m`")
 POSITIVE_DURATION = duration_from(1, "a duration above 0, as `1h 30m`")
@@ -480,6 +481,8 @@ FINAL_LEVELS = words(
     "`none`, `fail`, `flaky`, `slow`, `skip`, `leak`, `pass` or `all`", none="None", fail="Fail", flaky="Flaky", retry="Flaky", slow="Slow",
     skip="Skip", leak="Leak", _pass="Pass", all="All",
 )
+SKIPPED = words("`none`, `ignored` or `all`", none="None", ignored="Ignored", all="All")
+FLAKY_STATUS = words("`failure` or `success`", failure="Failure", success="Success")
 DISPLAYS = words(
     "`immediate`, `immediate-final`, `final` or `never`", immediate="Immediate", immediate_final="ImmediateFinal", final="Final", never="Never",
 )
@@ -502,7 +505,13 @@ def tool_name(text):
     return debug(name)
 
 
+def group_name(text):
+    return "Global" if text == "@global" else f"Custom({debug(identifier(text)[0])})"
+
+
 TOOL_NAME = Rule("the name of a tool, a plain identifier", named(tool_name))
+IDENTIFIER = Rule("an identifier, plain or `@tool:TOOL:NAME`", named(lambda text: debug(identifier(text)[0])))
+GROUP = Rule("`@global` or an identifier, plain or `@tool:TOOL:NAME`", named(group_name))
 
 
 class Refused(Exception):
@@ -620,6 +629,11 @@ KINDS = {
     "final-status-level": lambda it: whole(FINAL_LEVELS, it),
     "output-display": lambda it: whole(DISPLAYS, it),
     "tool-name": lambda it: whole(TOOL_NAME, it),
+    "config-identifier": lambda it: whole(IDENTIFIER, it),
+    "test-group": lambda it: whole(GROUP, it),
+    "priority": lambda it: whole(PRIORITY, it),
+    "report-skipped": lambda it: whole(SKIPPED, it),
+    "flaky-fail-status": lambda it: whole(FLAKY_STATUS, it),
 }
 
 # ---- values: the rows
@@ -632,6 +646,11 @@ DURATIONS = [
 ]
 NUMBERS = [0, 1, 2, -1, -2, MOST_32, MOST_32 + 1, MOST_COUNT, LEAST, 1.0, float("nan"), "1", "", "x", True, False, MOMENT, [1]]
 TEXTS = ["", "x", "pass ", 'a"b', "a\\b", "a\tb", "a\nb", "it's", "Δ", "\u0000", "\u001b", "e\u0301", "\u00a0", "🎉"]
+
+NAMES = [
+    "a", "my-tool", "é", "e\u0301", "\u212b", "", "_a", "1a", "a b", "@tool:a:b", "@tool:e\u0301:b", "@tool:a", "@tool::b", "@tool:a:1", "@global", "global",
+    "\u0301a", "@Global", "@",
+]
 
 FIXED = {"backoff": "fixed", "count": 3, "delay": "1s", "jitter": True}
 EXPONENTIAL = {"backoff": "exponential", "count": 3, "delay": "1s", "jitter": True, "max-delay": "1m"}
@@ -697,7 +716,12 @@ BY_HAND = {
     "status-level": ["none", "fail", "retry", "slow", "leak", "pass", "skip", "all", "flaky", "None", "ALL", "passed"],
     "final-status-level": ["none", "fail", "flaky", "retry", "slow", "skip", "leak", "pass", "all", "Flaky", "RETRY", "failed"],
     "output-display": ["immediate", "immediate-final", "final", "never", "immediate_final", "final-immediate", "Never", "always"],
-    "tool-name": ["a", "my-tool", "é", "e\u0301", "\u212b", "", "_a", "1a", "a b", "@tool:a:b", "@tool:a", "\u0301a"],
+    "tool-name": [*NAMES],
+    "config-identifier": [*NAMES],
+    "test-group": [*NAMES],
+    "priority": [100, 101, -100, -101, 99, 128, -128, -129, 256, 2**32, 2**62, MOST_COUNT, LEAST, "0", "high", "100"],
+    "report-skipped": ["none", "ignored", "all", "None", "IGNORED", "skipped", "ignore"],
+    "flaky-fail-status": ["failure", "success", "fail", "pass", "Failure", "SUCCESS"],
 }
 # another way to write a value
 SPELLED = [
@@ -717,6 +741,8 @@ SPELLED = [
     ("test-group-config", {"max-threads": "num-cpus"}, "{ max-threads = 'num-cpus' }"),
     ("fail-fast", {"max-fail": "all"}, "{ \"max\\u002dfail\" = 'all' }"),
     ("tool-name", "é", '"e\\u0301"'),
+    ("config-identifier", "@tool:é:b", "'@tool:e\u0301:b'"),
+    ("test-group", "@global", "'@global'"),
     ("flaky-result", DAY, "1979-05-27T07:32:00Z"),
     ("flaky-result", DAY, "1979-05-27T00:32:00.999999-07:00"),
 ]
