@@ -399,12 +399,14 @@ def record(name, **fields):
 
 
 def debug(text):
+    """A text in quotes, as a fault shows it."""
     marks = {'"': '\\"', "\\": "\\\\", "\t": "\\t", "\n": "\\n", "\r": "\\r", "\0": "\\0"}
     escaped = lambda it: unicodedata.category(it) in ("Mn", "Me") or not (it.isprintable() or it == " ")
     return '"' + "".join(marks.get(it) or (f"\\u{{{ord(it):x}}}" if escaped(it) else it) for it in text) + '"'
 
 
 def found(value):
+    """What stands in a place, in words."""
     if value is NOTHING:
         return "nothing"
     if isinstance(value, str):
@@ -583,18 +585,16 @@ def fail_fast(value):
 
 
 def slow_timeout(value):
-    members = Members(value if isinstance(value, dict) else {"period": whole_period(value)})
+    if not isinstance(value, dict):
+        whole(POSITIVE_DURATION, value)
+        return slow_timeout({"period": value})
+    members = Members(value)
     period = members.read("period", POSITIVE_DURATION)
     after = members.read("terminate-after", PERIODS, "None")
     grace = members.read("grace-period", DURATION, Nanos(10 * 10**9))
     end = members.read("on-timeout", SLOW, "Fail")
     members.tell()
     return record("SlowTimeout", period=period, terminate_after=after if after == "None" else Some(after), grace_period=grace, on_timeout=end)
-
-
-def whole_period(value):
-    whole(POSITIVE_DURATION, value)
-    return value
 
 
 def leak_timeout(value):
