@@ -1,15 +1,43 @@
 -- What the contracts of the items that this crate hands on speak of.
--- levels, limits, modes and displays
+-- levels, limits, modes, displays and flaky tests
 pub use Rattle.nextest_config_elements_plain.specs.Display
+pub use Rattle.nextest_config_elements_plain.specs.Flaky
 pub use Rattle.nextest_config_elements_plain.specs.Laws
 pub use Rattle.nextest_config_elements_plain.specs.Levels
 pub use Rattle.nextest_config_elements_plain.specs.MaxFail
 pub use Rattle.nextest_config_elements_plain.specs.RunMode
--- names of tools
+-- identifiers, and the names and files of tools
+pub use Rattle.nextest_config_elements_identifiers.specs.Config
+pub use Rattle.nextest_config_elements_identifiers.specs.Groups
 pub use Rattle.nextest_config_elements_identifiers.specs.Identifier
+pub use Rattle.nextest_config_elements_identifiers.specs.Laws as IdentifierLaws
+pub use Rattle.nextest_config_elements_identifiers.specs.Parts
+pub use Rattle.nextest_config_elements_identifiers.specs.Tools
 -- durations
 pub use Rattle.nextest_config_elements_durations.specs.Duration
 pub use Rattle.nextest_config_elements_durations.specs.Laws as DurationLaws
+pub use Rattle.nextest_config_elements_durations.specs.Nanos
+-- retries, threads, priorities, reports
+pub use Rattle.nextest_config_elements_counts.specs.Junit
+pub use Rattle.nextest_config_elements_counts.specs.Laws as PriorityLaws
+pub use Rattle.nextest_config_elements_counts.specs.Priority
+pub use Rattle.nextest_config_elements_counts.specs.Retries
+pub use Rattle.nextest_config_elements_counts.specs.Threads
+-- reading: what a value is by its key, and where the first thing stands that is none
+pub use Rattle.nextest_config_elements_reading.specs.Paths
+pub use Rattle.nextest_config_elements_reading.specs.Reading
+pub use Rattle.nextest_config_elements_readers.specs.Accepted
+pub use Rattle.nextest_config_elements_readers.specs.Junit as JunitReadings
+pub use Rattle.nextest_config_elements_readers.specs.Laws as ReadingLaws
+pub use Rattle.nextest_config_elements_readers.specs.Levels as LevelReadings
+pub use Rattle.nextest_config_elements_readers.specs.Limits
+pub use Rattle.nextest_config_elements_readers.specs.Names
+pub use Rattle.nextest_config_elements_readers.specs.Priority as PriorityReadings
+pub use Rattle.nextest_config_elements_readers.specs.Retries as RetryReadings
+pub use Rattle.nextest_config_elements_readers.specs.Threads as ThreadReadings
+pub use Rattle.nextest_config_elements_readers.specs.Timeouts
+pub use Rattle.nextest_config_elements_readers.specs.Values
+pub use Rattle.nextest_config_elements_readers.specs.Words
 -- types
 pub use Rattle.nextest_config_elements_plain.specs.declared.timeouts.FlakyResult
 pub use Rattle.nextest_config_elements_plain.specs.declared.timeouts.LeakTimeoutResult
@@ -18,7 +46,29 @@ pub use Rattle.nextest_config_elements_plain.specs.declared.run_mode.NextestRunM
 pub use Rattle.nextest_config_elements_plain.specs.declared.status_level.FinalStatusLevel
 pub use Rattle.nextest_config_elements_plain.specs.declared.status_level.StatusLevel
 pub use Rattle.nextest_config_elements_plain.specs.declared.output_display.TestOutputDisplay
+pub use Rattle.nextest_config_elements_plain.specs.declared.max_fail.BadText
 pub use Rattle.nextest_config_elements_plain.specs.declared.max_fail.MaxFail as MaxFailType
 pub use Rattle.nextest_config_elements_plain.specs.declared.max_fail.TerminateMode
 pub use Rattle.nextest_config_elements_identifiers.specs.declared.invalid_identifier.InvalidIdentifier
+pub use Rattle.nextest_config_elements_identifiers.specs.declared.source_kind.ConfigSourceKind
+pub use Rattle.nextest_config_elements_identifiers.specs.declared.test_group.TestGroup
+pub use Rattle.nextest_config_elements_identifiers.specs.declared.tool_config_file.BadToolConfig
+pub use Rattle.nextest_config_elements_identifiers.specs.declared.tool_config_file.ToolConfigFile
+pub use Rattle.nextest_config_elements_identifiers.specs.declared.tool_config_file.ToolConfigFileError
+pub use Rattle.nextest_config_elements_durations.specs.declared.config_duration.ConfigDuration
 pub use Rattle.nextest_config_elements_durations.specs.declared.parse.BadDuration
+pub use Rattle.nextest_config_elements_counts.specs.declared.junit.JunitConfig
+pub use Rattle.nextest_config_elements_counts.specs.declared.junit.JunitFlakyFailStatus
+pub use Rattle.nextest_config_elements_counts.specs.declared.junit.MismatchReason
+pub use Rattle.nextest_config_elements_counts.specs.declared.junit.ReportSkipPolicy
+pub use Rattle.nextest_config_elements_counts.specs.declared.priority.TestPriorityOutOfRange
+pub use Rattle.nextest_config_elements_counts.specs.declared.retries.RetryPolicy
+pub use Rattle.nextest_config_elements_counts.specs.declared.threads.TestGroupConfig
+pub use Rattle.nextest_config_elements_counts.specs.declared.threads.TestThreads
+pub use Rattle.nextest_config_elements_counts.specs.declared.threads.ThreadsRequired
+pub use Rattle.nextest_config_elements_counts.specs.declared.timeouts.GlobalTimeout
+pub use Rattle.nextest_config_elements_counts.specs.declared.timeouts.LeakTimeout
+pub use Rattle.nextest_config_elements_counts.specs.declared.timeouts.SlowTimeout
+pub use Rattle.nextest_config_elements_reading.specs.declared.bad_value.BadValue
+pub use Rattle.nextest_config_elements_reading.specs.declared.key_path.KeyPath
+pub use Rattle.nextest_config_elements_reading.specs.declared.value_error.ValueError
