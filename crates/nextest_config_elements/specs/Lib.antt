@@ -38,6 +38,16 @@ pub use Rattle.nextest_config_elements_readers.specs.Threads as ThreadReadings
 pub use Rattle.nextest_config_elements_readers.specs.Timeouts
 pub use Rattle.nextest_config_elements_readers.specs.Values
 pub use Rattle.nextest_config_elements_readers.specs.Words
+-- versions and features: what sources ask for, what counts, what a version is by it
+pub use Rattle.nextest_version.specs.Order as VersionOrder
+pub use Rattle.nextest_version.specs.Reading as VersionReading
+pub use Rattle.nextest_version.specs.Same as VersionSame
+pub use Rattle.nextest_config_elements_versions.specs.Demand
+pub use Rattle.nextest_config_elements_versions.specs.Eval
+pub use Rattle.nextest_config_elements_versions.specs.Features
+pub use Rattle.nextest_config_elements_versions.specs.Laws as VersionLaws
+pub use Rattle.nextest_config_elements_versions.specs.Sources
+pub use Rattle.nextest_config_elements_versions.specs.Verdict
 -- types
 pub use Rattle.nextest_config_elements_plain.specs.declared.timeouts.FlakyResult
 pub use Rattle.nextest_config_elements_plain.specs.declared.timeouts.LeakTimeoutResult
@@ -72,3 +82,20 @@ pub use Rattle.nextest_config_elements_counts.specs.declared.timeouts.SlowTimeou
 pub use Rattle.nextest_config_elements_reading.specs.declared.bad_value.BadValue
 pub use Rattle.nextest_config_elements_reading.specs.declared.key_path.KeyPath
 pub use Rattle.nextest_config_elements_reading.specs.declared.value_error.ValueError
+pub use Rattle.nextest_config_elements_versions.specs.declared.asked_versions.AskedVersions
+pub use Rattle.nextest_config_elements_versions.specs.declared.demand.VersionDemand
+pub use Rattle.nextest_config_elements_versions.specs.declared.experimental.ExperimentalConfig
+pub use Rattle.nextest_config_elements_versions.specs.declared.experimental.UnknownFeatures
+pub use Rattle.nextest_config_elements_versions.specs.declared.feature.ConfigExperimental
+pub use Rattle.nextest_config_elements_versions.specs.declared.feature.FeatureSet
+pub use Rattle.nextest_config_elements_versions.specs.declared.feature.UnknownFeature
+pub use Rattle.nextest_config_elements_versions.specs.declared.origin.VersionOrigin
+pub use Rattle.nextest_config_elements_versions.specs.declared.origin.VersionSource
+pub use Rattle.nextest_config_elements_versions.specs.declared.source_fault.VersionOnlyError
+pub use Rattle.nextest_config_elements_versions.specs.declared.source_fault.VersionSourceFault
+pub use Rattle.nextest_config_elements_versions.specs.declared.source_fault.VersionSourceReason
+pub use Rattle.nextest_config_elements_versions.specs.declared.version_config.NextestVersionConfig
+pub use Rattle.nextest_config_elements_versions.specs.declared.version_eval.NextestVersionEval
+pub use Rattle.nextest_config_elements_versions.specs.declared.version_only.VersionOnlyConfig
+pub use Rattle.nextest_config_elements_versions.specs.declared.version_req.NextestVersionReq
+pub use Rattle.nextest_version.specs.declared.plain_version.VersionError

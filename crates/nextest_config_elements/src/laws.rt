@@ -7,3 +7,7 @@ pub use nextest_config_elements_plain::laws::{
     final_levels_rise, levels_rise, reads_back as limit_reads_back,
 };
 pub use nextest_config_elements_readers::laws::{accepted_policy, accepted_slow_timeout};
+pub use nextest_config_elements_versions::laws::{
+    associative as versions_merge_associatively, each_comes as each_list_comes,
+    neutral as no_sources_change_nothing, one_config, partition as a_list_is_its_parts,
+};

@@ -29,4 +29,11 @@ pub use nextest_config_elements_readers::{
     deserialize_tool_name, optional, required, whole,
 };
 pub use nextest_config_elements_reading::{BadValue, KeyPath, ValueError, refused, refused_below};
+pub use nextest_config_elements_versions::{
+    AskedVersions, ConfigExperimental, ExperimentalConfig, FeatureSet, NextestVersionConfig,
+    NextestVersionEval, NextestVersionReq, UnknownFeature, UnknownFeatures, VersionDemand,
+    VersionOnlyConfig, VersionOnlyError, VersionOrigin, VersionSource, VersionSourceFault,
+    VersionSourceReason, deserialize_experimental, deserialize_nextest_version,
+};
 pub use nextest_text::{Listing, Text};
+pub use nextest_version::{PlainVersion, VersionError};
