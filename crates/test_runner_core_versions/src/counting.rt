@@ -19,10 +19,21 @@ pub(crate) fn counted<'s>(
 {
     let mut found = tools(alloc, sources)?;
     found.reverse();
-    if let Some(source) = repository(sources) {
-        found.push(lent(source))?;
-    }
+    push_repository(&mut found, sources)?;
     Ok(found)
+}
+
+// Adds the repository's source that counts.
+fn push_repository<'s>(
+    found: &mut Vec<VersionSource<'s>>,
+    sources: &'s [ConfigSource],
+) -> Result<(), AllocError>
+    ensures { IfOk result (λ _. map seen found.new.items ≡ map seen found.old.items ++ map words.source_of (words.listed (words.repository sources.now))) }
+{
+    match repository(sources) {
+        Some(source) => Ok(found.push(lent(source))?),
+        None => Ok(()),
+    }
 }
 
 // The tools' sources, in their order.
