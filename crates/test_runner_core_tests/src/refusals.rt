@@ -5,7 +5,7 @@ use std::alloc::{AllocError, Global};
 use std::fmt::Display;
 use std::test::Fail;
 use test_runner_core::{
-    CurrentVersion, InputsError, InputsRefusal, LineFault, ParseLineError, SpellingError,
+    InputsError, InputsRefusal, LineFault, ParseLineError, PlainVersion, SpellingError,
 };
 use test_runner_core_listing::{ListingError, ListingFault};
 use test_runner_core_settings::{SettingsError, SettingsFault};
@@ -26,7 +26,6 @@ fn told_of<T: Display>(alloc: Global, refusals: &[T]) -> Result<String, AllocErr
 
 const OF_SETTINGS: &str = "\
 the configuration is no TOML
-the configuration demands a version or names features, which isn't read yet
 a value of the configuration has a type or range that it can't have
 the configuration has a key or form that isn't read yet
 out of memory
@@ -94,7 +93,6 @@ fn refusals_of_lines_and_workspaces_print(rt: HostRuntime) -> Result<(), Fail> {
 fn refusals_of_settings_print(rt: HostRuntime) -> Result<(), Fail> {
     let of_settings = [
         SettingsError::Refused(SettingsFault::Syntax),
-        SettingsError::Refused(SettingsFault::VersionNotYet),
         SettingsError::Refused(SettingsFault::BadValue),
         SettingsError::Refused(SettingsFault::NotYet),
         SettingsError::OutOfMemory,
@@ -151,7 +149,7 @@ fn refusals_with_a_text_print(rt: HostRuntime) -> Result<(), Fail> {
 #[test]
 fn versions_are_compared_with_all_their_parts(rt: HostRuntime) -> Result<(), Fail> {
     let alloc = rt.alloc();
-    let current = CurrentVersion::from(Version::parse(alloc, "1.2.3-a+b")?);
+    let current = PlainVersion::from(Version::parse(alloc, "1.2.3-a+b")?);
     assert!(rt; *current.version() == Version::parse(alloc, "1.2.3-a+b")?);
     for other in [
         "2.2.3-a+b",
@@ -161,7 +159,7 @@ fn versions_are_compared_with_all_their_parts(rt: HostRuntime) -> Result<(), Fai
         "1.2.3-a",
         "1.2.3-a+c",
     ] {
-        let other = CurrentVersion::from(Version::parse(alloc, other)?);
+        let other = PlainVersion::from(Version::parse(alloc, other)?);
         assert!(rt; other != current && other.clone()? == other);
     }
     Ok(())

@@ -95,6 +95,7 @@ fn plan_of_two(alloc: Global) -> Result<Plan, AllocError> {
         listed: Listing::new(alloc),
         skipped: Listing::new(alloc),
         limit: FIRST_FAILURE,
+        warnings: Listing::new(alloc),
     })
 }
 

@@ -19,7 +19,7 @@ use changes::Changed;
 use inputs::{ChangedInputs, OtherInputs, WholeInputs};
 use log_lines::LogLines;
 use pairs::Pairs;
-use plans::{Plans, Selected};
+use plans::{Plans, Selected, Versions};
 use refused_lines::RefusedLines;
 use runs::Runs;
 use settings::SettingsTexts;
@@ -40,6 +40,7 @@ fn main(rt: HostRuntime) -> Result<ExitCode> {
         rows_hold(&rt, &SettingsTexts)?,
         rows_hold(&rt, &Plans(&plan))?,
         rows_hold(&rt, &Selected)?,
+        rows_hold(&rt, &Versions)?,
         cases_hold(&rt, &Runs)?,
         rows_hold(&rt, &ToldTests)?,
         rows_hold(&rt, &Pairs(&plan))?,

@@ -36,6 +36,36 @@ impl Table for Selected {
     }
 }
 
+/// Whole inputs, each with the warnings of their plan, or the name under which they are refused.
+#[derive(Clone, Copy)]
+pub struct Versions;
+
+impl Table for Versions {
+    fn name(&self) -> &'static str {
+        "versions"
+    }
+
+    fn answer(&self, alloc: Global, input: &str) -> Result<String> {
+        let inputs = Inputs::from_json(alloc, input.as_bytes())?;
+        let mut lister = TableLister::new(alloc, &inputs.workspace)?;
+        match Plan::build(alloc, &inputs, &mut lister) {
+            Ok(plan) => warned(alloc, plan.warnings.as_slice()),
+            Err(PlanError::Refused(fault)) => Ok(String::from_str(alloc, fault.name())?),
+            Err(PlanError::OutOfMemory) => Err(anyhow!("out of memory")),
+        }
+    }
+}
+
+fn warned(alloc: Global, warnings: &[Text]) -> Result<String> {
+    let mut told = String::from_str(alloc, "warnings")?;
+    for warning in warnings {
+        told.push_str(" [")?;
+        told.push_str(warning.as_str())?;
+        told.push(']')?;
+    }
+    Ok(told)
+}
+
 fn planned(alloc: Global, text: &str) -> Result<String> {
     let inputs = Inputs::from_json(alloc, text.as_bytes())?;
     let mut lister = TableLister::new(alloc, &inputs.workspace)?;

@@ -54,6 +54,7 @@ fn plan_of(alloc: Global, tries: u32, flaky_result: FlakyResult, limit: MaxFail)
         listed: Listing::new(alloc),
         skipped: Listing::new(alloc),
         limit,
+        warnings: Listing::new(alloc),
     })
 }
 
