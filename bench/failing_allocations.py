@@ -1,5 +1,5 @@
 #!/usr/bin/env python3
-"""Runs the built program on three samples, of which one has outputs shown and one a filterset, and lets each of its requests for memory fail in turn.
+"""Runs the built program on four samples, of which one has outputs shown, one a filterset and one a version that is too old, and lets each of its requests for memory fail in turn.
 
 Build it first by `make run`; a C compiler `cc` is needed. Each run has to end as the whole one does, or to exit 74 and
 write a front of its report. The last run is the first that meets no failure.
@@ -15,6 +15,7 @@ SAMPLES = [
     ROOT / "examples/retried-test.txt",
     ROOT / "examples/filterset.txt",
     ROOT / "crates/worked_rows/data/runs/limit-finishes-tests-between-attempts.in",
+    ROOT / "crates/worked_rows/data/runs/version-too-old-passed-over.in",
 ]
 
 # Stands before the C library's calls: the request of the chosen number fails, counted from the program's first.

@@ -1,9 +1,10 @@
 #!/usr/bin/env python3
-"""Writes the rows of the table `versions` of worked_rows: whole inputs, and what the versions and features that their sources ask
-for come to, reckoned here from the rules and by nothing of the project.
+"""Writes the rows of the table `versions` of worked_rows, whole inputs and what the versions and features that their sources ask
+for come to, and of `verdicts` of worked_elements, lists of sources and the verdict on a version, reckoned here from the rules
+and by nothing of the project.
 
-Run it from the repository's root: `scripts/version_rows.py`. It writes crates/worked_rows/data/versions.txt and prints how many
-rows there are. The rules: sources count from the lowest up, the tools' with the first handed in as the highest, then of the
+Run it from the repository's root: `scripts/version_rows.py`. It writes the two files versions.txt and verdicts.txt, and prints
+how many rows there are. The rules: sources count from the lowest up, the tools' with the first handed in as the highest, then of the
 repository's the first that was named, else the first that was looked for. A text that is no TOML or asks in other than the
 forms, and a tool that asks for a feature, refuse the inputs (`VersionSource`); then a required version above the current one,
 unless it is passed over (`VersionError`); then a feature that isn't known (`UnknownFeature`). Of the greatest version of a role
@@ -192,7 +193,49 @@ def rows():
     yield [one(), Source("discovered", "a.toml", text="x")], "0.9.100", False
 
 
+def verdict(sources, current, override):
+    """What a list of sources comes to, and the verdict on a version."""
+    greatest, known, unknown = [None, None], set(), []
+    for source in sources:
+        names, versions = features(source.names), asked(source.wanted)
+        if names and source.kind == "tool":
+            return f"{source.path}: a tool may ask for no experimental feature"
+        known |= set(names) & FEATURES
+        unknown += [it for it in names if it not in FEATURES]
+        for role in (0, 1):
+            if versions[role] is not None and (greatest[role] is None or before(versions[role], greatest[role][0]) >= 0):
+                greatest[role] = versions[role], source.path
+    told = "satisfied"
+    for role, name in enumerate(("error", "warn")):
+        if greatest[role] is not None and before(greatest[role][0], current) > 0:
+            told = f"{name}{'-override' if override else ''} {greatest[role][0]} by {greatest[role][1]}"
+            break
+    order = [it for it in ("setup-scripts", "wrapper-scripts", "benchmarks") if it in known]
+    return f"{told}; known{''.join(' ' + it for it in order)}; unknown{''.join(' ' + it for it in unknown)}"
+
+
+def lists():
+    """Lists of sources, the lowest first, with a current version and whether it is let pass."""
+    one = functools.partial(Source, "explicit", "nextest.toml")
+    tool = functools.partial(Source, "tool")
+    yield [tool("t.toml", "0.9.60"), one("0.9.60")], "0.9.55", False
+    yield [one({"required": "0.9.60", "recommended": "0.9.70"})], "0.9.65", False
+    wants = ["0.9.60", "0.9.60+a", {"recommended": "0.9.60"}, {"required": "0.9.50", "recommended": "0.9.70-rc.1"}, {}, None]
+    for first, second, third in itertools.product(wants, repeat=3):
+        for current in ("0.9.55", "0.9.70-rc.0"):
+            yield [tool("a.toml", first), tool("b.toml", second), one(third)], current, third == {}
+    for first, second in itertools.product(([], ["setup-scripts"], ["foo", "benchmarks"], {"foo": False, "wrapper-scripts": True}, None), repeat=2):
+        yield [one(None, first), Source("discovered", "d.toml", None, second)], "0.9.55", False
+        yield [tool("a.toml", "0.9.60", first), one("0.9.60", second)], "0.9.55", True
+
+
 def main():
+    verdicts = ["# CURRENT strict or override | KIND PATH TEXT | .. => the verdict, and the features that are known and those that aren't; or why the", "# first source is refused that is. Written by scripts/version_rows.py.", ""]
+    for sources, current, override in lists():
+        told = " | ".join(f"{it.kind} {it.path} {it.text}" for it in sources).replace("\n", "␊")
+        verdicts.append(f"{current} {'override' if override else 'strict'} | {told} => {verdict(sources, current, override)}")
+    (ROOT / "crates/worked_elements/data/verdicts.txt").write_text("\n".join(verdicts) + "\n")
+    print(len(verdicts) - 3, "verdicts")
     base = json.loads((ROOT / "crates/worked_rows/data/plan.json").read_text())
     lines = ["# Whole inputs, and what the versions and features that their sources ask for come to: the warnings of the plan, or the name", "# under which the inputs are refused. Written by scripts/version_rows.py.", ""]
     count = 0

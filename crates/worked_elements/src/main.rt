@@ -9,6 +9,7 @@ mod limits;
 mod priorities;
 mod threads;
 mod values;
+mod verdicts;
 
 use anyhow::Result;
 use durations::Durations;
@@ -19,6 +20,7 @@ use priorities::Priorities;
 use std::process::ExitCode;
 use threads::Threads;
 use values::Values;
+use verdicts::Verdicts;
 use worked_tables::rows_hold;
 
 fn main(rt: HostRuntime) -> Result<ExitCode> {
@@ -33,6 +35,7 @@ fn main(rt: HostRuntime) -> Result<ExitCode> {
         rows_hold(&rt, &Priorities)?,
         rows_hold(&rt, &Threads)?,
         rows_hold(&rt, &Values)?,
+        rows_hold(&rt, &Verdicts)?,
     ];
     Ok(if all.iter().all(|holds| *holds) {
         ExitCode::SUCCESS
