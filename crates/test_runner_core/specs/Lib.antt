@@ -40,6 +40,10 @@ pub use Rattle.test_runner_core_plan.specs.Texts as PlanTexts
 pub use Rattle.test_runner_core_listing.specs.Listing
 pub use Rattle.test_runner_core_listing.specs.Answers
 pub use Rattle.test_runner_core_settings.specs.Settings
+-- the version pass: which sources count, what comes of what they ask for, and how a warning reads
+pub use Rattle.test_runner_core_versions.specs.Counting
+pub use Rattle.test_runner_core_versions.specs.Pass
+pub use Rattle.test_runner_core_versions.specs.Warnings
 -- inputs, workspaces and listers
 pub use Rattle.test_runner_core_inputs.specs.Reading as InputsReading
 pub use Rattle.test_runner_core_inputs.specs.Calls as InputsCalls
@@ -114,6 +118,8 @@ pub use Rattle.test_runner_core_runs.specs.declared.mark.Mark
 pub use Rattle.test_runner_core_runs.specs.declared.step_refusal.StepRefusal
 pub use Rattle.test_runner_core_session.specs.declared.session.Fate
 pub use Rattle.test_runner_core_streams.specs.declared.memory_writer.WriteFailure
+pub use Rattle.test_runner_core_versions.specs.declared.pass.VersionPass
+pub use Rattle.test_runner_core_versions.specs.declared.pass_error.VersionPassFault
 pub use Rattle.test_runner_core_workspace.specs.declared.record.Binary
 pub use Rattle.test_runner_core_workspace.specs.declared.record.BinaryKind
 pub use Rattle.test_runner_core_workspace.specs.declared.record.BinaryTests
