@@ -1,6 +1,7 @@
 // How a value is refused.
-ghost use Rattle.std.specs.Prelude.{◌≡◌, ◌++◌, [], ◌∷◌, IfOk};
-ghost use Rattle.nextest_config_elements_reading.specs.Paths.{IsRefusedAt, texts};
+ghost use Rattle.std.specs.Prelude.{◌≡◌, ◌++◌, [], ◌∷◌, IfOk, option_map};
+ghost use Rattle.toml.specs.View.{view};
+ghost use Rattle.nextest_config_elements_reading.specs.Paths.{IsExpected, IsFound, IsRefusedAt, IsTold, texts};
 
 use crate::bad_value::BadValue;
 use crate::key_path::KeyPath;
@@ -16,7 +17,9 @@ pub fn refused(
     found: Option<&Value>,
     expected: &'static str,
 ) -> ValueError
-    ensures { IsRefusedAt (texts path.now) result }
+    ensures path { IsRefusedAt (texts path.now) result }
+    ensures expected { IsExpected expected.now result }
+    ensures found { IsFound (option_map (λ it. view it.now) found.entry) result }
 {
     match bad_value(alloc, path, &[], found, expected) {
         Ok(bad) => ValueError::Refused(bad),
@@ -32,7 +35,9 @@ pub fn refused_below(
     found: Option<&Value>,
     expected: &'static str,
 ) -> ValueError
-    ensures { IsRefusedAt (texts path.now ++ key.now ∷ []) result }
+    ensures path { IsRefusedAt (texts path.now ++ key.now ∷ []) result }
+    ensures expected { IsExpected expected.now result }
+    ensures found { IsFound (option_map (λ it. view it.now) found.entry) result }
 {
     match bad_value(alloc, path, &[key], found, expected) {
         Ok(bad) => ValueError::Refused(bad),
@@ -48,7 +53,9 @@ fn bad_value(
     found: Option<&Value>,
     expected: &'static str,
 ) -> Result<BadValue, AllocError>
-    ensures { IfOk result (λ bad. bad.path.keys ≡ texts path.now ++ texts further.now) }
+    ensures path { IfOk result (λ bad. bad.path.keys ≡ texts path.now ++ texts further.now) }
+    ensures expected { IfOk result (λ bad. bad.expected.now ≡ expected.now) }
+    ensures found { IfOk result (λ bad. IsTold (option_map (λ it. view it.now) found.entry) bad.found) }
 {
     Ok(BadValue {
         path: KeyPath::of_keys(alloc, path, further)?,
@@ -58,7 +65,9 @@ fn bad_value(
 }
 
 // What stands there, in words.
-fn told(alloc: Global, found: Option<&Value>) -> Result<Text, AllocError> {
+fn told(alloc: Global, found: Option<&Value>) -> Result<Text, AllocError>
+    ensures { IfOk result (λ text. IsTold (option_map (λ it. view it.now) found.entry) text) }
+{
     let text = match found {
         None => String::from_str(alloc, "nothing")?,
         Some(Value::String(text)) => format!(in alloc; "{text:?}")?,
