@@ -10,7 +10,6 @@ use Rattle.test_runner_core_versions.specs.Sources.{sources_of}
 use Rattle.test_runner_core_versions.specs.Pass.{GivesPass, judged, pass_by, pass_of}
 use Rattle.test_runner_core_versions.specs.declared.pass.VersionPass.{VersionPass}
 use Rattle.test_runner_core_versions.specs.declared.pass_error.VersionPassError.{VersionPassError}
-use Rattle.test_runner_core_versions.specs.declared.pass_error.VersionPassFault.{VersionPassFault}
 use Rattle.test_runner_core_versions.specs.declared.pass_error.VersionPassFault.TheVariants as refused
 
 -- what is judged is what the inputs come to

@@ -1,5 +1,5 @@
-use Rattle.std.proofs.Common.{◌≡◌, List, Ok, Err, map, ap, ◌∙◌, subst}
-use Rattle.nextest_config_elements_versions.specs.Sources.{GivesConfig, Source, seen}
+use Rattle.std.proofs.Common.{◌≡◌, List, Err, map, ap, ◌∙◌, subst}
+use Rattle.nextest_config_elements_versions.specs.Sources.{GivesConfig, seen}
 use Rattle.nextest_config_elements_versions.specs.declared.origin.VersionSource.{VersionSource}
 use Rattle.nextest_config_elements_versions.specs.declared.source_fault.VersionOnlyError.{VersionOnlyError}
 use Rattle.nextest_config_resolution_sources.specs.declared.source.ConfigSource.{ConfigSource}
