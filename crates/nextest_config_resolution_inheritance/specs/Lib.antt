@@ -1,0 +1,5 @@
+pub mod Inheritance
+pub mod Inherits
+pub mod Laws
+pub mod Places
+pub mod Refusals

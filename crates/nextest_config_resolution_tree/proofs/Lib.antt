@@ -1,0 +1,12 @@
+pub mod Keys
+pub mod Joined
+pub mod Walk
+pub mod Rising
+pub mod Going
+pub mod Parting
+pub mod Flattened
+pub mod Runs
+pub mod Nested
+pub mod Gathered
+pub mod Looked
+pub mod Standings

@@ -1,0 +1,9 @@
+pub mod Entries
+pub mod Laws
+pub mod LookUp
+pub mod Meeting
+pub mod Merged
+pub mod Merging
+pub mod Nesting
+pub mod Tree
+pub mod Whole

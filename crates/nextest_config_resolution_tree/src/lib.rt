@@ -1,0 +1,19 @@
+//! The merged tree: what stands at each path of some files, of which the higher ones hide the lower.
+//!
+//! A file is a tree of tables. It is kept as the list of what it ends in, the leaves and the empty tables, each with its path, a
+//! list of keys; the paths rise, key by key by their bytes, and none is above another. Nothing is copied: paths and leaves are
+//! lent from the files.
+#![tactic(auto)]
+
+mod choice;
+mod entry;
+mod flattening;
+pub mod laws;
+mod look_up;
+mod meeting;
+mod merged_tree;
+mod merging;
+mod reading_back;
+mod rebuilding;
+
+pub use merged_tree::MergedTree;

@@ -1,0 +1,5 @@
+pub mod Accepting
+pub mod Parts
+pub mod SpanLaws
+pub mod Texts
+pub mod Whole

@@ -1,0 +1,60 @@
+-- The values of a whole file.
+use Rattle.std.specs.Prelude.{ℕ, List, [], ◌∷◌, codes, Option, None, Some, Ok, Err}
+use Rattle.toml.specs.Data.{Data, Members, no_members, member, as_str, get_member}
+use Rattle.nextest_config_elements_reading.specs.Reading.{Reading, ◌>>=◌, optional, under}
+use Rattle.nextest_config_elements_versions.specs.Demand.{experimental_in, nextest_version_in}
+use Rattle.nextest_config_resolution_values.specs.Keys.{table_by}
+use Rattle.nextest_config_resolution_values.specs.Profile.{profile_of}
+use Rattle.nextest_config_resolution_values.specs.declared.profile_config.ProfileConfig.{ProfileConfig}
+
+-- a profile by its name
+abbrev pub Named : Type 0
+Named = List ℕ × ProfileConfig
+
+-- the profiles of a table, in the order of their names
+abbrev pub profiles_in : Members → Reading (List Named)
+profiles_in no_members = Ok []
+profiles_in (member name given more) = do
+  profile ← under name (profile_of given)
+  profiles ← profiles_in more
+  Ok ((name, profile) ∷ profiles)
+
+-- what stands under `profile`: a table of them, or nothing
+abbrev pub profiles_of : Option Data → Reading (List Named)
+profiles_of None = Ok []
+profiles_of (Some given) = table_by profiles_in given
+
+-- the directory of a store
+abbrev pub store_dir_in : Members → Reading (Option (List ℕ))
+store_dir_in members = optional (codes "dir") as_str members
+
+-- what stands under `store`: a table that may have a directory, or nothing
+abbrev pub store_dir_of : Option Data → Reading (Option (List ℕ))
+store_dir_of None = Ok None
+store_dir_of (Some given) = table_by store_dir_in given
+
+-- the two keys of a file
+abbrev pub profiles_at : Members → Reading (List Named)
+profiles_at top = under (codes "profile") (profiles_of (get_member (codes "profile") top))
+
+abbrev pub store_dir_at : Members → Reading (Option (List ℕ))
+store_dir_at top = under (codes "store") (store_dir_of (get_member (codes "store") top))
+
+-- what a file says of profiles and the store
+pub record FileConfig : Type 0 where
+  pub profiles : List Named
+  pub store_dir : Option (List ℕ)
+
+-- a file, by the bytes of its keys; what it asks for of features and versions is kept elsewhere
+abbrev pub file_in : Members → Reading FileConfig
+file_in top = do
+  names ← experimental_in top
+  versions ← nextest_version_in top
+  profiles ← profiles_at top
+  store_dir ← store_dir_at top
+  Ok (record { profiles = profiles; store_dir = store_dir })
+
+-- whether each value is one, and else where the first stands that is none
+abbrev pub checked : {A : Type 0} → Reading A → Reading (Unit {0})
+checked (Ok x) = Ok tt
+checked (Err path) = Err path

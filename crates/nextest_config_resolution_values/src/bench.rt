@@ -1,0 +1,48 @@
+// What holds of benchmarks.
+ghost use Rattle.toml.specs.View.{table_view, view};
+ghost use Rattle.nextest_config_resolution_values.specs.Keys.{table_by};
+ghost use Rattle.nextest_config_resolution_values.specs.Paths.{GivesAt, bench_path};
+ghost use Rattle.nextest_config_resolution_values.specs.Profile.{bench_in};
+
+use crate::profile_value::optional_bench_value;
+use nextest_config_elements_counts::{GlobalTimeout, SlowTimeout};
+use nextest_config_elements_reading::{ValueError, refused};
+use std::alloc::Global;
+use toml::{Table, Value};
+
+/// `bench`: what holds of benchmarks. Each setting is `None` where its key is left out.
+#[derive(Clone, Copy, Debug, PartialEq, Eq)]
+pub struct ProfileBench {
+    /// `global-timeout`: how long a run of them may take.
+    pub global_timeout: Option<GlobalTimeout>,
+    /// `slow-timeout`: when one is slow, and when it is ended for that.
+    pub slow_timeout: Option<SlowTimeout>,
+}
+
+// What holds of benchmarks in the profile of a name.
+pub(crate) fn bench_of(alloc: Global, name: &str, value: &Value) -> Result<ProfileBench, ValueError>
+    ensures { GivesAt (bench_path name.now) result (table_by bench_in (view value.now)) }
+{
+    match value {
+        Value::Table(table) => bench_in(alloc, name, table),
+        _ => Err(refused(alloc, &["profile", name, "bench"], Some(value), "a table")),
+    }
+}
+
+// What a table says.
+#[tactic(auto, unfolding(crate::specs::Profile::bench_in))]
+fn bench_in(alloc: Global, name: &str, table: &Table) -> Result<ProfileBench, ValueError>
+    ensures { GivesAt (bench_path name.now) result (bench_in (table_view table.now)) }
+{
+    let global_timeout = optional_bench_value::<GlobalTimeout>(
+        alloc,
+        name,
+        table,
+        "global-timeout",
+    )?;
+    let slow_timeout = optional_bench_value::<SlowTimeout>(alloc, name, table, "slow-timeout")?;
+    Ok(ProfileBench {
+        global_timeout,
+        slow_timeout,
+    })
+}

@@ -1,0 +1,148 @@
+// The values of a profile's keys that stand side by side.
+ghost use Rattle.toml.specs.View.{table_view};
+ghost use Rattle.nextest_config_resolution_values.specs.Paths.{GivesAt, profile_path};
+ghost use Rattle.nextest_config_resolution_values.specs.Profile as read;
+
+use crate::found::optional_text;
+use crate::profile_value::optional_value;
+use nextest_config_elements_counts::{
+    GlobalTimeout, LeakTimeout, RetryPolicy, SlowTimeout, TestThreads, ThreadsRequired,
+};
+use nextest_config_elements_plain::{
+    FinalStatusLevel, FlakyResult, MaxFail, StatusLevel, TestOutputDisplay,
+};
+use nextest_config_elements_readers::{Any, optional};
+use nextest_config_elements_reading::ValueError;
+use nextest_text::{Listing, Text};
+use std::alloc::Global;
+use toml::Table;
+
+// From `default-filter` to `final-status-level`.
+#[derive(Drop)]
+pub(crate) struct DefaultToFinal {
+    pub(crate) default_filter: Option<Text>,
+    pub(crate) fail_fast: Option<MaxFail>,
+    pub(crate) failure_output: Option<TestOutputDisplay>,
+    pub(crate) final_status_level: Option<FinalStatusLevel>,
+}
+
+// From `flaky-result` to `inherits`.
+#[derive(Drop)]
+pub(crate) struct FlakyToInherits {
+    pub(crate) flaky_result: Option<FlakyResult>,
+    pub(crate) global_timeout: Option<GlobalTimeout>,
+    pub(crate) inherits: Option<Text>,
+}
+
+// From `leak-timeout` to `slow-timeout`.
+#[derive(Drop)]
+pub(crate) struct LeakToSlow {
+    pub(crate) leak_timeout: Option<LeakTimeout>,
+    pub(crate) retries: Option<RetryPolicy>,
+    pub(crate) run_extra_args: Option<Listing<Text>>,
+    pub(crate) slow_timeout: Option<SlowTimeout>,
+}
+
+// From `status-level` to `threads-required`.
+#[derive(Clone, Copy)]
+pub(crate) struct StatusToThreads {
+    pub(crate) status_level: Option<StatusLevel>,
+    pub(crate) success_output: Option<TestOutputDisplay>,
+    pub(crate) test_threads: Option<TestThreads>,
+    pub(crate) threads_required: Option<ThreadsRequired>,
+}
+
+// What a profile says from `default-filter` to `final-status-level`.
+#[tactic(auto, unfolding(crate::specs::Profile::default_to_final))]
+pub(crate) fn default_to_final(
+    alloc: Global,
+    name: &str,
+    table: &Table,
+) -> Result<DefaultToFinal, ValueError>
+    ensures { GivesAt (profile_path name.now) result (read.default_to_final (table_view table.now)) }
+{
+    let path = ["profile", name];
+    let default_filter = optional_text(alloc, table, &path, "default-filter")?;
+    let fail_fast = optional_value::<MaxFail>(alloc, name, table, "fail-fast")?;
+    let failure_output = optional::<Any, TestOutputDisplay>(alloc, table, &path, "failure-output")?;
+    let final_status_level = optional::<Any, FinalStatusLevel>(
+        alloc,
+        table,
+        &path,
+        "final-status-level",
+    )?;
+    Ok(DefaultToFinal {
+        default_filter,
+        fail_fast,
+        failure_output,
+        final_status_level,
+    })
+}
+
+// What a profile says from `flaky-result` to `inherits`.
+#[tactic(auto, unfolding(crate::specs::Profile::flaky_to_inherits))]
+pub(crate) fn flaky_to_inherits(
+    alloc: Global,
+    name: &str,
+    table: &Table,
+) -> Result<FlakyToInherits, ValueError>
+    ensures { GivesAt (profile_path name.now) result (read.flaky_to_inherits (table_view table.now)) }
+{
+    let path = ["profile", name];
+    let flaky_result = optional::<Any, FlakyResult>(alloc, table, &path, "flaky-result")?;
+    let global_timeout = optional_value::<GlobalTimeout>(alloc, name, table, "global-timeout")?;
+    let inherits = optional_text(alloc, table, &path, "inherits")?;
+    Ok(FlakyToInherits {
+        flaky_result,
+        global_timeout,
+        inherits,
+    })
+}
+
+// What a profile says from `leak-timeout` to `slow-timeout`.
+#[tactic(auto, unfolding(crate::specs::Profile::leak_to_slow))]
+pub(crate) fn leak_to_slow(
+    alloc: Global,
+    name: &str,
+    table: &Table,
+) -> Result<LeakToSlow, ValueError>
+    ensures { GivesAt (profile_path name.now) result (read.leak_to_slow (table_view table.now)) }
+{
+    let leak_timeout = optional_value::<LeakTimeout>(alloc, name, table, "leak-timeout")?;
+    let retries = optional_value::<RetryPolicy>(alloc, name, table, "retries")?;
+    let run_extra_args = optional_value::<Listing<Text>>(alloc, name, table, "run-extra-args")?;
+    let slow_timeout = optional_value::<SlowTimeout>(alloc, name, table, "slow-timeout")?;
+    Ok(LeakToSlow {
+        leak_timeout,
+        retries,
+        run_extra_args,
+        slow_timeout,
+    })
+}
+
+// What a profile says from `status-level` to `threads-required`.
+#[tactic(auto, unfolding(crate::specs::Profile::status_to_threads))]
+pub(crate) fn status_to_threads(
+    alloc: Global,
+    name: &str,
+    table: &Table,
+) -> Result<StatusToThreads, ValueError>
+    ensures { GivesAt (profile_path name.now) result (read.status_to_threads (table_view table.now)) }
+{
+    let path = ["profile", name];
+    let status_level = optional::<Any, StatusLevel>(alloc, table, &path, "status-level")?;
+    let success_output = optional::<Any, TestOutputDisplay>(alloc, table, &path, "success-output")?;
+    let test_threads = optional::<Any, TestThreads>(alloc, table, &path, "test-threads")?;
+    let threads_required = optional::<Any, ThreadsRequired>(
+        alloc,
+        table,
+        &path,
+        "threads-required",
+    )?;
+    Ok(StatusToThreads {
+        status_level,
+        success_output,
+        test_threads,
+        threads_required,
+    })
+}

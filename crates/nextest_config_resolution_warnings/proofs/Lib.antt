@@ -1,0 +1,4 @@
+pub mod Fronts
+mod Named
+mod Showing
+mod Ways

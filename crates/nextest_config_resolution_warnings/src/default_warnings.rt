@@ -1,0 +1,79 @@
+// The texts of what was told.
+ghost use Rattle.std.specs.Prelude.{◌≡◌, []};
+
+use crate::texts;
+use crate::warnings::ConfigWarnings;
+use nextest_config_elements_reading::KeyPath;
+use nextest_text::{Listing, Text};
+use std::alloc::{AllocError, Global};
+use std::marker::Model;
+
+/// The text of each warning that was told, in order. In a clause it is the list of these texts.
+#[derive(Debug, Drop)]
+pub struct DefaultConfigWarnings {
+    alloc: Global,
+    lines: Listing<Text>,
+}
+
+impl Model for DefaultConfigWarnings {
+    ghost use Rattle.std.specs.Prelude.{List, ℕ};
+
+    ghost Value = { List (List ℕ) };
+
+    ghost view = { λ it. it.lines };
+}
+
+impl DefaultConfigWarnings {
+    /// Nothing was told, which takes no memory.
+    pub fn new(alloc: Global) -> Self
+        ensures { result ≡ [] }
+    {
+        DefaultConfigWarnings {
+            alloc,
+            lines: Listing::new(alloc),
+        }
+    }
+
+    /// The texts.
+    pub fn lines(&self) -> &[Text]
+        ensures { result.now ≡ self.now }
+    {
+        self.lines.as_slice()
+    }
+}
+
+impl ConfigWarnings for DefaultConfigWarnings {
+    ghost use Rattle.std.specs.Prelude.{◌≡◌, map};
+    ghost use Rattle.nextest_config_resolution_warnings.specs.Warnings.{text_of};
+
+    ghost has_told = { λ lines told. lines ≡ map text_of told };
+
+    fn unknown_config_key(&mut self, path: &str, key: &KeyPath) -> Result<(), AllocError> {
+        let text = texts::unknown_key(self.alloc, path, key)?;
+        self.lines.push(text)?;
+        Ok(())
+    }
+
+    fn unknown_reserved_profile(&mut self, path: &str, profile: &str) -> Result<(), AllocError> {
+        let text = texts::unknown_reserved_profile(self.alloc, path, profile)?;
+        self.lines.push(text)?;
+        Ok(())
+    }
+
+    fn deprecated_script_config(&mut self, path: &str) -> Result<(), AllocError> {
+        let text = texts::deprecated_script_config(self.alloc, path)?;
+        self.lines.push(text)?;
+        Ok(())
+    }
+
+    fn empty_script_sections(
+        &mut self,
+        path: &str,
+        profile: &str,
+        count: usize,
+    ) -> Result<(), AllocError> {
+        let text = texts::empty_script_sections(self.alloc, path, profile, count)?;
+        self.lines.push(text)?;
+        Ok(())
+    }
+}

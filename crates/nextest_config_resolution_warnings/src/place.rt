@@ -1,0 +1,64 @@
+// What stands at a place of a configuration file.
+
+/// What stands at a place of a configuration file.
+#[derive(Clone, Copy, Debug, PartialEq, Eq)]
+pub enum Place {
+    /// The whole file.
+    Top,
+    /// Which versions the file asks for.
+    VersionTable,
+    /// Where results are kept.
+    Store,
+    /// The profiles, by their names.
+    Profiles,
+    /// A profile.
+    Profile,
+    /// When failing tests stop a run.
+    FailFast,
+    /// How failing tests are tried again.
+    Retries,
+    /// The same, with delays that are equal.
+    FixedRetries,
+    /// When something is slow.
+    SlowTimeout,
+    /// How long handles may stay open.
+    LeakTimeout,
+    /// What a profile sets for benchmarks.
+    ProfileBench,
+    /// The JUnit report of a profile.
+    ProfileJunit,
+    /// What is set for some tests of a profile: a list.
+    Overrides,
+    /// One of them.
+    Override,
+    /// The platforms that something holds for.
+    Platform,
+    /// What is set for some benchmarks.
+    OverrideBench,
+    /// What a JUnit report has of some tests.
+    OverrideJunit,
+    /// The scripts that tests of a profile need: a list.
+    ScriptRules,
+    /// One of them.
+    ScriptRule,
+    /// The groups of tests, by their names.
+    TestGroups,
+    /// A group of tests.
+    TestGroup,
+    /// The scripts, by their kinds.
+    Scripts,
+    /// The setup scripts, by their names.
+    SetupScripts,
+    /// A setup script.
+    SetupScript,
+    /// What a JUnit report has of a setup script.
+    SetupScriptJunit,
+    /// The wrapper scripts, by their names.
+    Wrappers,
+    /// A wrapper script.
+    Wrapper,
+    /// A command.
+    Command,
+    /// What isn't looked into.
+    Anything,
+}
