@@ -10,6 +10,7 @@ use std::alloc::{AllocError, Global};
 
 /// The sources that count, lent, the lowest first: those of the tools, of which the first handed in is the highest, and above them
 /// one of the repository's, the first that was named, else the first that was looked for. It fails only on allocation.
+#[tactic(auto, using(crate::proofs::Turning::turned_with))]
 pub fn counted<'s>(
     alloc: Global,
     sources: &'s [ConfigSource],
