@@ -40,8 +40,9 @@ pub use Rattle.test_runner_core_plan.specs.Texts as PlanTexts
 pub use Rattle.test_runner_core_listing.specs.Listing
 pub use Rattle.test_runner_core_listing.specs.Answers
 pub use Rattle.test_runner_core_settings.specs.Settings
--- the version pass: which sources count, what comes of what they ask for, and how a warning reads
-pub use Rattle.test_runner_core_versions.specs.Counting
+-- the version pass: which sources count, how it takes them, what comes of what they ask for, and how a warning reads
+pub use Rattle.nextest_config_resolution_sources.specs.Counting
+pub use Rattle.test_runner_core_versions.specs.Sources as PassSources
 pub use Rattle.test_runner_core_versions.specs.Pass
 pub use Rattle.test_runner_core_versions.specs.Warnings
 -- inputs, workspaces and listers
@@ -87,9 +88,9 @@ pub use Rattle.nextest_run_events_results.specs.declared.instance.OwnedTestInsta
 pub use Rattle.nextest_run_events_results.specs.declared.record.Record
 pub use Rattle.nextest_run_events_results.specs.declared.record.RecordOutput
 pub use Rattle.nextest_run_events_results.specs.declared.instance.TestInstanceId
-pub use Rattle.test_runner_core_inputs.specs.declared.source.ConfigSource
+pub use Rattle.nextest_config_resolution_sources.specs.declared.source.ConfigSource
 pub use Rattle.nextest_config_elements_identifiers.specs.declared.source_kind.ConfigSourceKind
-pub use Rattle.test_runner_core_inputs.specs.declared.source.ConfigSourceOutcome
+pub use Rattle.nextest_config_resolution_sources.specs.declared.source.ConfigSourceOutcome
 pub use Rattle.test_runner_core_inputs.specs.declared.platform.FactRecord
 pub use Rattle.test_runner_core_inputs.specs.declared.inputs.Inputs
 pub use Rattle.test_runner_core_inputs.specs.declared.inputs_error.InputsError

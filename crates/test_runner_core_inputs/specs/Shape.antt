@@ -8,11 +8,11 @@ use Rattle.test_runner_core_workspace.specs.declared.record.Binary.{Binary}
 use Rattle.test_runner_core_workspace.specs.declared.record.BinaryTests.{BinaryTests}
 use Rattle.test_runner_core_workspace.specs.declared.record.BinaryTests.TheVariants as tests
 use Rattle.test_runner_core_workspace.specs.declared.record.WorkspaceRecord.{WorkspaceRecord}
-use Rattle.test_runner_core_inputs.specs.declared.source.ConfigSource.{ConfigSource}
+use Rattle.nextest_config_resolution_sources.specs.declared.source.ConfigSource.{ConfigSource}
 use Rattle.nextest_config_elements_identifiers.specs.declared.source_kind.ConfigSourceKind.{ConfigSourceKind}
 use Rattle.nextest_config_elements_identifiers.specs.declared.source_kind.ConfigSourceKind.TheVariants as kinds
-use Rattle.test_runner_core_inputs.specs.declared.source.ConfigSourceOutcome.{ConfigSourceOutcome}
-use Rattle.test_runner_core_inputs.specs.declared.source.ConfigSourceOutcome.TheVariants as outcomes
+use Rattle.nextest_config_resolution_sources.specs.declared.source.ConfigSourceOutcome.{ConfigSourceOutcome}
+use Rattle.nextest_config_resolution_sources.specs.declared.source.ConfigSourceOutcome.TheVariants as outcomes
 use Rattle.test_runner_core_inputs.specs.declared.source_word.SourceWord.TheVariants as words
 use Rattle.test_runner_core_inputs.specs.declared.platform.FactRecord.{FactRecord}
 use Rattle.test_runner_core_inputs.specs.declared.platform.PlatformRecord.{PlatformRecord}

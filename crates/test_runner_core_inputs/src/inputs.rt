@@ -9,8 +9,8 @@ ghost use Rattle.test_runner_core_inputs.specs.Reading as read;
 use crate::inputs_error::{InputsError, InputsRefusal};
 use crate::leaves::Positive;
 use crate::platform::PlatformRecord;
-use crate::source::ConfigSource;
 use nextest_config_elements_plain::NextestRunMode;
+use nextest_config_resolution_sources::ConfigSource;
 use nextest_json::{
     DocumentError, Fault, Form, JsonDocument, JsonMemory, JsonValue, Step, defaulted, optional,
     required,
@@ -28,7 +28,7 @@ pub const MAX_INPUTS_LEN: usize = 1 << 24;
 pub struct Inputs {
     /// The packages and test binaries, not yet checked.
     pub workspace: WorkspaceRecord,
-    /// The sources of the configuration.
+    /// The sources of the configuration; `from_json` takes no path of one with a tab, a line feed or a carriage return in it.
     pub sources: Listing<ConfigSource>,
     /// The version that the configuration's demands are judged by.
     pub current_version: PlainVersion,

@@ -13,5 +13,5 @@ mod workspace;
 
 pub use inputs::{Inputs, MAX_INPUTS_LEN};
 pub use inputs_error::{InputsError, InputsRefusal};
+pub use nextest_config_resolution_sources::{ConfigSource, ConfigSourceOutcome};
 pub use platform::{FactRecord, PlatformRecord};
-pub use source::{ConfigSource, ConfigSourceOutcome};

@@ -8,51 +8,9 @@ use crate::inputs::Inputs;
 use crate::leaves::{OnlyTrue, UndividedText};
 use crate::source_word::SourceWord;
 use nextest_config_elements_identifiers::ConfigSourceKind;
+use nextest_config_resolution_sources::{ConfigSource, ConfigSourceOutcome};
 use nextest_json::{Fault, Form, JsonValue, has_member, required};
-use nextest_text::Text;
 use std::alloc::Global;
-
-/// What came of reading a source.
-#[derive(Clone, Debug, PartialEq, Eq)]
-pub enum ConfigSourceOutcome {
-    /// Its text.
-    Text(Text),
-    /// There is none.
-    NotFound,
-    /// It could not be read, for this cause.
-    Failed(Text),
-}
-
-impl Drop for ConfigSourceOutcome {
-    fn drop(self) {
-        match self {
-            ConfigSourceOutcome::Text(_) => {}
-            ConfigSourceOutcome::NotFound => {}
-            ConfigSourceOutcome::Failed(_) => {}
-        }
-    }
-}
-
-/// A source of the configuration.
-#[derive(Clone, Debug, PartialEq, Eq)]
-pub struct ConfigSource {
-    /// Where it comes from.
-    pub kind: ConfigSourceKind,
-    /// Its path, as reports name it; `Inputs::from_json` takes none with a tab, a line feed or a carriage return in it.
-    pub path: Text,
-    /// What came of reading it.
-    pub outcome: ConfigSourceOutcome,
-}
-
-impl Drop for ConfigSource {
-    fn drop(self) {
-        let Self {
-            kind: _,
-            path: _,
-            outcome: _,
-        } = self;
-    }
-}
 
 // The kind of a source.
 fn kind_of_source(alloc: Global, source: &JsonValue<'_, '_>) -> Result<ConfigSourceKind, Fault>

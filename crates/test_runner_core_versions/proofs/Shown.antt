@@ -1,5 +1,5 @@
 -- How a path prints, a character further.
-use Rattle.std.proofs.Common.{◌≡◌, ℕ, List, [], ◌∷◌, ◌++◌, chars, refl, sym, ap, ◌∙◌, append_assoc, append-nil}
+use Rattle.std.proofs.Common.{◌≡◌, ℕ, List, [], ◌++◌, chars, sym, ap, ◌∙◌, append_assoc, append-nil}
 use Rattle.std.specs.Prelude.{IsUtf8, encode_utf8}
 use Rattle.std.specs.List.{flat_map}
 use Rattle.std.proofs.lemmas.Str.{chars-nil, chars_past_char}

@@ -1,4 +1,4 @@
-pub mod Counting
 pub mod Pass
+pub mod Sources
 pub mod Told
 pub mod Warnings

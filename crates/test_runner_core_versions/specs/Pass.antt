@@ -5,7 +5,7 @@ use Rattle.nextest_config_elements_versions.specs.Sources.{Asking, Refusal, aski
 use Rattle.nextest_config_elements_versions.specs.Verdict.{Verdict, satisfied, error, warn, verdict}
 use Rattle.nextest_config_elements_versions.specs.declared.version_only.VersionOnlyConfig.{VersionOnlyConfig}
 use Rattle.test_runner_core_inputs.specs.declared.inputs.Inputs.{Inputs}
-use Rattle.test_runner_core_versions.specs.Counting.{sources_of}
+use Rattle.test_runner_core_versions.specs.Sources.{sources_of}
 use Rattle.test_runner_core_versions.specs.Warnings.{overridden, plain, version_text}
 use Rattle.test_runner_core_versions.specs.declared.pass.VersionPass.{VersionPass}
 use Rattle.test_runner_core_versions.specs.declared.pass_error.VersionPassError.{VersionPassError}

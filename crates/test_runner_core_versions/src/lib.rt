@@ -1,11 +1,10 @@
 //! The version pass: what the sources of a configuration ask for, and whether the current version has it.
 #![tactic(auto)]
 
-mod class;
-mod counting;
 mod pass;
 mod pass_error;
 mod shown_path;
+mod sources;
 mod warning;
 
 pub use pass::{VersionPass, version_pass};

@@ -3,8 +3,8 @@ ghost use Rattle.std.specs.Prelude.{◌≡◌, IfOk};
 ghost use Rattle.test_runner_core_versions.specs.Pass.{GivesPass, judged, pass_of};
 ghost use Rattle.test_runner_core_versions.specs.Told.{is_error};
 
-use crate::counting::counted;
 use crate::pass_error::{VersionPassError, VersionPassFault};
+use crate::sources::lent_sources;
 use crate::warning::warnings_told;
 use nextest_config_elements_versions::{NextestVersionEval, VersionOnlyConfig, VersionOnlyError};
 use nextest_text::{Listing, Text};
@@ -25,7 +25,7 @@ pub struct VersionPass {
 pub fn version_pass(alloc: Global, inputs: &Inputs) -> Result<VersionPass, VersionPassError>
     ensures exact { GivesPass result (pass_of inputs.now) }
 {
-    let sources = counted(alloc, inputs.sources.as_slice())?;
+    let sources = lent_sources(alloc, inputs.sources.as_slice())?;
     match VersionOnlyConfig::from_sources(alloc, sources.as_slice()) {
         Ok(config) => judge(alloc, &config, inputs),
         Err(VersionOnlyError::Refused(_)) => Err(VersionPassError::Refused(

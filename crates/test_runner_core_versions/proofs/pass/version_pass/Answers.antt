@@ -1,9 +1,9 @@
-use Rattle.std.proofs.Common.{◌≡◌, List, Ok, Err, map, ap, ◌∙◌, subst}
-use Rattle.nextest_config_elements_versions.specs.Sources.{GivesConfig, Source, seen}
+use Rattle.std.proofs.Common.{◌≡◌, List, Err, map, ap, ◌∙◌, subst}
+use Rattle.nextest_config_elements_versions.specs.Sources.{GivesConfig, seen}
 use Rattle.nextest_config_elements_versions.specs.declared.origin.VersionSource.{VersionSource}
 use Rattle.nextest_config_elements_versions.specs.declared.source_fault.VersionOnlyError.{VersionOnlyError}
-use Rattle.test_runner_core_inputs.specs.declared.source.ConfigSource.{ConfigSource}
-use Rattle.test_runner_core_versions.specs.Counting.{sources_of}
+use Rattle.nextest_config_resolution_sources.specs.declared.source.ConfigSource.{ConfigSource}
+use Rattle.test_runner_core_versions.specs.Sources.{sources_of}
 use Rattle.test_runner_core_versions.proofs.Passing.{passes, refuses}
 use Rattle.test_runner_core_versions.proofs.pass.version_pass.Goals as goal
 

@@ -1,6 +1,6 @@
 use Rattle.std.proofs.Common.{◌≡◌, drop}
-use Rattle.test_runner_core_versions.specs.Counting.{first_of}
-use Rattle.test_runner_core_versions.proofs.counting.first_of.Given as goal
+use Rattle.nextest_config_resolution_sources.specs.Counting.{first_of}
+use Rattle.nextest_config_resolution_sources.proofs.counting.first_of.Given as goal
 
 -- none was found so far
 abbrev pub invariant-loop-source : goal.invariant-loop-source

@@ -1,15 +1,12 @@
 -- Which sources of a configuration count, the lowest first.
-use Rattle.std.specs.Prelude.{ℕ, Bool, true, false, List, [], ◌∷◌, ◌++◌, Option, None, Some, map, reverse, if◌then◌else◌}
+use Rattle.std.specs.Prelude.{Bool, true, false, List, [], ◌∷◌, ◌++◌, Option, None, Some, reverse, if◌then◌else◌}
 use Rattle.std.specs.List.{filter}
 use Rattle.std.specs.Option.{option_or}
 use Rattle.nextest_config_elements_identifiers.specs.declared.source_kind.ConfigSourceKind.{ConfigSourceKind}
 use Rattle.nextest_config_elements_identifiers.specs.declared.source_kind.ConfigSourceKind.TheVariants as kinds
-use Rattle.nextest_config_elements_versions.specs.Sources.{Source}
-use Rattle.test_runner_core_inputs.specs.declared.source.ConfigSource.{ConfigSource}
-use Rattle.test_runner_core_inputs.specs.declared.source.ConfigSourceOutcome.{ConfigSourceOutcome}
-use Rattle.test_runner_core_inputs.specs.declared.source.ConfigSourceOutcome.TheVariants as outcomes
-use Rattle.test_runner_core_versions.specs.declared.class.Class.{Class}
-use Rattle.test_runner_core_versions.specs.declared.class.Class.TheVariants as class
+use Rattle.nextest_config_resolution_sources.specs.declared.class.Class.{Class}
+use Rattle.nextest_config_resolution_sources.specs.declared.class.Class.TheVariants as class
+use Rattle.nextest_config_resolution_sources.specs.declared.source.ConfigSource.{ConfigSource}
 
 -- where a source comes from, its name aside
 abbrev pub class_of : ConfigSourceKind → Class
@@ -42,16 +39,3 @@ listed (Some x) = x ∷ []
 -- the tools' sources, of which the first is the highest, and above them the repository's
 abbrev pub counted : List ConfigSource → List ConfigSource
 counted sources = reverse (filter (is_of class.Tool) sources) ++ listed (repository sources)
-
--- the text of a source that was read
-abbrev pub text_of : ConfigSourceOutcome → Option (List ℕ)
-text_of (outcomes.Text text) = Some text
-text_of outcomes.NotFound = None
-text_of (outcomes.Failed cause) = None
-
--- a source as the version pass takes it
-abbrev pub source_of : ConfigSource → Source
-source_of it = record { kind = it.kind; path = it.path; text = text_of it.outcome }
-
-abbrev pub sources_of : List ConfigSource → List Source
-sources_of sources = map source_of (counted sources)

@@ -1,9 +1,9 @@
 // Where sources come from.
 ghost use Rattle.std.specs.Prelude.{◌≡◌};
-ghost use Rattle.test_runner_core_versions.specs.Counting.{class_of, is_of, same_class};
+ghost use Rattle.nextest_config_resolution_sources.specs.Counting.{class_of, is_of, same_class};
 
+use crate::source::ConfigSource;
 use nextest_config_elements_identifiers::ConfigSourceKind;
-use test_runner_core_inputs::ConfigSource;
 
 // Where a source comes from, its name aside.
 #[derive(Clone, Copy)]
