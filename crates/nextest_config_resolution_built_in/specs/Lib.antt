@@ -1,0 +1,4 @@
+pub mod BuiltIn
+pub mod Laws
+pub mod Profiles
+pub mod Rows

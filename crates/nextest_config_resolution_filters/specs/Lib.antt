@@ -1,0 +1,5 @@
+pub mod Filters
+pub mod Specs
+pub mod Calls
+pub mod Filtersets
+pub mod FiltersetLaws

@@ -1,0 +1,75 @@
+-- Profiles and the store together.
+use Rattle.std.proofs.Common.{◌≡◌, ℕ, List, [], ◌∷◌, map, codes, Option, Ok, Err, refl, sym, ap, ◌∙◌, subst, nat_cmp}
+use Rattle.std.proofs.lemmas.Bool.{false≢true}
+use Rattle.std.specs.Cmp.Lexicographic.{slice_cmp}
+use Rattle.std.specs.List.Sorted.{IsStrictlySortedBy}
+use Rattle.std.specs.Result.{is_ok}
+use Rattle.toml.specs.Data.{table, Members, get_member}
+use Rattle.nextest_config_elements_reading.specs.Reading.{Reading}
+use Rattle.nextest_config_elements_reading.specs.declared.bad_value.BadValue.{BadValue}
+use Rattle.nextest_config_elements_reading.specs.declared.value_error.ValueError.{ValueError}
+use Rattle.nextest_config_elements_reading.specs.declared.value_error.ValueError.TheVariants as value_error
+use Rattle.nextest_config_resolution_inheritance.specs.Inheritance.{Parents, Rise, names}
+use Rattle.nextest_config_resolution_inheritance.specs.Refusals.{IsFirstFault, IsRefusedFor}
+use Rattle.nextest_config_resolution_inheritance.specs.declared.inheritance_error.InheritanceError.{InheritanceError}
+use Rattle.nextest_config_resolution_inheritance.specs.declared.inheritance_error.InheritanceError.TheVariants as inheritance
+use Rattle.nextest_config_resolution_inheritance.specs.declared.inheritance_fault.InheritanceFault.{InheritanceFault}
+use Rattle.nextest_config_resolution_load.specs.Load.{config_in, members_of, named, parents_of, raised, seen}
+use Rattle.nextest_config_resolution_load.specs.Reading.{GivesSeen}
+use Rattle.nextest_config_resolution_load.specs.declared.loaded_config.NamedProfile.{NamedProfile}
+use Rattle.nextest_config_resolution_tree.specs.Nesting.{OfSorted}
+use Rattle.nextest_config_resolution_tree.specs.Tree.{merge, AreSorted}
+use Rattle.nextest_config_resolution_tree.proofs.Looked.{sorted_path}
+use Rattle.nextest_config_resolution_values.specs.File.{FileConfig, Named, profiles_at, store_dir_at}
+use Rattle.nextest_config_resolution_load.proofs.Profiles.{profiles_rise}
+use Rattle.nextest_config_resolution_load.proofs.Tops.{only_some}
+
+pub profiles_refused : (top : Members) (told : ValueError) → GivesSeen (map named) (Err told) (profiles_at top) → GivesSeen seen (Err told) (config_in top)
+profiles_refused top (value_error.Refused bad) e = rw e refl
+profiles_refused top value_error.OutOfMemory e = tt
+
+pub store_refused : (top : Members) (all : List Named) (told : ValueError) → profiles_at top ≡ Ok all → GivesSeen {A = Option (List ℕ)} (λ it. it) (Err told) (store_dir_at top) → GivesSeen seen (Err told) (config_in top)
+store_refused top all (value_error.Refused bad) e f = rw (e, f) refl
+store_refused top all value_error.OutOfMemory e f = tt
+
+pub seen_refused : {A B : Type 0} (view : A → B) (reading : Reading B) (told : ValueError) (bad : BadValue) → told ≡ value_error.Refused bad → GivesSeen view (Err told) reading → reading ≡ Err bad.path.keys
+seen_refused view reading told bad e given = subst (λ it. GivesSeen view (Err it) reading) e given
+
+pub fault_is : (told : InheritanceError) (fault : InheritanceFault) (parents : Parents) → told ≡ inheritance.Refused fault → IsRefusedFor told (IsFirstFault parents) → IsFirstFault parents fault
+fault_is told fault parents e given = subst (λ it. IsRefusedFor it (IsFirstFault parents)) e given
+
+-- the parents of what is read
+pub same_parents : (all : List NamedProfile) → parents_of (map named all) ≡ map (λ it. (it.name, it.config.inherits)) all
+same_parents [] = refl
+same_parents (it ∷ all) = ap (λ more. (it.name, it.config.inherits) ∷ more) (same_parents all)
+
+same_names : (all : List Named) → names (parents_of all) ≡ map (λ it. it.0) all
+same_names [] = refl
+same_names (it ∷ all) = ap (λ more. it.0 ∷ more) (same_names all)
+
+-- files over a table are one
+pub raised_table : (built_in : Members) (files : List Members) → raised (table built_in) files ≡ table (members_of (raised (table built_in) files))
+raised_table built_in [] = refl
+raised_table built_in (file ∷ files) = raised_table (merge file built_in) files
+
+abbrev profiles_or : List Named → Reading FileConfig → List Named
+profiles_or otherwise (Ok it) = it.profiles
+profiles_or otherwise (Err path) = otherwise
+
+profiles_of_config : (top : Members) (config : FileConfig) → config_in top ≡ Ok config → profiles_at top ≡ Ok config.profiles
+profiles_of_config top config e = by_parts (profiles_at top) refl (store_dir_at top) refl e where
+  by_parts : (first : Reading (List Named)) → profiles_at top ≡ first → (second : Reading (Option (List ℕ))) → store_dir_at top ≡ second → config_in top ≡ Ok config → first ≡ Ok config.profiles
+  by_parts (Ok all) f (Ok dir) g e =
+      let is : config_in top ≡ Ok (record { profiles = all; store_dir = dir }) = rw (f, g) refl in
+      ap (λ it. Ok it) (ap (profiles_or all) (sym is ∙ e))
+  by_parts (Ok all) f (Err path) g e =
+      let is : config_in top ≡ Err path = rw (f, g) refl in
+      absurd (false≢true (ap is_ok (sym is ∙ e)))
+  by_parts (Err path) f second g e =
+      let is : config_in top ≡ Err path = rw f refl in
+      absurd (false≢true (ap is_ok (sym is ∙ e)))
+
+pub config_rises : (top : Members) (config : FileConfig) → AreSorted top → config_in top ≡ Ok config → Rise (parents_of config.profiles)
+config_rises top config sorted e =
+    let there : OfSorted (get_member (codes "profile") top) = subst OfSorted (only_some (get_member (codes "profile") top)) (sorted_path (codes "profile" ∷ []) (table top) sorted) in
+    subst (IsStrictlySortedBy (slice_cmp nat_cmp)) (sym (same_names config.profiles)) (profiles_rise top config.profiles there (profiles_of_config top config e))

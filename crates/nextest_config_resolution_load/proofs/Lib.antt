@@ -1,0 +1,4 @@
+pub mod Configs
+pub mod Profiles
+pub mod Sources
+pub mod Tops

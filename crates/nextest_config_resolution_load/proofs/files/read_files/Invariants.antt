@@ -1,0 +1,9 @@
+use Rattle.std.proofs.Common.{◌≡◌, drop, map}
+use Rattle.toml.specs.View.{table_view}
+use Rattle.nextest_config_resolution_load.specs.Load.{files_of}
+use Rattle.nextest_config_resolution_load.proofs.Sources.{behind}
+use Rattle.nextest_config_resolution_load.proofs.files.read_files.Given as goal
+
+abbrev pub invariant-loop-source : goal.invariant-loop-source
+invariant-loop-source l =
+    files_of (map (λ it. it.now) l.sources) ≡ behind (map table_view l.files.items) (files_of (map (λ it. it.now) (drop l.source-index l.sources)))

@@ -1,0 +1,15 @@
+-- Which rule a fault breaks.
+use Rattle.nextest_config_resolution_inheritance.specs.declared.inheritance_fault.InheritanceFault.TheVariants as inheritance
+use Rattle.nextest_config_resolution_load.specs.declared.load_fault.LoadFault.{LoadFault}
+use Rattle.nextest_config_resolution_load.specs.declared.load_fault.LoadFault.TheVariants as fault
+use Rattle.nextest_config_resolution_load.specs.declared.load_fault.LoadKind.{LoadKind}
+use Rattle.nextest_config_resolution_load.specs.declared.load_fault.LoadKind.TheVariants as kind
+
+abbrev pub kind_of : LoadFault → LoadKind
+kind_of (fault.Unread path cause) = kind.Unread
+kind_of (fault.Toml path message) = kind.Toml
+kind_of (fault.BadValue path value) = kind.BadValue
+kind_of (fault.BadMergedValue value) = kind.BadValue
+kind_of (fault.Inheritance (inheritance.InheritsInDefault profile)) = kind.InheritsInDefault
+kind_of (fault.Inheritance (inheritance.UnknownParent profile parent)) = kind.UnknownParent
+kind_of (fault.Inheritance (inheritance.Cycle profile)) = kind.Cycle

@@ -1,0 +1,4 @@
+pub mod Kinds
+pub mod Load
+pub mod Reading
+pub mod Refusing

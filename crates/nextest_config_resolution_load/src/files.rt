@@ -1,0 +1,89 @@
+// The files of sources.
+ghost use Rattle.std.specs.Prelude.{◌≡◌, ◌++◌, map, option_map, IfOk};
+ghost use Rattle.toml.specs.View.{table_view};
+ghost use Rattle.nextest_config_resolution_load.specs.Load.{GivesAs, file_of, files_of, if_missing, if_values, listed, text_at};
+ghost use Rattle.nextest_config_resolution_values.specs.File.{file_in};
+
+use crate::load_error::LoadError;
+use crate::refusing::{bad_value, no_toml, unread};
+use nextest_config_elements_identifiers::ConfigSourceKind;
+use nextest_config_elements_reading::ValueError;
+use nextest_config_resolution_sources::{ConfigSource, ConfigSourceOutcome};
+use nextest_config_resolution_values::check_file;
+use nextest_text::Text;
+use std::alloc::{AllocError, Global};
+use toml::Table;
+
+// The files of some sources, in their order.
+pub(crate) fn read_files(alloc: Global, sources: &[&ConfigSource]) -> Result<Vec<Table>, LoadError>
+    ensures { GivesAs (λ it. map table_view it.items) result (files_of (map (λ it. it.now) sources.now)) }
+{
+    let mut files = Vec::new(alloc);
+    for source in sources {
+        push_file(&mut files, read_file(alloc, source)?)?;
+    }
+    Ok(files)
+}
+
+// Adds a file, if there is one.
+fn push_file(files: &mut Vec<Table>, file: Option<Table>) -> Result<(), AllocError>
+    ensures { IfOk result (λ _. map table_view files.new.items ≡ map table_view files.old.items ++ listed (option_map table_view file)) }
+{
+    match file {
+        Some(file) => Ok(files.push(file)?),
+        None => Ok(()),
+    }
+}
+
+// The file of a source, if there is one.
+fn read_file(alloc: Global, source: &ConfigSource) -> Result<Option<Table>, LoadError>
+    ensures { GivesAs (option_map table_view) result (file_of source.now) }
+{
+    let path = source.path.as_str();
+    match &source.outcome {
+        ConfigSourceOutcome::Text(text) => Ok(Some(read_text(alloc, path, text.as_str())?)),
+        ConfigSourceOutcome::NotFound => read_missing(alloc, path, &source.kind),
+        ConfigSourceOutcome::Failed(cause) => Err(unread(alloc, path, cause.as_str())),
+    }
+}
+
+// A source that isn't there: a file that was looked for may be missing.
+fn read_missing(
+    alloc: Global,
+    path: &str,
+    kind: &ConfigSourceKind,
+) -> Result<Option<Table>, LoadError>
+    ensures { GivesAs (option_map table_view) result (if_missing path.now kind.now) }
+{
+    match kind {
+        ConfigSourceKind::DiscoveredRepository => Ok(None),
+        ConfigSourceKind::Tool(_) | ConfigSourceKind::ExplicitRepository => {
+            Err(unread(alloc, path, "there is no such file"))
+        }
+    }
+}
+
+// The file of a text.
+fn read_text(alloc: Global, path: &str, text: &str) -> Result<Table, LoadError>
+    ensures { GivesAs table_view result (text_at path.now text.now) }
+{
+    match toml::table_from_str(alloc, text) {
+        Ok(table) => with_values(alloc, path, table),
+        Err(error) if error.is_memory() => Err(LoadError::OutOfMemory),
+        Err(error) => {
+            let message = Text::from(format!(in alloc; "{error}")?);
+            Err(no_toml(alloc, path, message))
+        }
+    }
+}
+
+// A file whose values are all such as their keys can have.
+fn with_values(alloc: Global, path: &str, file: Table) -> Result<Table, LoadError>
+    ensures { GivesAs table_view result (if_values path.now (table_view file) (file_in (table_view file))) }
+{
+    match check_file(alloc, &file) {
+        Ok(()) => Ok(file),
+        Err(ValueError::Refused(bad)) => Err(bad_value(alloc, path, bad)),
+        Err(ValueError::OutOfMemory) => Err(LoadError::OutOfMemory),
+    }
+}

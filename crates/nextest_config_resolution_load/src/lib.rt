@@ -1,0 +1,19 @@
+//! The load of a configuration: its files, one over the other, by the rules that each must keep, in their order.
+//!
+//! Each file, the lowest first, must have been read, must be TOML, and must have only values that their keys can have. Of what
+//! they come to, one over the other, each value must be one too, and the profiles must inherit as they may.
+#![tactic(auto)]
+
+mod files;
+mod load_error;
+mod load_fault;
+mod loaded_config;
+mod loading;
+mod merging;
+mod reading;
+mod refusing;
+
+pub use load_error::LoadError;
+pub use load_fault::{LoadFault, LoadKind};
+pub use loaded_config::{LoadedConfig, NamedProfile};
+pub use loading::load;

@@ -1,0 +1,56 @@
+// What a configuration comes to.
+use nextest_config_resolution_inheritance::Inherits;
+use nextest_config_resolution_values::ProfileConfig;
+use nextest_text::{Listing, Text};
+
+/// A profile by its name.
+#[derive(Debug, PartialEq, Eq)]
+pub struct NamedProfile {
+    /// Its name.
+    pub name: Text,
+    /// What it sets itself.
+    pub config: ProfileConfig,
+}
+
+// One call drops it, whoever holds it.
+impl Drop for NamedProfile {
+    fn drop(self) {
+        let Self { name: _, config: _ } = self;
+    }
+}
+
+impl Inherits for NamedProfile {
+    ghost name_of = { λ it. it.name };
+
+    ghost parent_of = { λ it. it.config.inherits };
+
+    fn name(&self) -> &str {
+        self.name.as_str()
+    }
+
+    fn inherits(&self) -> Option<&str> {
+        match &self.config.inherits {
+            Some(parent) => Some(parent.as_str()),
+            None => None,
+        }
+    }
+}
+
+/// What the files of a configuration come to, each over the lower ones.
+#[derive(Debug, PartialEq, Eq)]
+pub struct LoadedConfig {
+    /// The profiles, by the bytes of their names.
+    pub profiles: Listing<NamedProfile>,
+    /// The directory of the store, if one is set.
+    pub store_dir: Option<Text>,
+}
+
+// One call drops it, whoever holds it.
+impl Drop for LoadedConfig {
+    fn drop(self) {
+        let Self {
+            profiles: _,
+            store_dir: _,
+        } = self;
+    }
+}

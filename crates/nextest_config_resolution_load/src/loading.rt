@@ -1,0 +1,76 @@
+// What the sources of a configuration come to.
+ghost use Rattle.std.specs.Prelude.{◌≡◌, map, IfErr, IfOk};
+ghost use Rattle.toml.specs.Data.{table};
+ghost use Rattle.toml.specs.View.{table_view};
+ghost use Rattle.nextest_config_resolution_inheritance.specs.Inheritance.{IsAccepted, Rise};
+ghost use Rattle.nextest_config_resolution_load.specs.Load.{GivesAs, IsLoaded, config_in, if_config, members_of, parents_of, raised, seen};
+ghost use Rattle.nextest_config_resolution_load.specs.Refusing.{InheritsBadlyFor};
+
+use crate::files::read_files;
+use crate::load_error::LoadError;
+use crate::load_fault::LoadFault;
+use crate::loaded_config::LoadedConfig;
+use crate::merging::merge_files;
+use crate::reading::read_config;
+use nextest_config_elements_reading::ValueError;
+use nextest_config_resolution_inheritance::{InheritanceError, check_inheritance};
+use nextest_config_resolution_sources::{ConfigSource, counted};
+use std::alloc::Global;
+use toml::Table;
+
+/// What the sources of a configuration come to, those that count, each over the lower ones and over what is built in.
+///
+/// # Errors
+///
+/// `Refused` tells of the first rule that is broken. They are looked at in this order: of each source, the lowest first, that it
+/// was read (a file that was looked for may be missing), that its text is TOML, and that each value can stand at its key, by the
+/// bytes of the keys; then, of what they come to, that each value can stand at its key; then how profiles inherit, as
+/// `check_inheritance` says. Want of memory says nothing of the sources.
+pub fn load(
+    alloc: Global,
+    built_in: &Table,
+    sources: &[ConfigSource],
+) -> Result<LoadedConfig, LoadError>
+    ensures { IsLoaded (table_view built_in.now) sources.now result }
+{
+    let counted = counted(alloc, sources)?;
+    let files = match read_files(alloc, counted.as_slice()) {
+        Ok(files) => files,
+        Err(error) => return Err(error),
+    };
+    match read_merged(alloc, built_in, files.as_slice()) {
+        Ok(config) => accepted(alloc, config),
+        Err(error) => Err(error),
+    }
+}
+
+// What files come to, over what is built in.
+fn read_merged(alloc: Global, built_in: &Table, files: &[Table]) -> Result<LoadedConfig, LoadError>
+    ensures read { GivesAs seen result (if_config (config_in (members_of (raised (table (table_view built_in.now)) (map table_view files.now))))) }
+    ensures rises { IfOk result (λ it. Rise (parents_of (seen it).profiles)) }
+{
+    let tree = merge_files(alloc, built_in, files)?;
+    match read_config(alloc, &tree) {
+        Ok(config) => Ok(config),
+        Err(ValueError::Refused(value)) => {
+            Err(LoadError::Refused(LoadFault::BadMergedValue { value }))
+        }
+        Err(ValueError::OutOfMemory) => Err(LoadError::OutOfMemory),
+    }
+}
+
+// A configuration whose profiles inherit as they may.
+fn accepted(alloc: Global, config: LoadedConfig) -> Result<LoadedConfig, LoadError>
+    requires rises { Rise (parents_of (seen config).profiles) }
+    ensures same { IfOk result (λ it. it ≡ config) }
+    ensures accepted { IfOk result (λ it. IsAccepted (parents_of (seen it).profiles)) }
+    ensures refused { IfErr result (InheritsBadlyFor (seen config)) }
+{
+    match check_inheritance(alloc, config.profiles.as_slice()) {
+        Ok(()) => Ok(config),
+        Err(InheritanceError::Refused(fault)) => {
+            Err(LoadError::Refused(LoadFault::Inheritance(fault)))
+        }
+        Err(InheritanceError::OutOfMemory) => Err(LoadError::OutOfMemory),
+    }
+}

@@ -1,0 +1,46 @@
+-- A search through layers that are lent, from the first on.
+use Rattle.std.proofs.Common.{◌≡◌, ℕ, ◌+◌, ◌<◌, ◌≤◌, List, ◌∷◌, ◌++◌, Option, Some, None, length, get_or, take, drop, Bor, sym, ap, ◌∙◌, subst, arith}
+use Rattle.std.proofs.lemmas.List.{take-append-drop, drop_more, get_or-map, length-map, length-take-le, take_all}
+use Rattle.std.proofs.lemmas.List.Elements.{All-more}
+use Rattle.nextest_config_resolution_settings.specs.Nearest.{IsNearest, SetsNone, lent}
+
+lent_at : {L : Type 0} (layers : List (Bor L)) (place : ℕ) (layer : Bor L) → place < length layers → layer ≡ get_or layers place layer
+    → get_or (lent layers) place layer.now ≡ layer.now
+lent_at layers place layer within is = get_or-map (λ it. it.now) layers place layer layer.now within ∙ ap (λ it. it.now) (sym is)
+
+lent_within : {L : Type 0} (layers : List (Bor L)) (place : ℕ) → place < length layers → place < length (lent layers)
+lent_within layers place within = omega (arith, length-map layers (λ it. it.now))
+
+divided_at : {L : Type 0} (xs : List L) (place : ℕ) (x : L) → place < length xs → get_or xs place x ≡ x → xs ≡ take place xs ++ x ∷ drop (place + 1) xs
+divided_at xs place x within is =
+    sym (take-append-drop place xs) ∙ ap (λ rest. take place xs ++ rest) (drop_more xs place x within ∙ ap (λ it. it ∷ drop (place + 1) xs) is)
+
+-- the layer at a place sets a value, and none before it did
+pub nearest_at : {L V : Type 0} (set_by : L → Option V) (layers : List (Bor L)) (place : ℕ) (layer : Bor L) (value : V)
+    → place < length layers → layer ≡ get_or layers place layer → SetsNone set_by (take place (lent layers)) → set_by layer.now ≡ Some value
+    → IsNearest set_by (lent layers) place value
+nearest_at set_by layers place layer value within is unset sets =
+    let inside = lent_within layers place within in
+    record {
+      front = take place (lent layers);
+      layer = layer.now;
+      back = drop (place + 1) (lent layers);
+      divided = divided_at (lent layers) place layer.now inside (lent_at layers place layer within is);
+      placed = let inside' : place ≤ length (lent layers) = omega arith in sym (length-take-le place (lent layers) inside');
+      before = unset;
+      sets = sets;
+    }
+
+-- no layer so far, and not the one at a place
+pub none_more : {L V : Type 0} (set_by : L → Option V) (layers : List (Bor L)) (place : ℕ) (layer : Bor L)
+    → place < length layers → layer ≡ get_or layers place layer → SetsNone set_by (take place (lent layers)) → set_by layer.now ≡ None
+    → SetsNone set_by (take (place + 1) (lent layers))
+none_more set_by layers place layer within is unset sets =
+    All-more (λ it. set_by it ≡ None) (lent layers) place layer.now (lent_within layers place within) unset
+    (ap set_by (lent_at layers place layer within is) ∙ sets)
+
+pub none_all : {L V : Type 0} (set_by : L → Option V) (layers : List (Bor L)) (place : ℕ)
+    → length layers ≤ place → SetsNone set_by (take place (lent layers)) → SetsNone set_by (lent layers)
+none_all set_by layers place over unset =
+    let whole : length (lent layers) ≤ place = omega (arith, length-map layers (λ it. it.now)) in
+    subst (λ xs. SetsNone set_by xs) (take_all place (lent layers) whole) unset

@@ -1,0 +1,6 @@
+pub mod Fallbacks
+pub mod Keys
+pub mod Laws
+pub mod Nearest
+pub mod Profile
+pub mod TestSettings

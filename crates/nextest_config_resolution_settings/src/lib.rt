@@ -1,0 +1,20 @@
+//! Which value a setting has: that of the nearest layer that sets it, else a fallback.
+//!
+//! A layer says by `Sets` which value it sets for a setting. `nearest` finds the first of a list that sets one, and
+//! `find_setting` goes over two lists, rules and then profiles, and tells where the value comes from. An `EvaluatableProfile` is
+//! read from its chain of profiles alone.
+#![tactic(auto)]
+
+mod evaluatable_profile;
+pub mod fallbacks;
+pub mod keys;
+pub mod laws;
+mod layers;
+mod profiles;
+mod source;
+mod test_settings;
+
+pub use evaluatable_profile::EvaluatableProfile;
+pub use layers::{NoRule, Sets, Setting, find_setting, nearest};
+pub use source::SettingSource;
+pub use test_settings::{TestGroupRef, TestSettings};

@@ -1,0 +1,37 @@
+// The values that profiles have, where no rules are asked.
+ghost use Rattle.std.specs.Prelude.{unwrap_or};
+ghost use Rattle.std.specs.Option.{option_copied};
+ghost use Rattle.nextest_config_resolution_settings.specs.Nearest.{lent};
+ghost use Rattle.nextest_config_resolution_settings.specs.Profile.{MaySet, OfProfiles};
+
+use crate::layers::{NoRule, Sets, Setting, find_setting, nearest};
+
+// The value that profiles have of a setting, lent. `None` where none of them sets it, and then whatever the fallback is holds.
+pub(crate) fn of_profiles<'c, S: Setting, P: Sets<S>>(profiles: &[&'c P]) -> Option<&'c S::Value>
+    ensures { (fallback : S.Value) → OfProfiles P.value (lent profiles.now) fallback (unwrap_or (option_copied result) fallback) }
+{
+    find_setting::<S, NoRule, P>(&[], profiles).0
+}
+
+// The value that profiles have of a setting, lent, or the fallback.
+pub(crate) fn value_or<'c, S: Setting, P: Sets<S>>(
+    profiles: &[&'c P],
+    fallback: &'c S::Value,
+) -> &'c S::Value
+    ensures { OfProfiles P.value (lent profiles.now) fallback.now result.now }
+{
+    match of_profiles::<S, P>(profiles) {
+        Some(value) => value,
+        None => fallback,
+    }
+}
+
+// The value that profiles have of a setting, lent, if one of them sets it.
+pub(crate) fn set_by<'c, S: Setting, P: Sets<S>>(profiles: &[&'c P]) -> Option<&'c S::Value>
+    ensures { MaySet P.value (lent profiles.now) (option_copied result) }
+{
+    match nearest::<S, P>(profiles) {
+        Some((_, value)) => Some(value),
+        None => None,
+    }
+}

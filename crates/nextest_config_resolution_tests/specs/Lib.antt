@@ -1,0 +1,2 @@
+pub mod PlainFilters
+pub mod PlainSpecs
