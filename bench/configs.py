@@ -1,0 +1,120 @@
+#!/usr/bin/env python3
+"""Times the load of three files of 200 profiles each, some 480 kB a file, beside the reading of the same bytes by `toml` alone.
+
+    python3 bench/configs.py
+
+It copies the repository with what is built in it, adds the program below, proves and builds it (some minutes, where the libraries
+are built), and prints the least of nine runs of each. The program has no place in the repository: the gate would prove it again.
+"""
+import pathlib
+import random
+import shutil
+import subprocess
+import tempfile
+import time
+
+ROOT = pathlib.Path(__file__).resolve().parent.parent
+LINE = (
+    "time_load: nextest_config_resolution_load nextest_config_resolution_built_in nextest_config_resolution_sources"
+    " nextest_config_elements_identifiers nextest_text toml anyhow\n"
+)
+PROGRAM = """//! Reads three files as TOML, or loads them one over the other.
+#![tactic(auto)]
+
+use anyhow::Result;
+use nextest_config_elements_identifiers::{ConfigSourceKind, ToolName};
+use nextest_config_resolution_built_in::built_in;
+use nextest_config_resolution_load::{LoadError, load};
+use nextest_config_resolution_sources::{ConfigSource, ConfigSourceOutcome};
+use nextest_text::Text;
+use std::fs;
+use std::process::ExitCode;
+
+fn main(rt: HostRuntime) -> Result<ExitCode> {
+    let alloc = rt.alloc();
+    let mode = fs::read_to_string(&rt, "mode.txt")?;
+    let mut sources: Vec<ConfigSource> = Vec::new(alloc);
+    for name in ["a.toml", "b.toml", "c.toml"] {
+        let text = fs::read_to_string(&rt, name)?;
+        if mode.as_str() == "read" {
+            let table = toml::table_from_str(alloc, text.as_str())?;
+            println!(rt; "{}", table.len())?;
+        } else {
+            sources.push(ConfigSource {
+                kind: ConfigSourceKind::Tool(ToolName::new(alloc, "t")?),
+                path: Text::from_str(alloc, name)?,
+                outcome: ConfigSourceOutcome::Text(Text::from(text)),
+            })?;
+        }
+    }
+    if mode.as_str() == "load" {
+        let base = built_in(alloc)?;
+        match load(alloc, &base, sources.as_slice()) {
+            Ok(config) => println!(rt; "profiles {}", config.profiles.len())?,
+            Err(LoadError::Refused(fault)) => println!(rt; "refused {fault}")?,
+            Err(LoadError::OutOfMemory) => println!(rt; "memory")?,
+        }
+    }
+    Ok(ExitCode::SUCCESS)
+}
+"""
+KEYS = [
+    'retries = { backoff = "exponential", count = 3, delay = "1s", jitter = true, max-delay = "10s" }',
+    'flaky-result = "fail"', "test-threads = 4", "threads-required = 2", 'run-extra-args = ["--nocapture", "--another-argument"]',
+    'status-level = "all"', 'final-status-level = "slow"', 'failure-output = "final"', 'success-output = "never"',
+    'fail-fast = { max-fail = 5, terminate = "immediate" }',
+    'slow-timeout = { period = "60s", terminate-after = 2, grace-period = "10s", on-timeout = "fail" }',
+    'global-timeout = "2h"', 'leak-timeout = { period = "500ms", result = "fail" }', 'default-filter = "not test(very_slow)"',
+] + [f'a-key-of-a-later-release-{place} = "a value of that key, of some length"' for place in range(20)]
+JUNIT = """path = "target/junit.xml"
+report-name = "some report"
+store-success-output = true
+store-failure-output = true
+report-skipped = "all"
+flaky-fail-status = "success"
+"""
+
+
+def file():
+    """200 profiles of 40 keys, those of each in another order."""
+    text = []
+    for number in range(200):
+        keys = random.sample(KEYS, len(KEYS))
+        text.append(f"[profile.profile-number-{number}]\n" + "\n".join(keys) + f"\n[profile.profile-number-{number}.junit]\n{JUNIT}")
+    return "".join(text)
+
+
+def least(program, folder, mode):
+    """The least seconds of nine runs."""
+    (folder / "mode.txt").write_text(mode)
+    times = []
+    for _ in range(9):
+        began = time.perf_counter()
+        subprocess.run([program], cwd=folder, check=True, stdout=subprocess.DEVNULL)
+        times.append(time.perf_counter() - began)
+    return min(times)
+
+
+def main():
+    random.seed(1)
+    with tempfile.TemporaryDirectory() as kept:
+        copy = pathlib.Path(kept) / "repository"
+        shutil.copytree(ROOT, copy, symlinks=True, ignore=shutil.ignore_patterns(".git"))
+        source = copy / "crates/time_load/src"
+        source.mkdir(parents=True)
+        (source / "main.rt").write_text(PROGRAM)
+        with open(copy / "crates.txt", "a") as lines:
+            lines.write(LINE)
+        data = source.parent / "data"
+        data.mkdir()
+        for name in "abc":
+            (data / f"{name}.toml").write_text(file())
+        (data / "mode.txt").write_text("read")
+        subprocess.run(["rt", "run"], cwd=source.parent, stdin=subprocess.DEVNULL, stdout=subprocess.DEVNULL, stderr=subprocess.DEVNULL)
+        size = sum((data / f"{name}.toml").stat().st_size for name in "abc")
+        read, load = (least(source.parent / "out/time_load", data, mode) for mode in ("read", "load"))
+        print(f"{size} bytes: read {read:.3f} s, loaded {load:.3f} s, {load / read:.2f} times")
+
+
+if __name__ == "__main__":
+    main()
