@@ -1,0 +1,35 @@
+-- What the contracts of the items that this crate hands on speak of.
+-- sources, and what they come to
+pub use Rattle.nextest_config_resolution_sources.specs.Counting
+pub use Rattle.nextest_config_resolution_sources.specs.Kinds as SourceKinds
+pub use Rattle.nextest_config_resolution_load.specs.Kinds
+pub use Rattle.nextest_config_resolution_load.specs.Load
+-- the merged tree
+pub use Rattle.nextest_config_resolution_tree.specs.Laws as TreeLaws
+pub use Rattle.nextest_config_resolution_tree.specs.Merged
+pub use Rattle.nextest_config_resolution_tree.specs.Tree
+pub use Rattle.nextest_config_resolution_tree.specs.Whole
+-- what files and profiles say, and how profiles inherit
+pub use Rattle.nextest_config_resolution_values.specs.Accepted as AcceptedProfiles
+pub use Rattle.nextest_config_resolution_values.specs.File
+pub use Rattle.nextest_config_resolution_values.specs.Laws as ValueLaws
+pub use Rattle.nextest_config_resolution_values.specs.Profile
+pub use Rattle.nextest_config_resolution_inheritance.specs.Inheritance
+pub use Rattle.nextest_config_resolution_inheritance.specs.Laws as InheritanceLaws
+pub use Rattle.nextest_config_resolution_inheritance.specs.Refusals
+-- settings, and what is built in
+pub use Rattle.nextest_config_resolution_settings.specs.Fallbacks
+pub use Rattle.nextest_config_resolution_settings.specs.Keys as SettingKeys
+pub use Rattle.nextest_config_resolution_settings.specs.Nearest
+pub use Rattle.nextest_config_resolution_settings.specs.TestSettings
+pub use Rattle.nextest_config_resolution_built_in.specs.BuiltIn
+pub use Rattle.nextest_config_resolution_built_in.specs.Laws as BuiltInLaws
+-- warnings
+pub use Rattle.nextest_config_resolution_warnings.specs.Places
+pub use Rattle.nextest_config_resolution_warnings.specs.Reserved
+pub use Rattle.nextest_config_resolution_warnings.specs.Telling
+pub use Rattle.nextest_config_resolution_warnings.specs.Unknown
+pub use Rattle.nextest_config_resolution_warnings.specs.Warnings
+-- filters and platform specs
+pub use Rattle.nextest_config_resolution_filters.specs.Filters
+pub use Rattle.nextest_config_resolution_filters.specs.Specs

@@ -1,0 +1,12 @@
+//! What holds of configurations. Each function does nothing, and its contract is the law.
+
+pub use nextest_config_resolution_built_in::laws::{
+    accepted as built_in_is_accepted, no_fallback, read_as as built_in_is_read_as,
+    written_as as built_in_is_written_as,
+};
+pub use nextest_config_resolution_inheritance::laws::{
+    no_end, no_fault, one_chain, one_fault, one_verdict,
+};
+pub use nextest_config_resolution_settings::laws::one_setting;
+pub use nextest_config_resolution_tree::laws::{merged_by_over, one_standing};
+pub use nextest_config_resolution_values::laws::accepted_profile;

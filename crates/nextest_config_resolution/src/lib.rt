@@ -1,0 +1,35 @@
+//! Configurations: what a list of sources comes to, which profiles there are and what each of them sets.
+//!
+//! What the contracts of these speak of is handed on as `Rattle.nextest_config_resolution.specs`.
+#![tactic(auto)]
+
+pub mod laws;
+
+pub use nextest_config_elements_identifiers::{ConfigSourceKind, ToolName};
+pub use nextest_config_elements_reading::{BadValue, KeyPath, ValueError};
+pub use nextest_config_resolution_built_in::{DEFAULT_CONFIG, built_in};
+pub use nextest_config_resolution_filters::{FilterError, Filters, SpecError, Specs};
+pub use nextest_config_resolution_inheritance::{
+    InheritanceError, InheritanceFault, Inherits, chain_of, check_inheritance,
+};
+pub use nextest_config_resolution_load::{
+    LoadError, LoadFault, LoadKind, LoadedConfig, NamedProfile, load,
+};
+pub use nextest_config_resolution_settings::{
+    EvaluatableProfile, NoRule, Setting, SettingSource, Sets, TestGroupRef, TestSettings, fallbacks,
+    find_setting, keys, nearest,
+};
+pub use nextest_config_resolution_sources::{
+    CONFIG_PATH, ConfigFileSelection, ConfigPaths, ConfigSource, ConfigSourceOutcome,
+    DEFAULT_MIRI_PROFILE, DEFAULT_PROFILE, DEFAULT_PROFILES, ENVIRONMENT_PREFIX, counted,
+};
+pub use nextest_config_resolution_tree::MergedTree;
+pub use nextest_config_resolution_values::{
+    ProfileBench, ProfileConfig, ProfileJunit, ProfileOutput, ProfileRun, ProfileTest, check_file,
+    deserialize_profile, deserialize_profile_value, deserialize_store_dir,
+};
+pub use nextest_config_resolution_warnings::{
+    ConfigWarning, ConfigWarnings, DefaultConfigWarnings, Place, Shown, tell_file, unknown_keys,
+    unknown_reserved_profiles,
+};
+pub use nextest_text::{Listing, Text};
