@@ -43,7 +43,7 @@ pub same_parents : (all : List NamedProfile) → parents_of (map named all) ≡ 
 same_parents [] = refl
 same_parents (it ∷ all) = ap (λ more. (it.name, it.config.inherits) ∷ more) (same_parents all)
 
-same_names : (all : List Named) → names (parents_of all) ≡ map (λ it. it.0) all
+pub same_names : (all : List Named) → names (parents_of all) ≡ map (λ it. it.0) all
 same_names [] = refl
 same_names (it ∷ all) = ap (λ more. it.0 ∷ more) (same_names all)
 
@@ -56,7 +56,7 @@ abbrev profiles_or : List Named → Reading FileConfig → List Named
 profiles_or otherwise (Ok it) = it.profiles
 profiles_or otherwise (Err path) = otherwise
 
-profiles_of_config : (top : Members) (config : FileConfig) → config_in top ≡ Ok config → profiles_at top ≡ Ok config.profiles
+pub profiles_of_config : (top : Members) (config : FileConfig) → config_in top ≡ Ok config → profiles_at top ≡ Ok config.profiles
 profiles_of_config top config e = by_parts (profiles_at top) refl (store_dir_at top) refl e where
   by_parts : (first : Reading (List Named)) → profiles_at top ≡ first → (second : Reading (Option (List ℕ))) → store_dir_at top ≡ second → config_in top ≡ Ok config → first ≡ Ok config.profiles
   by_parts (Ok all) f (Ok dir) g e =

@@ -251,7 +251,7 @@ names_rise (Some (boolean truth)) all sorted e = absurd (false≢true (ap is_ok 
 names_rise (Some (datetime time)) all sorted e = absurd (false≢true (ap is_ok e))
 names_rise (Some (array items)) all sorted e = absurd (false≢true (ap is_ok e))
 
-under_ok : (key : List ℕ) (reading : Reading (List Named)) (all : List Named) → under key reading ≡ Ok all → reading ≡ Ok all
+pub under_ok : (key : List ℕ) (reading : Reading (List Named)) (all : List Named) → under key reading ≡ Ok all → reading ≡ Ok all
 under_ok key (Ok some) all e = e
 under_ok key (Err path) all e = absurd (false≢true (ap is_ok e))
 

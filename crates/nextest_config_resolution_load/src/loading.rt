@@ -31,7 +31,8 @@ pub fn load(
     built_in: &Table,
     sources: &[ConfigSource],
 ) -> Result<LoadedConfig, LoadError>
-    ensures { IsLoaded (table_view built_in.now) sources.now result }
+    ensures loaded { IsLoaded (table_view built_in.now) sources.now result }
+    ensures rises { IfOk result (λ it. Rise (parents_of (seen it).profiles)) }
 {
     let counted = counted(alloc, sources)?;
     let files = match read_files(alloc, counted.as_slice()) {

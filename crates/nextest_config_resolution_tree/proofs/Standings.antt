@@ -12,7 +12,7 @@ use Rattle.nextest_config_resolution_tree.proofs.Joined.{over_none}
 use Rattle.nextest_config_resolution_tree.proofs.Keys.{key_cmp, after_set, equal_keys, get_set}
 
 -- what two tables have at a key
-abbrev joint : Option Data → Option Data → Option Data
+abbrev pub joint : Option Data → Option Data → Option Data
 joint (Some value) lower = Some (over value lower)
 joint None lower = lower
 
@@ -23,7 +23,7 @@ joint_set key other Less e value higher found lower behind = behind
 joint_set key other Greater e value higher found lower behind = behind
 joint_set key other Equal e value higher found lower behind = ap (λ k. Some (over value (get_member k lower))) (sym (equal_keys key other e))
 
-get_merge : (key : List ℕ) (higher lower : Members) → get_member key (merge higher lower) ≡ joint (get_member key higher) (get_member key lower)
+pub get_merge : (key : List ℕ) (higher lower : Members) → get_member key (merge higher lower) ≡ joint (get_member key higher) (get_member key lower)
 get_merge key no_members lower = refl
 get_merge key (member other value more) lower =
     get_set key other (over value (get_member other lower)) (merge more lower)

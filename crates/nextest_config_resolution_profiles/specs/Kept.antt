@@ -1,0 +1,19 @@
+-- Profiles that stay, whatever files say.
+use Rattle.std.specs.Prelude.{◌≡◌, ℕ, List, Option, Some, Ok, Contains, codes}
+use Rattle.toml.specs.Data.{Data, table, Members, get_member}
+use Rattle.nextest_config_resolution_inheritance.specs.Inheritance.{names}
+use Rattle.nextest_config_resolution_load.specs.Load.{config_of, parents_of}
+use Rattle.nextest_config_resolution_sources.specs.declared.source.ConfigSource.{ConfigSource}
+use Rattle.nextest_config_resolution_values.specs.File.{FileConfig}
+
+-- something stands under a name in the table of profiles
+pub record HasProfile (name : List ℕ) (top : Members) : Type 0 where
+  pub profiles : Members
+  pub given : Data
+  pub listed : get_member (codes "profile") top ≡ Some (table profiles)
+  pub there : get_member name profiles ≡ Some given
+
+-- a profile of what is built in is one of each configuration that sources come to over it
+abbrev pub KeptProfile : Type 0
+KeptProfile = (built_in : Members) (sources : List ConfigSource) (config : FileConfig) (name : List ℕ)
+    → HasProfile name built_in → config_of built_in sources ≡ Ok config → Contains (names (parents_of config.profiles)) name
