@@ -1,4 +1,5 @@
 pub mod Kinds
+pub mod Laws
 pub mod Load
 pub mod Reading
 pub mod Refusing

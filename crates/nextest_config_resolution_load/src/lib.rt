@@ -5,6 +5,7 @@
 #![tactic(auto)]
 
 mod files;
+pub mod laws;
 mod load_error;
 mod load_fault;
 mod loaded_config;
