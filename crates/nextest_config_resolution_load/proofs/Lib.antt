@@ -2,4 +2,5 @@ pub mod Configs
 pub mod Loads
 pub mod Profiles
 pub mod Sources
+pub mod Told
 pub mod Tops

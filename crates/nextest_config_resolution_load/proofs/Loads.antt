@@ -1,5 +1,5 @@
 -- What files come to, and that sources are loaded to one configuration.
-use Rattle.std.proofs.Common.{◌≡◌, ◌⊎◌, List, [], ◌∷◌, ◌++◌, map, Result, Ok, Err, sym, ap, ◌∙◌, subst, append_assoc, inl, inr}
+use Rattle.std.proofs.Common.{◌≡◌, List, [], ◌∷◌, ◌++◌, map, Ok, Err, sym, ap, ◌∙◌, subst, append_assoc, inl, inr}
 use Rattle.std.specs.Prelude.{reverse}
 use Rattle.std.proofs.lemmas.Bool.{true≢false}
 use Rattle.std.proofs.lemmas.List.{reverse-append}
@@ -7,7 +7,6 @@ use Rattle.std.specs.Result.{is_ok}
 use Rattle.toml.specs.Data.{Data, table, Members}
 use Rattle.nextest_config_resolution_inheritance.proofs.Faults.{no_fault}
 use Rattle.nextest_config_resolution_inheritance.specs.Inheritance.{IsAccepted}
-use Rattle.nextest_config_resolution_sources.specs.declared.source.ConfigSource.{ConfigSource}
 use Rattle.nextest_config_resolution_tree.proofs.Standings.{merged_by_over}
 use Rattle.nextest_config_resolution_tree.specs.Merged.{IsMerged, merged}
 use Rattle.nextest_config_resolution_values.specs.File.{FileConfig}
@@ -22,7 +21,7 @@ merged_behind [] file below = merged_by_over file below
 merged_behind (next ∷ files) file below =
     let one : List Data = table next ∷ [] in
     let same : reverse (map table files) ++ table next ∷ file ∷ below ≡ reverse (map table (next ∷ files)) ++ file ∷ below =
-        sym (append_assoc (reverse (map table files)) one (file ∷ below)) ∙ ap (λ (all : List Data). all ++ file ∷ below) (sym (reverse-append one (map table files))) in
+    sym (append_assoc (reverse (map table files)) one (file ∷ below)) ∙ ap (λ (all : List Data). all ++ file ∷ below) (sym (reverse-append one (map table files))) in
     subst (λ (all : List Data). IsMerged all (raised (merged file below) (next ∷ files))) same (merged_behind files (table next) (file ∷ below))
 
 pub merged_files : MergedFiles
