@@ -50,7 +50,7 @@ pub fn load(
 ///
 /// # Errors
 ///
-/// As `load`. Sources that are refused are told nothing of; where there was no memory, a front of the warnings was told.
+/// As `load`. Where the sources are refused no warning was told; where there was no memory, a front of them was.
 pub fn load_with_warnings<W: ConfigWarnings>(
     alloc: Global,
     built_in: &Table,
