@@ -1,4 +1,6 @@
 pub mod Configs
+pub mod Loads
 pub mod Profiles
 pub mod Sources
+pub mod Told
 pub mod Tops

@@ -1,4 +1,7 @@
+pub mod Files
 pub mod Kinds
+pub mod Laws
 pub mod Load
 pub mod Reading
 pub mod Refusing
+pub mod Telling

@@ -1,10 +1,14 @@
 // The files of sources.
 ghost use Rattle.std.specs.Prelude.{◌≡◌, ◌++◌, map, option_map, IfOk};
+ghost use Rattle.std.specs.List.{flat_map};
 ghost use Rattle.toml.specs.View.{table_view};
+ghost use Rattle.nextest_config_resolution_load.specs.Files.{members_in, told_in};
+ghost use Rattle.nextest_config_resolution_load.specs.Telling.{told_at, told_of};
 ghost use Rattle.nextest_config_resolution_load.specs.Load.{GivesAs, file_of, files_of, if_missing, if_values, listed, text_at};
 ghost use Rattle.nextest_config_resolution_values.specs.File.{file_in};
 
 use crate::load_error::LoadError;
+use crate::placed_file::PlacedFile;
 use crate::refusing::{bad_value, no_toml, unread};
 use nextest_config_elements_identifiers::ConfigSourceKind;
 use nextest_config_elements_reading::ValueError;
@@ -14,23 +18,32 @@ use nextest_text::Text;
 use std::alloc::{AllocError, Global};
 use toml::Table;
 
-// The files of some sources, in their order.
-pub(crate) fn read_files(alloc: Global, sources: &[&ConfigSource]) -> Result<Vec<Table>, LoadError>
-    ensures { GivesAs (λ it. map table_view it.items) result (files_of (map (λ it. it.now) sources.now)) }
+// The files of some sources, in their order, each at the path of its source.
+pub(crate) fn read_files<'s>(
+    alloc: Global,
+    sources: &[&'s ConfigSource],
+) -> Result<Vec<PlacedFile<'s>>, LoadError>
+    ensures files { GivesAs (λ it. map members_in it.items) result (files_of (map (λ it. it.now) sources.now)) }
+    ensures told { IfOk result (λ it. flat_map told_in it.items ≡ flat_map told_of (map (λ it. it.now) sources.now)) }
 {
     let mut files = Vec::new(alloc);
     for source in sources {
-        push_file(&mut files, read_file(alloc, source)?)?;
+        push_file(&mut files, source.path.as_str(), read_file(alloc, source)?)?;
     }
     Ok(files)
 }
 
 // Adds a file, if there is one.
-fn push_file(files: &mut Vec<Table>, file: Option<Table>) -> Result<(), AllocError>
-    ensures { IfOk result (λ _. map table_view files.new.items ≡ map table_view files.old.items ++ listed (option_map table_view file)) }
+fn push_file<'s>(
+    files: &mut Vec<PlacedFile<'s>>,
+    path: &'s str,
+    file: Option<Table>,
+) -> Result<(), AllocError>
+    ensures files { IfOk result (λ _. map members_in files.new.items ≡ map members_in files.old.items ++ listed (option_map table_view file)) }
+    ensures told { IfOk result (λ _. flat_map told_in files.new.items ≡ flat_map told_in files.old.items ++ told_at path.now (option_map table_view file)) }
 {
     match file {
-        Some(file) => Ok(files.push(file)?),
+        Some(table) => Ok(files.push(PlacedFile { path, table })?),
         None => Ok(()),
     }
 }

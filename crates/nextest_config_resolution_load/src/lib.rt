@@ -5,15 +5,18 @@
 #![tactic(auto)]
 
 mod files;
+pub mod laws;
 mod load_error;
 mod load_fault;
 mod loaded_config;
 mod loading;
 mod merging;
+mod placed_file;
 mod reading;
 mod refusing;
+mod telling;
 
 pub use load_error::LoadError;
 pub use load_fault::{LoadFault, LoadKind};
 pub use loaded_config::{LoadedConfig, NamedProfile};
-pub use loading::load;
+pub use loading::{load, load_with_warnings};

@@ -1,9 +1,12 @@
 // What the sources of a configuration come to.
 ghost use Rattle.std.specs.Prelude.{◌≡◌, map, IfErr, IfOk};
+ghost use Rattle.std.specs.List.{flat_map};
 ghost use Rattle.toml.specs.Data.{table};
 ghost use Rattle.toml.specs.View.{table_view};
 ghost use Rattle.nextest_config_resolution_inheritance.specs.Inheritance.{IsAccepted, Rise};
-ghost use Rattle.nextest_config_resolution_load.specs.Load.{GivesAs, IsLoaded, config_in, if_config, members_of, parents_of, raised, seen};
+ghost use Rattle.nextest_config_resolution_load.specs.Load.{GivesAs, IsLoaded, config_in, config_of, if_config, members_of, parents_of, raised, seen};
+ghost use Rattle.nextest_config_resolution_load.specs.Files.{members_in, told_in};
+ghost use Rattle.nextest_config_resolution_load.specs.Telling.{TellsAs, warnings_in};
 ghost use Rattle.nextest_config_resolution_load.specs.Refusing.{InheritsBadlyFor};
 
 use crate::files::read_files;
@@ -11,10 +14,13 @@ use crate::load_error::LoadError;
 use crate::load_fault::LoadFault;
 use crate::loaded_config::LoadedConfig;
 use crate::merging::merge_files;
+use crate::placed_file::{PlacedFile, ReadSources};
 use crate::reading::read_config;
+use crate::telling::tell_files;
 use nextest_config_elements_reading::ValueError;
 use nextest_config_resolution_inheritance::{InheritanceError, check_inheritance};
 use nextest_config_resolution_sources::{ConfigSource, counted};
+use nextest_config_resolution_warnings::ConfigWarnings;
 use std::alloc::Global;
 use toml::Table;
 
@@ -34,20 +40,69 @@ pub fn load(
     ensures loaded { IsLoaded (table_view built_in.now) sources.now result }
     ensures rises { IfOk result (λ it. Rise (parents_of (seen it).profiles)) }
 {
+    match read_sources(alloc, built_in, sources) {
+        Ok(ReadSources { config, files: _ }) => accepted(alloc, config),
+        Err(error) => Err(error),
+    }
+}
+
+/// What `load` gives of the sources, and `warnings` is told what no configuration knows in the files: in each that counts and is
+/// there, the lowest first, as `tell_file` tells it, under the path of its source.
+///
+/// # Errors
+///
+/// As `load`. Where the sources are refused no warning was told; where there was no memory, a front of them was.
+pub fn load_with_warnings<W: ConfigWarnings>(
+    alloc: Global,
+    built_in: &Table,
+    sources: &[ConfigSource],
+    warnings: &mut W,
+) -> Result<LoadedConfig, LoadError>
+    ensures loaded { IsLoaded (table_view built_in.now) sources.now result }
+    ensures rises { IfOk result (λ it. Rise (parents_of (seen it).profiles)) }
+    ensures told { TellsAs W.has_told warnings.old warnings.new (warnings_in sources.now) result }
+{
+    let ReadSources { config, files } = match read_sources(alloc, built_in, sources) {
+        Ok(read) => read,
+        Err(error) => return Err(error),
+    };
+    match accepted(alloc, config) {
+        Ok(config) => {
+            tell_files(alloc, warnings, files.as_slice())?;
+            Ok(config)
+        }
+        Err(error) => Err(error),
+    }
+}
+
+// What sources come to, before it is asked how profiles inherit.
+fn read_sources<'s>(
+    alloc: Global,
+    built_in: &Table,
+    sources: &'s [ConfigSource],
+) -> Result<ReadSources<'s>, LoadError>
+    ensures read { GivesAs (λ it. seen it.config) result (config_of (table_view built_in.now) sources.now) }
+    ensures rises { IfOk result (λ it. Rise (parents_of (seen it.config).profiles)) }
+    ensures told { IfOk result (λ it. flat_map told_in it.files.items ≡ warnings_in sources.now) }
+{
     let counted = counted(alloc, sources)?;
     let files = match read_files(alloc, counted.as_slice()) {
         Ok(files) => files,
         Err(error) => return Err(error),
     };
     match read_merged(alloc, built_in, files.as_slice()) {
-        Ok(config) => accepted(alloc, config),
+        Ok(config) => Ok(ReadSources { config, files }),
         Err(error) => Err(error),
     }
 }
 
 // What files come to, over what is built in.
-fn read_merged(alloc: Global, built_in: &Table, files: &[Table]) -> Result<LoadedConfig, LoadError>
-    ensures read { GivesAs seen result (if_config (config_in (members_of (raised (table (table_view built_in.now)) (map table_view files.now))))) }
+fn read_merged(
+    alloc: Global,
+    built_in: &Table,
+    files: &[PlacedFile],
+) -> Result<LoadedConfig, LoadError>
+    ensures read { GivesAs seen result (if_config (config_in (members_of (raised (table (table_view built_in.now)) (map members_in files.now))))) }
     ensures rises { IfOk result (λ it. Rise (parents_of (seen it).profiles)) }
 {
     let tree = merge_files(alloc, built_in, files)?;

@@ -1,0 +1,15 @@
+-- Files at their paths.
+use Rattle.std.specs.Prelude.{List}
+use Rattle.toml.specs.Data.{Members}
+use Rattle.toml.specs.View.{table_view}
+use Rattle.nextest_config_resolution_warnings.specs.Telling.{warnings_of}
+use Rattle.nextest_config_resolution_warnings.specs.declared.config_warning.ConfigWarning.{ConfigWarning}
+use Rattle.nextest_config_resolution_load.specs.declared.placed_file.PlacedFile.{PlacedFile}
+
+-- what a file has
+abbrev pub members_in : PlacedFile → Members
+members_in file = table_view file.table
+
+-- what is told of it
+abbrev pub told_in : PlacedFile → List ConfigWarning
+told_in file = warnings_of file.path.now (members_in file)
