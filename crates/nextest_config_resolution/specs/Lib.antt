@@ -4,6 +4,9 @@ pub use Rattle.nextest_config_resolution_sources.specs.Counting
 pub use Rattle.nextest_config_resolution_sources.specs.Kinds as SourceKinds
 pub use Rattle.nextest_config_resolution_load.specs.Kinds
 pub use Rattle.nextest_config_resolution_load.specs.Load
+pub use Rattle.nextest_config_resolution_load.specs.Laws as LoadLaws
+pub use Rattle.nextest_config_resolution_load.specs.Telling as LoadTelling
+pub use Rattle.nextest_config_resolution_profiles.specs.Kept
 -- the merged tree
 pub use Rattle.nextest_config_resolution_tree.specs.Laws as TreeLaws
 pub use Rattle.nextest_config_resolution_tree.specs.Merged

@@ -13,7 +13,7 @@ pub use nextest_config_resolution_inheritance::{
     InheritanceError, InheritanceFault, Inherits, chain_of, check_inheritance,
 };
 pub use nextest_config_resolution_load::{
-    LoadError, LoadFault, LoadKind, LoadedConfig, NamedProfile, load,
+    LoadError, LoadFault, LoadKind, LoadedConfig, NamedProfile, load, load_with_warnings,
 };
 pub use nextest_config_resolution_settings::{
     EvaluatableProfile, NoRule, Setting, SettingSource, Sets, TestGroupRef, TestSettings, fallbacks,
