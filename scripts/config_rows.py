@@ -19,6 +19,7 @@ It knows nothing of the program: a row has texts in TOML, which Python reads, an
 """
 import itertools
 import pathlib
+import random
 import re
 import tomllib
 
@@ -616,9 +617,47 @@ def chain_rows():
     yield files("profile.a.inherits = 'a'\nprofile.default.retries = { backoff = 'exponential', count = 1, delay = '1s', max-delay = '2s' }", "profile.default.retries = { backoff = 'exponential', count = 1, delay = '3s' }", keys="profiles")
 
 
+def drawn(choose, wrong):
+    """The text of a file that is drawn: some profiles with some settings, one in so many wrong."""
+    file = {}
+    for name in choose.sample(["default", "default-miri", "a", "b", "c", "a.b", "a-b"], choose.randrange(1, 6)):
+        profile = file.setdefault("profile", {}).setdefault(name, {})
+        if not is_reserved(name) and choose.random() < 0.4:
+            profile["inherits"] = choose.choice(["default", "default-miri", "a", "b", "c"] if choose.random() < 0.5 else ["default"])
+        for key in choose.sample(list(RIGHT), choose.randrange(7)):
+            profile[key] = choose.choice(WRONG if choose.randrange(wrong) == 0 else RIGHT[key])
+        for key in ("bench", "junit"):
+            if choose.random() < 0.3:
+                rules = {"bench": ["slow-timeout", "global-timeout"], "junit": JUNIT_KEYS}[key]
+                rights = {**dict.fromkeys(JUNIT_KEYS, ["x"]), **RIGHT, **JUNIT_RIGHT}
+                profile[key] = {it: choose.choice(rights[it]) for it in choose.sample(rules, choose.randrange(len(rules) + 1))}
+        if choose.random() < 0.1:
+            profile[choose.choice(["zzz", "overrides", "bench", "junit"])] = {}
+    if choose.random() < 0.2:
+        file["store"] = {"dir": choose.choice(["d", "/d"])} if choose.random() < 0.8 else {}
+    return "\n".join(f"{bare(key)} = {toml(value)}" for key, value in file.items())
+
+
+JUNIT_RIGHT = {
+    "store-success-output": [True, False], "store-failure-output": [True, False], "report-skipped": ["none", "ignored", "all"],
+    "flaky-fail-status": ["failure", "success"],
+}
+
+
+def drawn_rows(seeds, wrong=60):
+    for seed in seeds:
+        choose = random.Random(seed)
+        kinds = [choose.choice(["tool", "tool", "explicit", "discovered"]) for _ in range(choose.randrange(1, 5))]
+        sources = [(kind, f"{place}.toml", "text " + drawn(choose, wrong)) for place, kind in enumerate(kinds)]
+        keys = choose.sample(ALL.split(","), 4)
+        yield choose.choice(["default", "default-miri", "a", "b", "a"]), ",".join(["profiles", "parents", *keys]), sources
+
+
 def load_rows():
     for rows in (source_rows, value_rows, merge_rows, chain_rows):
         yield from rows()
+    yield "default", "profiles", [tool("t", "experimental = ['setup-scripts', 'zzz']")]
+    yield from drawn_rows(range(200))
 
 
 def load_pairs():
