@@ -38,9 +38,9 @@ Apart all name place = (k : ℕ) → k < place → name_at (all_of all) k ≢ na
 -- no name so far, and none at one more place
 pub one_apart : (all : List NamedProfile) (name : Name) (place : ℕ) (d : NamedProfile) → place < length all → Apart all name place → (get_or all place d).name ≢ name → Apart all name (place + 1)
 one_apart all name place d within apart other k below same = elim (split k place below) [
-    | inl before ↦ apart k before same
-    | inr here ↦ other (sym (name_is all place d within) ∙ sym (ap (λ (j : ℕ). name_at (all_of all) j) here) ∙ same)
-  ]
+  | inl before ↦ apart k before same
+  | inr here ↦ other (sym (name_is all place d within) ∙ sym (ap (λ (j : ℕ). name_at (all_of all) j) here) ∙ same)
+]
   where
     split : (k place : ℕ) → k < place + 1 → (k < place) ⊎ (k ≡ place)
     split k place below = elim (cases_lt k place) [ inl before ↦ inl before | inr from ↦ inr (omega (arith, below, from)) ]
