@@ -1,12 +1,11 @@
 -- A whole configuration, and its profiles.
-use Rattle.std.specs.Prelude.{◌≡◌, ℕ, List, Option, Result, Ok, Err, ⊤, All, Contains, codes, map, unwrap_or}
+use Rattle.std.specs.Prelude.{◌≡◌, ℕ, List, Result, Ok, Err, ⊤, All, Contains, codes, map, unwrap_or}
 use Rattle.nextest_config_resolution_built_in.specs.BuiltIn.{built_in_members}
 use Rattle.nextest_config_resolution_inheritance.specs.Inheritance.{Name, IsChain}
 use Rattle.nextest_config_resolution_load.specs.Load.{IsLoaded, parents_of, seen}
 use Rattle.nextest_config_resolution_load.specs.declared.load_error.LoadError.{LoadError}
-use Rattle.nextest_config_resolution_load.specs.declared.loaded_config.LoadedConfig.{LoadedConfig}
 use Rattle.nextest_config_resolution_settings.specs.Keys as key
-use Rattle.nextest_config_resolution_settings.specs.Nearest.{IsNearest, SetsNone, lent}
+use Rattle.nextest_config_resolution_settings.specs.Nearest.{IsNearest, lent}
 use Rattle.nextest_config_resolution_sources.specs.declared.source.ConfigSource.{ConfigSource}
 use Rattle.nextest_config_resolution_values.specs.File.{Named}
 use Rattle.nextest_config_resolution_values.specs.declared.profile_config.ProfileConfig.{ProfileConfig}

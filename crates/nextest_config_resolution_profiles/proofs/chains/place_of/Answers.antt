@@ -1,4 +1,4 @@
-use Rattle.std.proofs.Common.{◌≡◌, ◌∙◌, ap, subst, sym}
+use Rattle.std.proofs.Common.{◌∙◌, ap, subst, sym}
 use Rattle.std.specs.List.{Contains}
 use Rattle.nextest_config_resolution_profiles.proofs.Names.{name_is, names_are, none_has, one_apart}
 use Rattle.nextest_config_resolution_profiles.proofs.chains.place_of.Goals as goal
