@@ -1,6 +1,6 @@
 -- A profile that is built in stays, since no file that is accepted has anything but tables in its place.
-use Rattle.std.proofs.Common.{◌≡◌, ℕ, suc, zero, List, [], ◌∷◌, ◌++◌, map, codes, Option, None, Some, Result, Ok, Err, refl, sym, ap, ◌∙◌, subst, Ordering, Less, Equal, Greater, arith, Bool, true, false, is_some}
-use Rattle.std.proofs.lemmas.Bool.{false≢true, true≢false}
+use Rattle.std.proofs.Common.{◌≡◌, ℕ, suc, List, [], ◌∷◌, ◌++◌, codes, Option, None, Some, Ok, Err, refl, sym, ap, ◌∙◌, subst, Ordering, Less, Equal, Greater, arith, false, is_some}
+use Rattle.std.proofs.lemmas.Bool.{false≢true}
 use Rattle.std.specs.List.{Contains, AllByRecursion}
 use Rattle.std.specs.Ordering.{match_ordering}
 use Rattle.std.specs.Result.{is_ok}
@@ -12,7 +12,7 @@ use Rattle.nextest_config_elements_reading.specs.Reading.{Reading, under}
 use Rattle.nextest_config_elements_versions.specs.Demand.{experimental_in, nextest_version_in}
 use Rattle.nextest_config_elements_versions.specs.declared.asked_versions.AskedVersions.{AskedVersions}
 use Rattle.nextest_config_resolution_inheritance.specs.Inheritance.{names}
-use Rattle.nextest_config_resolution_load.specs.Load.{Loading, Refusal, and_then, config_in, config_of, file_of, files_of, if_config, if_missing, if_toml, if_values, listed, members_of, outcome_at, parents_of, raised, some, text_at}
+use Rattle.nextest_config_resolution_load.specs.Load.{Loading, config_in, config_of, file_of, files_of, if_config, if_missing, if_toml, if_values, listed, members_of, outcome_at, parents_of, raised, some, text_at}
 use Rattle.nextest_config_resolution_load.proofs.Configs.{profiles_of_config, same_names}
 use Rattle.nextest_config_resolution_load.proofs.Profiles.{names_read, under_ok}
 use Rattle.nextest_config_resolution_profiles.specs.Kept.{HasProfile, KeptProfile}
@@ -22,8 +22,8 @@ use Rattle.nextest_config_resolution_sources.specs.declared.source.ConfigSourceO
 use Rattle.nextest_config_resolution_sources.specs.declared.source.ConfigSourceOutcome.TheVariants as outcome
 use Rattle.nextest_config_resolution_tree.specs.Tree.{keys, over, merge}
 use Rattle.nextest_config_resolution_tree.proofs.Keys.{key_cmp, equal_keys}
-use Rattle.nextest_config_resolution_tree.proofs.Standings.{joint, get_merge}
-use Rattle.nextest_config_resolution_values.specs.File.{FileConfig, Named, file_in, profiles_at, profiles_in, profiles_of, store_dir_at}
+use Rattle.nextest_config_resolution_tree.proofs.Standings.{get_merge}
+use Rattle.nextest_config_resolution_values.specs.File.{FileConfig, Named, file_in, profiles_at, profiles_in, profiles_of}
 
 -- ---- keys
 

@@ -1,5 +1,5 @@
 -- Profiles that stay, whatever files say.
-use Rattle.std.specs.Prelude.{◌≡◌, ℕ, List, Option, Some, Ok, Contains, codes}
+use Rattle.std.specs.Prelude.{◌≡◌, ℕ, List, Some, Ok, Contains, codes}
 use Rattle.toml.specs.Data.{Data, table, Members, get_member}
 use Rattle.nextest_config_resolution_inheritance.specs.Inheritance.{names}
 use Rattle.nextest_config_resolution_load.specs.Load.{config_of, parents_of}

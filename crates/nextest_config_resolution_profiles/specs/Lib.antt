@@ -1,1 +1,4 @@
+pub mod Chains
+pub mod Config
 pub mod Kept
+pub mod Whole

@@ -1,4 +1,12 @@
 //! A whole configuration: its profiles, and what the one that is asked for comes to.
 #![tactic(auto)]
 
+mod chains;
+mod config;
+mod early_profile;
 pub mod laws;
+mod profile_error;
+
+pub use config::NextestConfig;
+pub use early_profile::EarlyProfile;
+pub use profile_error::{ProfileError, ProfileNotFound};

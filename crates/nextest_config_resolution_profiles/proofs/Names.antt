@@ -1,0 +1,109 @@
+-- The names of profiles at their places.
+use Rattle.std.proofs.Common.{◌≡◌, ◌≢◌, ℕ, ◌<◌, ◌≤◌, ◌+◌, List, [], ◌∷◌, ◌++◌, length, get_or, map, take, Bor, None, Ok, refl, ap, sym, ◌∙◌, subst, arith, ◌⊎◌, inl, inr}
+use Rattle.std.proofs.lemmas.Bool.{cases_lt}
+use Rattle.std.specs.List.{Contains}
+use Rattle.std.proofs.lemmas.List.{get_or-map, length-map, map_push, take_more}
+use Rattle.std.proofs.lemmas.List.Elements.{All-nil, All-push}
+use Rattle.nextest_config_resolution_inheritance.specs.Inheritance.{Name, Profile, Parents, IsChain, Rise, default, names, name_at, names_at}
+use Rattle.nextest_config_resolution_load.specs.Load.{IsLoaded, named, parents_of, seen}
+use Rattle.nextest_config_resolution_load.specs.declared.loaded_config.NamedProfile.{NamedProfile}
+use Rattle.nextest_config_resolution_load.proofs.Configs.{same_names, same_parents}
+use Rattle.nextest_config_resolution_values.specs.File.{Named}
+use Rattle.nextest_config_resolution_values.specs.declared.profile_config.ProfileConfig.{ProfileConfig}
+use Rattle.toml.specs.Data.{table, Members}
+use Rattle.nextest_config_resolution_built_in.specs.BuiltIn.{built_in_members, default_members, profiles_members}
+use Rattle.nextest_config_resolution_load.specs.declared.loaded_config.LoadedConfig.{LoadedConfig}
+use Rattle.nextest_config_resolution_settings.specs.Nearest.{lent}
+use Rattle.nextest_config_resolution_sources.specs.declared.source.ConfigSource.{ConfigSource}
+use Rattle.nextest_config_resolution_profiles.specs.Chains.{AreAt}
+use Rattle.nextest_config_resolution_profiles.specs.Config.{IsChainOf}
+use Rattle.nextest_config_resolution_profiles.specs.Kept.{HasProfile}
+use Rattle.nextest_config_resolution_profiles.specs.Whole.{IsSound}
+use Rattle.nextest_config_resolution_profiles.proofs.Kept.{kept_profile}
+
+abbrev pub all_of : List NamedProfile → Parents
+all_of all = parents_of (map named all)
+
+pub name_is : (all : List NamedProfile) (k : ℕ) (d : NamedProfile) → k < length all → name_at (all_of all) k ≡ (get_or all k d).name
+name_is all k d within =
+    ap (λ (ps : Parents). name_at ps k) (same_parents all)
+    ∙ ap (λ (p : Profile). p.0) (get_or-map (λ (it : NamedProfile). (it.name, it.config.inherits)) all k d ([], None) within)
+
+pub length_names : (all : List NamedProfile) → length (names (all_of all)) ≡ length all
+length_names all = ap length (same_names (map named all)) ∙ length-map (map named all) (λ (it : Named). it.0) ∙ length-map all named
+
+abbrev pub Apart : List NamedProfile → Name → ℕ → Type 0
+Apart all name place = (k : ℕ) → k < place → name_at (all_of all) k ≢ name
+
+-- no name so far, and none at one more place
+pub one_apart : (all : List NamedProfile) (name : Name) (place : ℕ) (d : NamedProfile) → place < length all → Apart all name place → (get_or all place d).name ≢ name → Apart all name (place + 1)
+one_apart all name place d within apart other k below same = elim (split k place below) [
+  | inl before ↦ apart k before same
+  | inr here ↦ other (sym (name_is all place d within) ∙ sym (ap (λ (j : ℕ). name_at (all_of all) j) here) ∙ same)
+]
+  where
+    split : (k place : ℕ) → k < place + 1 → (k < place) ⊎ (k ≡ place)
+    split k place below = elim (cases_lt k place) [ inl before ↦ inl before | inr from ↦ inr (omega (arith, below, from)) ]
+
+pub none_has : (all : List NamedProfile) (name : Name) (place : ℕ) → length all ≤ place → Apart all name place → ¬ Contains (names (all_of all)) name
+none_has all name place past apart (k, within, is) =
+    let inside : k < length (all_of all) = omega (arith, within, length-map (all_of all) (λ (p : Profile). p.0)) in
+    apart k (omega (arith, within, length_names all, past))
+    (sym (get_or-map (λ (p : Profile). p.0) (all_of all) k ([], None) name inside) ∙ is)
+
+-- the values at no places, and at one more
+pub none_at : (profiles : List Named) → AreAt profiles [] []
+none_at profiles = record { chain = []; each = All-nil (Contains profiles); placed = refl; valued = refl }
+
+pub one_at : (all : List NamedProfile) (places : List ℕ) (values : List ProfileConfig) (place : ℕ) (it : NamedProfile) → place < length all → it ≡ get_or all place it
+    → AreAt (map named all) places values → AreAt (map named all) (places ++ place ∷ []) (values ++ it.config ∷ [])
+one_at all places values place it within is so_far = record {
+  chain = so_far.chain ++ named it ∷ [];
+  each = All-push (Contains (map named all)) so_far.chain (named it) so_far.each
+      (place, omega (arith, within, length-map all named), get_or-map named all place it (named it) within ∙ ap named (sym is));
+  placed = map_push (λ (p : Named). p.0) so_far.chain (named it)
+      ∙ ap (λ (ns : List Name). ns ++ it.name ∷ []) so_far.placed
+      ∙ ap (λ (n : Name). names_at (all_of all) places ++ n ∷ []) (sym (name_is all place it within ∙ ap (λ (p : NamedProfile). p.name) (sym is)))
+      ∙ sym (map_push (name_at (all_of all)) places place);
+  valued = ap (λ (vs : List ProfileConfig). vs ++ it.config ∷ []) so_far.valued ∙ sym (map_push (λ (p : Named). p.1) so_far.chain (named it));
+}
+
+-- the same of lent values, by a place in the list of places
+pub one_lent : (all : List NamedProfile) (places : List ℕ) (i d : ℕ) (values : List (Bor ProfileConfig)) (it : NamedProfile) (value : Bor ProfileConfig)
+    → i < length places → get_or places i d < length all → it ≡ get_or all (get_or places i d) it → value.now ≡ it.config
+    → AreAt (map named all) (take i places) (lent values) → AreAt (map named all) (take (i + 1) places) (lent (values ++ value ∷ []))
+one_lent all places i d values it value within inside is config so_far =
+    subst (λ (ps : List ℕ). AreAt (map named all) ps (lent (values ++ value ∷ []))) (sym (take_more places i d within))
+    (subst (AreAt (map named all) (take i places ++ get_or places i d ∷ [])) (sym (map_push (λ (v : Bor ProfileConfig). v.now) values value ∙ ap (λ (c : ProfileConfig). lent values ++ c ∷ []) config))
+    (one_at all (take i places) (lent values) (get_or places i d) it inside is so_far))
+
+-- the names in both forms
+pub names_are : (all : List NamedProfile) → names (all_of all) ≡ map (λ it. it.name) all
+names_are [] = refl
+names_are (it ∷ all) = ap (λ (more : List Name). it.name ∷ more) (names_are all)
+
+-- the chain of a profile, by places
+pub chained : (all : List NamedProfile) (place : ℕ) (places given : List ℕ) (values : List ProfileConfig) → given ≡ places
+    → IsChain (map (λ it. (it.name, it.config.inherits)) all) (name_at (map (λ it. (it.name, it.config.inherits)) all) place) (names_at (map (λ it. (it.name, it.config.inherits)) all) places)
+    → AreAt (map named all) given values → IsChainOf (map named all) (name_at (all_of all) place) values
+chained all place places given values same chain at =
+    let told : IsChain (all_of all) (name_at (all_of all) place) (names_at (all_of all) places) =
+    subst (λ (ps : Parents). IsChain ps (name_at ps place) (names_at ps places)) (sym (same_parents all)) chain in
+    record {
+      chain = at.chain;
+      each = at.each;
+      in_order = subst (IsChain (all_of all) (name_at (all_of all) place)) (ap (names_at (all_of all)) (sym same) ∙ sym at.placed) told;
+      valued = at.valued;
+    }
+
+-- a configuration that is loaded over what is built in is sound
+pub sound : (members : Members) (sources : List ConfigSource) (it : LoadedConfig) → members ≡ built_in_members → IsLoaded members sources (Ok it)
+    → Rise (parents_of (seen it).profiles) → IsSound it
+sound members sources it same loaded rises = record {
+  accepted = loaded.1;
+  rises = rises;
+  has_default = kept_profile members sources (seen it) default (subst (HasProfile default) (sym same) built_in_has) loaded.0;
+}
+  where
+    built_in_has : HasProfile default built_in_members
+    built_in_has = record { profiles = profiles_members; given = table default_members; listed = refl; there = refl }

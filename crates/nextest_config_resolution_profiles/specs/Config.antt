@@ -1,0 +1,68 @@
+-- A whole configuration, and its profiles.
+use Rattle.std.specs.Prelude.{◌≡◌, ℕ, List, Result, Ok, Err, ⊤, All, Contains, codes, map, unwrap_or}
+use Rattle.nextest_config_resolution_built_in.specs.BuiltIn.{built_in_members}
+use Rattle.nextest_config_resolution_inheritance.specs.Inheritance.{Name, IsChain}
+use Rattle.nextest_config_resolution_load.specs.Load.{IsLoaded, parents_of, seen}
+use Rattle.nextest_config_resolution_load.specs.declared.load_error.LoadError.{LoadError}
+use Rattle.nextest_config_resolution_settings.specs.Keys as key
+use Rattle.nextest_config_resolution_settings.specs.Nearest.{IsNearest, lent}
+use Rattle.nextest_config_resolution_sources.specs.declared.source.ConfigSource.{ConfigSource}
+use Rattle.nextest_config_resolution_values.specs.File.{Named}
+use Rattle.nextest_config_resolution_values.specs.declared.profile_config.ProfileConfig.{ProfileConfig}
+use Rattle.nextest_config_resolution_profiles.specs.declared.early_profile.EarlyProfile.{EarlyProfile}
+use Rattle.nextest_config_resolution_profiles.specs.declared.profile_error.ProfileError.{ProfileError}
+use Rattle.nextest_config_resolution_profiles.specs.declared.profile_error.ProfileError.TheVariants as error
+use Rattle.nextest_config_resolution_profiles.specs.Whole.{Whole}
+
+-- its profiles, by the bytes of their names, and the names themselves
+abbrev pub profiles_of : Whole → List Named
+profiles_of config = (seen config.loaded).profiles
+
+abbrev pub names_of : Whole → List Name
+names_of config = map (λ profile. profile.name) config.loaded.profiles
+
+-- the directory of the store: what is built in has one, so one is always set
+abbrev pub store_of : Whole → List ℕ
+store_of config = unwrap_or config.loaded.store_dir (codes "target/nextest")
+
+-- what sources come to over what is built in, in the workspace at a root
+abbrev pub IsConfig : List ℕ → List ConfigSource → Result Whole LoadError → Type 0
+IsConfig root sources (Ok config) = (config.root ≡ root) × IsLoaded built_in_members sources (Ok config.loaded)
+IsConfig root sources (Err refused) = IsLoaded built_in_members sources (Err refused)
+
+-- what an early profile shows of itself
+abbrev pub name_of : EarlyProfile → Name
+name_of profile = profile.name.now
+
+abbrev pub root_of : EarlyProfile → List ℕ
+root_of profile = profile.root.now
+
+abbrev pub dir_of : EarlyProfile → List ℕ
+dir_of profile = profile.store.now
+
+abbrev pub chain_of : EarlyProfile → List ProfileConfig
+chain_of profile = lent profile.chain.items
+
+-- the values of some profiles, of which the names are the chain of one
+pub record IsChainOf (profiles : List Named) (name : Name) (values : List ProfileConfig) : Type 0 where
+  pub chain : List Named
+  pub each : All (Contains profiles) chain
+  pub in_order : IsChain (parents_of profiles) name (map (λ profile. profile.0) chain)
+  pub valued : values ≡ map (λ profile. profile.1) chain
+
+-- the profile of a name, before anything is known of the platforms
+pub record IsEarly (config : Whole) (name : Name) (it : EarlyProfile) : Type 0 where
+  pub named : name_of it ≡ name
+  pub rooted : root_of it ≡ config.root
+  pub stored : dir_of it ≡ store_of config
+  pub chained : IsChainOf (profiles_of config) name (chain_of it)
+
+-- the profile of a name, or that none has it, with the names of all; want of memory says nothing
+abbrev pub IsProfile : Whole → Name → Result EarlyProfile ProfileError → Type 0
+IsProfile config name (Ok it) = IsEarly config name it
+IsProfile config name (Err (error.NotFound told)) = (told.name ≡ name) × (told.known ≡ names_of config) × ¬ Contains (names_of config) name
+IsProfile config name (Err error.OutOfMemory) = ⊤
+
+-- whether a profile of a chain sets the path of the report in JUnit's form
+abbrev pub SetsJunit : List ProfileConfig → Type 0
+SetsJunit chain = (place : ℕ) × (path : List ℕ) × IsNearest key.junit_path chain place path

@@ -1,0 +1,83 @@
+// Profiles by their names, and their chains.
+ghost use Rattle.std.specs.Prelude.{◌≡◌, ◌≢◌, ◌<◌, All, Contains, IfNone, IfOk, IfSome, length, map};
+ghost use Rattle.std.specs.Bool.{OnFalse, OnTrue};
+ghost use Rattle.nextest_config_resolution_inheritance.specs.Inheritance.{IsAccepted, Rise, default, name_at, names};
+ghost use Rattle.nextest_config_resolution_load.specs.Load.{named, parents_of};
+ghost use Rattle.nextest_config_resolution_profiles.specs.Chains.{AreAt};
+ghost use Rattle.nextest_config_resolution_profiles.specs.Config.{IsChainOf};
+ghost use Rattle.nextest_config_resolution_settings.specs.Nearest.{lent};
+
+use nextest_config_resolution_inheritance::chain_of;
+use nextest_config_resolution_load::NamedProfile;
+use nextest_config_resolution_values::ProfileConfig;
+use nextest_text::{Listing, Text};
+use std::alloc::{AllocError, Global};
+
+// The place of the profile of a name.
+pub(crate) fn place_of(profiles: &[NamedProfile], name: &str) -> Option<usize>
+    ensures within { IfSome result (λ place. place < length profiles.now) }
+    ensures found { IfSome result (λ place. name_at (parents_of (map named profiles.now)) place ≡ name.now) }
+    ensures missing { IfNone result (¬ Contains (map (λ profile. profile.name) profiles.now) name.now) }
+{
+    for place in 0..profiles.len() {
+        if is_named(&profiles[place], name) {
+            return Some(place);
+        }
+    }
+    None
+}
+
+// Whether a profile has a name.
+fn is_named(profile: &NamedProfile, name: &str) -> bool
+    ensures yes { OnTrue result (profile.now.name ≡ name.now) }
+    ensures no { OnFalse result (profile.now.name ≢ name.now) }
+{
+    profile.name.as_str() == name
+}
+
+// The names of all profiles, in their order.
+pub(crate) fn all_names(
+    alloc: Global,
+    profiles: &[NamedProfile],
+) -> Result<Listing<Text>, AllocError>
+    ensures { IfOk result (λ it. it ≡ map (λ profile. profile.name) profiles.now) }
+{
+    let mut all = Listing::new(alloc);
+    for profile in profiles {
+        all.push(Text::from_str(alloc, profile.name.as_str())?)?;
+    }
+    Ok(all)
+}
+
+// The values of the chain of the profile at a place.
+pub(crate) fn chain_at<'c>(
+    alloc: Global,
+    profiles: &'c [NamedProfile],
+    place: usize,
+) -> Result<Vec<&'c ProfileConfig>, AllocError>
+    requires accepted { IsAccepted (parents_of (map named profiles.now)) }
+    requires rise { Rise (parents_of (map named profiles.now)) }
+    requires has_default { Contains (names (parents_of (map named profiles.now))) default }
+    requires place { place < length profiles.now }
+    ensures { IfOk result (λ chain. IsChainOf (map named profiles.now) (name_at (parents_of (map named profiles.now)) place) (lent chain.items)) }
+{
+    let places = chain_of(alloc, profiles, place)?;
+    let values = values_at(alloc, profiles, places.as_slice())?;
+    Ok(values)
+}
+
+// The values of the profiles at some places.
+fn values_at<'c>(
+    alloc: Global,
+    profiles: &'c [NamedProfile],
+    places: &[usize],
+) -> Result<Vec<&'c ProfileConfig>, AllocError>
+    requires { All (λ place. place < length profiles.now) places.now }
+    ensures { IfOk result (λ values. AreAt (map named profiles.now) places.now (lent values.items)) }
+{
+    let mut values = Vec::with_capacity(alloc, places.len())?;
+    for place in places {
+        values.push(&profiles[*place].config)?;
+    }
+    Ok(values)
+}

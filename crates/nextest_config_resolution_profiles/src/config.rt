@@ -1,0 +1,97 @@
+// A whole configuration.
+use crate::chains::{all_names, chain_at, place_of};
+use crate::early_profile::EarlyProfile;
+use crate::profile_error::{ProfileError, ProfileNotFound};
+use nextest_config_resolution_built_in::built_in;
+use nextest_config_resolution_load::{LoadError, LoadedConfig, load};
+use nextest_config_resolution_sources::ConfigSource;
+use nextest_text::Text;
+use std::alloc::Global;
+use std::marker::Model;
+
+/// A whole configuration: what its sources come to, each over the lower ones and over what is built in.
+pub struct NextestConfig {
+    root: Text,
+    loaded: LoadedConfig,
+}
+
+// One call drops it, whoever holds it.
+impl Drop for NextestConfig {
+    fn drop(self) {
+        let Self { root: _, loaded: _ } = self;
+    }
+}
+
+impl Model for NextestConfig {
+    ghost use Rattle.nextest_config_resolution_profiles.specs.Whole.{IsSound, Whole};
+
+    ghost Value = { Whole };
+
+    ghost view = { λ it. record { root = it.root; loaded = it.loaded } };
+
+    // The profiles inherit as they may, their names rise, and `default` is among them.
+    ghost invariant = { λ it. IsSound it.loaded };
+}
+
+impl NextestConfig {
+    ghost use Rattle.nextest_config_resolution_profiles.specs.Config.{IsConfig, IsProfile, store_of};
+    ghost use Rattle.std.specs.Prelude.{◌≡◌};
+
+    /// What sources come to, those that count, each over the lower ones and over what is built in, in the workspace at `root`.
+    ///
+    /// # Errors
+    ///
+    /// `Refused` tells of the first rule that is broken, as `load` says. Want of memory says nothing of the sources.
+    pub fn from_sources(
+        alloc: Global,
+        root: &str,
+        sources: &[ConfigSource],
+    ) -> Result<NextestConfig, LoadError>
+        ensures { IsConfig root.now sources.now result }
+    {
+        let lowest = built_in(alloc)?;
+        match load(alloc, &lowest, sources) {
+            Ok(loaded) => Ok(NextestConfig {
+                root: Text::from_str(alloc, root)?,
+                loaded,
+            }),
+            Err(error) => Err(error),
+        }
+    }
+
+    /// The profile of a name, lent.
+    ///
+    /// # Errors
+    ///
+    /// `NotFound` exactly if no profile has that name, with the names of all. Want of memory says nothing of the profiles.
+    pub fn profile(&self, alloc: Global, name: &str) -> Result<EarlyProfile<'_>, ProfileError>
+        ensures { IsProfile self.now name.now result }
+    {
+        let profiles = self.loaded.profiles.as_slice();
+        match place_of(profiles, name) {
+            Some(place) => {
+                let chain = chain_at(alloc, profiles, place)?;
+                Ok(EarlyProfile {
+                    name: profiles[place].name.as_str(),
+                    root: self.root.as_str(),
+                    store: self.store(),
+                    chain,
+                })
+            }
+            None => Err(ProfileError::NotFound(ProfileNotFound {
+                name: Text::from_str(alloc, name)?,
+                known: all_names(alloc, profiles)?,
+            })),
+        }
+    }
+
+    // The directory of the store.
+    fn store(&self) -> &str
+        ensures { result.now ≡ store_of self.now }
+    {
+        match &self.loaded.store_dir {
+            Some(dir) => dir.as_str(),
+            None => "target/nextest",
+        }
+    }
+}

@@ -1,0 +1,67 @@
+// A profile before anything is known of the platforms.
+ghost use Rattle.std.specs.Prelude.{◌≡◌, IfOk};
+ghost use Rattle.std.specs.Bool.{OnFalse, OnTrue};
+ghost use Rattle.nextest_config_resolution_profiles.specs.Config.{SetsJunit, chain_of, dir_of, name_of, root_of};
+ghost use Rattle.nextest_config_resolution_settings.specs.Keys as key;
+ghost use Rattle.nextest_config_resolution_settings.specs.Nearest.{SetsNone};
+ghost use Rattle.nextest_config_resolution_settings.specs.Profile as profile;
+
+use nextest_config_resolution_settings::keys::JunitPathKey;
+use nextest_config_resolution_settings::{EvaluatableProfile, nearest};
+use nextest_config_resolution_values::ProfileConfig;
+use nextest_text::Text;
+use std::alloc::{AllocError, Global};
+
+/// A profile before anything is known of the platforms: its chain, and where its files stand.
+#[derive(Debug, Drop)]
+pub struct EarlyProfile<'c> {
+    pub(crate) name: &'c str,
+    pub(crate) root: &'c str,
+    pub(crate) store: &'c str,
+    // Its own values first, then those of its parents one after another, and those of `default` last.
+    pub(crate) chain: Vec<&'c ProfileConfig>,
+}
+
+impl<'c> EarlyProfile<'c> {
+    /// Its name.
+    pub fn name(&self) -> &'c str
+        ensures { result.now ≡ name_of self.now }
+    {
+        self.name
+    }
+
+    /// The directory of its files: DIR/PROFILE where the store's directory begins at the root, or there is no workspace; and
+    /// ROOT/DIR/PROFILE else. An `Err` says that there was no memory.
+    pub fn store_dir(&self, alloc: Global) -> Result<Text, AllocError>
+        ensures { IfOk result (λ text. text ≡ profile.store_dir_of (root_of self.now) (dir_of self.now) (name_of self.now)) }
+    {
+        EvaluatableProfile::new(self.name, self.root, self.store, Vec::new(alloc)).store_dir(alloc)
+    }
+
+    /// Whether there is a report in JUnit's form: exactly if a profile of the chain sets `junit.path`.
+    pub fn has_junit(&self) -> bool
+        ensures yes { OnTrue result (SetsJunit (chain_of self.now)) }
+        ensures no { OnFalse result (SetsNone key.junit_path (chain_of self.now)) }
+    {
+        match nearest::<JunitPathKey, ProfileConfig>(self.chain.as_slice()) {
+            Some(_) => true,
+            None => false,
+        }
+    }
+
+    /// The profile, with the same name and chain, to be asked for its settings.
+    pub fn into_evaluatable(self) -> EvaluatableProfile<'c>
+        ensures name { profile.name_of result ≡ name_of self.entry }
+        ensures root { profile.root_of result ≡ root_of self.entry }
+        ensures store { profile.store_of result ≡ dir_of self.entry }
+        ensures chain { profile.chain_of result ≡ chain_of self.entry }
+    {
+        let EarlyProfile {
+            name,
+            root,
+            store,
+            chain,
+        } = self;
+        EvaluatableProfile::new(name, root, store, chain)
+    }
+}
