@@ -21,7 +21,7 @@ profiles_of config = (seen config.loaded).profiles
 abbrev pub names_of : Whole → List Name
 names_of config = map (λ profile. profile.name) config.loaded.profiles
 
--- the directory of the store: what is built in has one, so one is always set
+-- the directory of the store, and what is built in where none is set
 abbrev pub store_of : Whole → List ℕ
 store_of config = unwrap_or config.loaded.store_dir (codes "target/nextest")
 

@@ -85,7 +85,7 @@ impl NextestConfig {
         }
     }
 
-    // The directory of the store.
+    // The directory of the store. What is built in sets one; that it is set in each configuration is not proved.
     fn store(&self) -> &str
         ensures { result.now ≡ store_of self.now }
     {
