@@ -15,9 +15,12 @@ pub use nextest_config_resolution_inheritance::{
 pub use nextest_config_resolution_load::{
     LoadError, LoadFault, LoadKind, LoadedConfig, NamedProfile, load, load_with_warnings,
 };
+pub use nextest_config_resolution_profiles::{
+    EarlyProfile, NextestConfig, ProfileError, ProfileNotFound,
+};
 pub use nextest_config_resolution_settings::{
-    EvaluatableProfile, NoRule, Setting, SettingSource, Sets, TestGroupRef, TestSettings, fallbacks,
-    find_setting, keys, nearest,
+    EvaluatableProfile, NoRule, Sets, Setting, SettingSource, TestGroupRef, TestSettings,
+    fallbacks, find_setting, keys, nearest,
 };
 pub use nextest_config_resolution_sources::{
     CONFIG_PATH, ConfigFileSelection, ConfigPaths, ConfigSource, ConfigSourceOutcome,
