@@ -9,7 +9,7 @@ pub use Rattle.nextest_config_resolution_load.specs.Telling as LoadTelling
 -- whole configurations, and their profiles
 pub use Rattle.nextest_config_resolution_profiles.specs.Config
 pub use Rattle.nextest_config_resolution_profiles.specs.Kept
-pub use Rattle.nextest_config_resolution_profiles.specs.Whole
+pub use Rattle.nextest_config_resolution_profiles.specs.Whole as WholeConfig
 -- the merged tree
 pub use Rattle.nextest_config_resolution_tree.specs.Laws as TreeLaws
 pub use Rattle.nextest_config_resolution_tree.specs.Merged
