@@ -3,12 +3,14 @@
 pub use Rattle.nextest_config_resolution_sources.specs.Counting
 pub use Rattle.nextest_config_resolution_sources.specs.Kinds as SourceKinds
 pub use Rattle.nextest_config_resolution_load.specs.Kinds
+pub use Rattle.nextest_config_resolution_load.specs.Later
 pub use Rattle.nextest_config_resolution_load.specs.Load
 pub use Rattle.nextest_config_resolution_load.specs.Laws as LoadLaws
 pub use Rattle.nextest_config_resolution_load.specs.Telling as LoadTelling
 -- whole configurations, and their profiles
 pub use Rattle.nextest_config_resolution_profiles.specs.Config
 pub use Rattle.nextest_config_resolution_profiles.specs.Kept
+pub use Rattle.nextest_config_resolution_profiles.specs.Laws as ProfileLaws
 pub use Rattle.nextest_config_resolution_profiles.specs.Whole as WholeConfig
 -- the merged tree
 pub use Rattle.nextest_config_resolution_tree.specs.Laws as TreeLaws

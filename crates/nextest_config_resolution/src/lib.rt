@@ -16,7 +16,7 @@ pub use nextest_config_resolution_load::{
     LoadError, LoadFault, LoadKind, LoadedConfig, NamedProfile, load, load_with_warnings,
 };
 pub use nextest_config_resolution_profiles::{
-    EarlyProfile, NextestConfig, ProfileError, ProfileNotFound,
+    BuildPlatforms, EarlyProfile, NextestConfig, ProfileError, ProfileNotFound,
 };
 pub use nextest_config_resolution_settings::{
     EvaluatableProfile, NoRule, Sets, Setting, SettingSource, TestGroupRef, TestSettings,

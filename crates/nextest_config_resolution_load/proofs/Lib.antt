@@ -1,4 +1,5 @@
 pub mod Configs
+pub mod LaterFiles
 pub mod Loads
 pub mod Profiles
 pub mod Sources

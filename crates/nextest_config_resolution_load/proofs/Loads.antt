@@ -33,7 +33,7 @@ config_or otherwise (Ok config) = config
 config_or otherwise (Err refusal) = otherwise
 
 pub one_load : OneLoad
-one_load built_in sources one other (a, accepted) (b, also) = ap (config_or (seen one)) (sym a ∙ b)
+one_load built_in sources one other (a, _, _) (b, _, _) = ap (config_or (seen one)) (sym a ∙ b)
 
 accepted_inherits : (config : FileConfig) (told : LoadFault) → IsAccepted (parents_of config.profiles) → InheritsBadly told config → ⊥
 accepted_inherits config (fault.Inheritance told) accepted first = no_fault (parents_of config.profiles) told accepted first
@@ -43,7 +43,7 @@ accepted_inherits config (fault.BadValue path value) accepted first = first
 accepted_inherits config (fault.BadMergedValue value) accepted first = first
 
 pub none_refused : NoFault
-none_refused built_in sources config told (a, accepted) (inl (refusal, b, is)) = true≢false (ap is_ok (sym a ∙ b))
-none_refused built_in sources config told (a, accepted) (inr (other, b, badly)) =
+none_refused built_in sources config told (a, _, _) (inl (refusal, b, is)) = true≢false (ap is_ok (sym a ∙ b))
+none_refused built_in sources config told (a, accepted, _) (inr (other, b, badly)) =
     let same : seen config ≡ other = ap (config_or (seen config)) (sym a ∙ b) in
     accepted_inherits other told (subst (λ (it : FileConfig). IsAccepted (parents_of it.profiles)) same accepted) badly

@@ -1,5 +1,6 @@
 pub mod Files
 pub mod Kinds
+pub mod Later
 pub mod Laws
 pub mod Load
 pub mod Reading

@@ -1,5 +1,6 @@
 -- What a configuration comes to, or why it is refused.
-use Rattle.std.specs.Prelude.{◌≡◌, ◌⊎◌, ℕ, List, [], ◌∷◌, ◌++◌, map, Option, None, Some, Result, Ok, Err, ⊤}
+use Rattle.std.specs.Prelude.{◌≡◌, ◌⊎◌, ℕ, Bool, false, List, [], ◌∷◌, ◌++◌, map, Option, None, Some, Result, Ok, Err, ⊤}
+use Rattle.std.specs.List.{list_any}
 use Rattle.toml.specs.Data.{Data, table, Members, no_members}
 use Rattle.toml.specs.Parse.{parse_document}
 use Rattle.nextest_config_elements_identifiers.specs.declared.source_kind.ConfigSourceKind.{ConfigSourceKind}
@@ -13,6 +14,7 @@ use Rattle.nextest_config_resolution_sources.specs.declared.source.ConfigSourceO
 use Rattle.nextest_config_resolution_sources.specs.declared.source.ConfigSourceOutcome.TheVariants as outcome
 use Rattle.nextest_config_resolution_tree.specs.Tree.{over}
 use Rattle.nextest_config_resolution_values.specs.File.{FileConfig, Named, file_in, profiles_at, store_dir_at}
+use Rattle.nextest_config_resolution_load.specs.Later.{is_later}
 use Rattle.nextest_config_resolution_load.specs.declared.load_error.LoadError.{LoadError}
 use Rattle.nextest_config_resolution_load.specs.declared.load_error.LoadError.TheVariants as error
 use Rattle.nextest_config_resolution_load.specs.declared.load_fault.LoadFault.{LoadFault}
@@ -100,6 +102,18 @@ if_config (Err at) = Err (bad_merged at)
 abbrev pub config_of : Members → List ConfigSource → Loading FileConfig
 config_of built_in sources = and_then (files_of (counted sources)) (λ files. if_config (config_in (members_of (raised (table built_in) files))))
 
+-- a source whose file sets a key that isn't read yet
+abbrev pub is_later_file : Loading (Option Members) → Bool
+is_later_file (Ok file) = list_any is_later (listed file)
+is_later_file (Err refusal) = false
+
+abbrev pub is_later_source : ConfigSource → Bool
+is_later_source source = is_later_file (file_of source)
+
+-- some source that counts has such a file; what is built in is no source
+abbrev pub sets_later_keys : List ConfigSource → Bool
+sets_later_keys sources = list_any is_later_source (counted sources)
+
 -- the profiles with their parents
 abbrev pub parents_of : List Named → Parents
 parents_of profiles = map (λ profile. (profile.0, profile.1.inherits)) profiles
@@ -132,7 +146,8 @@ InheritsBadly other config = ⊥
 
 -- a configuration is loaded: all rules are kept, and this is what it comes to; or a fault is told of the first rule that is broken
 abbrev pub IsLoaded : Members → List ConfigSource → Result LoadedConfig LoadError → Type 0
-IsLoaded built_in sources (Ok it) = (config_of built_in sources ≡ Ok (seen it)) × IsAccepted (parents_of (seen it).profiles)
+IsLoaded built_in sources (Ok it) =
+    (config_of built_in sources ≡ Ok (seen it)) × IsAccepted (parents_of (seen it).profiles) × (it.sets_later_keys ≡ sets_later_keys sources)
 IsLoaded built_in sources (Err (error.Refused told)) =
     ((refusal : Refusal) × (config_of built_in sources ≡ Err refusal) × IsToldOf told refusal)
     ⊎ ((config : FileConfig) × (config_of built_in sources ≡ Ok config) × InheritsBadly told config)

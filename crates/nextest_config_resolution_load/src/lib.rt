@@ -5,6 +5,7 @@
 #![tactic(auto)]
 
 mod files;
+mod later;
 pub mod laws;
 mod load_error;
 mod load_fault;
@@ -20,3 +21,4 @@ pub use load_error::LoadError;
 pub use load_fault::{LoadFault, LoadKind};
 pub use loaded_config::{LoadedConfig, NamedProfile};
 pub use loading::{load, load_with_warnings};
+pub use nextest_config_resolution_warnings::ConfigWarnings;

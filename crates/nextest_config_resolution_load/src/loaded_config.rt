@@ -43,6 +43,9 @@ pub struct LoadedConfig {
     pub profiles: Listing<NamedProfile>,
     /// The directory of the store, if one is set.
     pub store_dir: Option<Text>,
+    /// Whether a file that counts sets a key that isn't read yet: `script`, `scripts` or `test-groups`, or, in a profile,
+    /// `default-filter`, `overrides` or `scripts`.
+    pub sets_later_keys: bool,
 }
 
 // One call drops it, whoever holds it.
@@ -51,6 +54,7 @@ impl Drop for LoadedConfig {
         let Self {
             profiles: _,
             store_dir: _,
+            sets_later_keys: _,
         } = self;
     }
 }

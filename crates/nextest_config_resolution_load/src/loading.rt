@@ -1,15 +1,17 @@
 // What the sources of a configuration come to.
 ghost use Rattle.std.specs.Prelude.{◌≡◌, map, IfErr, IfOk};
-ghost use Rattle.std.specs.List.{flat_map};
+ghost use Rattle.std.specs.List.{flat_map, list_any};
 ghost use Rattle.toml.specs.Data.{table};
 ghost use Rattle.toml.specs.View.{table_view};
 ghost use Rattle.nextest_config_resolution_inheritance.specs.Inheritance.{IsAccepted, Rise};
-ghost use Rattle.nextest_config_resolution_load.specs.Load.{GivesAs, IsLoaded, config_in, config_of, if_config, members_of, parents_of, raised, seen};
+ghost use Rattle.nextest_config_resolution_load.specs.Load.{GivesAs, IsLoaded, config_in, config_of, if_config, members_of, parents_of, raised, seen, sets_later_keys};
 ghost use Rattle.nextest_config_resolution_load.specs.Files.{members_in, told_in};
+ghost use Rattle.nextest_config_resolution_load.specs.Later.{is_later};
 ghost use Rattle.nextest_config_resolution_load.specs.Telling.{TellsAs, warnings_in};
 ghost use Rattle.nextest_config_resolution_load.specs.Refusing.{InheritsBadlyFor};
 
 use crate::files::read_files;
+use crate::later::set_later_keys;
 use crate::load_error::LoadError;
 use crate::load_fault::LoadFault;
 use crate::loaded_config::LoadedConfig;
@@ -83,6 +85,7 @@ fn read_sources<'s>(
 ) -> Result<ReadSources<'s>, LoadError>
     ensures read { GivesAs (λ it. seen it.config) result (config_of (table_view built_in.now) sources.now) }
     ensures rises { IfOk result (λ it. Rise (parents_of (seen it.config).profiles)) }
+    ensures later { IfOk result (λ it. it.config.sets_later_keys ≡ sets_later_keys sources.now) }
     ensures told { IfOk result (λ it. flat_map told_in it.files.items ≡ warnings_in sources.now) }
 {
     let counted = counted(alloc, sources)?;
@@ -104,9 +107,10 @@ fn read_merged(
 ) -> Result<LoadedConfig, LoadError>
     ensures read { GivesAs seen result (if_config (config_in (members_of (raised (table (table_view built_in.now)) (map members_in files.now))))) }
     ensures rises { IfOk result (λ it. Rise (parents_of (seen it).profiles)) }
+    ensures later { IfOk result (λ it. it.sets_later_keys ≡ list_any is_later (map members_in files.now)) }
 {
     let tree = merge_files(alloc, built_in, files)?;
-    match read_config(alloc, &tree) {
+    match read_config(alloc, &tree, set_later_keys(files)) {
         Ok(config) => Ok(config),
         Err(ValueError::Refused(value)) => {
             Err(LoadError::Refused(LoadFault::BadMergedValue { value }))

@@ -1,5 +1,5 @@
 // What a merged tree says.
-ghost use Rattle.std.specs.Prelude.{◌≡◌, [], ◌∷◌, codes, map, option_map, Some};
+ghost use Rattle.std.specs.Prelude.{◌≡◌, [], ◌∷◌, codes, map, option_map, IfOk, Some};
 ghost use Rattle.toml.specs.Data.{Data, table, Members};
 ghost use Rattle.toml.specs.View.{table_view, view};
 ghost use Rattle.nextest_config_elements_reading.specs.Reading.{under};
@@ -18,9 +18,14 @@ use nextest_text::{Listing, Text};
 use std::alloc::Global;
 use toml::{Table, Value};
 
-// What a tree says of profiles and the store.
-pub(crate) fn read_config(alloc: Global, tree: &MergedTree<'_>) -> Result<LoadedConfig, ValueError>
-    ensures { (top : Members) → IsTree tree.now (table top) → GivesSeen seen result (config_in top) }
+// What a tree says of profiles and the store, beside what its files say of keys that aren't read yet.
+pub(crate) fn read_config(
+    alloc: Global,
+    tree: &MergedTree<'_>,
+    sets_later_keys: bool,
+) -> Result<LoadedConfig, ValueError>
+    ensures later { IfOk result (λ it. it.sets_later_keys ≡ sets_later_keys) }
+    ensures read { (top : Members) → IsTree tree.now (table top) → GivesSeen seen result (config_in top) }
 {
     let profiles = match read_profiles(alloc, tree) {
         Ok(profiles) => profiles,
@@ -30,6 +35,7 @@ pub(crate) fn read_config(alloc: Global, tree: &MergedTree<'_>) -> Result<Loaded
         Ok(store_dir) => Ok(LoadedConfig {
             profiles,
             store_dir,
+            sets_later_keys,
         }),
         Err(error) => Err(error),
     }

@@ -1,2 +1,4 @@
 pub mod Kept
 pub mod Names
+pub mod OneProfile
+pub mod Values

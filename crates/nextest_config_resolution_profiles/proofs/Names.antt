@@ -1,5 +1,5 @@
 -- The names of profiles at their places.
-use Rattle.std.proofs.Common.{◌≡◌, ◌≢◌, ℕ, ◌<◌, ◌≤◌, ◌+◌, List, [], ◌∷◌, ◌++◌, length, get_or, map, take, Bor, None, Ok, refl, ap, sym, ◌∙◌, subst, arith, ◌⊎◌, inl, inr}
+use Rattle.std.proofs.Common.{◌≡◌, ◌≢◌, ℕ, ◌<◌, ◌≤◌, ◌+◌, List, [], ◌∷◌, ◌++◌, length, get_or, map, take, Bor, None, Some, Ok, refl, ap, sym, ◌∙◌, subst, arith, ◌⊎◌, inl, inr}
 use Rattle.std.proofs.lemmas.Bool.{cases_lt}
 use Rattle.std.specs.List.{Contains}
 use Rattle.std.proofs.lemmas.List.{get_or-map, length-map, map_push, take_more}
@@ -16,10 +16,11 @@ use Rattle.nextest_config_resolution_load.specs.declared.loaded_config.LoadedCon
 use Rattle.nextest_config_resolution_settings.specs.Nearest.{lent}
 use Rattle.nextest_config_resolution_sources.specs.declared.source.ConfigSource.{ConfigSource}
 use Rattle.nextest_config_resolution_profiles.specs.Chains.{AreAt}
-use Rattle.nextest_config_resolution_profiles.specs.Config.{IsChainOf}
+use Rattle.nextest_config_resolution_profiles.specs.Config.{IsChainOf, values_of}
 use Rattle.nextest_config_resolution_profiles.specs.Kept.{HasProfile}
 use Rattle.nextest_config_resolution_profiles.specs.Whole.{IsSound}
 use Rattle.nextest_config_resolution_profiles.proofs.Kept.{kept_profile}
+use Rattle.nextest_config_resolution_profiles.proofs.Values.{values_in}
 
 abbrev pub all_of : List NamedProfile → Parents
 all_of all = parents_of (map named all)
@@ -83,18 +84,16 @@ names_are [] = refl
 names_are (it ∷ all) = ap (λ (more : List Name). it.name ∷ more) (names_are all)
 
 -- the chain of a profile, by places
-pub chained : (all : List NamedProfile) (place : ℕ) (places given : List ℕ) (values : List ProfileConfig) → given ≡ places
+pub chained : (all : List NamedProfile) (place : ℕ) (places given : List ℕ) (values : List ProfileConfig) → Rise (all_of all) → given ≡ places
     → IsChain (map (λ it. (it.name, it.config.inherits)) all) (name_at (map (λ it. (it.name, it.config.inherits)) all) place) (names_at (map (λ it. (it.name, it.config.inherits)) all) places)
     → AreAt (map named all) given values → IsChainOf (map named all) (name_at (all_of all) place) values
-chained all place places given values same chain at =
-    let told : IsChain (all_of all) (name_at (all_of all) place) (names_at (all_of all) places) =
-    subst (λ (ps : Parents). IsChain ps (name_at ps place) (names_at ps places)) (sym (same_parents all)) chain in
-    record {
-      chain = at.chain;
-      each = at.each;
-      in_order = subst (IsChain (all_of all) (name_at (all_of all) place)) (ap (names_at (all_of all)) (sym same) ∙ sym at.placed) told;
-      valued = at.valued;
-    }
+chained all place places given values rise same chain at = record {
+  names = names_at (all_of all) places;
+  in_order = subst (λ (ps : Parents). IsChain ps (name_at ps place) (names_at ps places)) (sym (same_parents all)) chain;
+  valued = ap (map (values_of (map named all))) (ap (names_at (all_of all)) (sym same) ∙ sym at.placed)
+      ∙ values_in (map named all) at.chain rise at.each
+      ∙ ap (map Some) (sym at.valued);
+}
 
 -- a configuration that is loaded over what is built in is sound
 pub sound : (members : Members) (sources : List ConfigSource) (it : LoadedConfig) → members ≡ built_in_members → IsLoaded members sources (Ok it)

@@ -1,5 +1,6 @@
 -- A whole configuration, and its profiles.
-use Rattle.std.specs.Prelude.{◌≡◌, ℕ, List, Result, Ok, Err, ⊤, All, Contains, codes, map, unwrap_or}
+use Rattle.std.specs.Prelude.{◌≡◌, ℕ, List, Option, Some, Result, Ok, Err, ⊤, Contains, codes, find, map, option_map, unwrap_or}
+use Rattle.std.specs.Str.{bytes_eq}
 use Rattle.nextest_config_resolution_built_in.specs.BuiltIn.{built_in_members}
 use Rattle.nextest_config_resolution_inheritance.specs.Inheritance.{Name, IsChain}
 use Rattle.nextest_config_resolution_load.specs.Load.{IsLoaded, parents_of, seen}
@@ -43,12 +44,15 @@ dir_of profile = profile.store.now
 abbrev pub chain_of : EarlyProfile → List ProfileConfig
 chain_of profile = lent profile.chain.items
 
--- the values of some profiles, of which the names are the chain of one
+-- the values of the profile of a name
+abbrev pub values_of : List Named → Name → Option ProfileConfig
+values_of profiles name = option_map (λ profile. profile.1) (find (λ profile. bytes_eq name profile.0) profiles)
+
+-- the values of the profiles of which the names are the chain of a name
 pub record IsChainOf (profiles : List Named) (name : Name) (values : List ProfileConfig) : Type 0 where
-  pub chain : List Named
-  pub each : All (Contains profiles) chain
-  pub in_order : IsChain (parents_of profiles) name (map (λ profile. profile.0) chain)
-  pub valued : values ≡ map (λ profile. profile.1) chain
+  pub names : List Name
+  pub in_order : IsChain (parents_of profiles) name names
+  pub valued : map (values_of profiles) names ≡ map Some values
 
 -- the profile of a name, before anything is known of the platforms
 pub record IsEarly (config : Whole) (name : Name) (it : EarlyProfile) : Type 0 where

@@ -1,4 +1,5 @@
 pub mod Chains
 pub mod Config
 pub mod Kept
+pub mod Laws
 pub mod Whole

@@ -3,7 +3,9 @@ use crate::chains::{all_names, chain_at, place_of};
 use crate::early_profile::EarlyProfile;
 use crate::profile_error::{ProfileError, ProfileNotFound};
 use nextest_config_resolution_built_in::built_in;
-use nextest_config_resolution_load::{LoadError, LoadedConfig, load};
+use nextest_config_resolution_load::{
+    ConfigWarnings, LoadError, LoadedConfig, load, load_with_warnings,
+};
 use nextest_config_resolution_sources::ConfigSource;
 use nextest_text::Text;
 use std::alloc::Global;
@@ -34,6 +36,7 @@ impl Model for NextestConfig {
 }
 
 impl NextestConfig {
+    ghost use Rattle.nextest_config_resolution_load.specs.Telling.{TellsAs, warnings_in};
     ghost use Rattle.nextest_config_resolution_profiles.specs.Config.{IsConfig, IsProfile, store_of};
     ghost use Rattle.std.specs.Prelude.{◌≡◌};
 
@@ -57,6 +60,36 @@ impl NextestConfig {
             }),
             Err(error) => Err(error),
         }
+    }
+
+    /// What `from_sources` gives of the sources, and `warnings` is told what no configuration knows in the files, as
+    /// `load_with_warnings` tells it.
+    ///
+    /// # Errors
+    ///
+    /// As `from_sources`. Where the sources are refused no warning was told; where there was no memory, a front of them was.
+    pub fn from_sources_with_warnings<W: ConfigWarnings>(
+        alloc: Global,
+        root: &str,
+        sources: &[ConfigSource],
+        warnings: &mut W,
+    ) -> Result<NextestConfig, LoadError>
+        ensures config { IsConfig root.now sources.now result }
+        ensures told { TellsAs W.has_told warnings.old warnings.new (warnings_in sources.now) result }
+    {
+        let lowest = built_in(alloc)?;
+        let root = Text::from_str(alloc, root)?;
+        match load_with_warnings(alloc, &lowest, sources, warnings) {
+            Ok(loaded) => Ok(NextestConfig { root, loaded }),
+            Err(error) => Err(error),
+        }
+    }
+
+    /// Whether a file that counts sets a key that isn't read yet, as `LoadedConfig` says.
+    pub fn sets_later_keys(&self) -> bool
+        ensures { result ≡ self.now.loaded.sets_later_keys }
+    {
+        self.loaded.sets_later_keys
     }
 
     /// The profile of a name, lent.

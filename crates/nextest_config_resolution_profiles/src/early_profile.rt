@@ -22,6 +22,15 @@ pub struct EarlyProfile<'c> {
     pub(crate) chain: Vec<&'c ProfileConfig>,
 }
 
+/// What is known of the platform that is built on, and of the one that is built for where it is another.
+#[derive(Clone, Copy, Debug)]
+pub struct BuildPlatforms<'f, F> {
+    /// What is known of the platform that is built on.
+    pub host: &'f F,
+    /// What is known of the platform that is built for; `None` where it is the same.
+    pub target: Option<&'f F>,
+}
+
 impl<'c> EarlyProfile<'c> {
     /// Its name.
     pub fn name(&self) -> &'c str
@@ -49,8 +58,12 @@ impl<'c> EarlyProfile<'c> {
         }
     }
 
-    /// The profile, with the same name and chain, to be asked for its settings.
-    pub fn into_evaluatable(self) -> EvaluatableProfile<'c>
+    /// The profile on these platforms, with the same name and chain, to be asked for its settings. Nothing asks of the platforms
+    /// yet.
+    pub fn apply_build_platforms<F>(
+        self,
+        _platforms: &BuildPlatforms<'_, F>,
+    ) -> EvaluatableProfile<'c>
         ensures name { profile.name_of result ≡ name_of self.entry }
         ensures root { profile.root_of result ≡ root_of self.entry }
         ensures store { profile.store_of result ≡ dir_of self.entry }

@@ -8,5 +8,5 @@ pub mod laws;
 mod profile_error;
 
 pub use config::NextestConfig;
-pub use early_profile::EarlyProfile;
+pub use early_profile::{BuildPlatforms, EarlyProfile};
 pub use profile_error::{ProfileError, ProfileNotFound};

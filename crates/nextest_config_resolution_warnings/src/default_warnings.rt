@@ -40,6 +40,14 @@ impl DefaultConfigWarnings {
     {
         self.lines.as_slice()
     }
+
+    /// The texts, handed out, which takes no memory.
+    pub fn into_lines(self) -> Listing<Text>
+        ensures { result ≡ self }
+    {
+        let DefaultConfigWarnings { alloc: _, lines } = self;
+        lines
+    }
 }
 
 impl ConfigWarnings for DefaultConfigWarnings {

@@ -18,11 +18,8 @@ use Rattle.test_runner_core_listing.specs.Answers.{Answers}
 use Rattle.test_runner_core_listing.specs.Listing.{Found, accepted, accepted_names, refused_name, ids_of, listing, selected_in, skipped_in, tests_of, ◌>>=◌}
 use Rattle.test_runner_core_listing.specs.declared.listing_fault.ListingFault.{ListingFault}
 use Rattle.test_runner_core_listing.specs.declared.listing_fault.ListingFault.TheVariants as refused
-use Rattle.test_runner_core_plan.specs.Plan.{Planned, Plans, listed_in, plan_test, workspace_of}
-use Rattle.test_runner_core_plan.specs.Plan.{◌>>=◌ as ◌>>>◌}
+use Rattle.test_runner_core_plan.specs.Plan.{Planned, Plans, listed_in, plan_test}
 use Rattle.test_runner_core_plan.specs.declared.plan.PlanTest.{PlanTest}
-use Rattle.test_runner_core_plan.specs.declared.plan_fault.PlanFault.{PlanFault}
-use Rattle.test_runner_core_settings.specs.declared.settings.Settings.{Settings}
 use Rattle.test_runner_core_workspace.specs.Lister.{Answer}
 use Rattle.test_runner_core_workspace.specs.Workspace.{binary_ids, has_repeat, has_separator, is_among, is_bad_id, is_known_link, package_ids, refusal_of}
 use Rattle.test_runner_core_workspace.specs.declared.record.Binary.{Binary}
@@ -30,7 +27,7 @@ use Rattle.test_runner_core_workspace.specs.declared.record.WorkspaceRecord.{Wor
 use Rattle.test_runner_core_workspace.specs.declared.workspace_fault.WorkspaceFault.{WorkspaceFault}
 use Rattle.test_runner_core_workspace.specs.declared.workspace_fault.WorkspaceFault.TheVariants as bad
 use Rattle.test_runner_core.specs.Laws.{HasNoneTwice}
-use Rattle.test_runner_core_plan.proofs.Once.{parts_of}
+use Rattle.test_runner_core_plan.proofs.Once.{parts_of, settled_workspace}
 
 -- ---- tests that are the same
 
@@ -173,15 +170,9 @@ ids_apart workspace e =
     by_tests false false true rest h = absurd (let f = h in cc)
     by_tests false false false rest h = refl
 
--- inputs whose workspace is refused ask for no settings
-not_refused : (workspace : WorkspaceRecord) (refusal : Option WorkspaceFault) (next : WorkspaceRecord → Result Settings PlanFault) (settings : Settings)
-    → (workspace_of workspace refusal >>> next) ≡ Ok settings → refusal ≡ None
-not_refused workspace None next settings e = refl
-not_refused workspace (Some refusal) next settings e = absurd (let f = e in cc)
-
 pub planned_apart : (answer : Binary → Answer) (inputs : Inputs) (it : Planned) → Plans answer inputs (Ok it) → has_repeat (binary_ids inputs.workspace) ≡ false
 planned_apart answer inputs it planned =
-    ids_apart inputs.workspace (not_refused inputs.workspace (refusal_of inputs.workspace) _ it.settings (parts_of answer inputs it planned).settings)
+    ids_apart inputs.workspace (settled_workspace inputs it.settings (parts_of answer inputs it planned).settings)
 
 -- an id that no binary has is that of none of them that pass
 none_passes : (passes : Binary → Bool) (id : List ℕ) (binaries : List Binary) → is_among (ids_of binaries) id ≡ false → is_among (ids_of (filter passes binaries)) id ≡ false

@@ -1,5 +1,5 @@
 -- A report has one text and one exit status, and what is told of it first is a front of it.
-use Rattle.std.proofs.Common.{◌≡◌, ℕ, ◌+◌, List, [], ◌∷◌, ◌++◌, map, length, Option, Ok, Err, refl, sym, ap, ◌∙◌, subst, inl, inr, append_assoc, append-nil}
+use Rattle.std.proofs.Common.{◌≡◌, ℕ, ◌+◌, List, [], ◌∷◌, ◌++◌, codes, map, length, Option, Ok, Err, refl, sym, ap, ◌∙◌, subst, inl, inr, append_assoc, append-nil}
 use Rattle.test_runner_core_inputs.specs.declared.inputs.Inputs.{Inputs}
 use Rattle.test_runner_core_log_reader.specs.Items.{Item, Line}
 use Rattle.test_runner_core_plan.specs.Plan.{Builds, Plans}
@@ -10,11 +10,12 @@ use Rattle.test_runner_core_report.proofs.OneText.{one_done, one_shown}
 use Rattle.test_runner_core_runs.specs.State.{State, initial}
 use Rattle.test_runner_core_session.specs.Session.{run_plan}
 use Rattle.test_runner_core_telling.specs.Parts.{Done, IsPart, IsText, Part, Said, Shown}
+use Rattle.test_runner_core_telling.specs.RunEnd.{LF, TAB}
 use Rattle.test_runner_core_workspace.specs.Lister.{Answer}
 use Rattle.test_runner_core_workspace.specs.declared.record.Binary.{Binary}
 use Rattle.test_runner_core.specs.Judging.{Finds}
 use Rattle.test_runner_core.specs.Laws.{EndsWithOneText, ToldFirst}
-use Rattle.test_runner_core.specs.Report.{Begun, Composed, Judged, SoFar, ending, exit_status, refused_plan}
+use Rattle.test_runner_core.specs.Report.{Begun, Composed, Judged, SoFar, ending, exit_status}
 use Rattle.test_runner_core.specs.declared.refused_line.RefusedLine.{RefusedLine}
 use Rattle.test_runner_core_plan.proofs.Once.{plans_once}
 use Rattle.test_runner_core.proofs.OneRun.{early_parts, finds_once, fronts_same, one_plan, same_rest, so_far_once, stands_before}
@@ -115,14 +116,18 @@ first_lines_first plan log front rest last parts whole code is so_far judged =
 
 -- inputs that are refused have no plan
 pub never_planned : (answer : Binary → Answer) (inputs : Inputs) (plan : Plan) (refusal : PlanFault) → Plans answer inputs (Err refusal) → Builds answer inputs (Ok plan) → ⊥
-never_planned answer inputs plan refusal refuses built = absurd (let e = plans_once answer inputs (Ok built.0) (Err refusal) built.1 refuses in cc)
+never_planned answer inputs plan refusal refuses built = plans_once answer inputs (Ok built.0) (Err refusal) built.1 refuses
+
+-- the one line of inputs that are refused by this name
+refused_as : List ℕ → List Part
+refused_as name = Said (codes "refused" ++ TAB ∷ name ++ LF ∷ []) ∷ []
 
 -- inputs and a log have one report
 pub composed_once : (answer : Binary → Answer) (inputs : Inputs) (log : List Item) (parts others : List Part) (code other : ℕ)
     → Composed answer inputs log parts code → Composed answer inputs log others other → (parts ≡ others) × (code ≡ other)
 composed_once answer inputs log parts others code other (inl (refusal, refuses, is, code_is)) (inl (same, refuses_same, also, code_also)) =
-    let one : refusal ≡ same = let e = plans_once answer inputs (Err refusal) (Err same) refuses refuses_same in cc in
-    (is ∙ ap refused_plan one ∙ sym also, code_is ∙ ap status_of one ∙ sym code_also)
+    let one = plans_once answer inputs (Err refusal) (Err same) refuses refuses_same in
+    (is ∙ ap refused_as one.0 ∙ sym also, code_is ∙ one.1 ∙ sym code_also)
 composed_once answer inputs log parts others code other (inl (refusal, refuses, is, code_is)) (inr (plan, built, judged)) = absurd (never_planned answer inputs plan refusal refuses built)
 composed_once answer inputs log parts others code other (inr (plan, built, judged)) (inl (refusal, refuses, is, code_is)) = absurd (never_planned answer inputs plan refusal refuses built)
 composed_once answer inputs log parts others code other (inr (plan, built, judged)) (inr (same, built_same, judged_same)) =

@@ -8,13 +8,13 @@ use Rattle.test_runner_core_log_reader.specs.Cursor.{Cursor, items_ahead}
 use Rattle.test_runner_core_log_reader.specs.Items.{Item}
 use Rattle.test_runner_core_listing.specs.Listing.{AsksFor}
 use Rattle.test_runner_core_plan.specs.Plan as building
-use Rattle.test_runner_core_plan.specs.Plan.{Asks, AsksWith, Builds, Plans, asked_by}
+use Rattle.test_runner_core_plan.specs.Plan.{Asks, AsksBehind, AsksWith, Builds, Plans, asked_by}
 use Rattle.test_runner_core_plan.specs.declared.plan_error.PlanError.{PlanError}
 use Rattle.test_runner_core_plan.specs.declared.plan_error.PlanError.TheVariants as build_error
 use Rattle.test_runner_core_plan.specs.Texts.{status_of}
 use Rattle.test_runner_core_plan.specs.declared.plan.Plan.{Plan}
 use Rattle.test_runner_core_plan.specs.declared.plan_fault.PlanFault.{PlanFault}
-use Rattle.test_runner_core_settings.specs.declared.settings.Settings.{Settings}
+use Rattle.test_runner_core_settings.specs.declared.configured.RunSettings.{RunSettings}
 use Rattle.test_runner_core_telling.specs.Parts.{Part}
 use Rattle.test_runner_core_telling.specs.Telling.{TellsAll, TellsFront}
 use Rattle.test_runner_core_telling.specs.declared.fault.TellFault.{TellFault}
@@ -119,7 +119,10 @@ pub asked_in_part : (error : PlanError) (old ids new : List (List ℕ)) → erro
 asked_in_part error old ids new is asks = subst (λ (e : PlanError). Asks {A = Plan} (Err e) old ids new) is asks
 
 -- what a call asks the lister for is what the plan's building asked for
-pub asks_with : (answer : Binary → Answer) (inputs : Inputs) (given : Result Settings PlanFault) (built : Result Plan PlanError) (lacks : Bool) (old new : List (List ℕ))
-    → ((ids : List (List ℕ)) → Asks built old ids new → AsksFor lacks old ids new) → AsksWith answer inputs given (building.lacks_memory built) old new → AsksWith answer inputs given lacks old new
-asks_with answer inputs (Ok settings) built lacks old new also asks = λ chosen is. also (asked_by answer inputs chosen) (asks chosen is)
-asks_with answer inputs (Err refusal) built lacks old new also asks = asks
+pub asks_with : (answer : Binary → Answer) (inputs : Inputs) (built : Result Plan PlanError) (lacks : Bool) (old new : List (List ℕ))
+    → ((ids : List (List ℕ)) → Asks built old ids new → AsksFor lacks old ids new) → AsksWith answer inputs (building.lacks_memory built) old new → AsksWith answer inputs lacks old new
+asks_with answer inputs built lacks old new also asks = λ settings settles. by_settings settings (asks settings settles)
+  where
+    by_settings : (settings : Result RunSettings PlanFault) → AsksBehind answer inputs settings (building.lacks_memory built) old new → AsksBehind answer inputs settings lacks old new
+    by_settings (Ok settings) here = λ chosen is. also (asked_by answer inputs chosen) (here chosen is)
+    by_settings (Err refusal) here = here

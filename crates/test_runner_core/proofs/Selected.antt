@@ -14,7 +14,7 @@ use Rattle.test_runner_core_inputs.specs.declared.inputs.Inputs.{Inputs}
 use Rattle.test_runner_core_plan.specs.Filtering.{everything}
 use Rattle.test_runner_core_plan.specs.Plan.{listed_in, plan_test}
 use Rattle.test_runner_core_plan.specs.declared.plan.PlanTest.{PlanTest}
-use Rattle.test_runner_core_settings.specs.declared.settings.Settings.{Settings}
+use Rattle.test_runner_core_settings.specs.declared.configured.RunSettings.{RunSettings}
 use Rattle.test_runner_core.specs.Laws.{HasExactlyTheWanted, IsWanted}
 use Rattle.nextest_filtering_filters.proofs.Sure.{on_test_can_be, one_on_test}
 use Rattle.test_runner_core_plan.proofs.Once.{answers_are, parts_of}
@@ -186,7 +186,7 @@ from_listed answer chosen (binary ∷ binaries) found e test it =
           (record { binary = it.binary; among = more; id = it.id; names = it.names; answered = it.answered; named = it.named; chosen_name = it.chosen_name }))
     ])
 
-instances_of : (settings : Settings) (tests : List OwnedTestInstanceId) → map (λ (t : PlanTest). t.instance) (map (plan_test settings) tests) ≡ tests
+instances_of : (settings : RunSettings) (tests : List OwnedTestInstanceId) → map (λ (t : PlanTest). t.instance) (map (plan_test settings) tests) ≡ tests
 instances_of settings [] = refl
 instances_of settings (test ∷ tests) = ap (λ (ts : List OwnedTestInstanceId). test ∷ ts) (instances_of settings tests)
 

@@ -39,7 +39,9 @@ pub use Rattle.test_runner_core_plan.specs.Refusals
 pub use Rattle.test_runner_core_plan.specs.Texts as PlanTexts
 pub use Rattle.test_runner_core_listing.specs.Listing
 pub use Rattle.test_runner_core_listing.specs.Answers
+pub use Rattle.test_runner_core_settings.specs.Sets
 pub use Rattle.test_runner_core_settings.specs.Settings
+pub use Rattle.test_runner_core_settings.specs.Laws as SettingsLaws
 -- the version pass: which sources count, how it takes them, what comes of what they ask for, and how a warning reads
 pub use Rattle.nextest_config_resolution_sources.specs.Counting
 pub use Rattle.test_runner_core_versions.specs.Sources as PassSources
@@ -108,11 +110,13 @@ pub use Rattle.test_runner_core_line_syntax.specs.declared.lent.LentStream
 pub use Rattle.test_runner_core_line_syntax.specs.declared.log_line.LogLine
 pub use Rattle.test_runner_core_line_syntax.specs.declared.parse_line_error.ParseLineError
 pub use Rattle.test_runner_core_line_syntax.specs.declared.spelling_error.SpellingError
-pub use Rattle.test_runner_core_plan.specs.declared.plan_fault.LoadFault
+pub use Rattle.nextest_config_resolution_load.specs.declared.load_fault.LoadFault
+pub use Rattle.nextest_config_resolution_load.specs.declared.load_fault.LoadKind
+pub use Rattle.nextest_config_resolution_profiles.specs.declared.profile_error.ProfileNotFound
 pub use Rattle.test_runner_core_plan.specs.declared.plan.Plan as PlanType
 pub use Rattle.test_runner_core_plan.specs.declared.plan_error.PlanError
 pub use Rattle.test_runner_core_plan.specs.declared.plan_fault.PlanFault
-pub use Rattle.test_runner_core_plan.specs.declared.plan.PlanSettings
+pub use Rattle.test_runner_core_settings.specs.declared.plan_settings.PlanSettings
 pub use Rattle.test_runner_core_plan.specs.declared.plan.PlanTest
 pub use Rattle.test_runner_core_progress.specs.declared.start_fault.StartFault
 pub use Rattle.test_runner_core_runs.specs.declared.mark.Mark

@@ -9,7 +9,7 @@ ghost use Rattle.test_runner_core.specs.Outcome.{EndsAsDue, HasNoPlan, IsDue, Is
 ghost use Rattle.test_runner_core.specs.Inside.{IsGotOf};
 ghost use Rattle.test_runner_core.specs.Report.{Begun, Composed, GotTo, Reports, TellsSoFar};
 ghost use Rattle.test_runner_core_log_reader.specs.Cursor.{items_ahead};
-ghost use Rattle.test_runner_core_plan.specs.Plan.{AsksWith, Builds, Plans, settings_for};
+ghost use Rattle.test_runner_core_plan.specs.Plan.{AsksWith, Builds, Plans};
 ghost use Rattle.test_runner_core_plan.specs.declared.plan_fault.PlanFault.{PlanFault};
 ghost use Rattle.test_runner_core_workspace.specs.declared.record.Binary.{Binary};
 
@@ -51,7 +51,7 @@ pub fn judge<L: Lister, R: LogReader, W: ReportWriter>(
     ensures no_milder { IfOk result (λ code. IfSome (R.left log.old) (λ bytes. IsNoMilderThanDue (L.answer lister.old) inputs.now (items 0 bytes) code)) }
     ensures one_report { IfOk result (λ code. IfSome (R.left log.old) (λ bytes. EndsAsDue (L.answer lister.old) inputs.now (items 0 bytes) (W.taken report.old) (W.taken report.new))) }
     ensures stays { (other : Binary) → L.answer lister.new other ≡ L.answer lister.old other }
-    ensures asks { AsksWith (L.answer lister.old) inputs.now (settings_for inputs.now) (lacks_memory result) (L.asked lister.old) (L.asked lister.new) }
+    ensures asks { AsksWith (L.answer lister.old) inputs.now (lacks_memory result) (L.asked lister.old) (L.asked lister.new) }
     ensures unread { (refusal : PlanFault) → Plans (L.answer lister.old) inputs.now (Err refusal) → R.calls log.new ≡ R.calls log.old }
     ensures reads { R.calls log.new ≤ R.calls log.old + log_reads }
     ensures read_failures { TellsRead result (R.failures log.old) (R.failures log.new) (R.last_failed log.new) }

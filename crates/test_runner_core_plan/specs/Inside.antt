@@ -2,11 +2,11 @@
 use Rattle.std.specs.Prelude.{◌≡◌, ◌⊎◌, ℕ, List, Option, Result, Ok, Err, ⊤}
 use Rattle.nextest_filtering_filters.specs.Filter.{Compiled, filter_of}
 use Rattle.test_runner_core_inputs.specs.declared.inputs.Inputs.{Inputs}
-use Rattle.test_runner_core_settings.specs.declared.settings.Settings.{Settings}
-use Rattle.test_runner_core_versions.specs.declared.pass.VersionPass.{VersionPass}
+use Rattle.test_runner_core_settings.specs.declared.configured.RunSettings.{RunSettings}
+use Rattle.test_runner_core_settings.specs.declared.configured.ConfiguredRun.{ConfiguredRun}
 use Rattle.test_runner_core_workspace.specs.declared.record.WorkspaceRecord.{WorkspaceRecord}
 use Rattle.test_runner_core_plan.specs.Filtering.{IsChosen, IsInForce}
-use Rattle.test_runner_core_plan.specs.Plan.{settings_for, warnings_of}
+use Rattle.test_runner_core_plan.specs.Plan.{Settles, warnings_of}
 use Rattle.test_runner_core_plan.specs.declared.plan_error.PlanError.{PlanError}
 use Rattle.test_runner_core_plan.specs.declared.plan_error.PlanError.TheVariants as error
 use Rattle.test_runner_core_plan.specs.declared.wanted.Wanted.{Wanted}
@@ -17,17 +17,17 @@ GivesInForce workspace filterset (Ok filter) = IsInForce workspace filterset (fi
 GivesInForce workspace filterset (Err (error.Refused refusal)) = IsChosen workspace filterset (Err refusal)
 GivesInForce workspace filterset (Err error.OutOfMemory) = ⊤
 
--- a call gives the settings that inputs ask for, and what passing told, or refuses them
-abbrev pub AreSettled : Inputs → Result (Settings × VersionPass) PlanError → Type 0
-AreSettled inputs (Ok settled) = (settings_for inputs ≡ Ok settled.0) × (settled.1.warnings ≡ warnings_of inputs)
-AreSettled inputs (Err (error.Refused refusal)) = settings_for inputs ≡ Err refusal
+-- a call gives the settings that inputs ask for, with all warnings, or refuses them
+abbrev pub AreSettled : Inputs → Result ConfiguredRun PlanError → Type 0
+AreSettled inputs (Ok settled) = Settles inputs (Ok settled.settings) × (settled.warnings ≡ warnings_of inputs)
+AreSettled inputs (Err (error.Refused refusal)) = Settles inputs (Err refusal)
 AreSettled inputs (Err error.OutOfMemory) = ⊤
 
 -- a call gives all that inputs ask for, or refuses them
 abbrev pub IsWanted : Inputs → Result Wanted PlanError → Type 0
 IsWanted inputs (Ok wanted) =
-    (settings_for inputs ≡ Ok wanted.settings) × IsInForce inputs.workspace inputs.filterset (filter_of wanted.filter) × (wanted.warnings ≡ warnings_of inputs)
+    Settles inputs (Ok wanted.settings) × IsInForce inputs.workspace inputs.filterset (filter_of wanted.filter) × (wanted.warnings ≡ warnings_of inputs)
 IsWanted inputs (Err (error.Refused refusal)) =
-    (settings_for inputs ≡ Err refusal)
-    ⊎ ((settings : Settings) × (settings_for inputs ≡ Ok settings) × IsChosen inputs.workspace inputs.filterset (Err refusal))
+    Settles inputs (Err refusal)
+    ⊎ ((settings : RunSettings) × Settles inputs (Ok settings) × IsChosen inputs.workspace inputs.filterset (Err refusal))
 IsWanted inputs (Err error.OutOfMemory) = ⊤

@@ -1,18 +1,15 @@
 -- Which inputs have a plan, and which: what is refused is looked for in this order.
-use Rattle.std.specs.Prelude.{◌≡◌, ℕ, ◌+◌, ◌==◌, Bool, true, false, ◌&&◌, ◌||◌, not, length, List, [], ◌∷◌, min, codes, Option, None, Some, Result, Ok, Err, ⊤, map, is_some, nat_lt, if◌then◌else◌}
-use Rattle.std.specs.Str.{bytes_eq}
-use Rattle.nextest_config_elements_plain.specs.declared.timeouts.FlakyResult.TheVariants as flaky
+use Rattle.std.specs.Prelude.{◌≡◌, ℕ, ◌+◌, ◌==◌, Bool, true, false, ◌&&◌, ◌||◌, length, List, [], ◌++◌, min, Option, None, Some, Result, Ok, Err, ⊤, map, is_some, nat_lt, if◌then◌else◌}
+use Rattle.nextest_config_elements_counts.specs.Retries.{count_of}
 use Rattle.nextest_run_events_results.specs.declared.instance.OwnedTestInstanceId.{OwnedTestInstanceId}
 use Rattle.test_runner_core_inputs.specs.declared.inputs.Inputs.{Inputs}
-use Rattle.nextest_config_resolution_sources.specs.declared.source.ConfigSource.{ConfigSource}
-use Rattle.nextest_config_resolution_sources.specs.declared.source.ConfigSourceOutcome.{ConfigSourceOutcome}
-use Rattle.nextest_config_resolution_sources.specs.declared.source.ConfigSourceOutcome.TheVariants as outcomes
 use Rattle.test_runner_core_listing.specs.Answers.{Answers}
 use Rattle.test_runner_core_listing.specs.Listing.{AsksFor, Found, Selects, listing, listed_of, asked_of}
 use Rattle.test_runner_core_listing.specs.declared.listing_fault.ListingFault.{ListingFault}
 use Rattle.test_runner_core_listing.specs.declared.selection.Selection.{Selection}
-use Rattle.test_runner_core_settings.specs.Settings.{settings_of, default_settings}
-use Rattle.test_runner_core_settings.specs.declared.settings.Settings.{Settings}
+use Rattle.test_runner_core_settings.specs.Sets.{Sets, key_warnings}
+use Rattle.test_runner_core_settings.specs.declared.plan_settings.PlanSettings.{PlanSettings}
+use Rattle.test_runner_core_settings.specs.declared.configured.RunSettings.{RunSettings}
 use Rattle.test_runner_core_settings.specs.declared.settings_fault.SettingsFault.{SettingsFault}
 use Rattle.test_runner_core_versions.specs.Pass.{pass_of}
 use Rattle.test_runner_core_versions.specs.declared.pass.VersionPass.{VersionPass}
@@ -41,60 +38,54 @@ abbrev pub workspace_of : WorkspaceRecord → Option WorkspaceFault → Result W
 workspace_of workspace None = Ok workspace
 workspace_of workspace (Some refusal) = Err (of_workspace refusal)
 
--- what a text sets
-abbrev pub set_by : Result Settings SettingsFault → Result Settings PlanFault
-set_by (Ok settings) = Ok settings
-set_by (Err refusal) = Err (of_settings refusal)
-
--- what the sources set: none, or the text of one; more sources, and one without a text, aren't read yet
-abbrev pub settings_by : ConfigSourceOutcome → Result Settings PlanFault
-settings_by (outcomes.Text text) = set_by (settings_of text)
-settings_by outcome = Err refused.NotYet
-
-abbrev pub settings_in : List ConfigSource → Result Settings PlanFault
-settings_in [] = Ok default_settings
-settings_in (source ∷ []) = settings_by source.outcome
-settings_in (source ∷ other ∷ more) = Err refused.NotYet
-
--- the parts of inputs that aren't read yet: another profile, and platforms
+-- the parts of inputs that aren't read yet: platforms
 abbrev pub asks_for_more : Inputs → Bool
-asks_for_more inputs =
-    not (bytes_eq inputs.profile (codes "default"))
-    || (nat_lt 0 (length inputs.host.triple) || nat_lt 0 (length inputs.host.facts))
-    || is_some inputs.target
+asks_for_more inputs = (nat_lt 0 (length inputs.host.triple) || nat_lt 0 (length inputs.host.facts)) || is_some inputs.target
 
 -- the version pass
 abbrev pub passed_by : Result VersionPass VersionPassFault → Result VersionPass PlanFault
 passed_by (Ok passed) = Ok passed
 passed_by (Err refusal) = Err (of_pass refusal)
 
--- the settings that inputs ask for, or the first reason before their filterset why they have no plan
-abbrev pub settings_for : Inputs → Result Settings PlanFault
-settings_for inputs = do
+-- what comes before the configuration is looked at: the workspace, then the version pass
+abbrev pub passed_of : Inputs → Result VersionPass PlanFault
+passed_of inputs = do
   workspace ← workspace_of inputs.workspace (refusal_of inputs.workspace)
-  passed ← passed_by (pass_of inputs)
-  settings ← settings_in inputs.sources
-  if asks_for_more inputs then Err refused.NotYet else Ok settings
+  passed_by (pass_of inputs)
+
+-- what the configuration sets, unless the inputs ask for what isn't read yet
+abbrev pub settled_by : Inputs → Result RunSettings SettingsFault → Result RunSettings PlanFault
+settled_by inputs (Ok settings) = if asks_for_more inputs then Err refused.NotYet else Ok settings
+settled_by inputs (Err refusal) = Err (of_settings refusal)
+
+abbrev pub SettlesBehind : Inputs → Result VersionPass PlanFault → Result RunSettings PlanFault → Type 0
+SettlesBehind inputs (Ok passed) given = (set : Result RunSettings SettingsFault) × Sets inputs set × (settled_by inputs set ≡ given)
+SettlesBehind inputs (Err refusal) given = given ≡ Err refusal
+
+-- the settings that inputs ask for, or the first reason before their filterset why they have no plan
+abbrev pub Settles : Inputs → Result RunSettings PlanFault → Type 0
+Settles inputs = SettlesBehind inputs (passed_of inputs)
 
 -- the warnings of what passed
 abbrev pub warnings_in : Result VersionPass VersionPassFault → List (List ℕ)
 warnings_in (Ok passed) = passed.warnings
 warnings_in (Err refusal) = []
 
+-- all warnings: of the version first, then of the files, from the lowest on
 abbrev pub warnings_of : Inputs → List (List ℕ)
-warnings_of inputs = warnings_in (pass_of inputs)
+warnings_of inputs = warnings_in (pass_of inputs) ++ key_warnings inputs
 
 abbrev pub found_by : Result Found ListingFault → Result Found PlanFault
 found_by (Ok found) = Ok found
 found_by (Err refusal) = Err (of_listing refusal)
 
 -- a selected test has more retries than can be counted with its first attempt
-abbrev pub has_too_many : Settings → List OwnedTestInstanceId → Bool
-has_too_many settings tests = settings.retries == 4294967295 && nat_lt 0 (length tests)
+abbrev pub has_too_many : RunSettings → List OwnedTestInstanceId → Bool
+has_too_many settings tests = count_of settings.test.retries == 4294967295 && nat_lt 0 (length tests)
 
 -- what inputs ask for and the tests that are selected, or the first reason why there is no plan
 pub record Planned : Type 0 where
-  pub settings : Settings
+  pub settings : RunSettings
   pub answers : Answers
   pub found : Found
 
@@ -103,30 +94,30 @@ abbrev pub listed_in : Inputs → Answers → List Binary
 listed_in inputs answers = listed_of answers inputs.workspace.binaries
 
 -- what is planned where the filter in force answers so, or its filterset is refused
-abbrev pub planned_by : (Binary → Answer) → Inputs → Settings → Result Answers PlanFault → Result Planned PlanFault
+abbrev pub planned_by : (Binary → Answer) → Inputs → RunSettings → Result Answers PlanFault → Result Planned PlanFault
 planned_by answer inputs settings chosen = do
   answers ← chosen
   found ← found_by (listing answer answers (listed_in inputs answers))
   if has_too_many settings found.tests then Err refused.RetriesTooMany else Ok (record { settings = settings; answers = answers; found = found })
 
 -- with the settings that inputs ask for
-abbrev pub PlansWith : (Binary → Answer) → Inputs → Result Settings PlanFault → Result Planned PlanFault → Type 0
+abbrev pub PlansWith : (Binary → Answer) → Inputs → Result RunSettings PlanFault → Result Planned PlanFault → Type 0
 PlansWith answer inputs (Ok settings) it =
     (chosen : Result Answers PlanFault) × IsChosen inputs.workspace inputs.filterset chosen × (planned_by answer inputs settings chosen ≡ it)
 PlansWith answer inputs (Err refusal) it = it ≡ Err refusal
 
 -- inputs have this planned, or this is the first reason why they have no plan
 abbrev pub Plans : (Binary → Answer) → Inputs → Result Planned PlanFault → Type 0
-Plans answer inputs = PlansWith answer inputs (settings_for inputs)
+Plans answer inputs it = (settings : Result RunSettings PlanFault) × Settles inputs settings × PlansWith answer inputs settings it
 
 -- the ids that the lister is asked for where the filter in force answers so: none where its filterset is refused
 abbrev pub asked_by : (Binary → Answer) → Inputs → Result Answers PlanFault → List (List ℕ)
 asked_by answer inputs (Ok answers) = asked_of answer (listed_in inputs answers)
 asked_by answer inputs (Err refusal) = []
 
--- a selected test with its settings
-abbrev pub plan_test : Settings → OwnedTestInstanceId → PlanTest
-plan_test settings instance = record { instance = instance; settings = record { flaky_result = flaky.Pass }; tries = settings.retries + 1 }
+-- a selected test with its settings: it has one try more than retries
+abbrev pub plan_test : RunSettings → OwnedTestInstanceId → PlanTest
+plan_test settings instance = record { instance = instance; settings = settings.test; tries = count_of settings.test.retries + 1 }
 
 -- the plan of what is selected
 pub record IsPlanOf (inputs : Inputs) (it : Planned) (plan : Plan) : Type 0 where
@@ -136,6 +127,7 @@ pub record IsPlanOf (inputs : Inputs) (it : Planned) (plan : Plan) : Type 0 wher
   pub skipped : plan.skipped ≡ it.found.skipped
   pub listed : plan.listed ≡ map (λ binary. binary.id) (listed_in inputs it.answers)
   pub limit : plan.limit ≡ it.settings.max_fail
+  pub levels : plan.levels ≡ it.settings.levels
   pub scripts : plan.scripts ≡ []
   pub warnings : plan.warnings ≡ warnings_of inputs
 
@@ -168,15 +160,18 @@ abbrev pub Asks : {A : Type 0} → Result A PlanError → List (List ℕ) → Li
 Asks result = AsksFor (lacks_memory result)
 
 -- by those that the filter in force lists; by none where the inputs are refused before
-abbrev pub AsksWith : (Binary → Answer) → Inputs → Result Settings PlanFault → Bool → List (List ℕ) → List (List ℕ) → Type 0
-AsksWith answer inputs (Ok settings) lacks old new =
+abbrev pub AsksBehind : (Binary → Answer) → Inputs → Result RunSettings PlanFault → Bool → List (List ℕ) → List (List ℕ) → Type 0
+AsksBehind answer inputs (Ok settings) lacks old new =
     (chosen : Result Answers PlanFault) → IsChosen inputs.workspace inputs.filterset chosen → AsksFor lacks old (asked_by answer inputs chosen) new
-AsksWith answer inputs (Err refusal) lacks old new = new ≡ old
+AsksBehind answer inputs (Err refusal) lacks old new = new ≡ old
+
+abbrev pub AsksWith : (Binary → Answer) → Inputs → Bool → List (List ℕ) → List (List ℕ) → Type 0
+AsksWith answer inputs lacks old new = (settings : Result RunSettings PlanFault) → Settles inputs settings → AsksBehind answer inputs settings lacks old new
 
 -- how many attempts a test has: what can't be counted is refused before
-abbrev pub tries_of : Settings → ℕ
-tries_of settings = min (settings.retries + 1) 4294967295
+abbrev pub tries_of : PlanSettings → ℕ
+tries_of settings = min (count_of settings.retries + 1) 4294967295
 
--- a test of a plan, with so many tries
-abbrev pub with_tries : ℕ → OwnedTestInstanceId → PlanTest
-with_tries tries instance = record { instance = instance; settings = record { flaky_result = flaky.Pass }; tries = tries }
+-- a test of a plan, with these settings
+abbrev pub with_settings : PlanSettings → OwnedTestInstanceId → PlanTest
+with_settings settings instance = record { instance = instance; settings = settings; tries = tries_of settings }

@@ -17,7 +17,6 @@ use Rattle.test_runner_core_workspace.specs.declared.workspace_fault.WorkspaceFa
 use Rattle.test_runner_core_workspace.specs.declared.workspace_fault.WorkspaceFault.TheVariants as workspace
 use Rattle.test_runner_core_plan.specs.declared.plan_error.PlanError.{PlanError}
 use Rattle.test_runner_core_plan.specs.declared.plan_error.PlanError.TheVariants as error
-use Rattle.test_runner_core_plan.specs.declared.plan_fault.LoadFault.TheVariants as load
 use Rattle.test_runner_core_plan.specs.declared.plan_fault.PlanFault.{PlanFault}
 use Rattle.test_runner_core_plan.specs.declared.plan_fault.PlanFault.TheVariants as fault
 
@@ -34,9 +33,9 @@ of_pass passing.VersionError = fault.VersionError
 of_pass passing.UnknownFeature = fault.UnknownFeature
 
 abbrev pub of_settings : SettingsFault → PlanFault
-of_settings set.Syntax = fault.VersionSource
-of_settings set.BadValue = fault.Load load.BadValue
+of_settings (set.Load told) = fault.Load told
 of_settings set.NotYet = fault.NotYet
+of_settings (set.ProfileNotFound told) = fault.ProfileNotFound told
 
 abbrev pub of_listing : ListingFault → PlanFault
 of_listing (listed.ListFault cause) = fault.ListFault cause

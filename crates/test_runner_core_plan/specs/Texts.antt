@@ -1,8 +1,19 @@
 -- The names of refusals, and the exit statuses of runs that are so refused.
 use Rattle.std.specs.Prelude.{ℕ, List, codes}
-use Rattle.test_runner_core_plan.specs.declared.plan_fault.LoadFault.TheVariants as load
+use Rattle.nextest_config_resolution_load.specs.Kinds.{kind_of}
+use Rattle.nextest_config_resolution_load.specs.declared.load_fault.LoadKind.{LoadKind}
+use Rattle.nextest_config_resolution_load.specs.declared.load_fault.LoadKind.TheVariants as load
 use Rattle.test_runner_core_plan.specs.declared.plan_fault.PlanFault.{PlanFault}
 use Rattle.test_runner_core_plan.specs.declared.plan_fault.PlanFault.TheVariants as fault
+
+-- the name of a rule of the load
+abbrev pub name_of_load : LoadKind → List ℕ
+name_of_load load.Unread = codes "Load.Unread"
+name_of_load load.Toml = codes "Load.Toml"
+name_of_load load.BadValue = codes "Load.BadValue"
+name_of_load load.InheritsInDefault = codes "Load.InheritsInDefault"
+name_of_load load.UnknownParent = codes "Load.UnknownParent"
+name_of_load load.Cycle = codes "Load.Cycle"
 
 abbrev pub name_of : PlanFault → List ℕ
 name_of fault.RepeatedPackage = codes "RepeatedPackage"
@@ -13,7 +24,8 @@ name_of fault.BadId = codes "BadId"
 name_of fault.VersionSource = codes "VersionSource"
 name_of fault.VersionError = codes "VersionError"
 name_of fault.UnknownFeature = codes "UnknownFeature"
-name_of (fault.Load load.BadValue) = codes "Load.BadValue"
+name_of (fault.Load told) = name_of_load (kind_of told)
+name_of (fault.ProfileNotFound told) = codes "ProfileNotFound"
 name_of fault.NotYet = codes "NotYet"
 name_of fault.Filterset = codes "Filterset"
 name_of (fault.ListFault cause) = codes "ListFault"

@@ -3,22 +3,22 @@ ghost use Rattle.std.specs.Prelude.{◌≡◌, ◌<◌, ◌^◌, [], IfOk, map};
 ghost use Rattle.nextest_filtering_filters.specs.Filter.{filter_of};
 ghost use Rattle.test_runner_core_listing.specs.Answers.{Answers, AreAnswers};
 ghost use Rattle.test_runner_core_listing.specs.Listing.{asked_of, listing};
+ghost use Rattle.nextest_config_elements_counts.specs.Retries.{count_of};
 ghost use Rattle.test_runner_core_plan.specs.Filtering.{everything};
 ghost use Rattle.test_runner_core_plan.specs.Plan as words;
 ghost use Rattle.test_runner_core_workspace.specs.declared.record.Binary.{Binary};
 
-use crate::plan::{Plan, PlanSettings, PlanTest};
+use crate::plan::{Plan, PlanTest};
 use crate::plan_error::PlanError;
 use crate::plan_fault::PlanFault;
-use crate::wanted::wanted_in;
-use nextest_config_elements_plain::FlakyResult;
+use crate::wanted::{Wanted, wanted_in};
 use nextest_filtering_filters::{CompiledExpr, EvalContext};
 use nextest_run_events_results::OwnedTestInstanceId;
 use nextest_text::{Listing, Text};
 use std::alloc::{AllocError, Global};
 use test_runner_core_inputs::Inputs;
 use test_runner_core_listing::{Selection, select};
-use test_runner_core_settings::Settings;
+use test_runner_core_settings::{PlanSettings, RunSettings};
 use test_runner_core_workspace::{Binary, Lister};
 
 impl Plan {
@@ -33,15 +33,19 @@ impl Plan {
     ) -> Result<Plan, PlanError>
         ensures builds { words.Builds (L.answer lister.old) inputs.now result }
         ensures stays { (other : Binary) → L.answer lister.new other ≡ L.answer lister.old other }
-        ensures asks { words.AsksWith (L.answer lister.old) inputs.now (words.settings_for inputs.now) (words.lacks_memory result) (L.asked lister.old) (L.asked lister.new) }
+        ensures asks { words.AsksWith (L.answer lister.old) inputs.now (words.lacks_memory result) (L.asked lister.old) (L.asked lister.new) }
     {
         let wanted = wanted_in(alloc, inputs)?;
         let selection = selection_by(alloc, inputs, &wanted.filter, lister)?;
         if has_too_many(&wanted.settings, selection.tests.as_slice()) {
             return Err(PlanError::Refused(PlanFault::RetriesTooMany));
         }
-        let settings = wanted.settings;
-        Ok(plan_of(alloc, &settings, selection, wanted.warnings)?)
+        let Wanted {
+            settings,
+            filter: _,
+            warnings,
+        } = wanted;
+        Ok(plan_of(alloc, &settings, selection, warnings)?)
     }
 }
 
@@ -63,29 +67,29 @@ fn selection_by<L: Lister>(
 }
 
 // Whether a selected test has more retries than can be counted with its first attempt.
-fn has_too_many(settings: &Settings, tests: &[OwnedTestInstanceId]) -> bool
+fn has_too_many(settings: &RunSettings, tests: &[OwnedTestInstanceId]) -> bool
     ensures value { result ≡ words.has_too_many settings.now tests.now }
-    ensures fits { settings.now.retries < 2 ^ 32 }
+    ensures fits { count_of settings.now.test.retries < 2 ^ 32 }
 {
-    let retries = settings.retries;
+    let retries = settings.test.retries.count();
     retries == u32::MAX && !tests.is_empty()
 }
 
 // The plan of what is selected.
 fn plan_of(
     alloc: Global,
-    settings: &Settings,
+    settings: &RunSettings,
     selection: Selection,
     warnings: Listing<Text>,
 ) -> Result<Plan, AllocError>
-    ensures tests { IfOk result (λ plan. plan.tests ≡ map (words.with_tries (words.tries_of settings.now)) selection.tests) }
+    ensures tests { IfOk result (λ plan. plan.tests ≡ map (words.with_settings settings.now.test) selection.tests) }
     ensures skipped { IfOk result (λ plan. plan.skipped ≡ selection.skipped) }
     ensures listed { IfOk result (λ plan. plan.listed ≡ selection.listed) }
     ensures limit { IfOk result (λ plan. plan.limit ≡ settings.now.max_fail) }
+    ensures levels { IfOk result (λ plan. plan.levels ≡ settings.now.levels) }
     ensures scripts { IfOk result (λ plan. plan.scripts ≡ []) }
     ensures warnings { IfOk result (λ plan. plan.warnings ≡ warnings) }
 {
-    let tries = settings.retries.saturating_add(1);
     let Selection {
         listed,
         tests,
@@ -93,31 +97,31 @@ fn plan_of(
     } = selection;
     Ok(Plan {
         scripts: Listing::new(alloc),
-        tests: with_tries(alloc, tests, tries)?,
+        tests: with_settings(alloc, tests, &settings.test)?,
         listed,
         skipped,
         limit: settings.max_fail,
+        levels: settings.levels,
         warnings,
     })
 }
 
 // The selected tests with their settings.
-fn with_tries(
+fn with_settings(
     alloc: Global,
     instances: Listing<OwnedTestInstanceId>,
-    tries: u32,
+    settings: &PlanSettings,
 ) -> Result<Listing<PlanTest>, AllocError>
-    ensures { IfOk result (λ tests. tests ≡ map (words.with_tries tries) instances) }
+    ensures { IfOk result (λ tests. tests ≡ map (words.with_settings settings.now) instances) }
 {
-    let tests: Vec<PlanTest> = Vec::from(instances)
-        .into_iter()
-        .map(|instance| PlanTest {
+    let tries = settings.retries.count().saturating_add(1);
+    let mut tests = Listing::new(alloc);
+    for instance in Vec::from(instances) {
+        tests.push(PlanTest {
             instance,
-            settings: PlanSettings {
-                flaky_result: FlakyResult::Pass,
-            },
+            settings: settings.clone()?,
             tries,
-        })
-        .collect(alloc)?;
-    Ok(Listing::from(tests))
+        })?;
+    }
+    Ok(tests)
 }

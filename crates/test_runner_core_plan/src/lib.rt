@@ -8,6 +8,9 @@ mod plan_error;
 mod plan_fault;
 mod wanted;
 
-pub use plan::{Plan, PlanSettings, PlanTest};
+pub use nextest_config_resolution_load::{LoadFault, LoadKind};
+pub use nextest_config_resolution_profiles::ProfileNotFound;
+pub use plan::{Plan, PlanTest};
 pub use plan_error::PlanError;
-pub use plan_fault::{LoadFault, PlanFault};
+pub use plan_fault::PlanFault;
+pub use test_runner_core_settings::PlanSettings;

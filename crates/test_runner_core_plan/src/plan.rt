@@ -1,14 +1,9 @@
 // The plan of a run.
-use nextest_config_elements_plain::{FlakyResult, MaxFail};
+use nextest_config_elements_plain::MaxFail;
 use nextest_run_events_results::OwnedTestInstanceId;
+use nextest_run_events_visibility::StatusLevels;
 use nextest_text::{Listing, Text};
-
-/// The settings of a selected test.
-#[derive(Clone, Copy, Debug, PartialEq, Eq)]
-pub struct PlanSettings {
-    /// What becomes of it where a later attempt than its first passes.
-    pub flaky_result: FlakyResult,
-}
+use test_runner_core_settings::PlanSettings;
 
 /// A selected test.
 #[derive(Clone, Debug, PartialEq, Eq)]
@@ -45,6 +40,8 @@ pub struct Plan {
     pub skipped: Listing<OwnedTestInstanceId>,
     /// How many failing tests stop the run.
     pub limit: MaxFail,
+    /// Which statuses are shown.
+    pub levels: StatusLevels,
     /// The warnings, as the report tells them.
     pub warnings: Listing<Text>,
 }
@@ -58,6 +55,7 @@ impl Drop for Plan {
             listed: _,
             skipped: _,
             limit: _,
+            levels: _,
             warnings: _,
         } = self;
     }

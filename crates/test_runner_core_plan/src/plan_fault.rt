@@ -1,4 +1,9 @@
 // Why inputs have no plan.
+ghost use Rattle.std.specs.Prelude.{◌≡◌};
+ghost use Rattle.test_runner_core_plan.specs.Texts.{name_of_load};
+
+use nextest_config_resolution_load::{LoadFault, LoadKind};
+use nextest_config_resolution_profiles::ProfileNotFound;
 use nextest_text::Text;
 use test_runner_core_listing::ListingFault;
 use test_runner_core_settings::SettingsFault;
@@ -11,14 +16,6 @@ const REFUSED: u8 = 96;
 
 // The same where the current version is below one that is required.
 const REQUIRED_VERSION_NOT_MET: u8 = 92;
-
-/// Why a configuration isn't loaded.
-#[derive(Clone, Copy, Debug, PartialEq, Eq, Hash, Error)]
-pub enum LoadFault {
-    /// A value has a type or range that it can't have.
-    #[error("BadValue")]
-    BadValue,
-}
 
 /// Why inputs have no plan, in the order in which the reasons are looked for.
 #[derive(Debug, PartialEq, Eq, Error)]
@@ -49,8 +46,11 @@ pub enum PlanFault {
     #[error("UnknownFeature")]
     UnknownFeature,
     /// The configuration isn't loaded.
-    #[error("Load.{0}")]
+    #[error(transparent)]
     Load(LoadFault),
+    /// There is no profile of the chosen name.
+    #[error(transparent)]
+    ProfileNotFound(ProfileNotFound),
     /// The inputs ask for what isn't built yet; looked for last among the reasons of the part that it belongs to.
     #[error("NotYet")]
     NotYet,
@@ -87,6 +87,7 @@ impl Drop for PlanFault {
             Self::VersionError => {}
             Self::UnknownFeature => {}
             Self::Load(_) => {}
+            Self::ProfileNotFound(_) => {}
             Self::NotYet => {}
             Self::Filterset => {}
             Self::ListFault(_) => {}
@@ -115,7 +116,8 @@ impl PlanFault {
             PlanFault::VersionSource => "VersionSource",
             PlanFault::VersionError => "VersionError",
             PlanFault::UnknownFeature => "UnknownFeature",
-            PlanFault::Load(LoadFault::BadValue) => "Load.BadValue",
+            PlanFault::Load(told) => load_name(told.kind()),
+            PlanFault::ProfileNotFound(_) => "ProfileNotFound",
             PlanFault::NotYet => "NotYet",
             PlanFault::Filterset => "Filterset",
             PlanFault::ListFault(_) => "ListFault",
@@ -134,6 +136,20 @@ impl PlanFault {
             PlanFault::VersionError => REQUIRED_VERSION_NOT_MET,
             _ => REFUSED,
         }
+    }
+}
+
+// The name of a rule of the load.
+fn load_name(kind: LoadKind) -> &'static str
+    ensures { result.now ≡ name_of_load kind }
+{
+    match kind {
+        LoadKind::Unread => "Load.Unread",
+        LoadKind::Toml => "Load.Toml",
+        LoadKind::BadValue => "Load.BadValue",
+        LoadKind::InheritsInDefault => "Load.InheritsInDefault",
+        LoadKind::UnknownParent => "Load.UnknownParent",
+        LoadKind::Cycle => "Load.Cycle",
     }
 }
 
@@ -177,9 +193,9 @@ impl From<SettingsFault> for PlanFault {
 
     fn from(fault: SettingsFault) -> PlanFault {
         match fault {
-            SettingsFault::Syntax => PlanFault::VersionSource,
-            SettingsFault::BadValue => PlanFault::Load(LoadFault::BadValue),
+            SettingsFault::Load(told) => PlanFault::Load(told),
             SettingsFault::NotYet => PlanFault::NotYet,
+            SettingsFault::ProfileNotFound(told) => PlanFault::ProfileNotFound(told),
         }
     }
 }

@@ -1,2 +1,2 @@
-pub mod Blank
-pub mod Keys
+pub mod Limits
+pub mod Once

@@ -1,14 +1,14 @@
-//! What a configuration's text sets, as far as it is read: how often a failing test is tried again, and which failing
-//! tests stop a run.
+//! What the configuration of inputs sets for their run: the settings of each test, how many failing tests stop the run, and what
+//! is shown of tests; or why there is no such configuration or profile.
 #![tactic(auto)]
 
-mod places;
-mod refusals;
-mod settings;
+mod configured;
+pub mod laws;
+mod plan_settings;
 mod settings_error;
 mod settings_fault;
-mod values;
 
-pub use settings::Settings;
+pub use configured::{ConfiguredRun, RunSettings, run_settings};
+pub use plan_settings::PlanSettings;
 pub use settings_error::SettingsError;
 pub use settings_fault::SettingsFault;

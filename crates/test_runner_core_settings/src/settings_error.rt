@@ -1,15 +1,17 @@
-// Why a configuration's text wasn't read.
+// Why the configuration of inputs sets nothing, or why that isn't known.
 use crate::settings_fault::SettingsFault;
+use nextest_config_resolution_load::LoadError;
+use nextest_config_resolution_profiles::ProfileError;
 use std::alloc::{AllocError, AllocFailed};
 use thiserror::Error;
 
-/// Why a text was not read: a reason of its own, or want of memory.
-#[derive(Clone, Copy, Debug, PartialEq, Eq, Hash, Error)]
+/// Why the configuration of inputs sets nothing, or why that isn't known.
+#[derive(Debug, PartialEq, Eq, Drop, Error)]
 pub enum SettingsError {
     /// It is refused.
     #[error(transparent)]
     Refused(SettingsFault),
-    /// There was no memory to read it, which says nothing of the text.
+    /// There was no memory, which says nothing of the inputs.
     #[error("out of memory")]
     OutOfMemory,
 }
@@ -33,5 +35,35 @@ impl<T: Drop> From<AllocFailed<T>> for SettingsError {
 
     fn from(_error: AllocFailed<T>) -> SettingsError {
         SettingsError::OutOfMemory
+    }
+}
+
+impl From<LoadError> for SettingsError {
+    ghost use Rattle.std.specs.Prelude.{◌≡◌};
+    ghost use Rattle.test_runner_core_settings.specs.Calls.{error_of_load};
+
+    ghost from_gives = { λ part error. error ≡ error_of_load part };
+
+    fn from(error: LoadError) -> SettingsError {
+        match error {
+            LoadError::Refused(fault) => SettingsError::Refused(SettingsFault::Load(fault)),
+            LoadError::OutOfMemory => SettingsError::OutOfMemory,
+        }
+    }
+}
+
+impl From<ProfileError> for SettingsError {
+    ghost use Rattle.std.specs.Prelude.{◌≡◌};
+    ghost use Rattle.test_runner_core_settings.specs.Calls.{error_of_profile};
+
+    ghost from_gives = { λ part error. error ≡ error_of_profile part };
+
+    fn from(error: ProfileError) -> SettingsError {
+        match error {
+            ProfileError::NotFound(told) => {
+                SettingsError::Refused(SettingsFault::ProfileNotFound(told))
+            }
+            ProfileError::OutOfMemory => SettingsError::OutOfMemory,
+        }
     }
 }

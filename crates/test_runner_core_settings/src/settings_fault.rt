@@ -1,16 +1,18 @@
-// Why a configuration's text is refused.
+// Why the configuration of inputs sets nothing.
+use nextest_config_resolution_load::LoadFault;
+use nextest_config_resolution_profiles::ProfileNotFound;
 use thiserror::Error;
 
-/// Why a text was not read. Each reason is looked for in the whole text before the next, in this order.
-#[derive(Clone, Copy, Debug, PartialEq, Eq, Hash, Error)]
+/// Why the configuration of inputs sets nothing for their run, in the order in which the reasons are looked for.
+#[derive(Debug, PartialEq, Eq, Drop, Error)]
 pub enum SettingsFault {
-    /// It is no TOML.
-    #[error("the configuration is no TOML")]
-    Syntax,
-    /// A value that is read has a type or range that it can't have.
-    #[error("a value of the configuration has a type or range that it can't have")]
-    BadValue,
-    /// Another key or form stands there, which isn't read yet.
-    #[error("the configuration has a key or form that isn't read yet")]
+    /// The configuration isn't loaded.
+    #[error(transparent)]
+    Load(LoadFault),
+    /// A file sets a key that isn't read yet.
+    #[error("a configuration file sets a key that isn't read yet")]
     NotYet,
+    /// There is no profile of the chosen name.
+    #[error(transparent)]
+    ProfileNotFound(ProfileNotFound),
 }

@@ -1,23 +1,23 @@
 -- What a run tells as it goes on: of each step the tests that it finishes.
 use Rattle.std.specs.Prelude.{◌≡◌, ℕ, Bool, length, is_some, if◌then◌else◌, List, [], ◌∷◌, ◌++◌, Option, None, Some, Result, Ok, Err, slice_get}
 use Rattle.test_runner_core_plan.specs.declared.plan.Plan.{Plan}
-use Rattle.test_runner_core_report.specs.Texts.{NamedTest}
 use Rattle.test_runner_core_runs.specs.Finishing.{KeepsReasons, finished_at, finishing}
 use Rattle.test_runner_core_runs.specs.State.{State}
 use Rattle.test_runner_core_runs.specs.Step.{step}
 use Rattle.test_runner_core_runs.specs.declared.event.Event.{Event}
 use Rattle.test_runner_core_runs.specs.declared.event.Event.TheVariants as events
 use Rattle.test_runner_core_runs.specs.declared.step_refusal.StepRefusal.{StepRefusal}
-use Rattle.test_runner_core_telling.specs.Final.{built_in, named_tests}
-use Rattle.test_runner_core_telling.specs.Parts.{Part, Done}
+use Rattle.test_runner_core_telling.specs.Final.{done_part, shown_tests}
+use Rattle.test_runner_core_telling.specs.Parts.{Part}
+use Rattle.test_runner_core_telling.specs.declared.final_text.ShownTest.{ShownTest}
 
 -- what is told as the test at a place finishes
-abbrev pub done : Option NamedTest → List Part
+abbrev pub done : Option ShownTest → List Part
 done None = []
-done (Some test) = Done built_in test ∷ []
+done (Some told) = done_part told ∷ []
 
 abbrev pub done_at : Plan → State → ℕ → List Part
-done_at plan state place = done (slice_get (named_tests plan.tests state.tests) place)
+done_at plan state place = done (slice_get (shown_tests plan plan.tests state.tests) place)
 
 -- what is told as the tests at places finish
 abbrev pub all_done : Plan → State → List ℕ → List Part

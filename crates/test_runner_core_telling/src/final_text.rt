@@ -1,41 +1,52 @@
 // Telling the final text of a run.
 ghost use Rattle.std.specs.Prelude.{◌≡◌, ◌^◌, ◌<◌, [], ◌∷◌, map, slice_get, string_bytes};
-ghost use Rattle.test_runner_core_telling.specs.Parts.{Said, Shown};
-ghost use Rattle.test_runner_core_telling.specs.Final.{built_in, final_parts, named_tests, shown};
+ghost use Rattle.test_runner_core_telling.specs.Parts.{Said};
+ghost use Rattle.test_runner_core_telling.specs.Final.{final_parts, shown, shown_part, shown_tests, shows_of};
 ghost use Rattle.test_runner_core_telling.specs.RunEnd.{end_of, end_text};
 ghost use Rattle.test_runner_core_telling.specs.Telling.{Tells, TellsWrite};
 
 use crate::fault::TellFault;
 use crate::run_end::RunEnd;
 use crate::telling::{tell_done, tell_shown, tell_words};
-use nextest_config_elements_plain::{FinalStatusLevel, StatusLevel, TestOutputDisplay};
-use nextest_run_events_visibility::StatusLevels;
 use std::alloc::Global;
+use test_runner_core_plan::{Plan, PlanTest};
 use test_runner_core_report::{Shows, ToldTest};
 use test_runner_core_session::Session;
 use test_runner_core_streams::ReportWriter;
 
-// What the built-in configuration sets of what is shown of tests.
-pub(crate) fn built_in() -> Shows
-    ensures { result ≡ built_in }
+/// A test of a plan, as far as its run is, with what is set of what is shown of it.
+#[derive(Debug, Drop)]
+pub struct ShownTest<'s> {
+    /// What is set of what is shown of it.
+    pub shows: Shows,
+    /// The test.
+    pub test: ToldTest<'s>,
+}
+
+// What is set of what is shown of a test of a plan.
+#[tactic(auto, unfolding(crate::specs::Final::shows_of))]
+fn shows_of(plan: &Plan, test: &PlanTest) -> Shows
+    ensures { result ≡ shows_of plan.now test.now }
 {
     Shows {
-        levels: StatusLevels {
-            status_level: StatusLevel::Pass,
-            final_status_level: FinalStatusLevel::Flaky,
-        },
-        success_output: TestOutputDisplay::Never,
-        failure_output: TestOutputDisplay::Immediate,
+        levels: plan.levels,
+        success_output: test.settings.success_output,
+        failure_output: test.settings.failure_output,
     }
 }
 
-// The test at a place of the plan, as far as the run is.
-pub(crate) fn told_at<'s>(session: &'s Session<'_>, place: usize) -> Option<ToldTest<'s>>
-    ensures { result ≡ slice_get (named_tests session.now.plan.tests session.now.run.tests) place }
+// The test at a place of the plan, as far as the run is, with what is set of what is shown of it.
+pub(crate) fn told_at<'s>(session: &'s Session<'_>, place: usize) -> Option<ShownTest<'s>>
+    ensures { result ≡ slice_get (shown_tests session.now.plan session.now.plan.tests session.now.run.tests) place }
 {
-    let test = session.plan().tests.as_slice().get(place)?;
+    let plan = session.plan();
+    let tests = plan.tests.as_slice();
+    let test = tests.get(place)?;
     let fate = session.fate_at(place)?;
-    Some(ToldTest::new(test.instance.as_ref(), fate.plan, fate.mark, fate.attempts))
+    Some(ShownTest {
+        shows: shows_of(plan, test),
+        test: ToldTest::new(test.instance.as_ref(), fate.plan, fate.mark, fate.attempts),
+    })
 }
 
 /// Tells the final text of a run.
@@ -79,7 +90,7 @@ fn tell_tests<W: ReportWriter>(
     session: &Session<'_>,
 ) -> Result<(), TellFault>
     requires writes_fit { W.failures report.old < 2 ^ 63 }
-    ensures tells { Tells result (map (Shown built_in) (named_tests session.now.plan.tests session.now.run.tests)) (W.taken report.old) (string_bytes text.old) (W.taken report.new) (string_bytes text.new) }
+    ensures tells { Tells result (map shown_part (shown_tests session.now.plan session.now.plan.tests session.now.run.tests)) (W.taken report.old) (string_bytes text.old) (W.taken report.new) (string_bytes text.new) }
     ensures failures { TellsWrite result (W.failures report.old) (W.failures report.new) (W.last_failed report.new) }
 {
     for place in 0..session.plan().tests.len() {
@@ -96,11 +107,11 @@ fn tell_shown_at<W: ReportWriter>(
     place: usize,
 ) -> Result<(), TellFault>
     requires writes_fit { W.failures report.old < 2 ^ 63 }
-    ensures tells { Tells result (shown (slice_get (named_tests session.now.plan.tests session.now.run.tests) place)) (W.taken report.old) (string_bytes text.old) (W.taken report.new) (string_bytes text.new) }
+    ensures tells { Tells result (shown (slice_get (shown_tests session.now.plan session.now.plan.tests session.now.run.tests) place)) (W.taken report.old) (string_bytes text.old) (W.taken report.new) (string_bytes text.new) }
     ensures failures { TellsWrite result (W.failures report.old) (W.failures report.new) (W.last_failed report.new) }
 {
     match told_at(session, place) {
-        Some(test) => tell_shown(text, report, &built_in(), &test),
+        Some(told) => tell_shown(text, report, &told.shows, &told.test),
         None => Ok(()),
     }
 }

@@ -9,7 +9,7 @@ mod steps;
 mod telling;
 
 pub use fault::TellFault;
-pub use final_text::tell_final;
+pub use final_text::{ShownTest, tell_final};
 pub use opening::tell_opening;
 pub use run_end::RunEnd;
 pub use steps::tell_step;

@@ -4,12 +4,11 @@ ghost use Rattle.std.specs.Option.{option_map};
 ghost use Rattle.test_runner_core_runs.specs.Finishing.{finished_at, is_stopped_at, places_among};
 ghost use Rattle.test_runner_core_runs.specs.State.{State};
 ghost use Rattle.test_runner_core_runs.specs.declared.event.Event.{Event};
-ghost use Rattle.test_runner_core_telling.specs.Final.{named_tests};
 ghost use Rattle.test_runner_core_telling.specs.Steps.{Took, all_done, done_at, over_at, step_parts};
 ghost use Rattle.test_runner_core_telling.specs.Telling.{Tells, TellsWrite};
 
 use crate::fault::TellFault;
-use crate::final_text::{built_in, told_at};
+use crate::final_text::told_at;
 use crate::telling::tell_done;
 use test_runner_core_runs::Mark;
 use test_runner_core_session::Session;
@@ -125,7 +124,7 @@ fn tell_at<W: ReportWriter>(
     ensures failures { TellsWrite result (W.failures report.old) (W.failures report.new) (W.last_failed report.new) }
 {
     match told_at(session, place) {
-        Some(test) => tell_done(text, report, &built_in(), &test),
+        Some(told) => tell_done(text, report, &told.shows, &told.test),
         None => Ok(()),
     }
 }

@@ -25,9 +25,7 @@ fn told_of<T: Display>(alloc: Global, refusals: &[T]) -> Result<String, AllocErr
 }
 
 const OF_SETTINGS: &str = "\
-the configuration is no TOML
-a value of the configuration has a type or range that it can't have
-the configuration has a key or form that isn't read yet
+a configuration file sets a key that isn't read yet
 out of memory
 ";
 
@@ -92,8 +90,6 @@ fn refusals_of_lines_and_workspaces_print(rt: HostRuntime) -> Result<(), Fail> {
 #[test]
 fn refusals_of_settings_print(rt: HostRuntime) -> Result<(), Fail> {
     let of_settings = [
-        SettingsError::Refused(SettingsFault::Syntax),
-        SettingsError::Refused(SettingsFault::BadValue),
         SettingsError::Refused(SettingsFault::NotYet),
         SettingsError::OutOfMemory,
     ];

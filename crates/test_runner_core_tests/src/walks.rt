@@ -1,11 +1,11 @@
 // A run taken step by step, by places and by names.
 use nextest_config_elements_plain::{FlakyResult, MaxFail, TerminateMode};
 use nextest_run_events_results::{CancelReason, ExecutionResultDescription, FailureDescription};
-use nextest_text::{Listing, Text};
-use std::alloc::{AllocError, Global};
+use nextest_text::Text;
+use std::alloc::Global;
 use std::test::Fail;
 use test_runner_core::{
-    Mark, Plan, PlanSettings, PlanTest, Record, RecordOutput, Session, StartFault, StepRefusal,
+    Inputs, Mark, Plan, Record, RecordOutput, Session, StartFault, StepRefusal, TableLister,
     TestInstanceId,
 };
 use test_runner_core_progress::Progress;
@@ -75,28 +75,16 @@ fn a_run_goes_by_places(rt: HostRuntime) -> Result<(), Fail> {
     Ok(())
 }
 
+// The inputs of the tests p a and q a.
+const TWO: &str = r#"{"workspace":{"packages":[{"id":"p","name":"p"}],"links":[],"binaries":[{"id":"p","name":"p","package":"p","kind":"lib","platform":"target","tests":["a"]},{"id":"q","name":"q","package":"p","kind":"lib","platform":"target","tests":["a"]}]},"sources":[],"current_version":"1.0.0"}"#;
+
 // A plan of a script s and of the tests p a and q a, with one try each, which the first failing one stops.
-fn plan_of_two(alloc: Global) -> Result<Plan, AllocError> {
-    let mut scripts = Listing::new(alloc);
-    scripts.push(Text::from_str(alloc, "s")?)?;
-    let mut tests = Listing::new(alloc);
-    for binary in ["p", "q"] {
-        tests.push(PlanTest {
-            instance: test_a_of(binary).to_owned(alloc)?,
-            settings: PlanSettings {
-                flaky_result: FlakyResult::Pass,
-            },
-            tries: 1,
-        })?;
-    }
-    Ok(Plan {
-        scripts,
-        tests,
-        listed: Listing::new(alloc),
-        skipped: Listing::new(alloc),
-        limit: FIRST_FAILURE,
-        warnings: Listing::new(alloc),
-    })
+fn plan_of_two(alloc: Global) -> Result<Plan, Fail> {
+    let inputs = Inputs::from_json(alloc, TWO.as_bytes())?;
+    let mut lister = TableLister::new(alloc, &inputs.workspace)?;
+    let mut plan = Plan::build(alloc, &inputs, &mut lister)?;
+    plan.scripts.push(Text::from_str(alloc, "s")?)?;
+    Ok(plan)
 }
 
 fn test_a_of(binary: &str) -> TestInstanceId<'_> {

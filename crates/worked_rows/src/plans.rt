@@ -56,7 +56,8 @@ impl Table for Versions {
     }
 }
 
-fn warned(alloc: Global, warnings: &[Text]) -> Result<String> {
+/// The warnings, each in brackets.
+pub fn warned(alloc: Global, warnings: &[Text]) -> Result<String> {
     let mut told = String::from_str(alloc, "warnings")?;
     for warning in warnings {
         told.push_str(" [")?;

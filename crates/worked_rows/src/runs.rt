@@ -28,8 +28,8 @@ impl Cases for Runs {
     }
 }
 
-// The report, and a line with the exit status.
-fn came_to(alloc: Global, input: &[u8], piece: usize) -> Result<String> {
+/// The report, and a line with the exit status.
+pub fn came_to(alloc: Global, input: &[u8], piece: usize) -> Result<String> {
     let mut reader = MemoryReader::new(input, piece);
     let mut report = MemoryWriter::new(alloc, ROOM, piece)?;
     let status = judge_stream(alloc, &mut reader, &mut report)?;

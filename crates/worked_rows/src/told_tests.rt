@@ -1,15 +1,9 @@
 // What a report says of a test.
 use anyhow::{Context, Result, anyhow};
-use nextest_config_elements_plain::{
-    FinalStatusLevel, StatusLevel, TerminateMode, TestOutputDisplay,
-};
+use nextest_config_elements_plain::{FinalStatusLevel, StatusLevel, TestOutputDisplay};
 use nextest_run_events_visibility::StatusLevels;
-use nextest_text::{Listing, Text};
 use std::alloc::Global;
-use test_runner_core::{
-    FlakyResult, LentLine, MaxFail, OwnedTestInstanceId, Plan, PlanSettings, PlanTest, Session,
-    TestInstanceId,
-};
+use test_runner_core::{Inputs, LentLine, Plan, Session, TableLister, TestInstanceId};
 use test_runner_core_report::{Shows, ToldTest, push_done, push_shown};
 use worked_tables::Table;
 
@@ -29,33 +23,13 @@ const SHOWS: Shows = Shows {
     failure_output: TestOutputDisplay::Immediate,
 };
 
-// With it the first failing test stops the run, and what runs is ended.
-const FIRST_FAILURE_ENDS_ALL: MaxFail = MaxFail::Count {
-    max_fail: 1,
-    terminate: TerminateMode::Immediate,
-};
-
-// The plan of both tests.
-fn plan_of(alloc: Global, tries: u32, flaky_result: FlakyResult, limit: MaxFail) -> Result<Plan> {
-    let mut tests = Listing::new(alloc);
-    for name in ["a", "b"] {
-        tests.push(PlanTest {
-            instance: OwnedTestInstanceId {
-                binary_id: Text::from_str(alloc, "p")?,
-                test_name: Text::from_str(alloc, name)?,
-            },
-            settings: PlanSettings { flaky_result },
-            tries,
-        })?;
-    }
-    Ok(Plan {
-        scripts: Listing::new(alloc),
-        tests,
-        listed: Listing::new(alloc),
-        skipped: Listing::new(alloc),
-        limit,
-        warnings: Listing::new(alloc),
-    })
+// The plan of both tests, where the default profile sets this.
+fn plan_of(alloc: Global, tries: u32, sets: &str) -> Result<Plan> {
+    let retries = tries.saturating_sub(1);
+    let text = format!(in alloc; r#"{{"workspace":{{"packages":[{{"id":"p","name":"p"}}],"links":[],"binaries":[{{"id":"p","name":"p","package":"p","kind":"lib","platform":"target","tests":["a","b"]}}]}},"sources":[{{"kind":"explicit","path":"n","text":"profile.default = {{ retries = {retries}, {sets} }}"}}],"current_version":"1.0.0"}}"#)?;
+    let inputs = Inputs::from_json(alloc, text.as_bytes())?;
+    let mut lister = TableLister::new(alloc, &inputs.workspace)?;
+    Ok(Plan::build(alloc, &inputs, &mut lister)?)
 }
 
 // The plan that a row's words say.
@@ -63,9 +37,13 @@ fn plan_by(alloc: Global, words: &str) -> Result<Plan> {
     let (tries, rules) = words.split_once(' ').context("no rule")?;
     let tries = u32::from_str_radix(tries, 10)?;
     match rules {
-        "pass" => plan_of(alloc, tries, FlakyResult::Pass, MaxFail::All),
-        "fail" => plan_of(alloc, tries, FlakyResult::Fail, MaxFail::All),
-        "pass immediate" => plan_of(alloc, tries, FlakyResult::Pass, FIRST_FAILURE_ENDS_ALL),
+        "pass" => plan_of(alloc, tries, "flaky-result = 'pass', fail-fast = false"),
+        "fail" => plan_of(alloc, tries, "flaky-result = 'fail', fail-fast = false"),
+        "pass immediate" => plan_of(
+            alloc,
+            tries,
+            "fail-fast = { max-fail = 1, terminate = 'immediate' }",
+        ),
         _ => Err(anyhow!("another rule")),
     }
 }

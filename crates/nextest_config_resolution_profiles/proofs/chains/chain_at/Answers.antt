@@ -17,5 +17,5 @@ chain_of-requires-clause-has_default c = subst (λ ps. Contains (names ps) defau
 
 pub returns : goal.returns
 returns c =
-    chained c.args.profiles.now c.args.place c.in_ok-places.places.items c.as_slice.result.now (lent c.in_ok-values.values.items) c.as_slice.ensures.value
+    chained c.args.profiles.now c.args.place c.in_ok-places.places.items c.as_slice.result.now (lent c.in_ok-values.values.items) c.requires.rise c.as_slice.ensures.value
     c.in_ok-places.ensures.chain c.in_ok-values.ensures

@@ -1,7 +1,6 @@
 use Rattle.std.proofs.Common.{[], IfSome, Ok, Err, true, false, refl, inl, subst}
 use Rattle.test_runner_core_log_reader.specs.Cursor.{Cursor, items_ahead}
 use Rattle.test_runner_core_log_reader.specs.Items.{items}
-use Rattle.test_runner_core_plan.specs.Plan.{settings_for}
 use Rattle.test_runner_core_telling.proofs.Told.{front_none}
 use Rattle.test_runner_core.specs.Faults.{lacks_memory}
 use Rattle.test_runner_core.specs.Inside.{IsBegun, IsGot, IsJudged}
@@ -63,7 +62,7 @@ returns-in_ok-refuse_plan-in-Err-Refused-clause-asks g c =
     let old = asked c.args.lister.now in
     let new = asked c.build.new.lister in
     let error = c.in-Err-Refused.field-0 in
-    asks_with (g.L.Lister.answer c.args.lister.now) c.args.inputs.now (settings_for c.args.inputs.now) (Err error) false old new
+    asks_with (g.L.Lister.answer c.args.lister.now) c.args.inputs.now (Err error) false old new
     (λ ids. asked_as error c.in-Err-Refused.refusal old ids new c.in-Err-Refused.field-0-is) c.in-Err-Refused.ensures.asks
 
 pub returns-in_err-refuse_plan-in-Err-Refused-clause-asks : goal.returns-in_err-refuse_plan-in-Err-Refused-clause-asks
@@ -73,7 +72,7 @@ returns-in_err-refuse_plan-in-Err-Refused-clause-asks g c =
     let new = asked c.build.new.lister in
     let error = c.in-Err-Refused.field-0 in
     let result = c.from_residual.result in
-    asks_with (g.L.Lister.answer c.args.lister.now) c.args.inputs.now (settings_for c.args.inputs.now) (Err error) (lacks_memory result) old new
+    asks_with (g.L.Lister.answer c.args.lister.now) c.args.inputs.now (Err error) (lacks_memory result) old new
     (λ ids asks. asks_all result old ids new (asked_as error c.in-Err-Refused.refusal old ids new c.in-Err-Refused.field-0-is asks)) c.in-Err-Refused.ensures.asks
 
 pub returns-in-Ok-clause-asks : goal.returns-in-Ok-clause-asks
@@ -81,7 +80,7 @@ returns-in-Ok-clause-asks g c =
     let asked = g.L.Lister.asked in
     let old = asked c.args.lister.now in
     let new = asked c.build.new.lister in
-    asks_with (g.L.Lister.answer c.args.lister.now) c.args.inputs.now (settings_for c.args.inputs.now) (Ok c.in-Ok.plan) (lacks_memory c.judge_plan.result) old new
+    asks_with (g.L.Lister.answer c.args.lister.now) c.args.inputs.now (Ok c.in-Ok.plan) (lacks_memory c.judge_plan.result) old new
     (λ ids. asks_all c.judge_plan.result old ids new) c.in-Ok.ensures.asks
 
 pub returns-in-Err-OutOfMemory-clause-asks : goal.returns-in-Err-OutOfMemory-clause-asks
@@ -90,7 +89,7 @@ returns-in-Err-OutOfMemory-clause-asks g c =
     let old = asked c.args.lister.now in
     let new = asked c.build.new.lister in
     let error = c.in-Err-OutOfMemory.field-0 in
-    asks_with (g.L.Lister.answer c.args.lister.now) c.args.inputs.now (settings_for c.args.inputs.now) (Err error) true old new
+    asks_with (g.L.Lister.answer c.args.lister.now) c.args.inputs.now (Err error) true old new
     (λ ids. asked_in_part error old ids new c.in-Err-OutOfMemory.field-0-is) c.in-Err-OutOfMemory.ensures.asks
 
 pub returns-in-Ok-clause-unread : goal.returns-in-Ok-clause-unread

@@ -1,11 +1,10 @@
 use Rattle.std.proofs.Common.{map, string_bytes, take}
-use Rattle.test_runner_core_telling.specs.Parts.{Shown}
-use Rattle.test_runner_core_telling.specs.Final.{built_in, named_tests}
+use Rattle.test_runner_core_telling.specs.Final.{shown_part, shown_tests}
 use Rattle.test_runner_core_telling.proofs.Told.{Telling}
 use Rattle.test_runner_core_telling.proofs.final_text.tell_tests.Given as goal
 
 abbrev pub invariant-loop-place : goal.invariant-loop-place
 invariant-loop-place g l =
-    Telling (map (Shown built_in) (take l.place (named_tests l.session.plan.tests l.session.run.tests)))
+    Telling (map shown_part (take l.place (shown_tests l.session.plan l.session.plan.tests l.session.run.tests)))
     (g.W.ReportWriter.taken l.fn.report) (string_bytes l.fn.text) (g.W.ReportWriter.failures l.fn.report)
     (g.W.ReportWriter.taken l.report) (string_bytes l.text) (g.W.ReportWriter.failures l.report)

@@ -87,6 +87,7 @@ returns-clause-builds g c =
         skipped = plan.skipped ∙ selects.2.skipped;
         listed = plan.listed ∙ selects.2.listed;
         limit = plan.limit;
+        levels = plan.levels;
         scripts = plan.scripts;
         warnings = plan.warnings ∙ known.2;
       },

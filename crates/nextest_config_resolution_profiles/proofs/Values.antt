@@ -1,0 +1,51 @@
+-- The values of profiles by their names.
+use Rattle.std.proofs.Common.{◌≡◌, ℕ, zero, suc, ◌<◌, List, [], ◌∷◌, length, get_or, map, Bool, true, false, cond, None, Some, option_map, find, refl, ap, sym, ◌∙◌, subst, arith}
+use Rattle.std.proofs.lemmas.List.{get_or-map, length-map}
+use Rattle.std.proofs.lemmas.Slice.Eq.{bytes_eq-Decides}
+use Rattle.std.specs.List.{All, Contains}
+use Rattle.std.specs.Str.{bytes_eq}
+use Rattle.nextest_config_resolution_inheritance.proofs.Found.{one_place}
+use Rattle.nextest_config_resolution_inheritance.specs.Inheritance.{Profile, Rise, name_at}
+use Rattle.nextest_config_resolution_load.specs.Load.{parents_of}
+use Rattle.nextest_config_resolution_values.specs.File.{Named}
+use Rattle.nextest_config_resolution_profiles.specs.Config.{values_of}
+
+-- the first that passes a test
+find_at : {X : Type 0} (test : X → Bool) (xs : List X) (k : ℕ) (d : X) → k < length xs → test (get_or xs k d) ≡ true
+    → ((j : ℕ) → j < k → test (get_or xs j d) ≡ false) → find test xs ≡ Some (get_or xs k d)
+find_at test [] k d within it apart = absurd (omega (arith, within))
+find_at test (x ∷ xs) zero d within it apart = ap (λ (b : Bool). cond b (Some x) (find test xs)) it
+find_at test (x ∷ xs) (suc k) d within it apart =
+    ap (λ (b : Bool). cond b (Some x) (find test xs)) (apart 0 (omega arith))
+    ∙ find_at test xs k d (omega (arith, within)) it (λ j below. apart (suc j) (omega (arith, below)))
+
+name_of : (profiles : List Named) (k : ℕ) (d : Named) → k < length profiles → name_at (parents_of profiles) k ≡ (get_or profiles k d).0
+name_of profiles k d within = ap (λ (p : Profile). p.0) (get_or-map (λ (it : Named). (it.0, it.1.inherits)) profiles k d ([], None) within)
+
+none_before : (profiles : List Named) (it : Named) (j k : ℕ) → Rise (parents_of profiles) → j < k → k < length profiles → get_or profiles k it ≡ it
+    → bytes_eq it.0 (get_or profiles j it).0 ≡ false
+none_before profiles it j k rise below within is = by_test (bytes_eq it.0 (get_or profiles j it).0) refl where
+  by_test : (same : Bool) → bytes_eq it.0 (get_or profiles j it).0 ≡ same → same ≡ false
+  by_test false e = refl
+  by_test true e =
+      let each : length (parents_of profiles) ≡ length profiles = length-map profiles (λ (p : Named). (p.0, p.1.inherits)) in
+      let before : j < length profiles = omega (arith, below, within) in
+      let names : name_at (parents_of profiles) j ≡ name_at (parents_of profiles) k =
+      name_of profiles j it before ∙ sym ((bytes_eq-Decides it.0 (get_or profiles j it).0).0 e) ∙ sym (name_of profiles k it within ∙ ap (λ (p : Named). p.0) is) in
+      let one : j ≡ k = one_place (parents_of profiles) j k rise (omega (arith, each, before)) (omega (arith, each, within)) names in
+      absurd (omega (arith, below, one))
+
+value_of : (profiles : List Named) (it : Named) → Rise (parents_of profiles) → Contains profiles it → values_of profiles it.0 ≡ Some it.1
+value_of profiles it rise (k, within, is) =
+    ap (option_map (λ (p : Named). p.1))
+    (find_at (λ (p : Named). bytes_eq it.0 p.0) profiles k it within (subst (λ (p : Named). bytes_eq it.0 p.0 ≡ true) (sym is) ((bytes_eq-Decides it.0 it.0).1 refl))
+    (λ j below. none_before profiles it j k rise below within is)
+    ∙ ap Some is)
+
+-- the values of some profiles are those of their names
+pub values_in : (profiles chain : List Named) → Rise (parents_of profiles) → All (Contains profiles) chain
+    → map (values_of profiles) (map (λ profile. profile.0) chain) ≡ map Some (map (λ profile. profile.1) chain)
+values_in profiles [] rise each = refl
+values_in profiles (it ∷ chain) rise each =
+    ap (λ first. first ∷ map (values_of profiles) (map (λ (p : Named). p.0) chain)) (value_of profiles it rise (each 0 it (omega arith)))
+    ∙ ap (λ more. Some it.1 ∷ more) (values_in profiles chain rise (λ k d within. each (suc k) d (omega (arith, within))))

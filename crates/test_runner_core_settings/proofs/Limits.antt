@@ -1,0 +1,221 @@
+-- A limit that inputs set is one at least.
+use Rattle.std.proofs.Common.{◌≡◌, ◌<◌, ℕ, Bool, true, false, List, [], ◌∷◌, ◌++◌, map, codes, Option, None, Some, Result, Ok, Err, refl, sym, subst, cond, arith, find}
+use Rattle.std.specs.Prelude.{⊤, nat_lt, pos, negsuc, if◌then◌else◌}
+use Rattle.std.proofs.lemmas.Bool.Decides.{nat_tests}
+use Rattle.std.proofs.lemmas.Option.{none-some}
+use Rattle.std.specs.List.{AllByRecursion}
+use Rattle.std.specs.Option.{option_map, option_map_or}
+use Rattle.std.specs.Str.{bytes_eq}
+use Rattle.toml.specs.Data.{Data, string, integer, float, boolean, datetime, array, table, Members, no_members, member, get_member}
+use Rattle.nextest_config_elements_plain.specs.declared.max_fail.MaxFail.{MaxFail}
+use Rattle.nextest_config_elements_plain.specs.declared.max_fail.TerminateMode.{TerminateMode}
+use Rattle.nextest_config_elements_plain.specs.declared.max_fail.TerminateMode.TheVariants.{Wait}
+use Rattle.nextest_config_elements_reading.specs.Reading.{Path, Reading, ◌>>=◌, defaulted, leaf, required, under}
+use Rattle.nextest_config_elements_readers.specs.Limits.{fail_fast_in, limit, limit_in, stopped_at, switch_in, switched}
+use Rattle.nextest_config_elements_readers.specs.Values.{above_none, truth}
+use Rattle.nextest_config_elements_readers.specs.Words.{terminate_mode}
+use Rattle.nextest_config_resolution_load.specs.Load.{Loading, and_then, config_in, config_of, files_of, if_config, members_of, raised}
+use Rattle.nextest_config_resolution_profiles.specs.Config.{values_of}
+use Rattle.nextest_config_resolution_settings.specs.Fallbacks as fallback
+use Rattle.nextest_config_resolution_settings.specs.Keys as key
+use Rattle.nextest_config_resolution_settings.specs.Nearest.{IsSetting}
+use Rattle.nextest_config_resolution_settings.specs.Profile.{OfProfiles}
+use Rattle.nextest_config_resolution_settings.specs.declared.layers.NoRule.{NoRule}
+use Rattle.nextest_config_resolution_settings.specs.declared.source.SettingSource.{SettingSource}
+use Rattle.nextest_config_resolution_settings.specs.declared.source.SettingSource.TheVariants as source
+use Rattle.nextest_config_resolution_sources.specs.Counting.{counted}
+use Rattle.nextest_config_resolution_sources.specs.declared.source.ConfigSource.{ConfigSource}
+use Rattle.nextest_config_resolution_values.specs.Accepted.{MayBe, Reads}
+use Rattle.nextest_config_resolution_values.specs.File.{FileConfig, Named, profiles_at, profiles_in, profiles_of, store_dir_at}
+use Rattle.nextest_config_resolution_values.specs.Profile.{profile_in, profile_of}
+use Rattle.nextest_config_resolution_values.specs.declared.profile_config.ProfileConfig.{ProfileConfig}
+use Rattle.nextest_config_resolution_values.proofs.Accepting.{accepted_profile}
+use Rattle.test_runner_core_settings.specs.Laws.{IsOneAtLeast, SetsLimit}
+
+-- ---- what holds of each value that is given
+
+abbrev Holds : {A E : Type 0} → Result A E → (A → Type 0) → Type 0
+Holds (Ok x) P = P x
+Holds (Err refusal) P = ⊤
+
+abbrev HoldsIfSome : {A : Type 0} → Option A → (A → Type 0) → Type 0
+HoldsIfSome None P = ⊤
+HoldsIfSome (Some x) P = P x
+
+next_holds : {A B : Type 0} (first : Reading A) (next : A → Reading B) (P : A → Type 0) (Q : B → Type 0)
+    → Holds first P → ((x : A) → P x → Holds (next x) Q) → Holds (first >>= next) Q
+next_holds (Ok x) next P Q here there = there x here
+next_holds (Err path) next P Q here there = tt
+
+anything : {A : Type 0} (reading : Reading A) → Holds reading (λ x. ⊤)
+anything (Ok x) = tt
+anything (Err path) = tt
+
+under_holds : {A : Type 0} (key : List ℕ) (reading : Reading A) (P : A → Type 0) → Holds reading P → Holds (under key reading) P
+under_holds key (Ok x) P here = here
+under_holds key (Err path) P here = tt
+
+leaf_holds : {A : Type 0} (found : Option A) (P : A → Type 0) → HoldsIfSome found P → Holds {A = A} {E = Path} (option_map_or Ok found (Err [])) P
+leaf_holds None P here = tt
+leaf_holds (Some x) P here = here
+
+-- ---- a limit
+
+above_none_holds : {L : Type 0} (f : ℕ → L) (P : L → Type 0) (number : ℕ) → (0 < number → P (f number)) → HoldsIfSome (option_map f (above_none number)) P
+above_none_holds f P number fine = by_test (nat_lt 0 number) refl
+  where
+    by_test : (b : Bool) → nat_lt 0 number ≡ b → HoldsIfSome (option_map f (if b then Some number else None)) P
+    by_test true e = fine (let above : 0 < number = grind (arith, nat_tests, e) in above)
+    by_test false e = tt
+
+if_holds : {L : Type 0} (x : L) (P : L → Type 0) (b : Bool) → P x → HoldsIfSome (if b then Some x else None) P
+if_holds x P true here = here
+if_holds x P false here = tt
+
+limit_above : (given : Data) → HoldsIfSome (limit given) (λ found. (mode : TerminateMode) → IsOneAtLeast (stopped_at found mode))
+limit_above (integer (pos number)) = above_none_holds _ _ number (λ above mode. above)
+limit_above (integer (negsuc number)) = tt
+limit_above (string text) = if_holds _ _ (bytes_eq text (codes "all")) (λ mode. tt)
+limit_above (float number) = tt
+limit_above (boolean holds) = tt
+limit_above (datetime at) = tt
+limit_above (array items) = tt
+limit_above (table members) = tt
+
+found_above : (found : Option Data) → Holds (option_map_or (leaf limit) found (Err [])) (λ found. (mode : TerminateMode) → IsOneAtLeast (stopped_at found mode))
+found_above None = tt
+found_above (Some given) = leaf_holds (limit given) _ (limit_above given)
+
+-- how a run stops at it
+abbrev mode_in : Members → Reading TerminateMode
+mode_in members = defaulted (codes "terminate") terminate_mode Wait members
+
+table_limit : (members : Members) → Holds (limit_in members) IsOneAtLeast
+table_limit members =
+    next_holds (required (codes "max-fail") limit members) _ (λ found. (mode : TerminateMode) → IsOneAtLeast (stopped_at found mode)) IsOneAtLeast
+    (under_holds (codes "max-fail") (option_map_or (leaf limit) (get_member (codes "max-fail") members) (Err [])) _ (found_above (get_member (codes "max-fail") members)))
+    (λ found stops. next_holds (mode_in members) (λ mode. Ok (stopped_at found mode)) (λ mode. ⊤) IsOneAtLeast (anything (mode_in members)) (λ mode _. stops mode))
+
+switches : (stops : Bool) → IsOneAtLeast (switched stops)
+switches true = omega arith
+switches false = tt
+
+switch_limit : (given : Data) → Holds (switch_in given) IsOneAtLeast
+switch_limit given = next_holds (leaf truth given) _ (λ stops. ⊤) IsOneAtLeast (anything (leaf truth given)) (λ stops _. switches stops)
+
+read_limit : (given : Data) → Holds (fail_fast_in given) IsOneAtLeast
+read_limit (table members) = table_limit members
+read_limit (string text) = switch_limit (string text)
+read_limit (integer number) = switch_limit (integer number)
+read_limit (float number) = switch_limit (float number)
+read_limit (boolean holds) = switch_limit (boolean holds)
+read_limit (datetime at) = switch_limit (datetime at)
+read_limit (array items) = switch_limit (array items)
+
+-- ---- profiles
+
+-- a limit that a profile sets is one at least
+abbrev HasLimit : ProfileConfig → Type 0
+HasLimit config = HoldsIfSome (key.fail_fast config) IsOneAtLeast
+
+may_be : (members : Members) (found : Option MaxFail) → MayBe members (codes "fail-fast") (Reads fail_fast_in) found → HoldsIfSome found IsOneAtLeast
+may_be members None is = tt
+may_be members (Some limit) (given, there, is) = subst (λ (reading : Reading MaxFail). Holds reading IsOneAtLeast) is (read_limit given)
+
+table_has : (members : Members) → Holds (profile_in members) HasLimit
+table_has members = by_reading (profile_in members) refl
+  where
+    by_reading : (reading : Reading ProfileConfig) → profile_in members ≡ reading → Holds reading HasLimit
+    by_reading (Ok config) e = may_be members config.run.fail_fast ((accepted_profile members config).0 e).fail_fast
+    by_reading (Err path) e = tt
+
+profile_has : (given : Data) → Holds (profile_of given) HasLimit
+profile_has (table members) = table_has members
+profile_has (string text) = tt
+profile_has (integer number) = tt
+profile_has (float number) = tt
+profile_has (boolean holds) = tt
+profile_has (datetime at) = tt
+profile_has (array items) = tt
+
+abbrev HaveLimits : List Named → Type 0
+HaveLimits profiles = AllByRecursion (λ (named : Named). HasLimit named.1) profiles
+
+members_have : (members : Members) → Holds (profiles_in members) HaveLimits
+members_have no_members = tt
+members_have (member name given more) =
+    next_holds (under name (profile_of given)) _ HasLimit HaveLimits (under_holds name (profile_of given) HasLimit (profile_has given))
+    (λ profile has. next_holds (profiles_in more) _ HaveLimits HaveLimits (members_have more) (λ profiles have. (has, have)))
+
+found_have : (found : Option Data) → Holds (profiles_of found) HaveLimits
+found_have None = tt
+found_have (Some (table members)) = members_have members
+found_have (Some (string text)) = tt
+found_have (Some (integer number)) = tt
+found_have (Some (float number)) = tt
+found_have (Some (boolean holds)) = tt
+found_have (Some (datetime at)) = tt
+found_have (Some (array items)) = tt
+
+abbrev AreLimited : FileConfig → Type 0
+AreLimited config = HaveLimits config.profiles
+
+tree_has : (top : Members) → Holds (config_in top) AreLimited
+tree_has top =
+    next_holds (profiles_at top) _ HaveLimits AreLimited
+    (under_holds (codes "profile") (profiles_of (get_member (codes "profile") top)) HaveLimits (found_have (get_member (codes "profile") top)))
+    (λ profiles have. next_holds (store_dir_at top) _ (λ dir. ⊤) AreLimited (anything (store_dir_at top)) (λ dir _. have))
+
+loaded_has : (built_in : Members) (sources : List ConfigSource) → Holds (config_of built_in sources) AreLimited
+loaded_has built_in sources = by_files (files_of (counted sources))
+  where
+    by_reading : (reading : Reading FileConfig) → Holds reading AreLimited → Holds (if_config reading) AreLimited
+    by_reading (Ok config) here = here
+    by_reading (Err path) here = tt
+
+    by_files : (loading : Loading (List Members)) → Holds (and_then loading (λ files. if_config (config_in (members_of (raised (table built_in) files))))) AreLimited
+    by_files (Ok files) = by_reading (config_in (members_of (raised (table built_in) files))) (tree_has (members_of (raised (table built_in) files)))
+    by_files (Err refusal) = tt
+
+-- ---- a chain
+
+found_has : (test : Named → Bool) (profiles : List Named) → HaveLimits profiles → HoldsIfSome (option_map (λ (named : Named). named.1) (find test profiles)) HasLimit
+found_has test [] have = tt
+found_has test (named ∷ profiles) have = by_test (test named) (found_has test profiles have.1)
+  where
+    by_test : (b : Bool) → HoldsIfSome (option_map (λ (it : Named). it.1) (find test profiles)) HasLimit
+        → HoldsIfSome (option_map (λ (it : Named). it.1) (cond b (Some named) (find test profiles))) HasLimit
+    by_test true behind = have.0
+    by_test false behind = behind
+
+chain_has : (profiles : List Named) (names : List (List ℕ)) (values : List ProfileConfig) → HaveLimits profiles → map (values_of profiles) names ≡ map Some values
+    → AllByRecursion HasLimit values
+chain_has profiles [] [] have e = tt
+chain_has profiles [] (value ∷ values) have e = absurd (let f = e in cc)
+chain_has profiles (name ∷ names) [] have e = absurd (let f = e in cc)
+chain_has profiles (name ∷ names) (value ∷ values) have e =
+    let first : values_of profiles name ≡ Some value = let f = e in cc in
+    let rest : map (values_of profiles) names ≡ map Some values = let f = e in cc in (
+      subst (λ (found : Option ProfileConfig). HoldsIfSome found HasLimit) first (found_has (λ (named : Named). bytes_eq name named.0) profiles have),
+      chain_has profiles names values have rest,
+    )
+
+one_of : (front back : List ProfileConfig) (config : ProfileConfig) → AllByRecursion HasLimit (front ++ config ∷ back) → HasLimit config
+one_of [] back config have = have.0
+one_of (first ∷ front) back config have = one_of front back config have.1
+
+has_limit : (chain : List ProfileConfig) (limit : MaxFail) → AllByRecursion HasLimit chain → OfProfiles key.fail_fast chain fallback.fail_fast limit → IsOneAtLeast limit
+has_limit chain limit have value = by_source value.from value.is
+  where
+    by_source : (from : SettingSource) → IsSetting {R = NoRule} (λ _. None) key.fail_fast [] chain fallback.fail_fast limit from → IsOneAtLeast limit
+    by_source (source.Override place) is = absurd (none-some _ is.sets)
+    by_source (source.Profile place) (none, is) =
+        subst (λ (found : Option MaxFail). HoldsIfSome found IsOneAtLeast) is.sets
+        (one_of is.front is.back is.layer (subst (λ (all : List ProfileConfig). AllByRecursion HasLimit all) is.divided have))
+    by_source source.Default (none, unset, is) = subst IsOneAtLeast (sym is) (omega arith)
+
+pub sets_limit : SetsLimit
+sets_limit inputs it by =
+    let loaded = by.reads.loaded.1.0 in
+    let have = subst (λ (given : Loading FileConfig). Holds given AreLimited) loaded (loaded_has _ inputs.sources) in
+    has_limit by.chain it.max_fail (chain_has _ by.chained.names by.chain have by.chained.valued) by.settings.max_fail

@@ -1,0 +1,5 @@
+use Rattle.test_runner_core_settings.proofs.Once.{one_settings}
+use Rattle.test_runner_core_settings.proofs.laws.one_settings.Goals as goal
+
+pub returns : goal.returns
+returns c = one_settings

@@ -1,0 +1,12 @@
+//! What holds of what inputs set. Each law is the contract of a function that does nothing.
+ghost use Rattle.test_runner_core_settings.specs.Laws.{OneSettings, SetsLimit};
+
+/// Inputs set one thing, or are refused for one reason.
+pub fn one_settings()
+    ensures { OneSettings }
+{}
+
+/// How many failing tests stop a run is one at least.
+pub fn sets_limit()
+    ensures { SetsLimit }
+{}

@@ -1,0 +1,539 @@
+#!/usr/bin/env python3
+"""Writes two tables of the program `worked_rows`: `profiles_plans`, what the configurations and the profile of inputs come to, and
+`profiles_runs`, whole runs under settings of every kind.
+
+    python3 scripts/run_rows.py
+
+It knows nothing of the program: each answer is reckoned here by the rules. What configurations come to, and what of them is unknown, is
+reckoned by scripts/config_rows.py, what versions they ask for by scripts/version_rows.py. Then, by the rules:
+
+- First come the faults of versions and features, then those of the load; then a file that sets what isn't taken yet, a profile that isn't
+  there, a platform, and retries that can't be counted.
+- An attempt that ends finishes its test if it is a success, the last try, or the run is stopped; else the test is between two attempts. A
+  finished test fails where its last attempt does, or where it passes late and the flaky rule is `fail`. As many of these as the limit stop
+  a run that isn't stopped, and each stop finishes the tests between two attempts.
+- A test is told by the reason that stood before its own attempt ended, or by the stop that finished it. Its line is due where the status level
+  reaches the test's. Outputs are those for a success where the last attempt is one. They stand at once where they are shown immediately, but
+  not after an interrupt; in the final text where they are shown finally, but not after a signal where they stood at once. The final text has
+  each test that isn't finished, without outputs; and of the others, but after an interrupt, those whose outputs are shown finally and those
+  that the final level reaches. A test that the run itself ended has its line alone.
+"""
+import itertools
+import json
+import random
+import re
+import tomllib
+
+import config_rows as configs
+import version_rows as versions
+from config_rows import in_order, on_one_line
+from element_rows import SIGNS, toml
+
+DATA = versions.ROOT / "crates/worked_rows/data"
+
+STATUS_LEVELS = ["None", "Fail", "Retry", "Slow", "Leak", "Pass", "Skip", "All"]
+FINAL_LEVELS = ["None", "Fail", "Flaky", "Slow", "Skip", "Leak", "Pass", "All"]
+REASONS = ["test-failure", "report-error", "test-failure-immediate", "global-timeout", "signal", "interrupt", "second-signal"]
+COUNTERS = (
+    "initial-run-count finished-count setup-scripts-initial-count setup-scripts-finished-count setup-scripts-passed setup-scripts-failed"
+    " setup-scripts-exec-failed setup-scripts-timed-out passed passed-slow passed-timed-out flaky failed failed-slow failed-timed-out leaky"
+    " leaky-failed exec-failed skipped"
+).split()
+
+# ---- what inputs come to
+
+
+class Refused(Exception):
+    """Inputs without a plan, or a line that is refused."""
+
+
+def as_told(source):
+    outcome = "missing" if "missing" in source else f"failed {source['failed']}" if "failed" in source else f"text {source['text']}"
+    return source["kind"], source["path"], outcome
+
+
+def versions_told(sources, inputs):
+    """The warnings of versions."""
+    greatest, names = [None, None], []
+    for kind, path, text in sources:
+        if not text.startswith("text "):
+            continue
+        try:
+            file = tomllib.loads(text.removeprefix("text "))
+            asked, names_here = versions.asked(file.get("nextest-version")), versions.features(file.get("experimental"))
+        except (tomllib.TOMLDecodeError, versions.Bad):
+            raise Refused("VersionSource") from None
+        if kind == "tool" and names_here:
+            raise Refused("VersionSource")
+        names += names_here
+        for role, version in enumerate(asked):
+            if version is not None and (greatest[role] is None or versions.before(version, greatest[role][0]) >= 0):
+                greatest[role] = version, path
+    current, passes = inputs["current_version"], inputs.get("override_version_check", False)
+    told = []
+    for role, found in zip(("required", "recommended"), greatest):
+        if found and versions.before(found[0], current) > 0:
+            if role == "required" and not passes:
+                raise Refused("VersionError")
+            told = [f"version {role} {found[0]} current {current} by {on_one_line(found[1])}{' (overridden)' * passes}"]
+            break
+    if set(names) - versions.FEATURES:
+        raise Refused("UnknownFeature")
+    return told
+
+
+def is_taken(file):
+    profiles = file.get("profile", {}).values()
+    return not {"test-groups", "script", "scripts"} & set(file) and not any({"default-filter", "overrides", "scripts"} & set(it) for it in profiles)
+
+
+def plan_of(inputs):
+    """The warnings and the settings of the chosen profile, by their keys."""
+    told = [as_told(source) for source in inputs["sources"]]
+    counted = configs.counted(told)
+    warnings = versions_told(counted, inputs)
+    try:
+        config = configs.load(told)
+    except configs.Refusal as refusal:
+        raise Refused(f"Load.{str(refusal).split(' ')[0]}") from None
+    texts = [(path, text.removeprefix("text ")) for _, path, text in counted if text.startswith("text ")]
+    if not all(is_taken(tomllib.loads(text)) for _, text in texts):
+        raise Refused("NotYet")
+    name = inputs.get("profile", "default")
+    if name not in config["profile"]:
+        raise Refused("ProfileNotFound")
+    if "target" in inputs or any(inputs.get("host", {}).values()):
+        raise Refused("NotYet")
+    for path, text in texts:
+        warnings += [line for line in configs.warning_answer(path, text).split("; ") if line != "-"]
+    keys = "retries flaky-result fail-fast status-level final-status-level success-output failure-output".split()
+    settings = {key: configs.setting(config, name, key) for key in keys}
+    settings["retries"] = int(re.search("count: ([0-9]+)", settings["retries"])[1])
+    if settings["retries"] == 2**32 - 1 and any(binary["tests"] for binary in inputs["workspace"]["binaries"]):
+        raise Refused("RetriesTooMany")
+    return warnings, settings
+
+
+def plan_answer(inputs):
+    try:
+        warnings, settings = plan_of(inputs)
+    except Refused as refusal:
+        return str(refusal)
+    words = "x{retries} {flaky-result} {success-output} {failure-output}".format_map({**settings, "retries": settings["retries"] + 1})
+    tests = "".join(f" [{it['id']} {name} {words}]" for it in inputs["workspace"]["binaries"] for name in it["tests"])
+    told = "".join(f" [{line}]" for line in warnings)
+    return f"run{tests}; limit {settings['fail-fast']}; levels {settings['status-level']} {settings['final-status-level']}; warnings{told}"
+
+
+# ---- runs
+
+
+class Test:
+    """A test of a run: the fields of its ended attempts, its mark, and the reason under which it finished."""
+
+    def __init__(self, name, settings):
+        self.name, self.settings, self.ended, self.mark, self.under = name, settings, [], "waiting", None
+
+    def result(self):
+        return self.ended[-1][0]
+
+    def is_success(self):
+        return self.result() in ("pass", "leak:pass", "timeout:pass")
+
+    def is_late(self):
+        return len(self.ended) > 1
+
+    def fails(self):
+        return not self.is_success() or (self.is_late() and self.settings["flaky-result"] == "Fail")
+
+    def is_ended_by_run(self):
+        return self.under == "test-failure-immediate" and self.result() in ("abort:15", "abort:15:leaked")
+
+    def fate(self):
+        if self.mark != "finished":
+            return "unfinished" if self.ended else "not-run"
+        if not self.is_success():
+            return "fail"
+        return "pass" if not self.is_late() else "flaky-fail" if self.fails() else "flaky"
+
+    def levels(self):
+        if self.fails():
+            return "Fail", "Fail"
+        if self.is_late():
+            return "Retry", "Flaky"
+        level = {"pass": "Pass", "leak:pass": "Leak", "timeout:pass": "Slow"}[self.result()]
+        return level, "Slow" if self.ended[-1][1] == "slow" else level
+
+    def shows(self):
+        """Whether it has a line as it finishes, outputs there, a part in the final text, and outputs there."""
+        display = self.settings["success-output" if self.is_success() else "failure-output"]
+        status, final = self.levels()
+        is_hidden = self.under in ("interrupt", "second-signal") or self.is_ended_by_run()
+        at_once, at_end = display.startswith("Immediate"), display.endswith("Final")
+        line = STATUS_LEVELS.index(self.settings["status-level"]) >= STATUS_LEVELS.index(status)
+        part = at_end or FINAL_LEVELS.index(self.settings["final-status-level"]) >= FINAL_LEVELS.index(final)
+        is_immediate = at_once and not is_hidden
+        return line or is_immediate, is_immediate, part and not is_hidden, at_end and not (at_once and self.under == "signal")
+
+    def words(self):
+        return f"p\t{self.name}\t{self.fate()}\t{len(self.ended)}/{self.settings['retries'] + 1}"
+
+    def outputs(self):
+        _, _, _, out, err = self.ended[-1]
+        if self.result() == "exec-fail":
+            return [f"error\t{out}"]
+        lines = [f"{name}\t{stream}" for name, stream in (("out", out), ("err", err)) if stream != "-"]
+        text = "" if err == "-" else bytes.fromhex(err).decode()
+        found = re.search("^Error: .*", text.rstrip(), re.MULTILINE | re.DOTALL)
+        return lines + ([f"slice\terror\t{found.start()}\t{len(found[0])}"] if found and not self.is_success() else [])
+
+    def done(self):
+        line, outputs, _, _ = self.shows()
+        return [f"done\t{self.words()}"] * line + (self.outputs() if outputs else [])
+
+    def part(self):
+        _, _, is_stored, outputs = self.shows() if self.mark == "finished" else (0, 0, True, False)
+        tries = [f"try\t{number}\t" + "\t".join(fields[:3]) for number, fields in enumerate(self.ended, 1)]
+        return ([f"test\t{self.words()}"] + tries + (self.outputs() if outputs else [])) if is_stored else []
+
+
+class Run:
+    def __init__(self, names, settings):
+        self.tests = {name: Test(name, settings) for name in in_order(names)}
+        self.tries, self.reason = settings["retries"] + 1, None
+        limit = re.fullmatch("All|Count { max_fail: ([0-9]+), terminate: (Wait|Immediate) }", settings["fail-fast"])
+        self.limit = int(limit[1]) if limit[1] else None
+        self.limit_reason = "test-failure-immediate" if limit[2] == "Immediate" else "test-failure"
+
+    def finished(self):
+        return [test for test in self.tests.values() if test.mark == "finished"]
+
+    def stop(self, reason):
+        """The tests that a stop finishes."""
+        if self.reason is not None:
+            self.reason = max(self.reason, reason, key=REASONS.index)
+            return []
+        self.reason = reason
+        between = [test for test in self.tests.values() if test.mark == "between"]
+        for test in between:
+            test.mark, test.under = "finished", reason
+        return between
+
+    def take(self, fields):
+        """The tests that a line finishes, in the order in which they are told."""
+        if fields[0] == "stop":
+            return self.stop(fields[1])
+        test = self.tests.get(fields[2])
+        if test is None or fields[1] != "p":
+            raise Refused("UnknownTest")
+        if fields[0] == "start":
+            if self.reason is not None or test.mark in ("running", "finished"):
+                raise Refused("Stopped" if self.reason is not None else test.mark.capitalize())
+            test.mark = "running"
+            return []
+        if test.mark != "running":
+            raise Refused("NotRunning")
+        test.ended.append(fields[3:])
+        if not (test.is_success() or len(test.ended) == self.tries or self.reason is not None):
+            test.mark = "between"
+            return []
+        test.mark, test.under = "finished", self.reason
+        is_over = self.reason is None and self.limit is not None and sum(it.fails() for it in self.finished()) >= self.limit
+        return [test, *(self.stop(self.limit_reason) if is_over else [])]
+
+    def counters(self):
+        counts = dict.fromkeys(COUNTERS, 0) | {"initial-run-count": len(self.tests), "finished-count": len(self.finished())}
+        for test in self.finished():
+            result, kind = test.result(), test.result().split(":")[0]
+            if not test.fails():
+                names = ["passed", *(["flaky"] if test.is_late() else []), *(["passed-timed-out"] if kind == "timeout" else [])]
+                counted_slow = "passed-slow" if kind != "timeout" else None
+            else:
+                names = ["exec-failed" if kind == "exec-fail" else "failed-timed-out" if result == "timeout:fail" else "failed"]
+                counted_slow = "failed-slow" if names == ["failed"] else None
+            names += [counted_slow] if counted_slow and test.ended[-1][1] == "slow" else []
+            names += {"leak:pass": ["leaky"], "leak:fail": ["leaky-failed"]}.get(result, [])
+            for name in names:
+                counts[name] += 1
+        return counts
+
+    def final_text(self):
+        """The final text and the status."""
+        initial, finished = len(self.tests), len(self.finished())
+        numbers, reason = f"test {initial} {initial - finished}", self.reason or "-"
+        if any(test.fails() for test in self.finished()):
+            is_failed = reason in ("-", "test-failure", "test-failure-immediate")
+            status, outcome = 100, f"failed {numbers}" if is_failed else f"cancelled {numbers} {reason}"
+        elif finished < initial:
+            status, outcome = 100, f"cancelled {numbers} {reason}"
+        else:
+            status, outcome = (0, "success") if initial else (4, "no-tests-run")
+        lines = ["== final ==", f"status\t{status}", f"outcome {outcome}"]
+        lines += [f"{name}\t{count}" for name, count in self.counters().items()]
+        return [*lines, f"cancel-reason\t{reason}", *itertools.chain(*(test.part() for test in self.tests.values()))], status
+
+
+def run_answer(stream):
+    """The report of a stream and a line with the status."""
+    first, *log = stream.split("\n")
+    inputs = json.loads(first)
+    try:
+        warnings, settings = plan_of(inputs)
+    except Refused as refusal:
+        return f"refused\t{refusal}\n(status {92 if str(refusal) == 'VersionError' else 96})\n"
+    run = Run(inputs["workspace"]["binaries"][0]["tests"], settings)
+    lines = [f"warning\t{warning}" for warning in warnings]
+    for number, line in enumerate(log, 1):
+        try:
+            told = run.take(line.split("\t")) if line else []
+        except Refused as refusal:
+            return "\n".join([*lines, f"refused\tline\t{number}\t{refusal}", "(status 96)\n"])
+        lines += itertools.chain(*(test.done() for test in told))
+    final, status = run.final_text()
+    return "\n".join([*lines, *final, f"(status {status})\n"])
+
+
+# ---- the rows, each as changes of a text
+
+LEVELS = ["none", "fail", "retry", "slow", "leak", "pass", "skip", "all"]
+FINALS = ["none", "fail", "flaky", "retry", "slow", "skip", "leak", "pass", "all"]
+DISPLAYS = ["immediate", "immediate-final", "final", "never"]
+IMMEDIATELY = "{ max-fail = 1, terminate = 'immediate' }"
+# What stops a run before its tests end: the limit, and a line.
+STOPS = [("false", None), ("true", None), (IMMEDIATELY, None), ("false", "signal"), ("false", "interrupt")]
+OTHER_STOPS = [("false", "report-error"), ("true", "global-timeout"), (IMMEDIATELY, "second-signal")]
+RETRIES = ["0", "1", "2", "{ backoff = 'fixed', count = 0 }", "{ backoff = 'fixed', count = 1, delay = '1s', jitter = true }",
+           "{ backoff = 'exponential', count = 1, delay = '1s', max-delay = '2s' }", "{ backoff = 'exponential', count = 2, delay = '1ms' }"]
+LIMITS = ["true", "false", "{ max-fail = 1 }", "{ max-fail = 2 }", "{ max-fail = 3, terminate = 'wait' }", IMMEDIATELY,
+          "{ max-fail = 2, terminate = 'immediate' }", "{ max-fail = 'all' }", "{ max-fail = 'all', terminate = 'immediate' }"]
+VALUES = {
+    "retries": RETRIES, "fail-fast": LIMITS, "flaky-result": ["'pass'", "'fail'"], "status-level": [f"'{it}'" for it in LEVELS],
+    "final-status-level": [f"'{it}'" for it in FINALS], "success-output": [f"'{it}'" for it in DISPLAYS], "failure-output": [f"'{it}'" for it in DISPLAYS],
+}
+# Where a setting may stand, the nearest first: the profile, its parent and `default`, each in the repository's file and in a tool's.
+PLACES = list(itertools.product(("ci", "base", "default"), ("nextest.toml", "t.toml")))
+CHOSEN, PARENT, DEFAULT, TOOL = PLACES[0], PLACES[2], PLACES[4], PLACES[5]
+# The lines of a run in which each test but `idle` runs as it is stopped, and most of them for the second time.
+STARTED = "abort between exec fail flaky leak pass running slow spared timeout".split()
+AGAIN = "abort exec fail flaky running timeout".split()
+ENDS = ["fail fail:1 - 5 - 4572726f723a2065", "flaky pass - 6 6f -", "leak leak:pass - 7 6f -", "pass pass - 8 6f -", "slow pass slow 9 6f 65",
+        "spared timeout:pass - 1 - 65", "exec exec-fail - 2 6e6f -", "timeout timeout:fail slow 3 74 -", "abort abort:15 - 4 61 -"]
+
+
+def base_run(plan):
+    names = json.dumps(sorted([*STARTED, "idle"]), separators=(",", ":"))
+    failed = [f"end p {name} fail:1 - 1 - 66" for name in [*AGAIN, "between"]]
+    lines = [*(f"start p {name}" for name in STARTED), *failed, *(f"start p {name}" for name in AGAIN), "", *(f"end p {end}" for end in ENDS)]
+    return plan.replace('["a","b"]', names).rstrip("\n") + "\n" + "\n".join(lines).replace(" ", "\t") + "\n"
+
+
+def shown(value):
+    return json.dumps(value, ensure_ascii=False, separators=(",", ":"))
+
+
+def source(text, kind="explicit", path=None):
+    path = path or {"explicit": "nextest.toml", "discovered": ".config/nextest.toml", "tool": "t.toml"}[kind]
+    form = {"missing": True} if text is None else {"failed": "denied"} if text == "FAILED" else {"text": text}
+    return {"kind": kind, **({"tool": path.split(".")[0]} if kind == "tool" else {}), "path": path, **form}
+
+
+def with_sources(sources, **fields):
+    """The changes that give inputs their sources and other fields."""
+    more = "".join(f',"{name}":{shown(value)}' for name, value in fields.items())
+    return ['"sources":[]', f'"sources":{shown(sources)}'] + (['"0.9.100"', f'"0.9.100"{more}'] if more else [])
+
+
+def set_at(settings):
+    """The changes that give inputs settings (place, key, value), and the profile `ci` where one stands there or at its parent."""
+    profiles = {profile for (profile, _), _, _ in settings}
+    tables = {place: [] for place in PLACES}
+    for place, key, value in settings:
+        tables[place].append(f"{key} = {value}\n")
+    if profiles - {"default"}:
+        tables["ci", "nextest.toml"].append("inherits = 'base'\n")
+        tables["base", "nextest.toml"].append("")
+    texts = {path: "".join(f"[profile.{it[0]}]\n" + "".join(lines) for it, lines in tables.items() if it[1] == path and lines) for _, path in PLACES}
+    sources = [source(texts["nextest.toml"])] + ([source(texts["t.toml"], "tool")] if texts["t.toml"] else [])
+    return with_sources(sources, **({"profile": "ci"} if profiles - {"default"} else {}))
+
+
+def plainly(**settings):
+    return set_at([(DEFAULT, key.replace("_", "-"), value) for key, value in settings.items()])
+
+
+def stopped_by(line, place="\n\n"):
+    return [place, f"\nstop\t{line}{place}"] if line else []
+
+
+def run_rows():
+    yield []
+    yield plainly(retries="1", fail_fast="false", final_status_level="'all'", success_output="'final'") + stopped_by("interrupt")
+    # both levels, and then both displays, under each reason
+    for (a, level), (b, final) in itertools.product(enumerate(LEVELS), enumerate(FINALS)):
+        limit, line = STOPS[(a + b) % 5]
+        yield plainly(retries="1", fail_fast=limit, status_level=f"'{level}'", final_status_level=f"'{final}'") + stopped_by(line)
+    for (a, success), (b, failure), (c, (limit, line)) in itertools.product(enumerate(DISPLAYS), enumerate(DISPLAYS), enumerate(STOPS + OTHER_STOPS)):
+        levels = {"status_level": f"'{LEVELS[(a + 3 * b + c) % 8]}'", "final_status_level": f"'{FINALS[(5 * a + b + c) % 9]}'"}
+        displays = {"success_output": f"'{success}'", "failure_output": f"'{failure}'"}
+        if c < 5 or a == b:
+            flaky_result = VALUES["flaky-result"][(a + b // 2 + c) % 2]
+            yield plainly(retries="1", fail_fast=limit, flaky_result=flaky_result, **levels, **displays) + stopped_by(line)
+    # a stop while tests end, and a graver or a milder one behind them
+    for (a, (limit, line)), (b, place) in itertools.product(enumerate(STOPS[3:] + OTHER_STOPS), enumerate(("\nend\tp\tleak", "\nend\tp\texec\texec-fail"))):
+        row = plainly(retries="1", fail_fast=limit, success_output=f"'{DISPLAYS[a % 4]}'", failure_output=f"'{DISPLAYS[a % 3 + b]}'", final_status_level="'all'")
+        yield row + stopped_by(line, place)
+        yield row + stopped_by("signal") + stopped_by(line, place)
+    # each form of retries and of the limit at each place, over what stands below it
+    for (key, values), (a, place) in itertools.product([("retries", RETRIES), ("fail-fast", LIMITS)], enumerate([CHOSEN, PARENT, DEFAULT, TOOL])):
+        for b, value in enumerate(values):
+            below = [(it, key, values[(b + 1) % len(values)]) for it in [PARENT, DEFAULT, TOOL][a : a + 1]]
+            other = [] if key == "retries" else [(DEFAULT, "retries", "1")]
+            yield set_at([(place, key, value), *below, *other, (PLACES[(a + b) % 6], "flaky-result", VALUES["flaky-result"][(a + b) % 2])])
+    for seed in range(60):
+        choose = random.Random(seed)
+        settings = [(place, key, choose.choice(VALUES[key])) for key in VALUES for place in PLACES if choose.random() < 0.3]
+        settings += [] if any(key == "retries" for _, key, _ in settings) else [(choose.choice(PLACES), "retries", "1")]
+        yield set_at(settings) + stopped_by(choose.choice([None, None, "signal", "interrupt", "report-error"]))
+
+
+def drawn_sources(choose):
+    """Some sources: of tools, explicit and discovered, with a text in TOML, or not read."""
+    for place in range(choose.randrange(1, 4)):
+        text = ""
+        for name in choose.sample(["default", "default-miri", "ci", "base"], choose.randrange(1, 5)):
+            keys = choose.sample(list(configs.RIGHT)[:-1], choose.randrange(5))
+            profile = {key: choose.choice(configs.RIGHT[key] if choose.randrange(60) else configs.WRONG) for key in keys}
+            if choose.random() < (0.4 if "default" not in name else 0.05):
+                profile["inherits"] = choose.choice(["default", "default", "base", "default-miri", "ci"])
+            if choose.random() < 0.15:
+                key, value = choose.choice([("zzz", 1), ("archive", 1), ("bench", {"zzz": 1}), ("slow-timeout", "9s"), ("default-filter", "all()")])
+                profile[key] = value
+            text += f"[profile.{name}]\n" + "".join(f"{key} = {toml(it)}\n" for key, it in profile.items())
+        kind = choose.choice(["tool", "tool", "explicit", "discovered"])
+        yield source(None if choose.randrange(25) == 0 else text, kind, f"{'abc'[place]}.toml")
+
+
+# Texts of a repository's file, with the profile `default`.
+PLAN_TEXTS = [
+    "", "[profile.default]\n", "[profile]\n", "\n# nothing\n", "[profile.default]\nretries = 1\nfail-fast = false\n",
+    "[profile.default]\nretries = 1\nfail-fast = true\n", "[profile.default]\nfail-fast = true\n", "[profile.default]\nretries = 0\n",
+    "[profile.default]\nretries = 4294967294\n", "[profile.default]\nretries = 4294967295\n", "profile.default.retries = 3\n",
+    # refused before anything is looked into
+    "x", "nextest-version = '0.9.60'\nx", "[profile.default]\nretries = 1\nretries = 2\n", "nextest-version = 1", "nextest-version = '0.9.200'\nprofile = 1\n",
+    "experimental = ['foo']\n[profile.default]\nretries = -1\n", "experimental = ['foo']", "nextest-version = '0.9.200'\nexperimental = ['foo']\n",
+    # what versions and features ask for
+    "nextest-version = '0.9.60'", "experimental = ['setup-scripts', 'wrapper-scripts', 'benchmarks']", "experimental = { foo = false, benchmarks = true }",
+    "nextest-version = { recommended = '0.9.200' }\nzzz = 1\n", "nextest-version = { required = '0.9.60', zzz = 1 }", "nextest-version = {}",
+    # values that can't stand at their keys
+    "nextest-version = '0.9.60'\nprofile = 1\n", "profile = 1", "profile = []", "[profile]\ndefault = 2\n", "store = 1", "store.dir = 1",
+    *(f"[profile.default]\nretries = {it}\n" for it in ("-1", "4294967296", "'1'", "1.0", "true", "[]", "{}", "{ backoff = 'fixed' }", "{ backoff = 'other', count = 1 }",
+        "{ backoff = 'fixed', count = 1, jitter = true }", "{ backoff = 'exponential', count = 0, delay = '1s' }", "{ backoff = 'exponential', count = 1 }")),
+    *(f"[profile.default]\nfail-fast = {it}\n" for it in ("1", "'all'", "[]", "{}", "{ max-fail = 0 }", "{ max-fail = '1' }", "{ max-fail = 'ALL' }", "{ terminate = 'wait' }",
+        "{ max-fail = 1, terminate = 'now' }", "{ max-fail = 9223372036854775807 }")),
+    *(f"[profile.default]\n{key} = {it}\n" for key in ("status-level", "final-status-level", "success-output", "failure-output", "flaky-result") for it in ("'Pass'", "'immediate_final'", "1")),
+    "[profile.default]\nstatus-level = 'flaky'\n", "[profile.default]\nfinal-status-level = 'retry'\n", "store = {}\n[profile.default]\nslow-timeout = '60s'\nretries = -1\n",
+    "[profile.ci]\nretries = 1\n[profile.default]\nfail-fast = 1\n", "[profile.ci]\nslow-timeout = '0s'\n", "[profile.default]\ndefault-filter = 1\n",
+    # keys that a plan shows nothing of
+    "store = {}", "[profile.default]\nslow-timeout = '60s'\ntest-threads = 4\nleak-timeout = '1s'\nglobal-timeout = '1h'\nrun-extra-args = ['x']\narchive = 1\n",
+    "[profile.default]\nretries = { backoff = 'fixed', count = 1 }\n", "[profile.default]\nfail-fast = { max-fail = 1 }\n", "[profile.ci]\n", "[profile.default.junit]\npath = 'j.xml'\n",
+    # what isn't taken yet, and what is refused before and behind it
+    "[[profile.default.overrides]]\nfilter = 'all()'\npriority = 1\n", "[profile.default]\ndefault-filter = 'all()'\n", "[[profile.default.scripts]]\nfilter = 'all()'\nsetup = 's'\n",
+    "[[profile.z.overrides]]\nfilter = 'all()'\nretries = 1\n", "[profile.z]\ndefault-filter = 'all()'\n", "[test-groups.g]\nmax-threads = 1\n", "[script.s]\ncommand = 'x'\n",
+    "experimental = ['setup-scripts']\n[scripts.setup.s]\ncommand = 'x'\n", "[profile.default]\ndefault-filter = 'all()'\nretries = -1\n",
+    "[profile.z]\ndefault-filter = 'all()'\ninherits = 'q'\n", "[profile.default]\ndefault-filter = 'all()'\nretries = 4294967295\n", "zzz = 1\n[profile.default]\ndefault-filter = 'all()'\n",
+    # how profiles inherit
+    "[profile.z]\ninherits = 'q'\n", "[profile.x]\ninherits = 'y'\n[profile.y]\ninherits = 'x'\n", "[profile.x]\ninherits = 'x'\n", "[profile.default]\ninherits = 'x'\n[profile.x]\n",
+    "[profile.x]\n[profile.default-y]\ninherits = 'x'\n", "[profile.default-miri]\ninherits = 'default'\n", "[profile.a]\ninherits = 'a'\n[profile.z]\ninherits = 'q'\n",
+    "[profile.a]\ninherits = 'a'\n[profile.z]\nretries = -1\n",
+    # warnings
+    "zzz = 1\n", "b = 1\na.x.y = 2\nB = 3\n'a.b' = 4\n'a\u0009b' = 5\n", "[profile.default-x]\nzzz = 1\n[profile.default-b]\n[profile.default-miri]\n[profile.z]\nzzy = 1\n",
+    "[profile.default]\nretries = { backoff = 'fixed', count = 1, max-delay = '1s' }\nfail-fast = { max-fail = 1, zzz = 1 }\narchive = { zzz = 1 }\nbench.zzz = 1\n",
+    "zzz = 1\n[profile.default]\nretries = -1\n",
+]
+EXPONENTIAL = "[profile.default]\nretries = { backoff = 'exponential', count = 1, delay = '1s', max-delay = '2s' }\n"
+# A profile and texts: of tools, the first one the highest, and of the repository.
+PLAN_FILES = [
+    ("default", "[profile.default]\nretries = 2\nfail-fast = false\n", "[profile.default]\nretries = 1\n"),
+    ("default", "[profile.default]\nretries = 2\n", "[profile.default]\nretries = 3\nfail-fast = false\n", ""),
+    ("x", "[profile.x]\ninherits = 'y'\n[profile.y]\nretries = 3\n"), ("y", "[profile.x]\ninherits = 'y'\n[profile.y]\nretries = 3\n"),
+    ("default", "[profile.x]\ninherits = 'y'\n[profile.y]\nretries = 3\n"), ("x", "[profile.y]\nretries = 3\n", "[profile.x]\ninherits = 'y'\n"),
+    ("x", "[profile.x]\ninherits = 'y'\n[profile.y]\nretries = 3\n", "[profile.x]\ninherits = 'default'\n[profile.default]\nretries = 1\n"),
+    ("default", EXPONENTIAL, EXPONENTIAL.replace("'1s', max-delay = '2s'", "'3s'")), ("default", EXPONENTIAL, "[profile.default]\nretries = 5\n"),
+    ("default", "[profile.default]\nretries = 5\n", EXPONENTIAL), ("default", "[profile.default]\nfail-fast = { max-fail = 3, terminate = 'immediate' }\n", "[profile.default]\nfail-fast.max-fail = 2\n"),
+    ("default", "[profile.default]\nfail-fast = { max-fail = 3, terminate = 'immediate' }\n", "[profile.default]\nfail-fast = true\n"),
+    ("a", "[profile.'a.b']\nretries = 2\n"), ("a.b", "[profile.'a.b']\nretries = 2\n"), ("a", "[profile.a.b]\nretries = 2\n"), ("a.b", "[profile.a.b]\nretries = 2\n"),
+    ("z", "[profile.z]\n", ""), ("z", "[profile.z]\n", "[profile.z]\n"), ("z", ""), ("Z", "[profile.z]\n"), ("default-x", "[profile.default-x]\nretries = 1\n"), ("default-miri", ""),
+    ("default-miri", "[profile.default-miri]\nretries = 1\n"), ("z", "[profile.z]\nretries = 4294967295\n"), ("default", "[profile.z]\nretries = 4294967295\n"),
+    ("z", "[profile.default]\nretries = 4294967295\n[profile.z]\nretries = 1\n"), ("z", "[profile.z]\n[profile.default]\nretries = 4294967295\n"),
+    ("default", "zzz = 1\n", "zzy = 1\n"), ("default", "zzz = 1\n", "[profile.default-x]\n", "zzy = 1\n"), ("default", "profile.default = 1\n", "zzz = 1\n"),
+    ("default", "zzz = 1\n", "nextest-version = { recommended = '0.9.200' }\nzzy = 1\n"), ("default", "nextest-version = { recommended = '0.9.200' }\nzzz = 1\n", "zzy = 1\n"),
+    ("default", "[profile.default]\ndefault-filter = 'all()'\n", "zzz = 1\n"), ("default", "x", "[profile.default]\nretries = -1\n"), ("default", "[profile.default]\nretries = -1\n", "x"),
+    ("default", "[profile.a]\ninherits = 'z'\n", "[profile.z]\n"), ("default", "[profile.a]\ninherits = 'z'\n", ""),
+    ("default", "[profile.a]\ninherits = 'b'\n[profile.b]\n", "[profile.b]\ninherits = 'a'\n"),
+]
+# Other fields of inputs.
+PLAN_FIELDS = [
+    {"profile": "ci"}, {"profile": "default"}, {"profile": ""}, {"host": {"triple": "x", "facts": []}}, {"host": {"triple": "", "facts": [["unix", True]]}},
+    {"host": {"triple": "", "facts": []}}, {"target": {"triple": "", "facts": []}}, {"profile": "ci", "target": {"triple": "x", "facts": []}}, {"profile": "ci", "mode": "benchmark"},
+]
+
+
+def plan_rows():
+    for text in PLAN_TEXTS:
+        yield with_sources([source(text)])
+    for profile, *texts in PLAN_FILES:
+        sources = [source(texts[-1]), *(source(text, "tool", f"{'tuv'[place]}.toml") for place, text in enumerate(texts[:-1]))]
+        yield with_sources(sources, **({"profile": profile} if profile != "default" else {}))
+    some, other = "[profile.default]\nretries = 2\nzzz = 1\n", "[profile.default]\nfail-fast = false\n"
+    pairs = [*itertools.product((some, other, None), repeat=2), (some, "FAILED"), ("FAILED", some)]
+    for kinds, texts in itertools.product(itertools.product(("tool", "explicit", "discovered"), repeat=2), pairs):
+        yield with_sources([source(text, kind, f"{name}.toml") for kind, text, name in zip(kinds, texts, "ab")])
+    for fields in PLAN_FIELDS:
+        for text in ("", "[profile.ci]\nretries = 1\n", "[profile.a]\ninherits = 'a'\n", "[profile.ci]\ndefault-filter = 'all()'\n"):
+            yield with_sources([source(text)], **fields)
+    for key, (a, place) in itertools.product(VALUES, enumerate(PLACES)):
+        below = PLACES[a + 1 :]
+        yield set_at([(place, key, VALUES[key][-2]), *((it, key, VALUES[key][-1]) for it in below)])
+        yield set_at([(place, key, VALUES[key][-1]), *((it, key, VALUES[key][0]) for it in below[-1:])])
+    for seed in range(120):
+        choose = random.Random(seed)
+        profile = choose.choice(["default", "ci", "ci", "base", "default-miri"])
+        yield with_sources(list(drawn_sources(choose)), **({"profile": profile} if profile != "default" else {}))
+
+
+# ---- the files
+
+
+def changed(text, changes):
+    """The text with the first place of each part put into its other form."""
+    for part, other in zip(changes[::2], changes[1::2]):
+        assert part in text, part
+        text = text.replace(part, other, 1)
+    return text
+
+
+def write(name, head, rows):
+    lines = dict.fromkeys(f"{' => '.join(changes)} => {answer}".translate(SIGNS) for changes, answer in rows)
+    (DATA / f"{name}.txt").write_text("\n".join([f"# Made by scripts/run_rows.py. {head}", *lines]) + "\n", encoding="utf-8")
+    print(f"{name}: {len(lines)} rows")
+
+
+def main():
+    plan = (DATA / "plan.json").read_text(encoding="utf-8")
+    run = base_run(plan)
+    (DATA / "profiles_runs.in").write_text(run, encoding="utf-8")
+    write(
+        "profiles_plans",
+        "Changes of plan.json => the tests, each with its most attempts, its flaky rule and when its output is shown where it passes and"
+        " where it fails; the limit, the levels of lines and of the final text, and the warnings; or the name under which it is refused.",
+        ((changes, plan_answer(json.loads(changed(plan, changes)))) for changes in plan_rows()),
+    )
+    write(
+        "profiles_runs",
+        "Changes of profiles_runs.in, the inputs and a log => the report, and a line with the status.",
+        ((changes, run_answer(changed(run, changes))) for changes in run_rows()),
+    )
+
+
+if __name__ == "__main__":
+    main()
