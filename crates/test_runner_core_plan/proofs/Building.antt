@@ -1,5 +1,5 @@
 -- How a plan follows from its parts.
-use Rattle.std.proofs.Common.{◌≡◌, inl, inr, ◌<◌, ◌^◌, ◌+◌, ◌==◌, ◌&&◌, ℕ, ◌∷◌, ◌++◌, [], List, Bool, true, false, length, map, min, nat_lt, Result, Ok, Err, refl, ap, sym, ◌∙◌, subst, cond, arith}
+use Rattle.std.proofs.Common.{◌≡◌, inl, inr, Option, None, ◌<◌, ◌^◌, ◌+◌, ◌==◌, ◌&&◌, ℕ, ◌∷◌, ◌++◌, [], List, Bool, true, false, length, map, min, nat_lt, Result, Ok, Err, refl, ap, sym, ◌∙◌, subst, cond, arith}
 use Rattle.std.proofs.lemmas.Bool.{eqb-false, le-leb}
 use Rattle.std.proofs.lemmas.List.{append-nil}
 use Rattle.std.proofs.lemmas.List.Sorted.{length_permutation}
@@ -12,15 +12,24 @@ use Rattle.test_runner_core_listing.specs.Listing.{AsksFor, Found, Selects, aske
 use Rattle.test_runner_core_listing.specs.declared.selection.Selection.{Selection}
 use Rattle.test_runner_core_listing.specs.declared.listing_fault.ListingFault.{ListingFault}
 use Rattle.nextest_config_elements_counts.specs.Retries.{count_of}
-use Rattle.test_runner_core_settings.specs.Sets.{Sets}
+use Rattle.test_runner_core_settings.specs.Calls.{Configures}
+use Rattle.test_runner_core_settings.specs.Sets.{Sets, key_warnings}
 use Rattle.test_runner_core_settings.specs.declared.configured.RunSettings.{RunSettings}
+use Rattle.test_runner_core_settings.specs.declared.settings_error.SettingsError.{SettingsError}
+use Rattle.test_runner_core_settings.specs.declared.settings_error.SettingsError.TheVariants as settings_errors
 use Rattle.test_runner_core_settings.specs.declared.settings_fault.SettingsFault.{SettingsFault}
+use Rattle.test_runner_core_versions.specs.Pass.{pass_of}
 use Rattle.test_runner_core_versions.specs.declared.pass.VersionPass.{VersionPass}
+use Rattle.test_runner_core_versions.specs.declared.pass_error.VersionPassFault.{VersionPassFault}
 use Rattle.test_runner_core_workspace.specs.Lister.{Answer}
+use Rattle.test_runner_core_workspace.specs.Workspace.{refusal_of}
 use Rattle.test_runner_core_workspace.specs.declared.record.Binary.{Binary}
+use Rattle.test_runner_core_workspace.specs.declared.record.WorkspaceRecord.{WorkspaceRecord}
+use Rattle.test_runner_core_workspace.specs.declared.workspace_fault.WorkspaceFault.{WorkspaceFault}
 use Rattle.test_runner_core_plan.specs.Filtering.{IsChosen, IsInForce, everything}
-use Rattle.test_runner_core_plan.specs.Inside.{IsWanted}
-use Rattle.test_runner_core_plan.specs.Plan.{◌>>=◌, AsksBehind, AsksWith, lacks_memory, Builds, Plans, PlansWith, Selected, Settles, SettlesBehind, asked_by, found_by, has_too_many, listed_in, passed_of, plan_test, settled_by, with_settings}
+use Rattle.test_runner_core_plan.specs.Inside.{AreSettled, IsWanted}
+use Rattle.test_runner_core_plan.specs.Plan.{◌>>=◌, AsksBehind, AsksWith, lacks_memory, Builds, Plans, Selected, Settles, SettlesBehind, asked_by, found_by, has_too_many, listed_in, passed_by, passed_of, plan_test, settled_by, warnings_in, warnings_of, with_settings, workspace_of}
+use Rattle.test_runner_core_plan.specs.Refusals.{error_of_settings, of_settings}
 use Rattle.test_runner_core_plan.specs.declared.plan.Plan.{Plan}
 use Rattle.test_runner_core_plan.specs.declared.plan_error.PlanError.{PlanError}
 use Rattle.test_runner_core_plan.specs.declared.plan_error.PlanError.TheVariants as errors
@@ -38,6 +47,23 @@ settles_refused inputs refusal e = subst (λ (passed : Result VersionPass PlanFa
 pub settles_set : (inputs : Inputs) (passed : VersionPass) (set : Result RunSettings SettingsFault) (given : Result RunSettings PlanFault)
     → passed_of inputs ≡ Ok passed → Sets inputs set → settled_by inputs set ≡ given → Settles inputs given
 settles_set inputs passed set given e is settled = subst (λ (it : Result VersionPass PlanFault). SettlesBehind inputs it given) (sym e) (set, is, settled)
+
+-- the version pass, behind a workspace that isn't refused
+pub passed_ok : (inputs : Inputs) (passed : VersionPass) → refusal_of inputs.workspace ≡ None → pass_of inputs ≡ Ok passed → passed_of inputs ≡ Ok passed
+passed_ok inputs passed e f =
+    ap (λ (refusal : Option WorkspaceFault). workspace_of inputs.workspace refusal >>= λ (workspace : WorkspaceRecord). passed_by (pass_of inputs)) e ∙ ap passed_by f
+
+-- a configuration that is refused
+pub settles_error : (inputs : Inputs) (passed : VersionPass) (error : SettingsError) → passed_of inputs ≡ Ok passed → Configures inputs (Err error)
+    → AreSettled inputs (Err (error_of_settings error))
+settles_error inputs passed (settings_errors.Refused refusal) e is = settles_set inputs passed (Err refusal) (Err (of_settings refusal)) e is refl
+settles_error inputs passed settings_errors.OutOfMemory e is = tt
+
+-- all warnings
+pub all_warnings : (inputs : Inputs) (passed : VersionPass) (more : List (List ℕ)) → pass_of inputs ≡ Ok passed → more ≡ key_warnings inputs
+    → passed.warnings ++ more ≡ warnings_of inputs
+all_warnings inputs passed more e f =
+    ap (λ (m : List (List ℕ)). passed.warnings ++ m) f ∙ ap (λ (p : Result VersionPass VersionPassFault). warnings_in p ++ key_warnings inputs) (sym e)
 
 -- ---- inputs that are refused before a binary is asked
 
