@@ -119,7 +119,7 @@ pub never_planned : (answer : Binary → Answer) (inputs : Inputs) (plan : Plan)
 never_planned answer inputs plan refusal refuses built = plans_once answer inputs (Ok built.0) (Err refusal) built.1 refuses
 
 -- the one line of inputs that are refused by this name
-refused_as : List ℕ → List Part
+abbrev refused_as : List ℕ → List Part
 refused_as name = Said (codes "refused" ++ TAB ∷ name ++ LF ∷ []) ∷ []
 
 -- inputs and a log have one report
