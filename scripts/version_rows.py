@@ -7,7 +7,9 @@ Run it from the repository's root: `scripts/version_rows.py`. It writes the two 
 how many rows there are. The rules: sources count from the lowest up, the tools' with the first handed in as the highest, then of the
 repository's the first that was named, else the first that was looked for. A text that is no TOML or asks in other than the
 forms, and a tool that asks for a feature, refuse the inputs (`VersionSource`); then a required version above the current one,
-unless it is passed over (`VersionError`); then a feature that isn't known (`UnknownFeature`). Of the greatest version of a role
+unless it is passed over (`VersionError`); then a feature that isn't known (`UnknownFeature`); then a source that counts and
+isn't there, unless it was only looked for (`Load.Unread`). Behind the warning of a version stand those of the keys below
+`nextest-version` that nobody knows, the lowest source first. Of the greatest version of a role
 the last source that asks for one equal to it counts. Versions stand by SemVer 2.0, builds aside.
 """
 import functools
@@ -152,8 +154,11 @@ def outcome(sources, current, override):
             break
     if unknown:
         return "UnknownFeature"
-    if len(sources) > 1 or any(not it.read for it in sources):
-        return "NotYet"
+    if any(not it.read and it.kind != "discovered" for it in tools + repository):
+        return "Load.Unread"
+    for it in tools + repository:
+        keys = sorted(set(it.wanted) - {"required", "recommended"}) if it.read and isinstance(it.wanted, dict) else []
+        told += "".join(f" [unknown key nextest-version.{key} in {escaped(it.path)}]" for key in keys)
     return "warnings" + told
 
 

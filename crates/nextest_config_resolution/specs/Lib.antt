@@ -11,6 +11,7 @@ pub use Rattle.nextest_config_resolution_load.specs.Telling as LoadTelling
 pub use Rattle.nextest_config_resolution_profiles.specs.Config
 pub use Rattle.nextest_config_resolution_profiles.specs.Kept
 pub use Rattle.nextest_config_resolution_profiles.specs.Laws as ProfileLaws
+pub use Rattle.nextest_config_resolution_profiles.specs.Selection
 pub use Rattle.nextest_config_resolution_profiles.specs.Whole as WholeConfig
 -- the merged tree
 pub use Rattle.nextest_config_resolution_tree.specs.Laws as TreeLaws
@@ -28,7 +29,9 @@ pub use Rattle.nextest_config_resolution_inheritance.specs.Refusals
 -- settings, and what is built in
 pub use Rattle.nextest_config_resolution_settings.specs.Fallbacks
 pub use Rattle.nextest_config_resolution_settings.specs.Keys as SettingKeys
+pub use Rattle.nextest_config_resolution_settings.specs.Laws as SettingLaws
 pub use Rattle.nextest_config_resolution_settings.specs.Nearest
+pub use Rattle.nextest_config_resolution_settings.specs.Profile as ProfileSettings
 pub use Rattle.nextest_config_resolution_settings.specs.TestSettings
 pub use Rattle.nextest_config_resolution_built_in.specs.BuiltIn
 pub use Rattle.nextest_config_resolution_built_in.specs.Laws as BuiltInLaws

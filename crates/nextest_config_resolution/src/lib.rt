@@ -19,8 +19,8 @@ pub use nextest_config_resolution_profiles::{
     BuildPlatforms, EarlyProfile, NextestConfig, ProfileError, ProfileNotFound,
 };
 pub use nextest_config_resolution_settings::{
-    EvaluatableProfile, NoRule, Sets, Setting, SettingSource, TestGroupRef, TestSettings,
-    fallbacks, find_setting, keys, nearest,
+    EvaluatableProfile, NoRule, Sets, Setting, SettingSource, TestGroupRef, TestSettingSources,
+    TestSettings, fallbacks, find_setting, keys, nearest,
 };
 pub use nextest_config_resolution_sources::{
     CONFIG_PATH, ConfigFileSelection, ConfigPaths, ConfigSource, ConfigSourceOutcome,

@@ -2,4 +2,5 @@ pub mod Chains
 pub mod Config
 pub mod Kept
 pub mod Laws
+pub mod Selection
 pub mod Whole

@@ -2,11 +2,12 @@
 use crate::chains::{all_names, chain_at, place_of};
 use crate::early_profile::EarlyProfile;
 use crate::profile_error::{ProfileError, ProfileNotFound};
+use crate::selection::select_kinds;
 use nextest_config_resolution_built_in::built_in;
 use nextest_config_resolution_load::{
     ConfigWarnings, LoadError, LoadedConfig, load, load_with_warnings,
 };
-use nextest_config_resolution_sources::ConfigSource;
+use nextest_config_resolution_sources::{ConfigFileSelection, ConfigPaths, ConfigSource};
 use nextest_text::Text;
 use std::alloc::Global;
 use std::marker::Model;
@@ -38,6 +39,7 @@ impl Model for NextestConfig {
 impl NextestConfig {
     ghost use Rattle.nextest_config_resolution_load.specs.Telling.{TellsAs, warnings_in};
     ghost use Rattle.nextest_config_resolution_profiles.specs.Config.{IsConfig, IsProfile, store_of};
+    ghost use Rattle.nextest_config_resolution_profiles.specs.Selection.{selected_by};
     ghost use Rattle.std.specs.Prelude.{◌≡◌};
 
     /// What sources come to, those that count, each over the lower ones and over what is built in, in the workspace at `root`.
@@ -83,6 +85,46 @@ impl NextestConfig {
             Ok(loaded) => Ok(NextestConfig { root, loaded }),
             Err(error) => Err(error),
         }
+    }
+
+    /// What `from_sources_with_warnings` gives of the sources, where the selection says of the repository's whether they are named
+    /// or looked for. So a file that is missing is refused where it was named, and passed over where it was looked for. The
+    /// sources of tools stay as they are.
+    ///
+    /// # Errors
+    ///
+    /// As `from_sources_with_warnings`, of the sources as they are then.
+    pub fn from_sources_with_selection<W: ConfigWarnings>(
+        alloc: Global,
+        root: &str,
+        selection: &ConfigFileSelection,
+        mut sources: Vec<ConfigSource>,
+        warnings: &mut W,
+    ) -> Result<NextestConfig, LoadError>
+        ensures config { IsConfig root.now (selected_by selection.now sources.items) result }
+        ensures told { TellsAs W.has_told warnings.old warnings.new (warnings_in (selected_by selection.now sources.items)) result }
+    {
+        select_kinds(selection, sources.as_mut_slice());
+        NextestConfig::from_sources_with_warnings(alloc, root, sources.as_slice(), warnings)
+    }
+
+    /// What `from_sources_with_selection` gives in the workspace that the paths tell of.
+    ///
+    /// # Errors
+    ///
+    /// As `from_sources_with_selection`.
+    pub fn from_sources_with_paths<W: ConfigWarnings>(
+        alloc: Global,
+        paths: &ConfigPaths,
+        selection: &ConfigFileSelection,
+        sources: Vec<ConfigSource>,
+        warnings: &mut W,
+    ) -> Result<NextestConfig, LoadError>
+        ensures config { IsConfig paths.now.workspace_root (selected_by selection.now sources.items) result }
+        ensures told { TellsAs W.has_told warnings.old warnings.new (warnings_in (selected_by selection.now sources.items)) result }
+    {
+        let root = paths.workspace_root.as_str();
+        NextestConfig::from_sources_with_selection(alloc, root, selection, sources, warnings)
     }
 
     /// Whether a file that counts sets a key that isn't read yet, as `LoadedConfig` says.

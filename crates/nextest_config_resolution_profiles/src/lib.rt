@@ -6,6 +6,7 @@ mod config;
 mod early_profile;
 pub mod laws;
 mod profile_error;
+mod selection;
 
 pub use config::NextestConfig;
 pub use early_profile::{BuildPlatforms, EarlyProfile};

@@ -1,2 +1,3 @@
 pub mod Searching
+pub mod Sourced
 pub mod Unique

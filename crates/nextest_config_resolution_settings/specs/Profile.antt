@@ -4,9 +4,10 @@ use Rattle.std.specs.List.{starts_with}
 use Rattle.nextest_config_elements_counts.specs.declared.junit.JunitConfig.{JunitConfig}
 use Rattle.nextest_config_resolution_settings.specs.Fallbacks as fallback
 use Rattle.nextest_config_resolution_settings.specs.Keys as key
-use Rattle.nextest_config_resolution_settings.specs.Nearest.{HasValue, IsNearest, SetsNone, lent}
+use Rattle.nextest_config_resolution_settings.specs.Nearest.{HasValue, IsNearest, IsSetting, SetsNone, lent}
 use Rattle.nextest_config_resolution_settings.specs.declared.evaluatable_profile.EvaluatableProfile.{EvaluatableProfile}
 use Rattle.nextest_config_resolution_settings.specs.declared.layers.NoRule.{NoRule}
+use Rattle.nextest_config_resolution_settings.specs.declared.source.SettingSource.{SettingSource}
 use Rattle.nextest_config_resolution_values.specs.declared.profile_config.ProfileConfig.{ProfileConfig}
 
 -- its name, the root of its workspace, and the directory of the store
@@ -31,6 +32,14 @@ inherits_of (profile ∷ parents) = profile.inherits
 -- the value that profiles have of a setting, where no rules are asked
 abbrev pub OfProfiles : {P V : Type 0} → (P → Option V) → List P → V → V → Type 0
 OfProfiles by_profile profiles fallback value = HasValue {R = NoRule} (λ _. None) by_profile [] profiles fallback value
+
+-- the value that profiles have of a setting, where no rules are asked, and where it is taken from
+abbrev pub SourcedBy : {P V : Type 0} → (P → Option V) → List P → V → V → SettingSource → Type 0
+SourcedBy by_profile profiles fallback value source = IsSetting {R = NoRule} (λ _. None) by_profile [] profiles fallback value source
+
+-- where profiles take a setting from, whatever its fallback is
+pub record IsSourceOf {P V : Type 0} (by_profile : P → Option V) (profiles : List P) (source : SettingSource) : Type 0 where
+  pub has : (fallback : V) → (value : V) × SourcedBy by_profile profiles fallback value source
 
 -- the value that profiles have of a setting, or none where none of them sets it
 abbrev pub MaySet : {P V : Type 0} → (P → Option V) → List P → Option V → Type 0

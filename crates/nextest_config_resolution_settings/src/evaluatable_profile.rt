@@ -4,8 +4,8 @@ ghost use Rattle.std.specs.Option.{option_copied};
 ghost use Rattle.nextest_config_resolution_settings.specs.Fallbacks as fallback;
 ghost use Rattle.nextest_config_resolution_settings.specs.Keys as key;
 ghost use Rattle.nextest_config_resolution_settings.specs.Nearest.{lent};
-ghost use Rattle.nextest_config_resolution_settings.specs.Profile.{MayHaveJunit, MaySet, OfProfiles, chain_of, inherits_of, name_of, root_of, stands_alone, store_dir_of, store_of};
-ghost use Rattle.nextest_config_resolution_settings.specs.TestSettings.{AreSettings};
+ghost use Rattle.nextest_config_resolution_settings.specs.Profile.{IsSourceOf, MayHaveJunit, MaySet, OfProfiles, chain_of, inherits_of, name_of, root_of, stands_alone, store_dir_of, store_of};
+ghost use Rattle.nextest_config_resolution_settings.specs.TestSettings.{AreSettings, AreSourced};
 
 use crate::fallbacks;
 use crate::keys::{
@@ -15,8 +15,9 @@ use crate::keys::{
     JunitStoreSuccessOutputKey, LeakTimeoutKey, RetriesKey, RunExtraArgsKey, SlowTimeoutKey,
     StatusLevelKey, SuccessOutputKey, TestThreadsKey, ThreadsRequiredKey,
 };
-use crate::profiles::{of_profiles, set_by, value_or};
-use crate::test_settings::{TestGroupRef, TestSettings};
+use crate::profiles::{of_profiles, set_by, source_of, value_or};
+use crate::source::SettingSource;
+use crate::test_settings::{TestGroupRef, TestSettingSources, TestSettings};
 use nextest_config_elements_counts::{
     GlobalTimeout, JunitConfig, JunitFlakyFailStatus, LeakTimeout, ReportSkipPolicy, RetryPolicy,
     SlowTimeout, TestPriority, TestThreads, ThreadsRequired,
@@ -237,7 +238,7 @@ impl<'c> EvaluatableProfile<'c> {
     }
 
     /// The settings of each test, where no rule holds for it: those of its profile.
-    pub fn settings(&self, mode: NextestRunMode) -> TestSettings<'c>
+    pub fn settings_for(&self, mode: NextestRunMode) -> TestSettings<'c>
         ensures { AreSettings mode (chain_of self.now) result }
     {
         TestSettings {
@@ -255,6 +256,57 @@ impl<'c> EvaluatableProfile<'c> {
             junit_store_failure_output: self.junit_store_failure_output(),
             junit_report_skipped: self.junit_report_skipped(),
             junit_flaky_fail_status: self.junit_flaky_fail_status(),
+        }
+    }
+
+    /// The settings of each test, where no rule holds for it, and where each of them is taken from. `SettingSource::Profile` has a
+    /// place of the chain: 0 is the profile itself.
+    pub fn settings_with_source_for(
+        &self,
+        mode: NextestRunMode,
+    ) -> (TestSettings<'c>, TestSettingSources)
+        ensures { AreSourced mode (chain_of self.now) result.0 result.1 }
+    {
+        (self.settings_for(mode), self.sources_for(mode))
+    }
+
+    // Where the settings of each test are taken from, where no rule holds for it. Rules alone set a priority or a group.
+    #[tactic(auto, using(crate::proofs::Sourced::taken_from))]
+    fn sources_for(&self, mode: NextestRunMode) -> TestSettingSources
+        ensures { (settings : TestSettings) → AreSettings mode (chain_of self.now) settings → AreSourced mode (chain_of self.now) settings result }
+    {
+        let chain = self.chain.as_slice();
+        TestSettingSources {
+            priority: SettingSource::Default,
+            threads_required: source_of::<ThreadsRequiredKey, ProfileConfig>(chain),
+            run_extra_args: source_of::<RunExtraArgsKey, ProfileConfig>(chain),
+            retries: source_of::<RetriesKey, ProfileConfig>(chain),
+            flaky_result: source_of::<FlakyResultKey, ProfileConfig>(chain),
+            slow_timeout: self.slow_timeout_source(mode),
+            leak_timeout: source_of::<LeakTimeoutKey, ProfileConfig>(chain),
+            test_group: SettingSource::Default,
+            success_output: source_of::<SuccessOutputKey, ProfileConfig>(chain),
+            failure_output: source_of::<FailureOutputKey, ProfileConfig>(chain),
+            junit_store_success_output: source_of::<JunitStoreSuccessOutputKey, ProfileConfig>(
+                chain,
+            ),
+            junit_store_failure_output: source_of::<JunitStoreFailureOutputKey, ProfileConfig>(
+                chain,
+            ),
+            junit_report_skipped: source_of::<JunitReportSkippedKey, ProfileConfig>(chain),
+            junit_flaky_fail_status: source_of::<JunitFlakyFailStatusKey, ProfileConfig>(chain),
+        }
+    }
+
+    // Where `slow-timeout` is taken from; of benchmarks `bench.slow-timeout`, and that alone.
+    fn slow_timeout_source(&self, mode: NextestRunMode) -> SettingSource
+        ensures { IsSourceOf (key.slow_timeout mode) (chain_of self.now) result }
+    {
+        match mode {
+            NextestRunMode::Test => source_of::<SlowTimeoutKey, ProfileConfig>(&self.chain),
+            NextestRunMode::Benchmark => source_of::<BenchSlowTimeoutKey, ProfileConfig>(
+                &self.chain,
+            ),
         }
     }
 

@@ -17,4 +17,4 @@ mod test_settings;
 pub use evaluatable_profile::EvaluatableProfile;
 pub use layers::{NoRule, Sets, Setting, find_setting, nearest};
 pub use source::SettingSource;
-pub use test_settings::{TestGroupRef, TestSettings};
+pub use test_settings::{TestGroupRef, TestSettingSources, TestSettings};

@@ -2,9 +2,10 @@
 ghost use Rattle.std.specs.Prelude.{unwrap_or};
 ghost use Rattle.std.specs.Option.{option_copied};
 ghost use Rattle.nextest_config_resolution_settings.specs.Nearest.{lent};
-ghost use Rattle.nextest_config_resolution_settings.specs.Profile.{MaySet, OfProfiles};
+ghost use Rattle.nextest_config_resolution_settings.specs.Profile.{IsSourceOf, MaySet, OfProfiles};
 
 use crate::layers::{NoRule, Sets, Setting, find_setting, nearest};
+use crate::source::SettingSource;
 
 // The value that profiles have of a setting, lent. `None` where none of them sets it, and then whatever the fallback is holds.
 pub(crate) fn of_profiles<'c, S: Setting, P: Sets<S>>(profiles: &[&'c P]) -> Option<&'c S::Value>
@@ -24,6 +25,15 @@ pub(crate) fn value_or<'c, S: Setting, P: Sets<S>>(
         Some(value) => value,
         None => fallback,
     }
+}
+
+// Where profiles take the value of a setting from.
+pub(crate) fn source_of<'c, S: Setting, P: Sets<S>>(profiles: &[&'c P]) -> SettingSource
+where
+    S::Value: 'c,
+    ensures { IsSourceOf P.value (lent profiles.now) result }
+{
+    find_setting::<S, NoRule, P>(&[], profiles).1
 }
 
 // The value that profiles have of a setting, lent, if one of them sets it.

@@ -1,4 +1,5 @@
 // The settings of a test.
+use crate::source::SettingSource;
 use nextest_config_elements_counts::{
     JunitFlakyFailStatus, LeakTimeout, ReportSkipPolicy, RetryPolicy, SlowTimeout, TestPriority,
     ThreadsRequired,
@@ -47,4 +48,37 @@ pub struct TestSettings<'p> {
     pub junit_report_skipped: ReportSkipPolicy,
     /// `junit.flaky-fail-status`: how it is reported where it fails since it is flaky.
     pub junit_flaky_fail_status: JunitFlakyFailStatus,
+}
+
+/// Where each setting of a test is taken from.
+#[derive(Clone, Copy, Debug, PartialEq, Eq)]
+pub struct TestSettingSources {
+    /// Where `priority` is taken from.
+    pub priority: SettingSource,
+    /// Where `threads-required` is taken from.
+    pub threads_required: SettingSource,
+    /// Where `run-extra-args` is taken from.
+    pub run_extra_args: SettingSource,
+    /// Where `retries` is taken from.
+    pub retries: SettingSource,
+    /// Where `flaky-result` is taken from.
+    pub flaky_result: SettingSource,
+    /// Where `slow-timeout` is taken from.
+    pub slow_timeout: SettingSource,
+    /// Where `leak-timeout` is taken from.
+    pub leak_timeout: SettingSource,
+    /// Where `test-group` is taken from.
+    pub test_group: SettingSource,
+    /// Where `success-output` is taken from.
+    pub success_output: SettingSource,
+    /// Where `failure-output` is taken from.
+    pub failure_output: SettingSource,
+    /// Where `junit.store-success-output` is taken from.
+    pub junit_store_success_output: SettingSource,
+    /// Where `junit.store-failure-output` is taken from.
+    pub junit_store_failure_output: SettingSource,
+    /// Where `junit.report-skipped` is taken from.
+    pub junit_report_skipped: SettingSource,
+    /// Where `junit.flaky-fail-status` is taken from.
+    pub junit_flaky_fail_status: SettingSource,
 }

@@ -33,9 +33,8 @@ use Rattle.nextest_config_resolution_settings.specs.Fallbacks as fallback
 use Rattle.nextest_config_resolution_settings.specs.Keys as key
 use Rattle.nextest_config_resolution_settings.specs.Profile.{OfProfiles}
 use Rattle.nextest_config_resolution_settings.specs.TestSettings.{AreSettings}
-use Rattle.nextest_config_resolution_settings.specs.declared.layers.NoRule.{NoRule}
 use Rattle.nextest_config_resolution_settings.specs.declared.test_settings.TestSettings.{TestSettings}
-use Rattle.nextest_config_resolution_settings.proofs.Unique.{one_setting}
+use Rattle.nextest_config_resolution_settings.proofs.Sourced.{one_value, same_settings}
 use Rattle.nextest_config_resolution_sources.specs.declared.source.ConfigSource.{ConfigSource}
 use Rattle.nextest_config_resolution_values.specs.File.{FileConfig, Named}
 use Rattle.nextest_config_resolution_values.specs.declared.profile_config.ProfileConfig.{ProfileConfig}
@@ -49,27 +48,24 @@ use Rattle.test_runner_core_settings.specs.declared.settings_fault.SettingsFault
 
 -- ---- the settings of a chain
 
--- a chain has one value of a setting
-one_value : {V : Type 0} (by_profile : ProfileConfig → Option V) (chain : List ProfileConfig) (fallback one other : V)
-    → OfProfiles by_profile chain fallback one → OfProfiles by_profile chain fallback other → one ≡ other
-one_value by_profile chain fallback one other a b = (one_setting {R = NoRule} (λ _. None) by_profile [] chain fallback one other a.from b.from a.is b.is).0
-
+-- copies of the settings of a chain are one
 one_test : (mode : NextestRunMode) (chain : List ProfileConfig) (one other : TestSettings) → AreSettings mode chain one → AreSettings mode chain other → owned_of one ≡ owned_of other
 one_test mode chain one other a b =
-    let priority : one.priority ≡ other.priority = a.priority ∙ sym b.priority in
-    let threads : one.threads_required ≡ other.threads_required = one_value key.threads_required chain fallback.threads_required _ _ a.threads_required b.threads_required in
-    let arguments : one.run_extra_args.now ≡ other.run_extra_args.now = one_value key.run_extra_args chain fallback.run_extra_args _ _ a.run_extra_args b.run_extra_args in
-    let retries : one.retries ≡ other.retries = one_value key.retries chain fallback.retries _ _ a.retries b.retries in
-    let flaky : one.flaky_result ≡ other.flaky_result = one_value key.flaky_result chain fallback.flaky_result _ _ a.flaky_result b.flaky_result in
-    let slow : one.slow_timeout ≡ other.slow_timeout = one_value (key.slow_timeout mode) chain (fallback.slow_timeout mode) _ _ a.slow_timeout b.slow_timeout in
-    let leak : one.leak_timeout ≡ other.leak_timeout = one_value key.leak_timeout chain fallback.leak_timeout _ _ a.leak_timeout b.leak_timeout in
-    let group : owned_group one.test_group ≡ owned_group other.test_group = ap owned_group (a.test_group ∙ sym b.test_group) in
-    let success : one.success_output ≡ other.success_output = one_value key.success_output chain fallback.success_output _ _ a.success_output b.success_output in
-    let failure : one.failure_output ≡ other.failure_output = one_value key.failure_output chain fallback.failure_output _ _ a.failure_output b.failure_output in
-    let passing : one.junit_store_success_output ≡ other.junit_store_success_output = one_value key.junit_store_success_output chain fallback.junit_store_success_output _ _ a.junit_store_success_output b.junit_store_success_output in
-    let failing : one.junit_store_failure_output ≡ other.junit_store_failure_output = one_value key.junit_store_failure_output chain fallback.junit_store_failure_output _ _ a.junit_store_failure_output b.junit_store_failure_output in
-    let skipped : one.junit_report_skipped ≡ other.junit_report_skipped = one_value key.junit_report_skipped chain fallback.junit_report_skipped _ _ a.junit_report_skipped b.junit_report_skipped in
-    let status : one.junit_flaky_fail_status ≡ other.junit_flaky_fail_status = one_value key.junit_flaky_fail_status chain fallback.junit_flaky_fail_status _ _ a.junit_flaky_fail_status b.junit_flaky_fail_status in
+    let same = same_settings mode chain one other a b in
+    let priority = same.priority in
+    let threads = same.threads_required in
+    let arguments = same.run_extra_args in
+    let retries = same.retries in
+    let flaky = same.flaky_result in
+    let slow = same.slow_timeout in
+    let leak = same.leak_timeout in
+    let group = ap owned_group same.test_group in
+    let success = same.success_output in
+    let failure = same.failure_output in
+    let passing = same.junit_store_success_output in
+    let failing = same.junit_store_failure_output in
+    let skipped = same.junit_report_skipped in
+    let status = same.junit_flaky_fail_status in
     cc
 
 one_run : (mode : NextestRunMode) (chain : List ProfileConfig) (one other : RunSettings) → AreRunSettings mode chain one → AreRunSettings mode chain other → one ≡ other

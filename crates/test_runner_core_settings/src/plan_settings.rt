@@ -115,7 +115,7 @@ pub(crate) fn settings_of_tests(
 ) -> Result<PlanSettings, AllocError>
     ensures { IfOk result (AreOfTests mode (chain_of profile.now)) }
 {
-    let settings = profile.settings(mode);
+    let settings = profile.settings_for(mode);
     let group = owned_group(settings.test_group)?;
     with_group(alloc, &settings, group)
 }

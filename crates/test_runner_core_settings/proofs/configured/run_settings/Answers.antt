@@ -12,6 +12,8 @@ returns c =
     let loaded =
     subst (λ (root : List ℕ). IsConfig root inputs.sources (Ok config)) c.as_str-root.ensures
     (subst (λ (sources : List ConfigSource). IsConfig c.as_str-root.result.now sources (Ok config)) c.as_slice-sources.ensures c.in_ok-config.ensures.config) in
+    let told = c.in_ok-config.ensures.told [] c.new-warnings.ensures in
+    let same = ap (λ (sources : List ConfigSource). map text_of (warnings_in sources)) c.as_slice-sources.ensures in
     let it = c.in_ok-settings.ensures in (
       record {
         config = config;
@@ -20,6 +22,5 @@ returns c =
         chained = subst (λ (name : List ℕ). IsChainOf (profiles_of config) name it.0) c.as_str.ensures it.1;
         settings = it.2;
       },
-      c.into_lines.ensures ∙ c.in_ok-config.ensures.told [] c.new-warnings.ensures
-          ∙ ap (λ (sources : List ConfigSource). map text_of (warnings_in sources)) c.as_slice-sources.ensures,
+      cc,
     )
