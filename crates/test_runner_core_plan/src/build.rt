@@ -115,13 +115,14 @@ fn with_settings(
     ensures { IfOk result (λ tests. tests ≡ map (words.with_settings settings.now) instances) }
 {
     let tries = settings.retries.count().saturating_add(1);
-    let mut tests = Listing::new(alloc);
-    for instance in Vec::from(instances) {
+    let instances = Vec::from(instances);
+    let mut tests = Vec::with_capacity(alloc, instances.len())?;
+    for instance in instances {
         tests.push(PlanTest {
             instance,
             settings: settings.clone()?,
             tries,
         })?;
     }
-    Ok(tests)
+    Ok(Listing::from(tests))
 }
