@@ -118,13 +118,16 @@ asks_lacking old ids new asks = (ids, ([], (asks, sym (append-nil ids))))
 pub refused_listing : (answer : Binary → Answer) (inputs : Inputs) (settings : RunSettings) (filter : Formula FiltersetLeaf) (answers : Answers) (error : PlanError)
     → Settles inputs (Ok settings) → IsInForce inputs.workspace inputs.filterset filter → AreAnswers filter everything answers
     → Selected (Err error) (listing answer answers (listed_in inputs answers)) (listed_in inputs answers) → Builds answer inputs (Err error)
-refused_listing answer inputs settings filter answers (errors.Refused refusal) known in_force are (fault, listed, is) =
-    (Ok settings, known, (
-      Ok answers,
-      (filter, in_force, are),
-      ap (λ (given : Result Found ListingFault). found_by given >>= λ found. cond (has_too_many settings found.tests) (Err refused.RetriesTooMany) (Ok (record { settings = settings; answers = answers; found = found }))) listed
-          ∙ ap (λ (r : PlanFault). Err r) (sym is),
-    ))
+refused_listing answer inputs settings filter answers (errors.Refused refusal) known in_force are (fault, listed, is) = (
+  Ok settings,
+  known,
+  (
+    Ok answers,
+    (filter, in_force, are),
+    ap (λ (given : Result Found ListingFault). found_by given >>= λ found. cond (has_too_many settings found.tests) (Err refused.RetriesTooMany) (Ok (record { settings = settings; answers = answers; found = found }))) listed
+        ∙ ap (λ (r : PlanFault). Err r) (sym is),
+  ),
+)
 refused_listing answer inputs settings filter answers errors.OutOfMemory known in_force are selected = tt
 
 -- the sorted tests are as many as the listed ones
@@ -136,13 +139,16 @@ pub plans_found : (answer : Binary → Answer) (inputs : Inputs) (settings : Run
     → Settles inputs (Ok settings) → IsInForce inputs.workspace inputs.filterset filter → AreAnswers filter everything answers
     → listing answer answers (listed_in inputs answers) ≡ Ok found → Selects (listed_in inputs answers) found selection → has_too_many settings selection.tests ≡ many
     → Plans answer inputs (cond many (Err refused.RetriesTooMany) (Ok (record { settings = settings; answers = answers; found = found })))
-plans_found answer inputs settings filter answers found selection many known in_force are listed selects is =
-    (Ok settings, known, (
-      Ok answers,
-      (filter, in_force, are),
-      ap (λ (given : Result Found ListingFault). found_by given >>= λ found. cond (has_too_many settings found.tests) (Err refused.RetriesTooMany) (Ok (record { settings = settings; answers = answers; found = found }))) listed
-          ∙ ap (λ (b : Bool). cond b (Err refused.RetriesTooMany) (Ok (record { settings = settings; answers = answers; found = found }))) (as_many settings (listed_in inputs answers) found selection selects ∙ is),
-    ))
+plans_found answer inputs settings filter answers found selection many known in_force are listed selects is = (
+  Ok settings,
+  known,
+  (
+    Ok answers,
+    (filter, in_force, are),
+    ap (λ (given : Result Found ListingFault). found_by given >>= λ found. cond (has_too_many settings found.tests) (Err refused.RetriesTooMany) (Ok (record { settings = settings; answers = answers; found = found }))) listed
+        ∙ ap (λ (b : Bool). cond b (Err refused.RetriesTooMany) (Ok (record { settings = settings; answers = answers; found = found }))) (as_many settings (listed_in inputs answers) found selection selects ∙ is),
+  ),
+)
 
 -- ---- tries
 

@@ -58,6 +58,7 @@ abbrev pub settled_by : Inputs → Result RunSettings SettingsFault → Result R
 settled_by inputs (Ok settings) = if asks_for_more inputs then Err refused.NotYet else Ok settings
 settled_by inputs (Err refusal) = Err (of_settings refusal)
 
+-- what comes behind the version pass
 abbrev pub SettlesBehind : Inputs → Result VersionPass PlanFault → Result RunSettings PlanFault → Type 0
 SettlesBehind inputs (Ok passed) given = (set : Result RunSettings SettingsFault) × Sets inputs set × (settled_by inputs set ≡ given)
 SettlesBehind inputs (Err refusal) given = given ≡ Err refusal
@@ -165,6 +166,7 @@ AsksBehind answer inputs (Ok settings) lacks old new =
     (chosen : Result Answers PlanFault) → IsChosen inputs.workspace inputs.filterset chosen → AsksFor lacks old (asked_by answer inputs chosen) new
 AsksBehind answer inputs (Err refusal) lacks old new = new ≡ old
 
+-- whichever settings the inputs have
 abbrev pub AsksWith : (Binary → Answer) → Inputs → Bool → List (List ℕ) → List (List ℕ) → Type 0
 AsksWith answer inputs lacks old new = (settings : Result RunSettings PlanFault) → Settles inputs settings → AsksBehind answer inputs settings lacks old new
 

@@ -42,7 +42,10 @@ fn settle(alloc: Global, inputs: &Inputs) -> Result<ConfiguredRun, PlanError>
 }
 
 // What a configuration sets, with the warnings of the version in front of its own.
-fn with_warnings(passed: VersionPass, configured: ConfiguredRun) -> Result<ConfiguredRun, AllocError>
+fn with_warnings(
+    passed: VersionPass,
+    configured: ConfiguredRun,
+) -> Result<ConfiguredRun, AllocError>
     ensures settings { IfOk result (λ it. it.settings ≡ configured.settings) }
     ensures warnings { IfOk result (λ it. it.warnings ≡ passed.warnings ++ configured.warnings) }
 {

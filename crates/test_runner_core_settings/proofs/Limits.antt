@@ -80,7 +80,7 @@ limit_above (float number) = tt
 limit_above (boolean holds) = tt
 limit_above (datetime at) = tt
 limit_above (array items) = tt
-limit_above (table members) = tt
+limit_above (table entries) = tt
 
 found_above : (found : Option Data) → Holds (option_map_or (leaf limit) found (Err [])) (λ found. (mode : TerminateMode) → IsOneAtLeast (stopped_at found mode))
 found_above None = tt
@@ -119,14 +119,14 @@ abbrev HasLimit : ProfileConfig → Type 0
 HasLimit config = HoldsIfSome (key.fail_fast config) IsOneAtLeast
 
 may_be : (members : Members) (found : Option MaxFail) → MayBe members (codes "fail-fast") (Reads fail_fast_in) found → HoldsIfSome found IsOneAtLeast
-may_be members None is = tt
-may_be members (Some limit) (given, there, is) = subst (λ (reading : Reading MaxFail). Holds reading IsOneAtLeast) is (read_limit given)
+may_be top None is = tt
+may_be top (Some limit) (given, there, is) = subst (λ (reading : Reading MaxFail). Holds reading IsOneAtLeast) is (read_limit given)
 
 table_has : (members : Members) → Holds (profile_in members) HasLimit
-table_has members = by_reading (profile_in members) refl
+table_has top = by_reading (profile_in top) refl
   where
-    by_reading : (reading : Reading ProfileConfig) → profile_in members ≡ reading → Holds reading HasLimit
-    by_reading (Ok config) e = may_be members config.run.fail_fast ((accepted_profile members config).0 e).fail_fast
+    by_reading : (reading : Reading ProfileConfig) → profile_in top ≡ reading → Holds reading HasLimit
+    by_reading (Ok config) e = may_be top config.run.fail_fast ((accepted_profile top config).0 e).fail_fast
     by_reading (Err path) e = tt
 
 profile_has : (given : Data) → Holds (profile_of given) HasLimit

@@ -76,7 +76,8 @@ fn a_run_goes_by_places(rt: HostRuntime) -> Result<(), Fail> {
 }
 
 // The inputs of the tests p a and q a.
-const TWO: &str = r#"{"workspace":{"packages":[{"id":"p","name":"p"}],"links":[],"binaries":[{"id":"p","name":"p","package":"p","kind":"lib","platform":"target","tests":["a"]},{"id":"q","name":"q","package":"p","kind":"lib","platform":"target","tests":["a"]}]},"sources":[],"current_version":"1.0.0"}"#;
+const TWO: &str =
+    r#"{"workspace":{"packages":[{"id":"p","name":"p"}],"links":[],"binaries":[{"id":"p","name":"p","package":"p","kind":"lib","platform":"target","tests":["a"]},{"id":"q","name":"q","package":"p","kind":"lib","platform":"target","tests":["a"]}]},"sources":[],"current_version":"1.0.0"}"#;
 
 // A plan of a script s and of the tests p a and q a, with one try each, which the first failing one stops.
 fn plan_of_two(alloc: Global) -> Result<Plan, Fail> {

@@ -50,12 +50,9 @@ fn shown(alloc: Global, plan: &Plan) -> Result<String> {
         told.push_str(shown_test(alloc, test)?.as_str())?;
     }
     let levels = plan.levels;
-    let run = format!(
-        in alloc;
+    let run = format!(in alloc;
         "; limit {:?}; levels {:?} {:?}; ",
-        plan.limit,
-        levels.status_level,
-        levels.final_status_level
+        plan.limit, levels.status_level, levels.final_status_level
     )?;
     told.push_str(run.as_str())?;
     told.push_str(warned(alloc, plan.warnings.as_slice())?.as_str())?;
@@ -64,8 +61,7 @@ fn shown(alloc: Global, plan: &Plan) -> Result<String> {
 
 fn shown_test(alloc: Global, test: &PlanTest) -> Result<String> {
     let settings = &test.settings;
-    Ok(format!(
-        in alloc;
+    Ok(format!(in alloc;
         " [{} {} x{} {:?} {:?} {:?}]",
         test.instance.binary_id,
         test.instance.test_name,

@@ -26,7 +26,9 @@ const SHOWS: Shows = Shows {
 // The plan of both tests, where the default profile sets this.
 fn plan_of(alloc: Global, tries: u32, sets: &str) -> Result<Plan> {
     let retries = tries.saturating_sub(1);
-    let text = format!(in alloc; r#"{{"workspace":{{"packages":[{{"id":"p","name":"p"}}],"links":[],"binaries":[{{"id":"p","name":"p","package":"p","kind":"lib","platform":"target","tests":["a","b"]}}]}},"sources":[{{"kind":"explicit","path":"n","text":"profile.default = {{ retries = {retries}, {sets} }}"}}],"current_version":"1.0.0"}}"#)?;
+    let text = format!(in alloc;
+        r#"{{"workspace":{{"packages":[{{"id":"p","name":"p"}}],"links":[],"binaries":[{{"id":"p","name":"p","package":"p","kind":"lib","platform":"target","tests":["a","b"]}}]}},"sources":[{{"kind":"explicit","path":"n","text":"profile.default = {{ retries = {retries}, {sets} }}"}}],"current_version":"1.0.0"}}"#
+    )?;
     let inputs = Inputs::from_json(alloc, text.as_bytes())?;
     let mut lister = TableLister::new(alloc, &inputs.workspace)?;
     Ok(Plan::build(alloc, &inputs, &mut lister)?)

@@ -28,8 +28,7 @@ returns c =
     let given = c.in_ok-with_warnings in
     let less : asks_for_more inputs ≡ false = sym c.asks_for_more.ensures ∙ c.if-asks_for_more.false in
     let settled = settles_set inputs passed (Ok configured.settings) (Ok configured.settings) (passed_ok inputs passed c.in_ok-check.ensures.exact c.in_ok-passed.ensures.exact) c.in_ok-configured.ensures.0
-    (ap (λ (more : Bool). cond more (Err refused.NotYet) (Ok configured.settings)) less) in
-    (
+    (ap (λ (more : Bool). cond more (Err refused.NotYet) (Ok configured.settings)) less) in (
       subst (λ (it : RunSettings). Settles inputs (Ok it)) (sym given.ensures.settings) settled,
       given.ensures.warnings ∙ all_warnings inputs passed configured.warnings c.in_ok-passed.ensures.exact c.in_ok-configured.ensures.1,
     )
