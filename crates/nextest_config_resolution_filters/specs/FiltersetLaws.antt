@@ -28,8 +28,9 @@ use Rattle.nextest_filtering_laws.proofs.Trees.{one_tree}
 use Rattle.nextest_filtering_syntax.specs.Parsed.{tree_of}
 use Rattle.nextest_filtering_trees.specs.Meaning.{MatchesName}
 use Rattle.nextest_filtering_trees.specs.Tree.{Leaf, Matcher, Tree, matcher_of, matching, default_filter, group, negation, union, intersection, difference, parens, set}
+use Rattle.nextest_config_resolution_filters.specs.Asking.{asks_as_written}
 use Rattle.nextest_config_resolution_filters.specs.Filters.{AreAlike, FiltersLaws, IsRead}
-use Rattle.nextest_config_resolution_filters.specs.Filtersets.{HasOnBinary, HasOnTest, IsFilterset, any_leaf, asked_in, asks, asks_default, asks_group, can_be_default}
+use Rattle.nextest_config_resolution_filters.specs.Filtersets.{AsksAsWritten, HasOnBinary, HasOnTest, IsFilterset, any_leaf, asked_in, asks, asks_default, asks_group, can_be_default}
 use Rattle.nextest_config_resolution_filters.specs.declared.questions.Question.{Question}
 use Rattle.nextest_config_resolution_filters.specs.declared.questions.Question.TheVariants as about
 
@@ -90,9 +91,8 @@ default_on_test graph tree a b one other filter test Member =
 
 -- ---- what a text is, it is by all that a filter is asked
 
-same_asked : (question : Question) (one other : Filterset) → asked_in question one ≡ any_leaf (asks question) (tree_of one.parsed) → asked_in question other ≡ any_leaf (asks question) (tree_of other.parsed)
-    → tree_of one.parsed ≡ tree_of other.parsed → asked_in question one ≡ asked_in question other
-same_asked question one other first second same = first ∙ ap (any_leaf (asks question)) same ∙ sym second
+same_asked : (question : Question) (one other : Filterset) → AsksAsWritten one → AsksAsWritten other → tree_of one.parsed ≡ tree_of other.parsed → asked_in question one ≡ asked_in question other
+same_asked question one other first second same = first question ∙ ap (any_leaf (asks question)) same ∙ sym (second question)
 
 both_same : (a b c d : Bool) → a ≡ c → b ≡ d → (not a && not b) ≡ (not c && not d)
 both_same a b c d first second = ap (λ (x : Bool). not x && not b) first ∙ ap (λ (y : Bool). not c && not y) second
@@ -101,12 +101,13 @@ pub one_meaning : (cx : Context) (purpose : FiltersetKind) (known : KnownGroups)
     → AreAlike HasOnBinary HasOnTest (asked_in about.Group) (asked_in about.Test) can_be_default one other
 one_meaning cx purpose known text one other first second =
     let tree = tree_of one.parsed in
-    let same : tree_of one.parsed ≡ tree_of other.parsed = one_tree text (tree_of one.parsed) (tree_of other.parsed) first.0.1.0 second.0.1.0 in
+    let same : tree_of one.parsed ≡ tree_of other.parsed = one_tree text (tree_of one.parsed) (tree_of other.parsed) first.1.0 second.1.0 in
     let a = filter_of one.compiled in
     let b = filter_of other.compiled in
-    let made : IsCompiled cx.graph tree a = first.0.3 in
-    let also : IsCompiled cx.graph tree b = subst (λ t. IsCompiled cx.graph t b) (sym same) second.0.3 in
-    let asked : (question : Question) → asked_in question one ≡ asked_in question other = λ question. same_asked question one other (first.1 question) (second.1 question) same in
+    let made : IsCompiled cx.graph tree a = first.3 in
+    let also : IsCompiled cx.graph tree b = subst (λ t. IsCompiled cx.graph t b) (sym same) second.3 in
+    let asked : (question : Question) → asked_in question one ≡ asked_in question other
+    = λ question. same_asked question one other (asks_as_written cx purpose known text one first) (asks_as_written cx purpose known text other second) same in
     record {
       groups = asked about.Group;
       runtime = asked about.Test;
@@ -157,15 +158,18 @@ both_not false true one other = absurd (apart other)
 both_not false false one other = refl
 
 pub default_has_no_groups : (cx : Context) (known : KnownGroups) (text : List ℕ) (it : Filterset) → IsFilterset cx kind.DefaultFilter known text it → asked_in about.Group it ≡ false
-default_has_no_groups cx known text it is = is.1 about.Group ∙ none_free cx kind.DefaultFilter known asks_group no_group_in_default (tree_of it.parsed) is.0.1.1
+default_has_no_groups cx known text it is =
+    asks_as_written cx kind.DefaultFilter known text it is about.Group ∙ none_free cx kind.DefaultFilter known asks_group no_group_in_default (tree_of it.parsed) is.1.1
 
 pub default_serves : (cx : Context) (known : KnownGroups) (text : List ℕ) (it : Filterset) → IsFilterset cx kind.DefaultFilter known text it → can_be_default it ≡ true
 default_serves cx known text it is =
     both_not (asked_in about.Default it) (asked_in about.Group it)
-    (is.1 about.Default ∙ none_free cx kind.DefaultFilter known asks_default no_default_in_default (tree_of it.parsed) is.0.1.1) (default_has_no_groups cx known text it is)
+    (asks_as_written cx kind.DefaultFilter known text it is about.Default ∙ none_free cx kind.DefaultFilter known asks_default no_default_in_default (tree_of it.parsed) is.1.1)
+    (default_has_no_groups cx known text it is)
 
 pub override_has_no_groups : (cx : Context) (known : KnownGroups) (text : List ℕ) (it : Filterset) → IsFilterset cx kind.OverrideFilter known text it → asked_in about.Group it ≡ false
-override_has_no_groups cx known text it is = is.1 about.Group ∙ none_free cx kind.OverrideFilter known asks_group no_group_in_override (tree_of it.parsed) is.0.1.1
+override_has_no_groups cx known text it is =
+    asks_as_written cx kind.OverrideFilter known text it is about.Group ∙ none_free cx kind.OverrideFilter known asks_group no_group_in_override (tree_of it.parsed) is.1.1
 
 -- ---- a filter that asks nothing of tests
 
@@ -229,7 +233,7 @@ no_default it serves =
     (λ place. none_at is_default refl it.compiled.leaves place (first_not (asked_in about.Default it) (asked_in about.Group it) serves)) (formula_of it.compiled.steps)
 
 read_readable : (it : Filterset) → IsRead IsFilterset it → AreReadable (filter_of it.compiled)
-read_readable it (cx, purpose, known, text, is) = readable text (tree_of it.parsed) is.0.1.0 cx.graph (filter_of it.compiled) is.0.3
+read_readable it (cx, purpose, known, text, is) = readable text (tree_of it.parsed) is.1.0 cx.graph (filter_of it.compiled) is.3
 
 no_member : (m : Matcher) → IsReadable m → (b : Bool) × Tells ⊥ b
 no_member m reads = (false, ((λ is. apart (sym is)), (λ never. absurd never)))

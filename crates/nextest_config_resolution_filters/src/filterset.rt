@@ -5,7 +5,7 @@ ghost use Rattle.nextest_config_resolution_filters.specs.FiltersetLaws.{filterse
 
 use crate::filter_error::FilterError;
 use crate::filters::Filters;
-use crate::questions::{Question, asks, asks_as_written};
+use crate::questions::{Question, asks};
 use nextest_filtering_arguments::FiltersetKind;
 use nextest_filtering_compiling::{Filterset, FiltersetError, KnownGroups, ParseContext};
 use nextest_filtering_filters::{BinaryQuery, EvalContext, TestQuery};
@@ -38,14 +38,7 @@ impl Filters for Filterset {
         known_groups: &KnownGroups,
     ) -> Result<Filterset, FilterError> {
         match Filterset::parse(alloc, text, cx, kind, known_groups) {
-            // The filter asks what its tree asks: `Filterset::parse` makes it so, and its contract doesn't say so.
-            Ok(filterset) => {
-                if asks_as_written(&filterset) {
-                    Ok(filterset)
-                } else {
-                    Err(FilterError::OutOfMemory)
-                }
-            }
+            Ok(filterset) => Ok(filterset),
             Err(FiltersetError::Refused(_)) => Err(FilterError::Refused),
             Err(FiltersetError::OutOfMemory) => Err(FilterError::OutOfMemory),
         }

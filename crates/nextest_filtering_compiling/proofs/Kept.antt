@@ -8,7 +8,7 @@ use Rattle.nextest_filtering_trees.specs.Tree.{leaf_of}
 use Rattle.nextest_filtering_trees.specs.declared.leaf.ParsedLeaf.{ParsedLeaf}
 use Rattle.nextest_filtering_compiling.specs.Outcomes.{IsKept, IsOutcome}
 use Rattle.nextest_filtering_compiling.specs.Bans.{place_of}
-use Rattle.nextest_filtering_compiling.specs.Compiling.{IsCompiledLeaf}
+use Rattle.nextest_filtering_compiling.specs.Compiling.{AreCompiled, IsCompiledLeaf}
 use Rattle.nextest_filtering_compiling.specs.Context.{Context}
 use Rattle.nextest_filtering_compiling.specs.Faults.{Have, LeafHas, listed}
 use Rattle.nextest_filtering_compiling.specs.declared.compile.Outcome.{Outcome}
@@ -50,9 +50,9 @@ never_empty (first ∷ faults) new fault is none = cc
 -- what they are compiled to, with one more
 pub keeps_made : (cx : Context) (known : KnownGroups) (leaves : List ParsedLeaf) (it : ParsedLeaf) (outcome : Outcome) (made new_made : List FiltersetLeaf)
     (faults new_faults : List ParseSingleError) → IsOutcome cx known it outcome → IsKept outcome made faults new_made new_faults
-    → (faults ≡ [] → AllZip (λ leaf one. IsCompiledLeaf cx.graph (leaf_of leaf) one) leaves made)
-    → new_faults ≡ [] → AllZip (λ leaf one. IsCompiledLeaf cx.graph (leaf_of leaf) one) (leaves ++ it ∷ []) new_made
+    → (faults ≡ [] → AreCompiled cx.graph leaves made)
+    → new_faults ≡ [] → AreCompiled cx.graph (leaves ++ it ∷ []) new_made
 keeps_made cx known leaves it (outcome.Leaf leaf) made new_made faults new_faults is kept all none =
-    subst (AllZip (λ (leaf : ParsedLeaf) (one : FiltersetLeaf). IsCompiledLeaf cx.graph (leaf_of leaf) one) (leaves ++ it ∷ [])) (sym kept.0)
+    subst (AreCompiled cx.graph (leaves ++ it ∷ [])) (sym kept.0)
     (zip_push (λ (leaf : ParsedLeaf) (one : FiltersetLeaf). IsCompiledLeaf cx.graph (leaf_of leaf) one) leaves made it leaf (all (sym kept.1 ∙ none)) is.1)
 keeps_made cx known leaves it (outcome.Fault fault) made new_made faults new_faults is kept all none = absurd (never_empty faults new_faults fault kept none)

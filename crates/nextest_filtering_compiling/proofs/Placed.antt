@@ -1,6 +1,5 @@
 -- Trees over the places of their predicates.
 use Rattle.std.proofs.Common.{◌≡◌, ℕ, ◌+◌, List, [], ◌∷◌, ◌++◌, length, refl, ap, sym, subst, ◌∙◌, arith}
-use Rattle.std.specs.List.{AllZip}
 use Rattle.std.proofs.Math.Seq.{get_or-append_seam}
 use Rattle.std.proofs.lemmas.List.{append_assoc, length-append}
 use Rattle.std.proofs.lemmas.Option.{unwrap_or-slice_get}
@@ -14,7 +13,7 @@ use Rattle.nextest_filtering_syntax.specs.Parsed.{tree_of}
 use Rattle.nextest_filtering_trees.specs.declared.leaf.ParsedLeaf.{ParsedLeaf}
 use Rattle.nextest_filtering_syntax.specs.declared.tree.ParsedExpr.{ParsedExpr}
 use Rattle.nextest_filtering_syntax.specs.declared.tree.ParsedExpr.TheVariants as tree
-use Rattle.nextest_filtering_compiling.specs.Compiling.{IsCompiled, IsCompiledLeaf}
+use Rattle.nextest_filtering_compiling.specs.Compiling.{AreCompiled, IsCompiled, IsCompiledLeaf}
 use Rattle.nextest_filtering_compiling.specs.Leaves.{leaves_of, placed}
 
 -- predicates are compiled to those that stand from a place on
@@ -31,7 +30,7 @@ stand_right graph all first next [] ys at stand = let same : first ≡ next = om
 stand_right graph all first next (x ∷ xs) ys at stand = stand_right graph all (first + 1) next xs ys (omega (arith, at)) stand.1
 
 stand_all : (graph : Graph) (front made : List FiltersetLeaf) (leaves : List ParsedLeaf) (all : List FiltersetLeaf) (first : ℕ) → all ≡ front ++ made → first ≡ length front
-    → AllZip (λ leaf one. IsCompiledLeaf graph (leaf_of leaf) one) leaves made → Stand graph all first leaves
+    → AreCompiled graph leaves made → Stand graph all first leaves
 stand_all graph front made [] all first is at zip = tt
 stand_all graph front [] (it ∷ leaves) all first is at zip = absurd zip
 stand_all graph front (one ∷ made) (it ∷ leaves) all first is at zip =
@@ -70,6 +69,6 @@ compiled_at graph all (tree.Parens' p t) first stand = compiled_at graph all t f
 compiled_at graph all (tree.Set it) first stand = (leaf_at all first, refl, stand.0)
 
 -- a tree over what its predicates are compiled to, by their places, is what it is compiled to
-pub tree_compiled : (graph : Graph) (made : List FiltersetLeaf) (t : ParsedExpr) → AllZip (λ leaf one. IsCompiledLeaf graph (leaf_of leaf) one) (leaves_of t) made
+pub tree_compiled : (graph : Graph) (made : List FiltersetLeaf) (t : ParsedExpr) → AreCompiled graph (leaves_of t) made
     → IsCompiled graph (tree_of t) (with_leaves (leaf_at made) (placed 0 t))
 tree_compiled graph made t zip = compiled_at graph made t 0 (stand_all graph [] made (leaves_of t) made 0 refl refl zip)

@@ -1,6 +1,5 @@
 -- A whole text: which predicates have no fault, and what is said of it.
 use Rattle.std.proofs.Common.{◌≡◌, ◌≢◌, ◌⊎◌, inl, inr, ℕ, ◌==◌, Bool, true, false, List, [], ◌∷◌, ◌++◌, length, Option, None, Some, refl, ap, sym, subst, ◌∙◌, arith}
-use Rattle.std.specs.List.{AllZip}
 use Rattle.std.proofs.lemmas.Bool.{eqb-true, eqb-false}
 use Rattle.nextest_filtering_arguments.specs.declared.ban.BannedPredicateReason.{BannedPredicateReason}
 use Rattle.nextest_filtering_arguments.specs.declared.ban.FiltersetKind.{FiltersetKind}
@@ -23,7 +22,7 @@ use Rattle.nextest_filtering_syntax.specs.declared.tree.ParsedExpr.TheVariants a
 use Rattle.nextest_filtering_compiling.specs.Accepting.{IsAccepted, IsFree, IsRefusedFor}
 use Rattle.nextest_filtering_compiling.specs.Outcomes.{IsFiltered}
 use Rattle.nextest_filtering_compiling.specs.Bans.{ban_of, banned, fault_for, place_of}
-use Rattle.nextest_filtering_compiling.specs.Compiling.{IsCompiled, IsCompiledLeaf}
+use Rattle.nextest_filtering_compiling.specs.Compiling.{AreCompiled, IsCompiled}
 use Rattle.nextest_filtering_compiling.specs.Context.{Context}
 use Rattle.nextest_filtering_compiling.specs.Faults.{Have, LeafHas, listed}
 use Rattle.nextest_filtering_compiling.specs.Leaves.{leaves_of, placed}
@@ -43,10 +42,14 @@ is_something {X} (first ∷ more) count empty is filled same none = cc
 -- no predicate has a fault: its filter
 pub filtered_as : (cx : Context) (purpose : FiltersetKind) (known : KnownGroups) (t : ParsedExpr) (bans faults : List ParseSingleError) (made : List FiltersetLeaf) (shape : List Step) (new : Compiled)
     → bans ≡ banned purpose (leaves_of t) → bans ≡ [] → Have cx known (leaves_of t) faults
-    → (faults ≡ [] → AllZip (λ leaf one. IsCompiledLeaf cx.graph (leaf_of leaf) one) (leaves_of t) made) → faults ≡ [] → formula_of shape ≡ placed 0 t
+    → (faults ≡ [] → AreCompiled cx.graph (leaves_of t) made) → faults ≡ [] → formula_of shape ≡ placed 0 t
     → new.steps ≡ shape → new.leaves ≡ made → IsFiltered cx purpose known t (filtered.Filter new)
-filtered_as cx purpose known t bans faults made shape new is_banned bans_none have zip faults_none formula steps leaves =
-    (sym is_banned ∙ bans_none, subst (Have cx known (leaves_of t)) faults_none have, subst (IsCompiled cx.graph (tree_of t)) (sym same) (tree_compiled cx.graph made t (zip faults_none)))
+filtered_as cx purpose known t bans faults made shape new is_banned bans_none have zip faults_none formula steps leaves = (
+  sym is_banned ∙ bans_none,
+  subst (Have cx known (leaves_of t)) faults_none have,
+  subst (IsCompiled cx.graph (tree_of t)) (sym same) (tree_compiled cx.graph made t (zip faults_none)),
+  subst (AreCompiled cx.graph (leaves_of t)) (sym leaves) (zip faults_none),
+)
   where
     same : filter_of new ≡ with_leaves (leaf_at made) (placed 0 t)
     same = ap (λ (s : List Step). with_leaves (leaf_at new.leaves) (formula_of s)) steps ∙ ap (λ (f : Formula ℕ). with_leaves (leaf_at new.leaves) f) formula
@@ -210,13 +213,15 @@ pub record Accepts (cx : Context) (purpose : FiltersetKind) (known : KnownGroups
   pub accepted : IsAccepted cx purpose known text (tree_of parsed)
   pub stands : StandsWhole text parsed
   pub compiled : IsCompiled cx.graph (tree_of parsed) (filter_of made)
+  pub leaves : AreCompiled cx.graph (leaves_of parsed) made.leaves
 
 pub accepted_text : (cx : Context) (purpose : FiltersetKind) (known : KnownGroups) (text : List ℕ) (reading : Reading) (parsed : ParsedExpr) (made : Compiled)
     → IsReadingOf text reading → reading.faults.items ≡ [] → reading.tree ≡ Some parsed → IsFiltered cx purpose known parsed (filtered.Filter made) → Accepts cx purpose known text parsed made
-accepted_text cx purpose known text reading parsed made is clean at (bans, have, compiled) =
+accepted_text cx purpose known text reading parsed made is clean at (bans, have, compiled, leaves) =
     let read = is_read text reading parsed is clean at in
     record {
       accepted = (read.filterset, free_tree cx purpose known parsed (are_free cx purpose known (leaves_of parsed) bans have));
       stands = read.stands;
       compiled = compiled;
+      leaves = leaves;
     }

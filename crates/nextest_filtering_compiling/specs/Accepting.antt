@@ -10,7 +10,7 @@ use Rattle.nextest_filtering_trees.specs.Tree.{Tree, negation, union, intersecti
 use Rattle.nextest_filtering_syntax.specs.Parsed.{tree_of}
 use Rattle.nextest_filtering_syntax.specs.declared.tree.ParsedExpr.{ParsedExpr}
 use Rattle.nextest_filtering_compiling.specs.Bans.{ban_of, banned}
-use Rattle.nextest_filtering_compiling.specs.Compiling.{IsCompiled}
+use Rattle.nextest_filtering_compiling.specs.Compiling.{AreCompiled, IsCompiled}
 use Rattle.nextest_filtering_compiling.specs.Context.{Context}
 use Rattle.nextest_filtering_compiling.specs.Faults.{Have, LeafHas}
 use Rattle.nextest_filtering_compiling.specs.Leaves.{leaves_of}
@@ -39,11 +39,11 @@ IsRefusedFor cx kind known text faults =
     ⊎ ((parsed : ParsedExpr) × IsFilterset text (tree_of parsed) × StandsWhole text parsed
     × ((faults ≡ banned kind (leaves_of parsed)) ⊎ ((banned kind (leaves_of parsed) ≡ []) × Have cx known (leaves_of parsed) faults)))
 
--- what a text gives: its tree with the spans of its predicates, and the filter that the tree is compiled to; or the faults for which it is
--- refused, of which there are some; want of memory says nothing
+-- what a text gives: its tree with the spans of its predicates, and the filter that the tree is compiled to, its predicates one by one; or the
+-- faults for which it is refused, of which there are some; want of memory says nothing
 abbrev pub Parses : Context → FiltersetKind → KnownGroups → List ℕ → Result Filterset FiltersetError → Type 0
 Parses cx kind known text (Ok it) = (it.input ≡ text) × IsAccepted cx kind known text (tree_of it.parsed) × StandsWhole text it.parsed
-    × IsCompiled cx.graph (tree_of it.parsed) (filter_of it.compiled)
+    × IsCompiled cx.graph (tree_of it.parsed) (filter_of it.compiled) × AreCompiled cx.graph (leaves_of it.parsed) it.compiled.leaves
 Parses cx kind known text (Err (error.Refused it)) = (it.input ≡ text) × (it.errors.items ≢ []) × IsRefusedFor cx kind known text it.errors.items
     × ((tree : Tree) → IsAccepted cx kind known text tree → ⊥)
 Parses cx kind known text (Err error.OutOfMemory) = ⊤

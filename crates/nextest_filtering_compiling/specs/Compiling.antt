@@ -1,13 +1,15 @@
 -- What trees are compiled to.
 use Rattle.std.specs.Prelude.{◌≡◌, ℕ, List}
 use Rattle.std.specs.BTreeSet.{contains_text}
+use Rattle.std.specs.List.{AllZip}
 use Rattle.nextest_filtering_filters.specs.Meaning.{Tells}
 use Rattle.nextest_filtering_filters.specs.declared.leaf.FiltersetLeaf.{FiltersetLeaf}
 use Rattle.nextest_filtering_filters.specs.declared.leaf.FiltersetLeaf.TheVariants as leaf
 use Rattle.nextest_filtering_formulas.specs.Formula as formula
 use Rattle.nextest_filtering_formulas.specs.Formula.{Formula}
 use Rattle.nextest_filtering_graph.specs.Graph.{Graph}
-use Rattle.nextest_filtering_trees.specs.Tree.{Leaf, Matcher, Subject, Tree, matcher_of, matching, built_for, default_filter, everything, nothing, package_name, dependencies, dependents, kind, binary_name, binary_id, test_name, group, negation, union, intersection, difference, parens, set}
+use Rattle.nextest_filtering_trees.specs.Tree.{Leaf, Matcher, Subject, Tree, matcher_of, matching, built_for, default_filter, everything, nothing, package_name, dependencies, dependents, kind, binary_name, binary_id, test_name, group, negation, union, intersection, difference, parens, set, leaf_of}
+use Rattle.nextest_filtering_trees.specs.declared.leaf.ParsedLeaf.{ParsedLeaf}
 use Rattle.nextest_filtering_trees.specs.declared.leaf.SourceSpan.{SourceSpan}
 use Rattle.nextest_filtering_trees.specs.declared.matcher.NameMatcher.{NameMatcher}
 use Rattle.nextest_filtering_compiling.specs.Packages.{AsksFor}
@@ -35,6 +37,10 @@ IsCompiledLeaf graph (built_for platform) it = (span : SourceSpan) × (it ≡ le
 IsCompiledLeaf graph default_filter it = it ≡ leaf.Default
 IsCompiledLeaf graph everything it = it ≡ leaf.All
 IsCompiledLeaf graph nothing it = it ≡ leaf.None
+
+-- the predicates of a tree are compiled one by one, from left to right
+abbrev pub AreCompiled : Graph → List ParsedLeaf → List FiltersetLeaf → Type 0
+AreCompiled graph leaves made = AllZip (λ leaf it. IsCompiledLeaf graph (leaf_of leaf) it) leaves made
 
 -- a tree is compiled part by part: `a - b` is `a and not b`
 abbrev pub IsCompiled : Graph → Tree → Formula FiltersetLeaf → Type 0

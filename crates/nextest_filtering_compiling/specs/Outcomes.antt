@@ -10,7 +10,7 @@ use Rattle.nextest_filtering_trees.specs.declared.leaf.ParsedLeaf.{ParsedLeaf}
 use Rattle.nextest_filtering_trees.specs.declared.leaf.SourceSpan.{SourceSpan}
 use Rattle.nextest_filtering_syntax.specs.declared.tree.ParsedExpr.{ParsedExpr}
 use Rattle.nextest_filtering_compiling.specs.Bans.{banned, place_of}
-use Rattle.nextest_filtering_compiling.specs.Compiling.{IsCompiled, IsCompiledLeaf}
+use Rattle.nextest_filtering_compiling.specs.Compiling.{AreCompiled, IsCompiled, IsCompiledLeaf}
 use Rattle.nextest_filtering_compiling.specs.Context.{Context}
 use Rattle.nextest_filtering_compiling.specs.Faults.{Have, LeafHas}
 use Rattle.nextest_filtering_compiling.specs.Leaves.{leaves_of}
@@ -36,6 +36,6 @@ IsKept (outcome.Fault fault) made faults more_made more_faults = more_faults ≡
 -- the filter that a tree is, where no predicate has a fault; else the faults
 abbrev pub IsFiltered : Context → FiltersetKind → KnownGroups → ParsedExpr → Filtered → Type 0
 IsFiltered cx kind known tree (filtered.Filter made) = (banned kind (leaves_of tree) ≡ []) × Have cx known (leaves_of tree) []
-    × IsCompiled cx.graph (tree_of tree) (filter_of made)
+    × IsCompiled cx.graph (tree_of tree) (filter_of made) × AreCompiled cx.graph (leaves_of tree) made.leaves
 IsFiltered cx kind known tree (filtered.Faults faults) = (faults.items ≢ [])
     × ((faults.items ≡ banned kind (leaves_of tree)) ⊎ ((banned kind (leaves_of tree) ≡ []) × Have cx known (leaves_of tree) faults.items))

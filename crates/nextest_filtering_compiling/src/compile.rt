@@ -1,10 +1,9 @@
 // What predicates are compiled to.
 ghost use Rattle.std.specs.Prelude.{◌≡◌, [], IfOk, OnOk, map};
-ghost use Rattle.std.specs.List.{AllZip};
-ghost use Rattle.nextest_filtering_trees.specs.Tree.{binary_id, binary_name, group, leaf_of, matcher_of, matching};
+ghost use Rattle.nextest_filtering_trees.specs.Tree.{binary_id, binary_name, group, matcher_of, matching};
 ghost use Rattle.nextest_filtering_compiling.specs.Asking.{subject_of};
 ghost use Rattle.nextest_filtering_compiling.specs.Outcomes.{IsKept, IsOutcome, IsOutcomeAt};
-ghost use Rattle.nextest_filtering_compiling.specs.Compiling.{IsCompiledLeaf};
+ghost use Rattle.nextest_filtering_compiling.specs.Compiling.{AreCompiled};
 ghost use Rattle.nextest_filtering_compiling.specs.Context.{Context};
 ghost use Rattle.nextest_filtering_compiling.specs.Faults.{Have};
 ghost use Rattle.nextest_filtering_compiling.specs.Leaves.{behind};
@@ -153,7 +152,7 @@ pub(crate) fn compile_leaves(
     leaves: &[&ParsedLeaf],
 ) -> Result<Compiled, AllocError>
     ensures faults { IfOk result (λ it. Have cx.now known.now (map behind leaves.now) it.faults.items) }
-    ensures leaves { IfOk result (λ it. it.faults.items ≡ [] → AllZip (λ leaf made. IsCompiledLeaf cx.now.graph (leaf_of leaf) made) (map behind leaves.now) it.leaves.items) }
+    ensures leaves { IfOk result (λ it. it.faults.items ≡ [] → AreCompiled cx.now.graph (map behind leaves.now) it.leaves.items) }
 {
     let mut made = Vec::new(alloc);
     let mut faults = Vec::new(alloc);

@@ -1,8 +1,6 @@
 use Rattle.std.proofs.Common.{List, map, take, subst, sym}
-use Rattle.std.specs.List.{AllZip}
-use Rattle.nextest_filtering_trees.specs.Tree.{leaf_of}
 use Rattle.nextest_filtering_trees.specs.declared.leaf.ParsedLeaf.{ParsedLeaf}
-use Rattle.nextest_filtering_compiling.specs.Compiling.{IsCompiledLeaf}
+use Rattle.nextest_filtering_compiling.specs.Compiling.{AreCompiled}
 use Rattle.nextest_filtering_compiling.specs.Faults.{Have}
 use Rattle.nextest_filtering_compiling.specs.Leaves.{behind}
 use Rattle.nextest_filtering_compiling.proofs.Behind.{behind_more}
@@ -17,7 +15,7 @@ loop-leaf-preserved c =
       faults = subst (λ (leaves : List ParsedLeaf). Have c.args.cx.now c.args.known.now leaves c.keep.new.faults.items) (sym more)
           (keeps_faults c.args.cx.now c.args.known.now front c.leaf-item.result.now c.in_ok-compile_leaf.field-0 c.loop-leaf.made.items c.keep.new.made.items c.loop-leaf.faults.items c.keep.new.faults.items
           c.in_ok-compile_leaf.ensures c.in_ok-keep.ensures c.loop-leaf.invariant.faults);
-      made = λ none. subst (λ (leaves : List ParsedLeaf). AllZip (λ leaf made. IsCompiledLeaf c.args.cx.now.graph (leaf_of leaf) made) leaves c.keep.new.made.items) (sym more)
+      made = λ none. subst (λ (leaves : List ParsedLeaf). AreCompiled c.args.cx.now.graph leaves c.keep.new.made.items) (sym more)
           (keeps_made c.args.cx.now c.args.known.now front c.leaf-item.result.now c.in_ok-compile_leaf.field-0 c.loop-leaf.made.items c.keep.new.made.items c.loop-leaf.faults.items c.keep.new.faults.items
           c.in_ok-compile_leaf.ensures c.in_ok-keep.ensures c.loop-leaf.invariant.made none);
     }

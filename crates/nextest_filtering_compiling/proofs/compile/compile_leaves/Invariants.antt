@@ -1,7 +1,5 @@
 use Rattle.std.proofs.Common.{◌≡◌, [], map, take}
-use Rattle.std.specs.List.{AllZip}
-use Rattle.nextest_filtering_trees.specs.Tree.{leaf_of}
-use Rattle.nextest_filtering_compiling.specs.Compiling.{IsCompiledLeaf}
+use Rattle.nextest_filtering_compiling.specs.Compiling.{AreCompiled}
 use Rattle.nextest_filtering_compiling.specs.Faults.{Have}
 use Rattle.nextest_filtering_compiling.specs.Leaves.{behind}
 use Rattle.nextest_filtering_compiling.proofs.compile.compile_leaves.Given as goal
@@ -9,5 +7,5 @@ use Rattle.nextest_filtering_compiling.proofs.compile.compile_leaves.Given as go
 abbrev pub invariant-loop-leaf : goal.invariant-loop-leaf
 invariant-loop-leaf l = record {
   faults : Have l.cx l.known (map behind (take l.leaf-index l.leaves)) l.faults.items;
-  made : l.faults.items ≡ [] → AllZip (λ leaf made. IsCompiledLeaf l.cx.graph (leaf_of leaf) made) (map behind (take l.leaf-index l.leaves)) l.made.items;
+  made : l.faults.items ≡ [] → AreCompiled l.cx.graph (map behind (take l.leaf-index l.leaves)) l.made.items;
 }

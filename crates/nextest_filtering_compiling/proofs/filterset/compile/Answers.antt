@@ -1,10 +1,8 @@
 use Rattle.std.proofs.Common.{◌≡◌, List, map, ap, subst, ◌∙◌, arith}
-use Rattle.std.specs.List.{AllZip}
 use Rattle.std.specs.Prelude.{vec_len}
-use Rattle.nextest_filtering_trees.specs.Tree.{leaf_of}
 use Rattle.nextest_filtering_trees.specs.declared.leaf.ParsedLeaf.{ParsedLeaf}
 use Rattle.nextest_filtering_compiling.specs.Bans.{banned}
-use Rattle.nextest_filtering_compiling.specs.Compiling.{IsCompiledLeaf}
+use Rattle.nextest_filtering_compiling.specs.Compiling.{AreCompiled}
 use Rattle.nextest_filtering_compiling.specs.Faults.{Have}
 use Rattle.nextest_filtering_compiling.specs.Leaves.{behind, leaves_of}
 use Rattle.nextest_filtering_compiling.proofs.Whole.{filtered_as, is_nothing}
@@ -22,5 +20,5 @@ returns c =
     filtered_as cx c.args.kind known t bans.items faults.items c.in_ok-made.field-0.leaves.items c.in_ok-shape_of.field-0 c.new.result (c.in_ok-banned.ensures ∙ ap (banned c.args.kind) first)
     (is_nothing bans.items (vec_len bans) c.is_empty.result c.is_empty.ensures c.if-not-is_empty.false (omega (arith, bans.ok.0)))
     (subst (λ (leaves : List ParsedLeaf). Have cx known leaves faults.items) second c.in_ok-made.ensures.faults)
-    (λ none. subst (λ (leaves : List ParsedLeaf). AllZip (λ leaf one. IsCompiledLeaf cx.graph (leaf_of leaf) one) leaves c.in_ok-made.field-0.leaves.items) second (c.in_ok-made.ensures.leaves none))
+    (λ none. subst (λ (leaves : List ParsedLeaf). AreCompiled cx.graph leaves c.in_ok-made.field-0.leaves.items) second (c.in_ok-made.ensures.leaves none))
     (is_nothing faults.items (vec_len faults) c.is_empty-2.result c.is_empty-2.ensures c.if-not-is_empty-2.false (omega (arith, faults.ok.0))) c.in_ok-shape_of.ensures c.new.ensures.steps c.new.ensures.leaves

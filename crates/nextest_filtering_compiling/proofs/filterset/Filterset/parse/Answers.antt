@@ -29,7 +29,7 @@ returns-in-Filter c =
     = is_nothing reading.faults.items (vec_len reading.faults) c.is_empty.result c.is_empty.ensures c.if-not-is_empty.false (omega (arith, reading.faults.ok.0)) in
     let told = accepted_text c.args.cx.now c.args.kind c.args.known_groups.now c.args.input reading c.in-Some.parsed c.in-Filter.compiled is clean c.in-Some.is
     (subst (IsFiltered c.args.cx.now c.args.kind c.args.known_groups.now c.in-Some.parsed) c.in-Filter.is c.in_ok-compiled.ensures) in
-    (refl, told.accepted, told.stands, told.compiled)
+    (refl, told.accepted, told.stands, told.compiled, told.leaves)
 
 pub returns : goal.returns
 returns c =
