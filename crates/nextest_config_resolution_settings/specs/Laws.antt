@@ -2,9 +2,8 @@
 use Rattle.std.specs.Prelude.{◌≡◌, List, Option}
 use Rattle.nextest_config_elements_plain.specs.declared.run_mode.NextestRunMode.{NextestRunMode}
 use Rattle.nextest_config_resolution_settings.specs.Nearest.{IsSetting}
-use Rattle.nextest_config_resolution_settings.specs.TestSettings.{AreSame, AreSettings, AreSourced}
+use Rattle.nextest_config_resolution_settings.specs.TestSettings.{AreSame, AreSettings, HaveSameSources}
 use Rattle.nextest_config_resolution_settings.specs.declared.source.SettingSource.{SettingSource}
-use Rattle.nextest_config_resolution_settings.specs.declared.test_settings.TestSettingSources.{TestSettingSources}
 use Rattle.nextest_config_resolution_settings.specs.declared.test_settings.TestSettings.{TestSettings}
 use Rattle.nextest_config_resolution_values.specs.declared.profile_config.ProfileConfig.{ProfileConfig}
 
@@ -15,10 +14,18 @@ OneSetting {R} {P} {V} by_rule by_profile =
     → IsSetting by_rule by_profile rules profiles fallback one from → IsSetting by_rule by_profile rules profiles fallback second other
     → (one ≡ second) × (from ≡ other)
 
--- settings with sources are those of the chain, each setting is one, and so is each source
-abbrev pub SourcedSettings : Type 0
-SourcedSettings =
-    (mode : NextestRunMode) (chain : List ProfileConfig) (one other : TestSettings) (sources : TestSettingSources)
-    → AreSourced mode chain one sources
-    → AreSettings mode chain one × (AreSettings mode chain other → AreSame one other)
-    × ((second : TestSettingSources) → AreSourced mode chain other second → sources ≡ second)
+-- a chain sets the same for each test, whatever is kept of where that is taken from
+abbrev pub SameSettings : {S T : Type 0} → (SettingSource → S) → (SettingSource → T) → Type 0
+SameSettings {S} {T} kept also =
+    (mode : NextestRunMode) (chain : List ProfileConfig) (one : TestSettings S) (other : TestSettings T)
+    → AreSettings kept mode chain one → AreSettings also mode chain other → AreSame one other
+
+-- and each setting is taken from one place
+abbrev pub SameSources : {S : Type 0} → (SettingSource → S) → Type 0
+SameSources {S} kept =
+    (mode : NextestRunMode) (chain : List ProfileConfig) (one other : TestSettings S)
+    → AreSettings kept mode chain one → AreSettings kept mode chain other → HaveSameSources one other
+
+-- a chain sets something for each test
+abbrev pub SomeSettings : {S : Type 0} → (SettingSource → S) → Type 0
+SomeSettings {S} kept = (mode : NextestRunMode) (chain : List ProfileConfig) → (settings : TestSettings S) × AreSettings kept mode chain settings

@@ -1,5 +1,5 @@
 -- What a profile shows of itself, and the values that its chain has.
-use Rattle.std.specs.Prelude.{ℕ, ◌==◌, Bool, ◌||◌, List, [], ◌∷◌, ◌++◌, Option, Some, None, codes, length, nat_eq, if◌then◌else◌}
+use Rattle.std.specs.Prelude.{◌≡◌, ℕ, ◌==◌, Bool, ◌||◌, List, [], ◌∷◌, ◌++◌, Option, Some, None, codes, length, nat_eq, if◌then◌else◌}
 use Rattle.std.specs.List.{starts_with}
 use Rattle.nextest_config_elements_counts.specs.declared.junit.JunitConfig.{JunitConfig}
 use Rattle.nextest_config_resolution_settings.specs.Fallbacks as fallback
@@ -37,9 +37,11 @@ OfProfiles by_profile profiles fallback value = HasValue {R = NoRule} (λ _. Non
 abbrev pub SourcedBy : {P V : Type 0} → (P → Option V) → List P → V → V → SettingSource → Type 0
 SourcedBy by_profile profiles fallback value source = IsSetting {R = NoRule} (λ _. None) by_profile [] profiles fallback value source
 
--- where profiles take a setting from, whatever its fallback is
-pub record IsSourceOf {P V : Type 0} (by_profile : P → Option V) (profiles : List P) (source : SettingSource) : Type 0 where
-  pub has : (fallback : V) → (value : V) × SourcedBy by_profile profiles fallback value source
+-- the value that profiles have of a setting, where no rules are asked, and what is kept of where it is taken from
+pub record IsTracked {P V S : Type 0} (kept : SettingSource → S) (by_profile : P → Option V) (profiles : List P) (fallback : V) (it : V × S) : Type 0 where
+  pub from : SettingSource
+  pub is : SourcedBy by_profile profiles fallback it.0 from
+  pub keeps : it.1 ≡ kept from
 
 -- the value that profiles have of a setting, or none where none of them sets it
 abbrev pub MaySet : {P V : Type 0} → (P → Option V) → List P → Option V → Type 0

@@ -1,11 +1,11 @@
 // A profile, and the values that it has.
-ghost use Rattle.std.specs.Prelude.{◌≡◌, IfOk};
+ghost use Rattle.std.specs.Prelude.{◌≡◌, IfOk, None};
 ghost use Rattle.std.specs.Option.{option_copied};
 ghost use Rattle.nextest_config_resolution_settings.specs.Fallbacks as fallback;
 ghost use Rattle.nextest_config_resolution_settings.specs.Keys as key;
 ghost use Rattle.nextest_config_resolution_settings.specs.Nearest.{lent};
-ghost use Rattle.nextest_config_resolution_settings.specs.Profile.{IsSourceOf, MayHaveJunit, MaySet, OfProfiles, chain_of, inherits_of, name_of, root_of, stands_alone, store_dir_of, store_of};
-ghost use Rattle.nextest_config_resolution_settings.specs.TestSettings.{AreSettings, AreSourced};
+ghost use Rattle.nextest_config_resolution_settings.specs.Profile.{IsTracked, MayHaveJunit, MaySet, OfProfiles, chain_of, inherits_of, name_of, root_of, stands_alone, store_dir_of, store_of};
+ghost use Rattle.nextest_config_resolution_settings.specs.TestSettings.{AreSettings, keeps_all, keeps_none};
 
 use crate::fallbacks;
 use crate::keys::{
@@ -15,9 +15,10 @@ use crate::keys::{
     JunitStoreSuccessOutputKey, LeakTimeoutKey, RetriesKey, RunExtraArgsKey, SlowTimeoutKey,
     StatusLevelKey, SuccessOutputKey, TestThreadsKey, ThreadsRequiredKey,
 };
-use crate::profiles::{of_profiles, set_by, source_of, value_or};
-use crate::source::SettingSource;
-use crate::test_settings::{TestGroupRef, TestSettingSources, TestSettings};
+use crate::list_settings::ListSettings;
+use crate::profiles::{found_by, of_profiles, set_by, tracked, value_or};
+use crate::source::{SettingSource, TrackSource};
+use crate::test_settings::{TestGroupRef, TestSettings};
 use nextest_config_elements_counts::{
     GlobalTimeout, JunitConfig, JunitFlakyFailStatus, LeakTimeout, ReportSkipPolicy, RetryPolicy,
     SlowTimeout, TestPriority, TestThreads, ThreadsRequired,
@@ -239,74 +240,87 @@ impl<'c> EvaluatableProfile<'c> {
 
     /// The settings of each test, where no rule holds for it: those of its profile.
     pub fn settings_for(&self, mode: NextestRunMode) -> TestSettings<'c>
-        ensures { AreSettings mode (chain_of self.now) result }
+        ensures { AreSettings keeps_none mode (chain_of self.now) result }
     {
-        TestSettings {
-            priority: TestPriority::default(),
-            threads_required: self.threads_required(),
-            run_extra_args: self.run_extra_args(),
-            retries: self.retries(),
-            flaky_result: self.flaky_result(),
-            slow_timeout: self.slow_timeout(mode),
-            leak_timeout: self.leak_timeout(),
-            test_group: TestGroupRef::Global,
-            success_output: self.success_output(),
-            failure_output: self.failure_output(),
-            junit_store_success_output: self.junit_store_success_output(),
-            junit_store_failure_output: self.junit_store_failure_output(),
-            junit_report_skipped: self.junit_report_skipped(),
-            junit_flaky_fail_status: self.junit_flaky_fail_status(),
-        }
+        self.settings_by::<()>(mode)
     }
 
     /// The settings of each test, where no rule holds for it, and where each of them is taken from. `SettingSource::Profile` has a
     /// place of the chain: 0 is the profile itself.
-    pub fn settings_with_source_for(
-        &self,
-        mode: NextestRunMode,
-    ) -> (TestSettings<'c>, TestSettingSources)
-        ensures { AreSourced mode (chain_of self.now) result.0 result.1 }
+    pub fn settings_with_source_for(&self, mode: NextestRunMode) -> TestSettings<'c, SettingSource>
+        ensures { AreSettings keeps_all mode (chain_of self.now) result }
     {
-        (self.settings_for(mode), self.sources_for(mode))
+        self.settings_by::<SettingSource>(mode)
     }
 
-    // Where the settings of each test are taken from, where no rule holds for it. Rules alone set a priority or a group.
-    #[tactic(auto, using(crate::proofs::Sourced::taken_from))]
-    fn sources_for(&self, mode: NextestRunMode) -> TestSettingSources
-        ensures { (settings : TestSettings) → AreSettings mode (chain_of self.now) settings → AreSourced mode (chain_of self.now) settings result }
+    /// The settings with which the tests of each binary are listed, where no rule holds for it: nothing is set.
+    pub fn list_settings_for(&self) -> ListSettings<'c>
+        ensures { result.list_wrapper.0 ≡ None }
+    {
+        ListSettings::debug_empty()
+    }
+
+    // The settings of each test, where no rule holds for it, and what is kept of where each of them is taken from. Rules alone set
+    // a priority, a wrapper script or a group.
+    fn settings_by<S: TrackSource>(&self, mode: NextestRunMode) -> TestSettings<'c, S>
+        ensures { AreSettings S.kept mode (chain_of self.now) result }
     {
         let chain = self.chain.as_slice();
-        TestSettingSources {
-            priority: SettingSource::Default,
-            threads_required: source_of::<ThreadsRequiredKey, ProfileConfig>(chain),
-            run_extra_args: source_of::<RunExtraArgsKey, ProfileConfig>(chain),
-            retries: source_of::<RetriesKey, ProfileConfig>(chain),
-            flaky_result: source_of::<FlakyResultKey, ProfileConfig>(chain),
-            slow_timeout: self.slow_timeout_source(mode),
-            leak_timeout: source_of::<LeakTimeoutKey, ProfileConfig>(chain),
-            test_group: SettingSource::Default,
-            success_output: source_of::<SuccessOutputKey, ProfileConfig>(chain),
-            failure_output: source_of::<FailureOutputKey, ProfileConfig>(chain),
-            junit_store_success_output: source_of::<JunitStoreSuccessOutputKey, ProfileConfig>(
+        TestSettings {
+            priority: (TestPriority::default(), S::track(SettingSource::Default)),
+            threads_required: tracked::<ThreadsRequiredKey, S>(
                 chain,
+                fallbacks::threads_required(),
             ),
-            junit_store_failure_output: source_of::<JunitStoreFailureOutputKey, ProfileConfig>(
+            run_wrapper: (None, S::track(SettingSource::Default)),
+            run_extra_args: self.run_extra_args_by(),
+            retries: tracked::<RetriesKey, S>(chain, fallbacks::retries()),
+            flaky_result: tracked::<FlakyResultKey, S>(chain, fallbacks::flaky_result()),
+            slow_timeout: self.slow_timeout_by(mode),
+            leak_timeout: tracked::<LeakTimeoutKey, S>(chain, fallbacks::leak_timeout()),
+            test_group: (TestGroupRef::Global, S::track(SettingSource::Default)),
+            success_output: tracked::<SuccessOutputKey, S>(chain, fallbacks::success_output()),
+            failure_output: tracked::<FailureOutputKey, S>(chain, fallbacks::failure_output()),
+            junit_store_success_output: tracked::<JunitStoreSuccessOutputKey, S>(
                 chain,
+                fallbacks::junit_store_success_output(),
             ),
-            junit_report_skipped: source_of::<JunitReportSkippedKey, ProfileConfig>(chain),
-            junit_flaky_fail_status: source_of::<JunitFlakyFailStatusKey, ProfileConfig>(chain),
+            junit_store_failure_output: tracked::<JunitStoreFailureOutputKey, S>(
+                chain,
+                fallbacks::junit_store_failure_output(),
+            ),
+            junit_report_skipped: tracked::<JunitReportSkippedKey, S>(
+                chain,
+                fallbacks::junit_report_skipped(),
+            ),
+            junit_flaky_fail_status: tracked::<JunitFlakyFailStatusKey, S>(
+                chain,
+                fallbacks::junit_flaky_fail_status(),
+            ),
         }
     }
 
-    // Where `slow-timeout` is taken from; of benchmarks `bench.slow-timeout`, and that alone.
-    fn slow_timeout_source(&self, mode: NextestRunMode) -> SettingSource
-        ensures { IsSourceOf (key.slow_timeout mode) (chain_of self.now) result }
+    // `slow-timeout`, and what is kept of where it is taken from; of benchmarks `bench.slow-timeout`, and that alone.
+    fn slow_timeout_by<S: TrackSource>(&self, mode: NextestRunMode) -> (SlowTimeout, S)
+        ensures { IsTracked S.kept (key.slow_timeout mode) (chain_of self.now) (fallback.slow_timeout mode) result }
     {
+        let otherwise = fallbacks::slow_timeout(mode);
         match mode {
-            NextestRunMode::Test => source_of::<SlowTimeoutKey, ProfileConfig>(&self.chain),
-            NextestRunMode::Benchmark => source_of::<BenchSlowTimeoutKey, ProfileConfig>(
-                &self.chain,
-            ),
+            NextestRunMode::Test => { tracked::<SlowTimeoutKey, S>(&self.chain, otherwise) }
+            NextestRunMode::Benchmark => {
+                tracked::<BenchSlowTimeoutKey, S>(&self.chain, otherwise)
+            }
+        }
+    }
+
+    // `run-extra-args`, and what is kept of where it is taken from.
+    fn run_extra_args_by<S: TrackSource>(&self) -> (&'c [Text], S)
+        ensures { IsTracked S.kept key.run_extra_args (chain_of self.now) fallback.run_extra_args (result.0.now, result.1) }
+    {
+        let (found, source) = found_by::<RunExtraArgsKey, ProfileConfig, S>(&self.chain);
+        match found {
+            Some(arguments) => (arguments.as_slice(), source),
+            None => (&[], source),
         }
     }
 

@@ -10,11 +10,18 @@ pub mod fallbacks;
 pub mod keys;
 pub mod laws;
 mod layers;
+mod list_settings;
 mod profiles;
 mod source;
 mod test_settings;
+mod wrapper_script;
 
 pub use evaluatable_profile::EvaluatableProfile;
 pub use layers::{NoRule, Sets, Setting, find_setting, nearest};
-pub use source::SettingSource;
-pub use test_settings::{TestGroupRef, TestSettingSources, TestSettings};
+pub use list_settings::ListSettings;
+pub use source::{SettingSource, TrackSource};
+pub use test_settings::{TestGroupRef, TestSettings};
+pub use wrapper_script::{
+    ScriptCommand, ScriptCommandEnvMap, ScriptCommandRelativeTo, WrapperScriptConfig,
+    WrapperScriptTargetRunner,
+};

@@ -2,10 +2,11 @@
 ghost use Rattle.std.specs.Prelude.{unwrap_or};
 ghost use Rattle.std.specs.Option.{option_copied};
 ghost use Rattle.nextest_config_resolution_settings.specs.Nearest.{lent};
-ghost use Rattle.nextest_config_resolution_settings.specs.Profile.{IsSourceOf, MaySet, OfProfiles};
+ghost use Rattle.nextest_config_resolution_settings.specs.Profile.{IsTracked, MaySet, OfProfiles};
 
 use crate::layers::{NoRule, Sets, Setting, find_setting, nearest};
-use crate::source::SettingSource;
+use crate::source::TrackSource;
+use nextest_config_resolution_values::ProfileConfig;
 
 // The value that profiles have of a setting, lent. `None` where none of them sets it, and then whatever the fallback is holds.
 pub(crate) fn of_profiles<'c, S: Setting, P: Sets<S>>(profiles: &[&'c P]) -> Option<&'c S::Value>
@@ -27,13 +28,32 @@ pub(crate) fn value_or<'c, S: Setting, P: Sets<S>>(
     }
 }
 
-// Where profiles take the value of a setting from.
-pub(crate) fn source_of<'c, S: Setting, P: Sets<S>>(profiles: &[&'c P]) -> SettingSource
-where
-    S::Value: 'c,
-    ensures { IsSourceOf P.value (lent profiles.now) result }
+// The value that profiles have of a setting, lent, and what is kept of where it is taken from. `None` where none of them sets it,
+// and then whatever the fallback is holds.
+pub(crate) fn found_by<'c, S: Setting, P: Sets<S>, T: TrackSource>(
+    profiles: &[&'c P],
+) -> (Option<&'c S::Value>, T)
+    ensures { (fallback : S.Value) → IsTracked T.kept P.value (lent profiles.now) fallback (unwrap_or (option_copied result.0) fallback, result.1) }
 {
-    find_setting::<S, NoRule, P>(&[], profiles).1
+    let (value, source) = find_setting::<S, NoRule, P>(&[], profiles);
+    (value, T::track(source))
+}
+
+// The value that profiles have of a setting, or the fallback, and what is kept of where it is taken from.
+pub(crate) fn tracked<'c, S: Setting, T: TrackSource>(
+    profiles: &[&'c ProfileConfig],
+    fallback: S::Value,
+) -> (S::Value, T)
+where
+    ProfileConfig: Sets<S>,
+    S::Value: Copy + 'c,
+    ensures { IsTracked T.kept ⟦<ProfileConfig as Sets<S>>⟧.value (lent profiles.now) fallback result }
+{
+    let (found, source) = found_by::<S, ProfileConfig, T>(profiles);
+    match found {
+        Some(value) => (*value, source),
+        None => (fallback, source),
+    }
 }
 
 // The value that profiles have of a setting, lent, if one of them sets it.

@@ -1,0 +1,10 @@
+use Rattle.nextest_config_resolution_settings.proofs.Some.{some_settings}
+use Rattle.nextest_config_resolution_settings.proofs.Sourced.{same_settings, same_sources}
+use Rattle.nextest_config_resolution_settings.proofs.laws.same_settings.Goals as goal
+
+pub returns : goal.returns
+returns g c = record {
+  some = some_settings g.S.TrackSource.kept;
+  settings = same_settings g.S.TrackSource.kept g.T.TrackSource.kept;
+  sources = same_sources g.S.TrackSource.kept;
+}
