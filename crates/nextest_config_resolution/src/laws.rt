@@ -8,7 +8,9 @@ pub use nextest_config_resolution_inheritance::laws::{
     no_end, no_fault, one_chain, one_fault, one_verdict,
 };
 pub use nextest_config_resolution_load::laws::{merged_files, one_load};
-pub use nextest_config_resolution_profiles::laws::{kept_profile, one_profile};
-pub use nextest_config_resolution_settings::laws::{one_setting, sourced_settings};
+pub use nextest_config_resolution_profiles::laws::{
+    kept_profile, one_profile, same_chain, some_profile,
+};
+pub use nextest_config_resolution_settings::laws::{one_setting, same_settings};
 pub use nextest_config_resolution_tree::laws::{merged_by_over, one_standing};
 pub use nextest_config_resolution_values::laws::accepted_profile;

@@ -19,8 +19,9 @@ pub use nextest_config_resolution_profiles::{
     BuildPlatforms, EarlyProfile, NextestConfig, ProfileError, ProfileNotFound,
 };
 pub use nextest_config_resolution_settings::{
-    EvaluatableProfile, NoRule, Sets, Setting, SettingSource, TestGroupRef, TestSettingSources,
-    TestSettings, fallbacks, find_setting, keys, nearest,
+    EvaluatableProfile, ListSettings, NoRule, ScriptCommand, ScriptCommandEnvMap,
+    ScriptCommandRelativeTo, Sets, Setting, SettingSource, TestGroupRef, TestSettings, TrackSource,
+    WrapperScriptConfig, WrapperScriptTargetRunner, fallbacks, find_setting, keys, nearest,
 };
 pub use nextest_config_resolution_sources::{
     CONFIG_PATH, ConfigFileSelection, ConfigPaths, ConfigSource, ConfigSourceOutcome,

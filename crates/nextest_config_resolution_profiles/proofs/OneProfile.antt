@@ -6,7 +6,7 @@ use Rattle.nextest_config_resolution_load.specs.Load.{parents_of}
 use Rattle.nextest_config_resolution_profiles.specs.Config.{values_of}
 use Rattle.nextest_config_resolution_profiles.specs.Laws.{OneProfile}
 
-one_order : (profiles : Parents) {name : Name} {one other : List Name} → IsChain profiles name one → IsChain profiles name other → one ≡ other
+pub one_order : (profiles : Parents) {name : Name} {one other : List Name} → IsChain profiles name one → IsChain profiles name other → one ≡ other
 one_order profiles (ends is) (ends also) = refl
 one_order profiles (ends is) (goes_on apart chain) = absurd (apart is)
 one_order profiles (goes_on apart chain) (ends is) = absurd (apart is)

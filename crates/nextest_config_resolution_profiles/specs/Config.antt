@@ -32,16 +32,16 @@ IsConfig root sources (Ok config) = (config.root ≡ root) × IsLoaded built_in_
 IsConfig root sources (Err refused) = IsLoaded built_in_members sources (Err refused)
 
 -- what an early profile shows of itself
-abbrev pub name_of : EarlyProfile → Name
+abbrev pub name_of : {F S : Type 0} → EarlyProfile F S → Name
 name_of profile = profile.name.now
 
-abbrev pub root_of : EarlyProfile → List ℕ
+abbrev pub root_of : {F S : Type 0} → EarlyProfile F S → List ℕ
 root_of profile = profile.root.now
 
-abbrev pub dir_of : EarlyProfile → List ℕ
+abbrev pub dir_of : {F S : Type 0} → EarlyProfile F S → List ℕ
 dir_of profile = profile.store.now
 
-abbrev pub chain_of : EarlyProfile → List ProfileConfig
+abbrev pub chain_of : {F S : Type 0} → EarlyProfile F S → List ProfileConfig
 chain_of profile = lent profile.chain.items
 
 -- the values of the profile of a name
@@ -55,14 +55,14 @@ pub record IsChainOf (profiles : List Named) (name : Name) (values : List Profil
   pub valued : map (values_of profiles) names ≡ map Some values
 
 -- the profile of a name, before anything is known of the platforms
-pub record IsEarly (config : Whole) (name : Name) (it : EarlyProfile) : Type 0 where
+pub record IsEarly {F S : Type 0} (config : Whole) (name : Name) (it : EarlyProfile F S) : Type 0 where
   pub named : name_of it ≡ name
   pub rooted : root_of it ≡ config.root
   pub stored : dir_of it ≡ store_of config
   pub chained : IsChainOf (profiles_of config) name (chain_of it)
 
 -- the profile of a name, or that none has it, with the names of all; want of memory says nothing
-abbrev pub IsProfile : Whole → Name → Result EarlyProfile ProfileError → Type 0
+abbrev pub IsProfile : {F S : Type 0} → Whole → Name → Result (EarlyProfile F S) ProfileError → Type 0
 IsProfile config name (Ok it) = IsEarly config name it
 IsProfile config name (Err (error.NotFound told)) = (told.name ≡ name) × (told.known ≡ names_of config) × ¬ Contains (names_of config) name
 IsProfile config name (Err error.OutOfMemory) = ⊤

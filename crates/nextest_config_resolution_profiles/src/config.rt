@@ -4,28 +4,35 @@ use crate::early_profile::EarlyProfile;
 use crate::profile_error::{ProfileError, ProfileNotFound};
 use crate::selection::select_kinds;
 use nextest_config_resolution_built_in::built_in;
+use nextest_config_resolution_filters::{Filters, Specs};
 use nextest_config_resolution_load::{
     ConfigWarnings, LoadError, LoadedConfig, load, load_with_warnings,
 };
 use nextest_config_resolution_sources::{ConfigFileSelection, ConfigPaths, ConfigSource};
 use nextest_text::Text;
 use std::alloc::Global;
-use std::marker::Model;
+use std::marker::{Model, PhantomData};
 
-/// A whole configuration: what its sources come to, each over the lower ones and over what is built in.
-pub struct NextestConfig {
+/// A whole configuration: what its sources come to, each over the lower ones and over what is built in. Tests are told apart by
+/// filters `F`, and builds by specs `S`; none of either is read yet.
+pub struct NextestConfig<F: Filters, S: Specs> {
     root: Text,
     loaded: LoadedConfig,
+    by: PhantomData<(F, S)>,
 }
 
 // One call drops it, whoever holds it.
-impl Drop for NextestConfig {
+impl<F: Filters, S: Specs> Drop for NextestConfig<F, S> {
     fn drop(self) {
-        let Self { root: _, loaded: _ } = self;
+        let Self {
+            root: _,
+            loaded: _,
+            by: _,
+        } = self;
     }
 }
 
-impl Model for NextestConfig {
+impl<F: Filters, S: Specs> Model for NextestConfig<F, S> {
     ghost use Rattle.nextest_config_resolution_profiles.specs.Whole.{IsSound, Whole};
 
     ghost Value = { Whole };
@@ -36,13 +43,14 @@ impl Model for NextestConfig {
     ghost invariant = { λ it. IsSound it.loaded };
 }
 
-impl NextestConfig {
+impl<F: Filters, S: Specs> NextestConfig<F, S> {
     ghost use Rattle.nextest_config_resolution_load.specs.Telling.{TellsAs, warnings_in};
     ghost use Rattle.nextest_config_resolution_profiles.specs.Config.{IsConfig, IsProfile, store_of};
     ghost use Rattle.nextest_config_resolution_profiles.specs.Selection.{selected_by};
     ghost use Rattle.std.specs.Prelude.{◌≡◌};
 
-    /// What sources come to, those that count, each over the lower ones and over what is built in, in the workspace at `root`.
+    /// What sources come to, those that count, each over the lower ones and over what is built in, in the workspace at `root`,
+    /// which `cx` is to filters.
     ///
     /// # Errors
     ///
@@ -50,8 +58,9 @@ impl NextestConfig {
     pub fn from_sources(
         alloc: Global,
         root: &str,
+        _cx: &F::Cx,
         sources: &[ConfigSource],
-    ) -> Result<NextestConfig, LoadError>
+    ) -> Result<NextestConfig<F, S>, LoadError>
         ensures { IsConfig root.now sources.now result }
     {
         let lowest = built_in(alloc)?;
@@ -59,6 +68,7 @@ impl NextestConfig {
             Ok(loaded) => Ok(NextestConfig {
                 root: Text::from_str(alloc, root)?,
                 loaded,
+                by: PhantomData,
             }),
             Err(error) => Err(error),
         }
@@ -73,16 +83,21 @@ impl NextestConfig {
     pub fn from_sources_with_warnings<W: ConfigWarnings>(
         alloc: Global,
         root: &str,
+        _cx: &F::Cx,
         sources: &[ConfigSource],
         warnings: &mut W,
-    ) -> Result<NextestConfig, LoadError>
+    ) -> Result<NextestConfig<F, S>, LoadError>
         ensures config { IsConfig root.now sources.now result }
         ensures told { TellsAs W.has_told warnings.old warnings.new (warnings_in sources.now) result }
     {
         let lowest = built_in(alloc)?;
         let root = Text::from_str(alloc, root)?;
         match load_with_warnings(alloc, &lowest, sources, warnings) {
-            Ok(loaded) => Ok(NextestConfig { root, loaded }),
+            Ok(loaded) => Ok(NextestConfig {
+                root,
+                loaded,
+                by: PhantomData,
+            }),
             Err(error) => Err(error),
         }
     }
@@ -97,15 +112,16 @@ impl NextestConfig {
     pub fn from_sources_with_selection<W: ConfigWarnings>(
         alloc: Global,
         root: &str,
+        cx: &F::Cx,
         selection: &ConfigFileSelection,
         mut sources: Vec<ConfigSource>,
         warnings: &mut W,
-    ) -> Result<NextestConfig, LoadError>
+    ) -> Result<NextestConfig<F, S>, LoadError>
         ensures config { IsConfig root.now (selected_by selection.now sources.items) result }
         ensures told { TellsAs W.has_told warnings.old warnings.new (warnings_in (selected_by selection.now sources.items)) result }
     {
         select_kinds(selection, sources.as_mut_slice());
-        NextestConfig::from_sources_with_warnings(alloc, root, sources.as_slice(), warnings)
+        NextestConfig::from_sources_with_warnings(alloc, root, cx, sources.as_slice(), warnings)
     }
 
     /// What `from_sources_with_selection` gives in the workspace that the paths tell of.
@@ -116,15 +132,16 @@ impl NextestConfig {
     pub fn from_sources_with_paths<W: ConfigWarnings>(
         alloc: Global,
         paths: &ConfigPaths,
+        cx: &F::Cx,
         selection: &ConfigFileSelection,
         sources: Vec<ConfigSource>,
         warnings: &mut W,
-    ) -> Result<NextestConfig, LoadError>
+    ) -> Result<NextestConfig<F, S>, LoadError>
         ensures config { IsConfig paths.now.workspace_root (selected_by selection.now sources.items) result }
         ensures told { TellsAs W.has_told warnings.old warnings.new (warnings_in (selected_by selection.now sources.items)) result }
     {
         let root = paths.workspace_root.as_str();
-        NextestConfig::from_sources_with_selection(alloc, root, selection, sources, warnings)
+        NextestConfig::from_sources_with_selection(alloc, root, cx, selection, sources, warnings)
     }
 
     /// Whether a file that counts sets a key that isn't read yet, as `LoadedConfig` says.
@@ -139,7 +156,7 @@ impl NextestConfig {
     /// # Errors
     ///
     /// `NotFound` exactly if no profile has that name, with the names of all. Want of memory says nothing of the profiles.
-    pub fn profile(&self, alloc: Global, name: &str) -> Result<EarlyProfile<'_>, ProfileError>
+    pub fn profile(&self, alloc: Global, name: &str) -> Result<EarlyProfile<'_, F, S>, ProfileError>
         ensures { IsProfile self.now name.now result }
     {
         let profiles = self.loaded.profiles.as_slice();
@@ -151,6 +168,7 @@ impl NextestConfig {
                     root: self.root.as_str(),
                     store: self.store(),
                     chain,
+                    by: PhantomData,
                 })
             }
             None => Err(ProfileError::NotFound(ProfileNotFound {

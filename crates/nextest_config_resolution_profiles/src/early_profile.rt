@@ -6,32 +6,35 @@ ghost use Rattle.nextest_config_resolution_settings.specs.Keys as key;
 ghost use Rattle.nextest_config_resolution_settings.specs.Nearest.{SetsNone};
 ghost use Rattle.nextest_config_resolution_settings.specs.Profile as profile;
 
+use nextest_config_resolution_filters::{Filters, Specs};
 use nextest_config_resolution_settings::keys::JunitPathKey;
 use nextest_config_resolution_settings::{EvaluatableProfile, nearest};
 use nextest_config_resolution_values::ProfileConfig;
 use nextest_text::Text;
 use std::alloc::{AllocError, Global};
+use std::marker::PhantomData;
 
 /// A profile before anything is known of the platforms: its chain, and where its files stand.
-#[derive(Debug, Drop)]
-pub struct EarlyProfile<'c> {
+#[derive(Drop)]
+pub struct EarlyProfile<'c, F, S> {
     pub(crate) name: &'c str,
     pub(crate) root: &'c str,
     pub(crate) store: &'c str,
     // Its own values first, then those of its parents one after another, and those of `default` last.
     pub(crate) chain: Vec<&'c ProfileConfig>,
+    pub(crate) by: PhantomData<(F, S)>,
 }
 
 /// What is known of the platform that is built on, and of the one that is built for where it is another.
 #[derive(Clone, Copy, Debug)]
-pub struct BuildPlatforms<'f, F> {
+pub struct BuildPlatforms<'f, Facts> {
     /// What is known of the platform that is built on.
-    pub host: &'f F,
+    pub host: &'f Facts,
     /// What is known of the platform that is built for; `None` where it is the same.
-    pub target: Option<&'f F>,
+    pub target: Option<&'f Facts>,
 }
 
-impl<'c> EarlyProfile<'c> {
+impl<'c, F: Filters, S: Specs> EarlyProfile<'c, F, S> {
     /// Its name.
     pub fn name(&self) -> &'c str
         ensures { result.now ≡ name_of self.now }
@@ -60,9 +63,9 @@ impl<'c> EarlyProfile<'c> {
 
     /// The profile on these platforms, with the same name and chain, to be asked for its settings. Nothing asks of the platforms
     /// yet.
-    pub fn apply_build_platforms<F>(
+    pub fn apply_build_platforms(
         self,
-        _platforms: &BuildPlatforms<'_, F>,
+        _platforms: &BuildPlatforms<'_, S::Facts>,
     ) -> EvaluatableProfile<'c>
         ensures name { profile.name_of result ≡ name_of self.entry }
         ensures root { profile.root_of result ≡ root_of self.entry }
@@ -74,6 +77,7 @@ impl<'c> EarlyProfile<'c> {
             root,
             store,
             chain,
+            by: _,
         } = self;
         EvaluatableProfile::new(name, root, store, chain)
     }

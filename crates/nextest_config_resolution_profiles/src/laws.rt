@@ -1,6 +1,6 @@
 //! What holds of whole configurations. Each law is the contract of a function that does nothing.
 ghost use Rattle.nextest_config_resolution_profiles.specs.Kept.{KeptProfile};
-ghost use Rattle.nextest_config_resolution_profiles.specs.Laws.{OneProfile};
+ghost use Rattle.nextest_config_resolution_profiles.specs.Laws.{OneProfile, SameChain, SomeChain, SomeConfig};
 
 /// A profile of what is built in is one of every configuration that is loaded over it.
 pub fn kept_profile()
@@ -10,4 +10,15 @@ pub fn kept_profile()
 /// The chain of a profile has one list of values.
 pub fn one_profile()
     ensures { OneProfile }
+{}
+
+/// Sources come to a configuration, or a rule is broken; and in a configuration a name has a chain, or no profile has that name.
+pub fn some_profile()
+    ensures config { SomeConfig }
+    ensures chain { SomeChain }
+{}
+
+/// The chain of a profile hangs on the profiles in it alone: others that have the same values under their names have the same one.
+pub fn same_chain()
+    ensures { SameChain }
 {}

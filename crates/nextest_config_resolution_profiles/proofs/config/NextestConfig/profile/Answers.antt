@@ -6,7 +6,7 @@ use Rattle.nextest_config_resolution_profiles.proofs.Names.{name_is}
 use Rattle.nextest_config_resolution_profiles.proofs.config.NextestConfig.profile.Goals as goal
 
 pub returns-in_ok-chain-in-Some : goal.returns-in_ok-chain-in-Some
-returns-in_ok-chain-in-Some c =
+returns-in_ok-chain-in-Some g c =
     let profiles = c.as_slice-profiles.result.now in
     let values = lent c.in_ok-chain-in-Some.chain.items in
     let same : profiles ≡ c.args.self.now.loaded.profiles = cc (c.as_slice-profiles.ensures, ap (λ whole. whole.loaded.profiles) c.self.view_is) in
