@@ -1,2 +1,4 @@
+pub mod Isolated
 pub mod Limits
 pub mod Once
+pub mod Some

@@ -31,7 +31,7 @@ use Rattle.nextest_config_resolution_profiles.specs.declared.profile_error.Profi
 use Rattle.nextest_config_resolution_profiles.proofs.OneProfile.{one_chain_of}
 use Rattle.nextest_config_resolution_settings.specs.Fallbacks as fallback
 use Rattle.nextest_config_resolution_settings.specs.Keys as key
-use Rattle.nextest_config_resolution_settings.specs.TestSettings.{AreSettings}
+use Rattle.nextest_config_resolution_settings.specs.TestSettings.{AreSettings, keeps_none}
 use Rattle.nextest_config_resolution_settings.specs.declared.test_settings.TestSettings.{TestSettings}
 use Rattle.nextest_config_resolution_settings.proofs.Sourced.{one_value, same_settings}
 use Rattle.nextest_config_resolution_sources.specs.declared.source.ConfigSource.{ConfigSource}
@@ -48,9 +48,10 @@ use Rattle.test_runner_core_settings.specs.declared.settings_fault.SettingsFault
 -- ---- the settings of a chain
 
 -- copies of the settings of a chain are one
-one_test : (mode : NextestRunMode) (chain : List ProfileConfig) (one other : TestSettings) → AreSettings mode chain one → AreSettings mode chain other → owned_of one ≡ owned_of other
+one_test : (mode : NextestRunMode) (chain : List ProfileConfig) (one other : TestSettings (Unit {0})) → AreSettings keeps_none mode chain one → AreSettings keeps_none mode chain other
+    → owned_of one ≡ owned_of other
 one_test mode chain one other a b =
-    let same = same_settings mode chain one other a b in
+    let same = same_settings keeps_none keeps_none mode chain one other a b in
     let priority = same.priority in
     let threads = same.threads_required in
     let arguments = same.run_extra_args in
@@ -67,7 +68,7 @@ one_test mode chain one other a b =
     let status = same.junit_flaky_fail_status in
     cc
 
-one_run : (mode : NextestRunMode) (chain : List ProfileConfig) (one other : RunSettings) → AreRunSettings mode chain one → AreRunSettings mode chain other → one ≡ other
+pub one_run : (mode : NextestRunMode) (chain : List ProfileConfig) (one other : RunSettings) → AreRunSettings mode chain one → AreRunSettings mode chain other → one ≡ other
 one_run mode chain one other a b =
     let test : one.test ≡ other.test = a.test.owned ∙ one_test mode chain a.test.lent b.test.lent a.test.each b.test.each ∙ sym b.test.owned in
     let limit : one.max_fail ≡ other.max_fail = one_value key.fail_fast chain fallback.fail_fast _ _ a.max_fail b.max_fail in
@@ -145,7 +146,7 @@ one_kind built_in sources one other (inr (config, a, badly)) (inr (second, b, al
 
 -- ---- configurations
 
-same_seen : (inputs : Inputs) (one other : Whole) → IsConfig inputs.root inputs.sources (Ok one) → IsConfig inputs.root inputs.sources (Ok other) → seen one.loaded ≡ seen other.loaded
+pub same_seen : (inputs : Inputs) (one other : Whole) → IsConfig inputs.root inputs.sources (Ok one) → IsConfig inputs.root inputs.sources (Ok other) → seen one.loaded ≡ seen other.loaded
 same_seen inputs one other a b = one_load _ inputs.sources one.loaded other.loaded a.1 b.1
 
 never_later : (inputs : Inputs) (one other : Whole) → Reads inputs one → IsConfig inputs.root inputs.sources (Ok other) → other.loaded.sets_later_keys ≡ true → ⊥

@@ -6,7 +6,7 @@ use Rattle.nextest_config_elements_plain.specs.declared.run_mode.NextestRunMode.
 use Rattle.nextest_config_resolution_settings.specs.Fallbacks as fallback
 use Rattle.nextest_config_resolution_settings.specs.Keys as key
 use Rattle.nextest_config_resolution_settings.specs.Profile.{OfProfiles}
-use Rattle.nextest_config_resolution_settings.specs.TestSettings.{AreSettings}
+use Rattle.nextest_config_resolution_settings.specs.TestSettings.{AreSettings, keeps_none}
 use Rattle.nextest_config_resolution_settings.specs.declared.test_settings.TestGroupRef.{TestGroupRef}
 use Rattle.nextest_config_resolution_settings.specs.declared.test_settings.TestGroupRef.TheVariants as group_ref
 use Rattle.nextest_config_resolution_settings.specs.declared.test_settings.TestSettings.{TestSettings}
@@ -19,28 +19,28 @@ abbrev pub owned_group : TestGroupRef → TestGroup
 owned_group group_ref.Global = group.Global
 owned_group (group_ref.Custom it) = group.Custom it.now
 
-abbrev pub owned_of : TestSettings → PlanSettings
+abbrev pub owned_of : TestSettings (Unit {0}) → PlanSettings
 owned_of it = record {
-  priority = it.priority;
-  threads_required = it.threads_required;
-  run_extra_args = it.run_extra_args.now;
-  retries = it.retries;
-  flaky_result = it.flaky_result;
-  slow_timeout = it.slow_timeout;
-  leak_timeout = it.leak_timeout;
-  test_group = owned_group it.test_group;
-  success_output = it.success_output;
-  failure_output = it.failure_output;
-  junit_store_success_output = it.junit_store_success_output;
-  junit_store_failure_output = it.junit_store_failure_output;
-  junit_report_skipped = it.junit_report_skipped;
-  junit_flaky_fail_status = it.junit_flaky_fail_status;
+  priority = it.priority.0;
+  threads_required = it.threads_required.0;
+  run_extra_args = it.run_extra_args.0.now;
+  retries = it.retries.0;
+  flaky_result = it.flaky_result.0;
+  slow_timeout = it.slow_timeout.0;
+  leak_timeout = it.leak_timeout.0;
+  test_group = owned_group it.test_group.0;
+  success_output = it.success_output.0;
+  failure_output = it.failure_output.0;
+  junit_store_success_output = it.junit_store_success_output.0;
+  junit_store_failure_output = it.junit_store_failure_output.0;
+  junit_report_skipped = it.junit_report_skipped.0;
+  junit_flaky_fail_status = it.junit_flaky_fail_status.0;
 }
 
 -- each setting of a test is what the chain has
 pub record AreOfTests (mode : NextestRunMode) (chain : List ProfileConfig) (it : PlanSettings) : Type 0 where
-  pub lent : TestSettings
-  pub each : AreSettings mode chain lent
+  pub lent : TestSettings (Unit {0})
+  pub each : AreSettings keeps_none mode chain lent
   pub owned : it ≡ owned_of lent
 
 -- and so is each of the run

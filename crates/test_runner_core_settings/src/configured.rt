@@ -4,6 +4,7 @@ ghost use Rattle.nextest_config_resolution_settings.specs.Profile.{chain_of};
 ghost use Rattle.test_runner_core_settings.specs.Calls.{Configures, SetsOf};
 ghost use Rattle.test_runner_core_settings.specs.Settings.{AreRunSettings};
 
+use crate::no_specs::NoSpecs;
 use crate::plan_settings::{PlanSettings, settings_of_tests};
 use crate::settings_error::SettingsError;
 use crate::settings_fault::SettingsFault;
@@ -11,10 +12,14 @@ use nextest_config_elements_plain::{MaxFail, NextestRunMode};
 use nextest_config_resolution_profiles::{BuildPlatforms, NextestConfig};
 use nextest_config_resolution_settings::EvaluatableProfile;
 use nextest_config_resolution_warnings::DefaultConfigWarnings;
+use nextest_filtering_compiling::{Filterset, ParseContext};
 use nextest_run_events_visibility::StatusLevels;
 use nextest_text::{Listing, Text};
 use std::alloc::{AllocError, Global};
 use test_runner_core_inputs::Inputs;
+
+// A configuration of runs: tests are told apart by filtersets, and no platform spec is read yet.
+type RunConfig = NextestConfig<Filterset, NoSpecs>;
 
 /// What a profile sets for a run.
 #[derive(Clone, Debug, PartialEq, Eq)]
@@ -48,19 +53,23 @@ pub struct ConfiguredRun {
 }
 
 /// What the sources of inputs, those that count, each over the lower ones and over what is built in, set for the run of the
-/// chosen profile.
+/// chosen profile. `cx` is the workspace of the inputs to filtersets.
 ///
 /// # Errors
 ///
 /// `Refused` tells, in this order, of the first rule of the load that is broken, as `load` says; that a file sets a key that isn't
 /// read yet; that no profile has the chosen name. Want of memory says nothing of the inputs.
-pub fn run_settings(alloc: Global, inputs: &Inputs) -> Result<ConfiguredRun, SettingsError>
+pub fn run_settings(
+    alloc: Global,
+    cx: &ParseContext,
+    inputs: &Inputs,
+) -> Result<ConfiguredRun, SettingsError>
     ensures { Configures inputs.now result }
 {
     let mut warnings = DefaultConfigWarnings::new(alloc);
     let sources = inputs.sources.as_slice();
     let root = inputs.root.as_str();
-    let config = NextestConfig::from_sources_with_warnings(alloc, root, sources, &mut warnings)?;
+    let config = RunConfig::from_sources_with_warnings(alloc, root, cx, sources, &mut warnings)?;
     if config.sets_later_keys() {
         return Err(SettingsError::Refused(SettingsFault::NotYet));
     }
@@ -74,7 +83,7 @@ pub fn run_settings(alloc: Global, inputs: &Inputs) -> Result<ConfiguredRun, Set
 // What the profile of a name sets.
 fn settings_of(
     alloc: Global,
-    config: &NextestConfig,
+    config: &RunConfig,
     name: &str,
     mode: NextestRunMode,
 ) -> Result<RunSettings, SettingsError>

@@ -4,6 +4,7 @@
 
 mod configured;
 pub mod laws;
+mod no_specs;
 mod plan_settings;
 mod settings_error;
 mod settings_fault;

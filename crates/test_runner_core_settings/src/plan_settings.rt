@@ -9,11 +9,13 @@ use nextest_config_elements_counts::{
 };
 use nextest_config_elements_identifiers::TestGroup;
 use nextest_config_elements_plain::{FlakyResult, NextestRunMode, TestOutputDisplay};
-use nextest_config_resolution_settings::{EvaluatableProfile, TestGroupRef, TestSettings};
+use nextest_config_resolution_settings::{
+    EvaluatableProfile, TestGroupRef, TestSettings, WrapperScriptConfig,
+};
 use nextest_text::{Listing, Text};
 use std::alloc::{AllocError, Global};
 
-/// The settings of a selected test, as a plan keeps them: those of `TestSettings`, owned.
+/// The settings of a selected test, as a plan keeps them: those of `TestSettings`, owned, but for a wrapper script, which no test has yet.
 #[derive(Clone, Debug, PartialEq, Eq)]
 pub struct PlanSettings {
     /// `priority`: before which tests it runs.
@@ -76,7 +78,7 @@ impl PlanSettings {
     ) -> Result<PlanSettings, AllocError>
         ensures { IfOk result (λ it. it ≡ owned_of settings.now) }
     {
-        let group = owned_group(settings.test_group)?;
+        let group = owned_group(settings.test_group())?;
         with_group(alloc, settings, group)
     }
 }
@@ -87,23 +89,23 @@ fn with_group(
     settings: &TestSettings<'_>,
     test_group: TestGroup,
 ) -> Result<PlanSettings, AllocError>
-    ensures { test_group ≡ owned_group settings.now.test_group → IfOk result (λ it. it ≡ owned_of settings.now) }
+    ensures { test_group ≡ owned_group settings.now.test_group.0 → IfOk result (λ it. it ≡ owned_of settings.now) }
 {
     Ok(PlanSettings {
-        priority: settings.priority,
-        threads_required: settings.threads_required,
-        run_extra_args: owned_texts(alloc, settings.run_extra_args)?,
-        retries: settings.retries,
-        flaky_result: settings.flaky_result,
-        slow_timeout: settings.slow_timeout,
-        leak_timeout: settings.leak_timeout,
+        priority: settings.priority(),
+        threads_required: settings.threads_required(),
+        run_extra_args: owned_texts(alloc, settings.run_extra_args())?,
+        retries: settings.retries(),
+        flaky_result: settings.flaky_result(),
+        slow_timeout: settings.slow_timeout(),
+        leak_timeout: settings.leak_timeout(),
         test_group,
-        success_output: settings.success_output,
-        failure_output: settings.failure_output,
-        junit_store_success_output: settings.junit_store_success_output,
-        junit_store_failure_output: settings.junit_store_failure_output,
-        junit_report_skipped: settings.junit_report_skipped,
-        junit_flaky_fail_status: settings.junit_flaky_fail_status,
+        success_output: settings.success_output(),
+        failure_output: settings.failure_output(),
+        junit_store_success_output: settings.junit_store_success_output(),
+        junit_store_failure_output: settings.junit_store_failure_output(),
+        junit_report_skipped: settings.junit_report_skipped(),
+        junit_flaky_fail_status: settings.junit_flaky_fail_status(),
     })
 }
 
@@ -116,7 +118,9 @@ pub(crate) fn settings_of_tests(
     ensures { IfOk result (AreOfTests mode (chain_of profile.now)) }
 {
     let settings = profile.settings_for(mode);
-    let group = owned_group(settings.test_group)?;
+    // No rule is read yet, so there is none.
+    let _wrapper: Option<&WrapperScriptConfig> = settings.run_wrapper();
+    let group = owned_group(settings.test_group())?;
     with_group(alloc, &settings, group)
 }
 

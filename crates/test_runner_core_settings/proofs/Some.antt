@@ -1,0 +1,58 @@
+-- Inputs set something, or there is a reason why they set nothing.
+use Rattle.std.specs.List.{Contains}
+use Rattle.std.proofs.Common.{◌≡◌, ◌⊎◌, inl, inr, Bool, true, false, List, Result, Ok, Err, refl}
+use Rattle.nextest_config_elements_plain.specs.declared.run_mode.NextestRunMode.{NextestRunMode}
+use Rattle.nextest_config_resolution_load.specs.declared.load_error.LoadError.TheVariants as load
+use Rattle.nextest_config_resolution_load.specs.declared.load_fault.LoadFault.{LoadFault}
+use Rattle.nextest_config_resolution_profiles.specs.Config.{IsChainOf, IsConfig, names_of, profiles_of}
+use Rattle.nextest_config_resolution_profiles.specs.Whole.{Whole}
+use Rattle.nextest_config_resolution_profiles.proofs.SomeChain.{some_chain}
+use Rattle.nextest_config_resolution_profiles.proofs.SomeConfig.{some_config}
+use Rattle.nextest_config_resolution_settings.specs.Fallbacks as fallback
+use Rattle.nextest_config_resolution_settings.specs.Keys as key
+use Rattle.nextest_config_resolution_settings.specs.TestSettings.{keeps_none}
+use Rattle.nextest_config_resolution_settings.proofs.Some as settings
+use Rattle.nextest_config_resolution_values.specs.declared.profile_config.ProfileConfig.{ProfileConfig}
+use Rattle.test_runner_core_inputs.specs.declared.inputs.Inputs.{Inputs}
+use Rattle.test_runner_core_settings.specs.Laws.{SomeSettings}
+use Rattle.test_runner_core_settings.specs.Settings.{AreRunSettings, owned_of}
+use Rattle.test_runner_core_settings.specs.Sets.{Reads, Sets}
+use Rattle.test_runner_core_settings.specs.declared.configured.RunSettings.{RunSettings}
+use Rattle.test_runner_core_settings.specs.declared.settings_fault.SettingsFault.{SettingsFault}
+use Rattle.test_runner_core_settings.specs.declared.settings_fault.SettingsFault.TheVariants as fault
+
+-- what a chain sets for a run
+some_run : (mode : NextestRunMode) (chain : List ProfileConfig) → (it : RunSettings) × AreRunSettings mode chain it
+some_run mode chain =
+    let test = settings.some_settings keeps_none mode chain in
+    let limit = settings.some_value key.fail_fast chain fallback.fail_fast in
+    let level = settings.some_value key.status_level chain fallback.status_level in
+    let final_level = settings.some_value key.final_status_level chain fallback.final_status_level in (
+      record { test = owned_of test.0; max_fail = limit.0; levels = record { status_level = level.0; final_status_level = final_level.0 } },
+      record {
+        test = record { lent = test.0; each = test.1; owned = refl };
+        max_fail = limit.1;
+        status_level = level.1;
+        final_status_level = final_level.1;
+      },
+    )
+
+pub some_settings : SomeSettings
+some_settings inputs = by_config (some_config inputs.root inputs.sources)
+  where
+    by_chain : (config : Whole) → Reads inputs config → ((values : List ProfileConfig) × IsChainOf (profiles_of config) inputs.profile values) ⊎ ¬ Contains (names_of config) inputs.profile
+        → (given : Result RunSettings SettingsFault) × Sets inputs given
+    by_chain config reads (inl (values, chained)) =
+        let it = some_run inputs.mode values in (Ok it.0, record { config = config; reads = reads; chain = values; chained = chained; settings = it.1 })
+    by_chain config reads (inr none) =
+        (Err (fault.ProfileNotFound (record { name = inputs.profile; known = names_of config })), record { config = config; reads = reads; name = refl; known = refl; none = none })
+
+    by_later : (config : Whole) (later : Bool) → IsConfig inputs.root inputs.sources (Ok config) → config.loaded.sets_later_keys ≡ later
+        → (given : Result RunSettings SettingsFault) × Sets inputs given
+    by_later config true loaded e = (Err fault.NotYet, record { config = config; loaded = loaded; later = e })
+    by_later config false loaded e = by_chain config (record { loaded = loaded; later = e }) (some_chain inputs.root inputs.sources config inputs.profile loaded)
+
+    by_config : ((config : Whole) × IsConfig inputs.root inputs.sources (Ok config)) ⊎ ((told : LoadFault) × IsConfig inputs.root inputs.sources (Err (load.Refused told)))
+        → (given : Result RunSettings SettingsFault) × Sets inputs given
+    by_config (inl (config, loaded)) = by_later config config.loaded.sets_later_keys loaded refl
+    by_config (inr (told, refused)) = (Err (fault.Load told), refused)
