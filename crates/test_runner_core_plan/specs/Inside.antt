@@ -3,12 +3,12 @@ use Rattle.std.specs.Prelude.{◌≡◌, ◌⊎◌, ℕ, List, Option, Result, O
 use Rattle.nextest_filtering_filters.specs.Filter.{Compiled, filter_of}
 use Rattle.test_runner_core_inputs.specs.declared.inputs.Inputs.{Inputs}
 use Rattle.test_runner_core_settings.specs.declared.configured.RunSettings.{RunSettings}
-use Rattle.test_runner_core_settings.specs.declared.configured.ConfiguredRun.{ConfiguredRun}
 use Rattle.test_runner_core_workspace.specs.declared.record.WorkspaceRecord.{WorkspaceRecord}
-use Rattle.test_runner_core_plan.specs.Filtering.{IsChosen, IsInForce}
+use Rattle.test_runner_core_plan.specs.Filtering.{IsChosen, IsContextOf, IsInForce}
 use Rattle.test_runner_core_plan.specs.Plan.{Settles, warnings_of}
 use Rattle.test_runner_core_plan.specs.declared.plan_error.PlanError.{PlanError}
 use Rattle.test_runner_core_plan.specs.declared.plan_error.PlanError.TheVariants as error
+use Rattle.test_runner_core_plan.specs.declared.wanted.Settled.{Settled}
 use Rattle.test_runner_core_plan.specs.declared.wanted.Wanted.{Wanted}
 
 -- a call gives the filter in force, or refuses it; want of memory says nothing
@@ -17,9 +17,9 @@ GivesInForce workspace filterset (Ok filter) = IsInForce workspace filterset (fi
 GivesInForce workspace filterset (Err (error.Refused refusal)) = IsChosen workspace filterset (Err refusal)
 GivesInForce workspace filterset (Err error.OutOfMemory) = ⊤
 
--- a call gives the settings that inputs ask for, with all warnings, or refuses them
-abbrev pub AreSettled : Inputs → Result ConfiguredRun PlanError → Type 0
-AreSettled inputs (Ok settled) = Settles inputs (Ok settled.settings) × (settled.warnings ≡ warnings_of inputs)
+-- a call gives the settings that inputs ask for, with all warnings and their workspace as filtersets are compiled for it, or refuses them
+abbrev pub AreSettled : Inputs → Result Settled PlanError → Type 0
+AreSettled inputs (Ok it) = Settles inputs (Ok it.run.settings) × (it.run.warnings ≡ warnings_of inputs) × IsContextOf inputs.workspace it.cx
 AreSettled inputs (Err (error.Refused refusal)) = Settles inputs (Err refusal)
 AreSettled inputs (Err error.OutOfMemory) = ⊤
 

@@ -66,7 +66,10 @@ fn graph_of(alloc: Global, workspace: &WorkspaceRecord) -> Result<PackageGraph, 
 }
 
 // A workspace that isn't refused, as filtersets are compiled for it.
-fn context_of(alloc: Global, workspace: &WorkspaceRecord) -> Result<ParseContext, AllocError>
+pub(crate) fn context_of(
+    alloc: Global,
+    workspace: &WorkspaceRecord,
+) -> Result<ParseContext, AllocError>
     requires { refusal_of workspace.now ≡ None }
     ensures { IfOk result (words.IsContextOf workspace.now) }
 {
@@ -75,18 +78,18 @@ fn context_of(alloc: Global, workspace: &WorkspaceRecord) -> Result<ParseContext
     Ok(ParseContext::new(alloc, graph)?.with_binaries(binaries))
 }
 
-// The filter that a filterset is.
+// The filter that a filterset is in a workspace, which is `cx` to filtersets.
 fn parsed(
     alloc: Global,
     workspace: &WorkspaceRecord,
+    cx: &ParseContext,
     text: &Text,
 ) -> Result<CompiledExpr, PlanError>
-    requires { refusal_of workspace.now ≡ None }
+    requires { words.IsContextOf workspace.now cx.now }
     ensures { GivesInForce workspace.now (Some text.now) result }
 {
-    let cx = context_of(alloc, workspace)?;
     let known = KnownGroups::Known(Listing::new(alloc));
-    match Filterset::parse(alloc, text.clone()?, &cx, FiltersetKind::Test, &known) {
+    match Filterset::parse(alloc, text.clone()?, cx, FiltersetKind::Test, &known) {
         Ok(
             Filterset {
                 input: _,
@@ -103,13 +106,14 @@ fn parsed(
 pub(crate) fn filter_in(
     alloc: Global,
     workspace: &WorkspaceRecord,
+    cx: &ParseContext,
     filterset: &Option<Text>,
 ) -> Result<CompiledExpr, PlanError>
-    requires { refusal_of workspace.now ≡ None }
+    requires { words.IsContextOf workspace.now cx.now }
     ensures { GivesInForce workspace.now filterset.now result }
 {
     match filterset {
-        Some(text) => parsed(alloc, workspace, text),
+        Some(text) => parsed(alloc, workspace, cx, text),
         None => Ok(CompiledExpr::all(alloc)?),
     }
 }

@@ -3,9 +3,10 @@ ghost use Rattle.std.specs.Prelude.{◌≡◌, ◌++◌, IfOk};
 ghost use Rattle.test_runner_core_plan.specs.Inside.{AreSettled, IsWanted};
 ghost use Rattle.test_runner_core_plan.specs.Plan as words;
 
-use crate::filtering::filter_in;
+use crate::filtering::{context_of, filter_in};
 use crate::plan_error::PlanError;
 use crate::plan_fault::PlanFault;
+use nextest_filtering_compiling::ParseContext;
 use nextest_filtering_filters::CompiledExpr;
 use nextest_text::{Listing, Text};
 use std::alloc::{AllocError, Global};
@@ -21,6 +22,13 @@ pub(crate) struct Wanted {
     pub(crate) warnings: Listing<Text>,
 }
 
+// The settings that inputs ask for, with all warnings, and their workspace as filtersets are compiled for it.
+#[derive(Drop)]
+pub(crate) struct Settled {
+    pub(crate) run: ConfiguredRun,
+    pub(crate) cx: ParseContext,
+}
+
 // Whether inputs ask for what isn't read yet.
 fn asks_for_more(inputs: &Inputs) -> bool
     ensures { result ≡ words.asks_for_more inputs.now }
@@ -28,17 +36,20 @@ fn asks_for_more(inputs: &Inputs) -> bool
     !inputs.host.triple.is_empty() || !inputs.host.facts.is_empty() || inputs.target.is_some()
 }
 
-// The settings that inputs ask for, and all warnings, unless they are refused before their filterset is looked at.
-fn settle(alloc: Global, inputs: &Inputs) -> Result<ConfiguredRun, PlanError>
+// The settings that inputs ask for, with all warnings and their workspace as filtersets are compiled for it, unless they are
+// refused before their filterset is looked at.
+fn settle(alloc: Global, inputs: &Inputs) -> Result<Settled, PlanError>
     ensures { AreSettled inputs.now result }
 {
     inputs.workspace.check(alloc)?;
     let passed = version_pass(alloc, inputs)?;
-    let configured = run_settings(alloc, inputs)?;
+    let cx = context_of(alloc, &inputs.workspace)?;
+    let configured = run_settings(alloc, &cx, inputs)?;
     if asks_for_more(inputs) {
         return Err(PlanError::Refused(PlanFault::NotYet));
     }
-    Ok(with_warnings(passed, configured)?)
+    let run = with_warnings(passed, configured)?;
+    Ok(Settled { run, cx })
 }
 
 // What a configuration sets, with the warnings of the version in front of its own.
@@ -75,8 +86,9 @@ fn joined(first: Listing<Text>, more: Listing<Text>) -> Result<Listing<Text>, Al
 pub(crate) fn wanted_in(alloc: Global, inputs: &Inputs) -> Result<Wanted, PlanError>
     ensures { IsWanted inputs.now result }
 {
-    let ConfiguredRun { settings, warnings } = settle(alloc, inputs)?;
-    let filter = filter_in(alloc, &inputs.workspace, &inputs.filterset)?;
+    let Settled { run, cx } = settle(alloc, inputs)?;
+    let filter = filter_in(alloc, &inputs.workspace, &cx, &inputs.filterset)?;
+    let ConfiguredRun { settings, warnings } = run;
     Ok(Wanted {
         settings,
         filter,

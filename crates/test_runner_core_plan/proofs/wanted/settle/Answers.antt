@@ -25,10 +25,11 @@ returns c =
     let inputs = c.args.inputs.now in
     let passed = c.in_ok-passed.passed in
     let configured = c.in_ok-configured.configured in
-    let given = c.in_ok-with_warnings in
+    let given = c.in_ok-run in
     let less : asks_for_more inputs ≡ false = sym c.asks_for_more.ensures ∙ c.if-asks_for_more.false in
     let settled = settles_set inputs passed (Ok configured.settings) (Ok configured.settings) (passed_ok inputs passed c.in_ok-check.ensures.exact c.in_ok-passed.ensures.exact) c.in_ok-configured.ensures.0
     (ap (λ (more : Bool). cond more (Err refused.NotYet) (Ok configured.settings)) less) in (
       subst (λ (it : RunSettings). Settles inputs (Ok it)) (sym given.ensures.settings) settled,
       given.ensures.warnings ∙ all_warnings inputs passed configured.warnings c.in_ok-passed.ensures.exact c.in_ok-configured.ensures.1,
+      c.in_ok-cx.ensures,
     )
