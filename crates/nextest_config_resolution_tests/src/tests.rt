@@ -1,8 +1,13 @@
 // Each trait at its plain type, and at filtersets.
-use crate::asking::{holds, holds_on};
+use crate::asking::{holds, holds_on, retries_of};
 use crate::plain_filter::PlainFilter;
 use crate::plain_spec::PlainSpec;
+use nextest_config_elements_counts::RetryPolicy;
+use nextest_config_elements_identifiers::{ConfigSourceKind, ToolName};
 use nextest_config_resolution_filters::{FilterError, Filters, SpecError};
+use nextest_config_resolution_profiles::BuildPlatforms;
+use nextest_config_resolution_settings::SettingSource;
+use nextest_config_resolution_sources::{ConfigSource, ConfigSourceOutcome};
 use nextest_filtering_arguments::FiltersetKind;
 use nextest_filtering_compiling::{Filterset, KnownGroups, ParseContext};
 use nextest_filtering_filters::{BinaryQuery, TestQuery};
@@ -117,6 +122,53 @@ fn platform_specs_are_asked(rt: HostRuntime) -> Result<(), Fail> {
             holds_on::<PlainSpec>(alloc, "", &names),
             Err(SpecError::Refused)
         )
+    );
+    Ok(())
+}
+
+// A source with a text.
+fn source(alloc: Global, kind: ConfigSourceKind, text: &str) -> Result<ConfigSource, Fail> {
+    Ok(ConfigSource {
+        kind,
+        path: Text::from_str(alloc, "nextest.toml")?,
+        outcome: ConfigSourceOutcome::Text(Text::from_str(alloc, text)?),
+    })
+}
+
+#[test]
+fn plain_configurations_are_asked(rt: HostRuntime) -> Result<(), Fail> {
+    let alloc = rt.alloc();
+    let Ok(tool) = ToolName::new(alloc, "t") else {
+        assert!(rt; false);
+        return Ok(());
+    };
+    let mut sources = Vec::new(alloc);
+    sources.push(source(
+        alloc,
+        ConfigSourceKind::ExplicitRepository,
+        "[profile.x]\ninherits = \"y\"\n[profile.y]\nretries = 3\n",
+    )?)?;
+    sources.push(source(
+        alloc,
+        ConfigSourceKind::Tool(tool),
+        "[profile.default]\nretries = 1\n",
+    )?)?;
+    let platforms = BuildPlatforms {
+        host: &Listing::new(alloc),
+        target: None,
+    };
+    for (name, count, place) in [("x", 3, 1), ("y", 3, 0), ("default", 1, 0)] {
+        let want = (
+            RetryPolicy::new_without_delay(count),
+            SettingSource::Profile(place),
+        );
+        assert!(rt;
+            retries_of::<PlainFilter, PlainSpec>(alloc, &(), &sources, name, &platforms)?
+                == Some(want)
+        );
+    }
+    assert!(rt;
+        retries_of::<PlainFilter, PlainSpec>(alloc, &(), &sources, "z", &platforms)?.is_none()
     );
     Ok(())
 }
