@@ -1,7 +1,9 @@
 -- What is asked of configurations.
-use Rattle.std.specs.Prelude.{ℕ, List, [], Option, None, Some, ⊤, Ok}
+use Rattle.std.specs.Prelude.{◌⊎◌, ℕ, List, [], Option, None, Some, Ok, Err, Contains}
 use Rattle.nextest_config_elements_counts.specs.declared.retries.RetryPolicy.{RetryPolicy}
-use Rattle.nextest_config_resolution_profiles.specs.Config.{IsChainOf, IsConfig, profiles_of}
+use Rattle.nextest_config_resolution_load.specs.declared.load_error.LoadError.TheVariants.{Refused}
+use Rattle.nextest_config_resolution_load.specs.declared.load_fault.LoadFault.{LoadFault}
+use Rattle.nextest_config_resolution_profiles.specs.Config.{IsChainOf, IsConfig, names_of, profiles_of}
 use Rattle.nextest_config_resolution_profiles.specs.Whole.{Whole}
 use Rattle.nextest_config_resolution_settings.specs.Fallbacks as fallback
 use Rattle.nextest_config_resolution_settings.specs.Keys as key
@@ -19,6 +21,13 @@ pub record HasRetries (sources : List ConfigSource) (name : List ℕ) (it : Retr
   pub chained : IsChainOf (profiles_of config) name chain
   pub retries : IsTracked keeps_all key.retries chain fallback.retries it
 
+-- no profile of what the sources come to has a name
+pub record HasNoProfile (sources : List ConfigSource) (name : List ℕ) : Type 0 where
+  pub config : Whole
+  pub loaded : IsConfig [] sources (Ok config)
+  pub unknown : ¬ Contains (names_of config) name
+
+-- what there is to tell of a profile's retries: nothing where the sources are refused, or no profile has the name
 abbrev pub AreRetriesOf : List ConfigSource → List ℕ → Option (RetryPolicy × SettingSource) → Type 0
-AreRetriesOf sources name None = ⊤
+AreRetriesOf sources name None = ((fault : LoadFault) × IsConfig [] sources (Err (Refused fault))) ⊎ HasNoProfile sources name
 AreRetriesOf sources name (Some it) = HasRetries sources name it

@@ -63,6 +63,10 @@ pub fn holds_on<S: Specs>(
 
 /// How the profile of a name has failing tests tried again, and where it takes that from, whatever filters and specs its
 /// configuration has. `None` where the sources are refused, or no profile has the name.
+///
+/// # Errors
+///
+/// Want of memory says nothing of the sources.
 pub fn retries_of<F: Filters, S: Specs>(
     alloc: Global,
     cx: &F::Cx,

@@ -6,7 +6,10 @@ use nextest_config_elements_counts::RetryPolicy;
 use nextest_config_elements_identifiers::{ConfigSourceKind, ToolName};
 use nextest_config_resolution_filters::{FilterError, Filters, SpecError};
 use nextest_config_resolution_profiles::BuildPlatforms;
-use nextest_config_resolution_settings::SettingSource;
+use nextest_config_resolution_settings::{
+    EvaluatableProfile, ListSettings, ScriptCommand, ScriptCommandEnvMap, ScriptCommandRelativeTo,
+    SettingSource, WrapperScriptConfig, WrapperScriptTargetRunner,
+};
 use nextest_config_resolution_sources::{ConfigSource, ConfigSourceOutcome};
 use nextest_filtering_arguments::FiltersetKind;
 use nextest_filtering_compiling::{Filterset, KnownGroups, ParseContext};
@@ -170,5 +173,27 @@ fn plain_configurations_are_asked(rt: HostRuntime) -> Result<(), Fail> {
     assert!(rt;
         retries_of::<PlainFilter, PlainSpec>(alloc, &(), &sources, "z", &platforms)?.is_none()
     );
+    Ok(())
+}
+
+#[test]
+fn settings_of_listing_are_asked(rt: HostRuntime) -> Result<(), Fail> {
+    let alloc = rt.alloc();
+    let profile = EvaluatableProfile::new("default", "", "target/nextest", Vec::new(alloc));
+    assert!(rt; profile.list_settings_for().list_wrapper().is_none());
+    let wrapper = WrapperScriptConfig {
+        command: ScriptCommand {
+            program: Text::from_str(alloc, "wrap")?,
+            args: Listing::new(alloc),
+            env: ScriptCommandEnvMap {
+                variables: Listing::new(alloc),
+            },
+            relative_to: ScriptCommandRelativeTo::Target,
+        },
+        target_runner: WrapperScriptTargetRunner::WithinWrapper,
+    };
+    let mut settings = ListSettings::debug_empty();
+    settings.debug_set_list_wrapper(&wrapper);
+    assert!(rt; settings.list_wrapper() == Some(&wrapper));
     Ok(())
 }

@@ -16,3 +16,5 @@ pub mod Due
 pub mod OneEnd
 pub mod Written
 mod Whole
+mod Aside
+mod Isolated

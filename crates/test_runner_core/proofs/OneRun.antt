@@ -46,7 +46,7 @@ never_ok_and_err to_x to_y = absurd (let e = sym to_x ∙ to_y in cc)
 -- ---- plans
 
 -- plans of one selection are the same
-plans_same : (a b : Plan) → a.scripts ≡ b.scripts → a.tests ≡ b.tests → a.listed ≡ b.listed → a.skipped ≡ b.skipped → a.limit ≡ b.limit → a.levels ≡ b.levels → a.warnings ≡ b.warnings → a ≡ b
+pub plans_same : (a b : Plan) → a.scripts ≡ b.scripts → a.tests ≡ b.tests → a.listed ≡ b.listed → a.skipped ≡ b.skipped → a.limit ≡ b.limit → a.levels ≡ b.levels → a.warnings ≡ b.warnings → a ≡ b
 plans_same a b scripts tests listed skipped limit levels warnings =
     ap (λ (x : List (List ℕ)). record { scripts = x; tests = a.tests; listed = a.listed; skipped = a.skipped; limit = a.limit; levels = a.levels; warnings = a.warnings }) scripts
     ∙ ap (λ (x : List PlanTest). record { scripts = b.scripts; tests = x; listed = a.listed; skipped = a.skipped; limit = a.limit; levels = a.levels; warnings = a.warnings }) tests

@@ -10,13 +10,17 @@ use Rattle.test_runner_core_inputs.specs.declared.inputs.Inputs.{Inputs}
 use Rattle.test_runner_core_log_reader.specs.Items.{Item}
 use Rattle.test_runner_core_listing.specs.Answers.{IsOfGroup, seen, seen_test}
 use Rattle.test_runner_core_plan.specs.Filtering.{IsInForce, everything}
-use Rattle.test_runner_core_plan.specs.Plan.{Builds}
+use Rattle.test_runner_core_plan.specs.Plan.{Builds, Settles}
 use Rattle.test_runner_core_plan.specs.declared.plan.Plan.{Plan}
 use Rattle.test_runner_core_plan.specs.declared.plan.PlanTest.{PlanTest}
+use Rattle.test_runner_core_plan.specs.declared.plan_fault.PlanFault.{PlanFault}
 use Rattle.test_runner_core_runs.specs.Assignment.{Assignment, IsUnstopped}
 use Rattle.test_runner_core_runs.specs.Ends.{EndedWhole}
 use Rattle.test_runner_core_runs.specs.RunPlan.{IsPlan}
 use Rattle.test_runner_core_session.specs.Session.{run_plan}
+use Rattle.test_runner_core_settings.specs.Laws.{AgreeOnChain}
+use Rattle.test_runner_core_settings.specs.declared.configured.RunSettings.{RunSettings}
+use Rattle.test_runner_core_telling.specs.Opening.{opening}
 use Rattle.test_runner_core_telling.specs.Parts.{IsText, Part}
 use Rattle.test_runner_core_workspace.specs.Lister.{Answer}
 use Rattle.test_runner_core_workspace.specs.declared.record.Binary.{Binary}
@@ -114,3 +118,39 @@ abbrev pub HasNoneTwice : Type 0
 HasNoneTwice =
     (answer : Binary → Answer) (inputs : Inputs) (plan : Plan) → Builds answer inputs (Ok plan)
     → AllPairs (λ one other. one ≢ other) (map (λ (t : PlanTest). t.instance) plan.tests)
+
+-- Two inputs ask for the same tests of one workspace, and for the same in each profile of the chosen one's chain. Other profiles may be
+-- others, and so may what is asked of versions.
+pub record DifferOutside (inputs other : Inputs) : Type 0 where
+  pub workspace : other.workspace ≡ inputs.workspace
+  pub filterset : other.filterset ≡ inputs.filterset
+  pub chain : AgreeOnChain inputs other
+
+-- profiles outside of the chosen one's chain change nothing of a plan, its warnings aside
+abbrev pub IsolatesPlans : Type 0
+IsolatesPlans =
+    (answer : Binary → Answer) (inputs other : Inputs) (one second : Plan) → DifferOutside inputs other
+    → Builds answer inputs (Ok one) → Builds answer other (Ok second) → second ≡ record one { warnings = second.warnings }
+
+-- two texts are the warnings of two plans, and the same behind them
+pub record DifferInWarnings (one second : Plan) (text other_text : List ℕ) : Type 0 where
+  pub warned : List ℕ
+  pub other_warned : List ℕ
+  pub behind : List ℕ
+  pub opened : IsText (opening one) warned
+  pub other_opened : IsText (opening second) other_warned
+  pub whole : text ≡ warned ++ behind
+  pub other_whole : other_text ≡ other_warned ++ behind
+
+-- nor of the report of a log, the warnings aside
+abbrev pub IsolatesReports : Type 0
+IsolatesReports =
+    (answer : Binary → Answer) (inputs other : Inputs) (log : List Item) (one second : Plan) → DifferOutside inputs other
+    → Builds answer inputs (Ok one) → Builds answer other (Ok second)
+    → (parts other_parts : List Part) (code other_code : ℕ) (text other_text : List ℕ)
+    → Composed answer inputs log parts code → IsText parts text → Composed answer other log other_parts other_code → IsText other_parts other_text
+    → (code ≡ other_code) × DifferInWarnings one second text other_text
+
+-- inputs ask for settings, or there is a first reason before their filterset why they have no plan
+abbrev pub AsksForSome : Type 0
+AsksForSome = (inputs : Inputs) → (given : Result RunSettings PlanFault) × Settles inputs given

@@ -1,0 +1,8 @@
+use Rattle.test_runner_core.proofs.Isolated.{isolates_plans, isolates_reports}
+use Rattle.test_runner_core.proofs.laws.isolated.Goals as goal
+
+pub returns-clause-plan : goal.returns-clause-plan
+returns-clause-plan c = isolates_plans
+
+pub returns-clause-report : goal.returns-clause-report
+returns-clause-report c = isolates_reports
