@@ -14,9 +14,9 @@ pub use Rattle.nextest_config_elements_identifiers.specs.Laws as IdentifierLaws
 pub use Rattle.nextest_config_elements_identifiers.specs.Parts
 pub use Rattle.nextest_config_elements_identifiers.specs.Tools
 -- durations
-pub use Rattle.nextest_config_elements_durations.specs.Duration
-pub use Rattle.nextest_config_elements_durations.specs.Laws as DurationLaws
-pub use Rattle.nextest_config_elements_durations.specs.Nanos
+pub use Rattle.nextest_config_elements_counts.specs.Duration
+pub use Rattle.nextest_config_elements_counts.specs.DurationLaws as DurationLaws
+pub use Rattle.nextest_config_elements_counts.specs.Nanos
 -- retries, threads, priorities, reports
 pub use Rattle.nextest_config_elements_counts.specs.Junit
 pub use Rattle.nextest_config_elements_counts.specs.Laws as PriorityLaws
@@ -65,8 +65,8 @@ pub use Rattle.nextest_config_elements_identifiers.specs.declared.test_group.Tes
 pub use Rattle.nextest_config_elements_identifiers.specs.declared.tool_config_file.BadToolConfig
 pub use Rattle.nextest_config_elements_identifiers.specs.declared.tool_config_file.ToolConfigFile
 pub use Rattle.nextest_config_elements_identifiers.specs.declared.tool_config_file.ToolConfigFileError
-pub use Rattle.nextest_config_elements_durations.specs.declared.config_duration.ConfigDuration
-pub use Rattle.nextest_config_elements_durations.specs.declared.parse.BadDuration
+pub use Rattle.nextest_config_elements_counts.specs.declared.config_duration.ConfigDuration
+pub use Rattle.nextest_config_elements_counts.specs.declared.parse.BadDuration
 pub use Rattle.nextest_config_elements_counts.specs.declared.junit.JunitConfig
 pub use Rattle.nextest_config_elements_counts.specs.declared.junit.JunitFlakyFailStatus
 pub use Rattle.nextest_config_elements_counts.specs.declared.junit.MismatchReason

@@ -1,7 +1,6 @@
 //! What holds of the values. Each function does nothing, and its contract is the law.
 
-pub use nextest_config_elements_counts::laws::greater_first;
-pub use nextest_config_elements_durations::laws::{nanos_of_durations, one_duration};
+pub use nextest_config_elements_counts::laws::{greater_first, nanos_of_durations, one_duration};
 pub use nextest_config_elements_identifiers::laws::{one_identifier, tool_identifier};
 pub use nextest_config_elements_plain::laws::{
     final_levels_rise, levels_rise, reads_back as limit_reads_back,

@@ -6,11 +6,10 @@
 pub mod laws;
 
 pub use nextest_config_elements_counts::{
-    GlobalTimeout, JunitConfig, JunitFlakyFailStatus, LeakTimeout, MismatchReason,
-    ReportSkipPolicy, RetryPolicy, SlowTimeout, TestGroupConfig, TestPriority,
-    TestPriorityOutOfRange, TestThreads, ThreadsRequired,
+    BadDuration, ConfigDuration, GlobalTimeout, JunitConfig, JunitFlakyFailStatus, LeakTimeout,
+    MismatchReason, ReportSkipPolicy, RetryPolicy, SlowTimeout, TestGroupConfig, TestPriority,
+    TestPriorityOutOfRange, TestThreads, ThreadsRequired, parse_duration,
 };
-pub use nextest_config_elements_durations::{BadDuration, ConfigDuration, parse_duration};
 pub use nextest_config_elements_identifiers::{
     BadToolConfig, ConfigIdentifier, ConfigSourceKind, CustomTestGroup, InvalidIdentifier,
     TestGroup, ToolConfigFile, ToolConfigFileError, ToolName,

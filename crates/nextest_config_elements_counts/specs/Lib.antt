@@ -1,3 +1,8 @@
+pub mod Ahead
+pub mod Class
+pub mod Duration
+pub mod DurationLaws
+pub mod Nanos
 pub mod Junit
 pub mod Laws
 pub mod Priority

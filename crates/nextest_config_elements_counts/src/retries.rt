@@ -2,7 +2,7 @@
 ghost use Rattle.std.specs.Prelude.{◌≡◌};
 ghost use Rattle.nextest_config_elements_counts.specs.Retries.{count_of, without_delay};
 
-use nextest_config_elements_durations::ConfigDuration;
+use crate::config_duration::ConfigDuration;
 
 /// How a failing test is tried again.
 #[derive(Clone, Copy, Debug, PartialEq, Eq)]

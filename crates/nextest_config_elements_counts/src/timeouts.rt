@@ -1,5 +1,5 @@
 // How long something may take.
-use nextest_config_elements_durations::ConfigDuration;
+use crate::config_duration::ConfigDuration;
 use nextest_config_elements_plain::{LeakTimeoutResult, SlowTimeoutResult};
 
 /// When a test or script is slow, and when it is ended for that.

@@ -6,7 +6,7 @@ use Rattle.std.proofs.lemmas.Bool.Decides.{nat_tests}
 use Rattle.toml.specs.Data.{Data, string, integer, float, boolean, datetime, array, table, Members}
 use Rattle.nextest_config_elements_counts.specs.declared.retries.RetryPolicy.{RetryPolicy}
 use Rattle.nextest_config_elements_counts.specs.declared.retries.RetryPolicy.TheVariants.{Fixed, Exponential}
-use Rattle.nextest_config_elements_durations.specs.declared.config_duration.ConfigDuration.{ConfigDuration}
+use Rattle.nextest_config_elements_counts.specs.declared.config_duration.ConfigDuration.{ConfigDuration}
 use Rattle.nextest_config_elements_reading.specs.Reading.{Reading, ◌>>=◌, leaf, required, optional, defaulted}
 use Rattle.nextest_config_elements_readers.specs.Accepted.{HasText, IsFixed, IsExponential, IsTableOf}
 use Rattle.nextest_config_elements_readers.specs.Laws.{AcceptedPolicy}

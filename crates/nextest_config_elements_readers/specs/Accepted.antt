@@ -4,7 +4,7 @@ use Rattle.toml.specs.Data.{Data, string, table, Members, get_member}
 use Rattle.nextest_config_elements_counts.specs.declared.retries.RetryPolicy.{RetryPolicy}
 use Rattle.nextest_config_elements_counts.specs.declared.retries.RetryPolicy.TheVariants.{Fixed, Exponential}
 use Rattle.nextest_config_elements_counts.specs.declared.timeouts.SlowTimeout.{SlowTimeout}
-use Rattle.nextest_config_elements_durations.specs.declared.config_duration.ConfigDuration.{ConfigDuration}
+use Rattle.nextest_config_elements_counts.specs.declared.config_duration.ConfigDuration.{ConfigDuration}
 use Rattle.nextest_config_elements_plain.specs.declared.timeouts.SlowTimeoutResult.TheVariants as slow
 use Rattle.nextest_config_elements_readers.specs.Retries.{no_delay, only_count}
 use Rattle.nextest_config_elements_readers.specs.Timeouts.{ten_seconds, only_period}

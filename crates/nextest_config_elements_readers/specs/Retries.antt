@@ -3,7 +3,7 @@ use Rattle.std.specs.Prelude.{ℕ, ◌==◌, Bool, false, ◌&&◌, [], ◌∷�
 use Rattle.toml.specs.Data.{Data, table, Members}
 use Rattle.nextest_config_elements_counts.specs.declared.retries.RetryPolicy.{RetryPolicy}
 use Rattle.nextest_config_elements_counts.specs.declared.retries.RetryPolicy.TheVariants.{Fixed, Exponential}
-use Rattle.nextest_config_elements_durations.specs.declared.config_duration.ConfigDuration.{ConfigDuration}
+use Rattle.nextest_config_elements_counts.specs.declared.config_duration.ConfigDuration.{ConfigDuration}
 use Rattle.nextest_config_elements_reading.specs.Reading.{Reading, ◌>>=◌, leaf, required, optional, defaulted}
 use Rattle.nextest_config_elements_readers.specs.Values.{number_32, positive_32, truth, duration, positive_duration}
 use Rattle.nextest_config_elements_readers.specs.Words.{one_of}

@@ -4,7 +4,7 @@ use Rattle.toml.specs.Data.{Data, table, Members}
 use Rattle.nextest_config_elements_counts.specs.declared.timeouts.SlowTimeout.{SlowTimeout}
 use Rattle.nextest_config_elements_counts.specs.declared.timeouts.LeakTimeout.{LeakTimeout}
 use Rattle.nextest_config_elements_counts.specs.declared.timeouts.GlobalTimeout.{GlobalTimeout}
-use Rattle.nextest_config_elements_durations.specs.declared.config_duration.ConfigDuration.{ConfigDuration}
+use Rattle.nextest_config_elements_counts.specs.declared.config_duration.ConfigDuration.{ConfigDuration}
 use Rattle.nextest_config_elements_plain.specs.declared.timeouts.LeakTimeoutResult.TheVariants as leak
 use Rattle.nextest_config_elements_plain.specs.declared.timeouts.SlowTimeoutResult.TheVariants as slow
 use Rattle.nextest_config_elements_reading.specs.Reading.{Reading, ◌>>=◌, leaf, required, optional, defaulted}

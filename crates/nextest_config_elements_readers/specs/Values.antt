@@ -1,8 +1,8 @@
 -- The values that have no parts, and stand under more than one key.
 use Rattle.std.specs.Prelude.{ℕ, ◌^◌, ◌==◌, Bool, pos, Option, None, Some, option_map, option_and_then, nat_lt, if◌then◌else◌}
 use Rattle.toml.specs.Data.{Data, string, integer, boolean}
-use Rattle.nextest_config_elements_durations.specs.Nanos.{nanos_in}
-use Rattle.nextest_config_elements_durations.specs.declared.config_duration.ConfigDuration.{ConfigDuration}
+use Rattle.nextest_config_elements_counts.specs.Nanos.{nanos_in}
+use Rattle.nextest_config_elements_counts.specs.declared.config_duration.ConfigDuration.{ConfigDuration}
 
 -- a number of 32 bits
 abbrev pub number_32 : Data → Option ℕ

@@ -6,8 +6,7 @@ ghost use Rattle.nextest_config_elements_readers.specs.Timeouts as read;
 
 use crate::config_value::{defaulted, optional, required, whole};
 use crate::values::{Any, Positive};
-use nextest_config_elements_counts::{GlobalTimeout, LeakTimeout, SlowTimeout};
-use nextest_config_elements_durations::ConfigDuration;
+use nextest_config_elements_counts::{ConfigDuration, GlobalTimeout, LeakTimeout, SlowTimeout};
 use nextest_config_elements_plain::{LeakTimeoutResult, SlowTimeoutResult};
 use nextest_config_elements_reading::ValueError;
 use std::alloc::Global;

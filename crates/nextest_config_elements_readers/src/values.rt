@@ -1,6 +1,6 @@
 // The values that have no parts, and stand under more than one key.
 use crate::config_value::ConfigValue;
-use nextest_config_elements_durations::ConfigDuration;
+use nextest_config_elements_counts::ConfigDuration;
 use toml::Value;
 
 /// The rule of a type whose values all may stand: any number of it, any duration, each of its words.

@@ -33,8 +33,8 @@ pub use Rattle.nextest_config_resolution_settings.specs.Laws as SettingLaws
 pub use Rattle.nextest_config_resolution_settings.specs.Nearest
 pub use Rattle.nextest_config_resolution_settings.specs.Profile as ProfileSettings
 pub use Rattle.nextest_config_resolution_settings.specs.TestSettings
-pub use Rattle.nextest_config_resolution_built_in.specs.BuiltIn
-pub use Rattle.nextest_config_resolution_built_in.specs.Laws as BuiltInLaws
+pub use Rattle.nextest_config_resolution_profiles.specs.BuiltIn
+pub use Rattle.nextest_config_resolution_profiles.specs.BuiltInLaws as BuiltInLaws
 -- warnings
 pub use Rattle.nextest_config_resolution_warnings.specs.Places
 pub use Rattle.nextest_config_resolution_warnings.specs.Reserved

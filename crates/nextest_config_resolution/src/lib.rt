@@ -7,7 +7,6 @@ pub mod laws;
 
 pub use nextest_config_elements_identifiers::{ConfigSourceKind, ToolName};
 pub use nextest_config_elements_reading::{BadValue, KeyPath, ValueError};
-pub use nextest_config_resolution_built_in::{DEFAULT_CONFIG, built_in};
 pub use nextest_config_resolution_filters::{FilterError, Filters, SpecError, Specs};
 pub use nextest_config_resolution_inheritance::{
     InheritanceError, InheritanceFault, Inherits, chain_of, check_inheritance,
@@ -16,7 +15,8 @@ pub use nextest_config_resolution_load::{
     LoadError, LoadFault, LoadKind, LoadedConfig, NamedProfile, load, load_with_warnings,
 };
 pub use nextest_config_resolution_profiles::{
-    BuildPlatforms, EarlyProfile, NextestConfig, ProfileError, ProfileNotFound,
+    BuildPlatforms, DEFAULT_CONFIG, EarlyProfile, NextestConfig, ProfileError, ProfileNotFound,
+    built_in,
 };
 pub use nextest_config_resolution_settings::{
     EvaluatableProfile, ListSettings, NoRule, ScriptCommand, ScriptCommandEnvMap,

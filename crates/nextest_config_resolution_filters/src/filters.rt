@@ -1,15 +1,14 @@
 // The filters by which a configuration tells tests apart.
 ghost use Rattle.std.specs.Prelude.{◌≡◌, ℕ, Bool, true, false, List, Option, IfOk};
 ghost use Rattle.nextest_filtering_arguments.specs.declared.ban.FiltersetKind as purposes;
-ghost use Rattle.nextest_filtering_compiling.specs.declared.known_groups.KnownGroups as groups;
+ghost use Rattle.nextest_filtering_filters.specs.declared.known_groups.KnownGroups as groups;
 ghost use Rattle.nextest_filtering_filters.specs.Query.{Binary, Test, binary_of, test_of};
 ghost use Rattle.nextest_config_resolution_filters.specs.Calls.{Reads};
 ghost use Rattle.nextest_config_resolution_filters.specs.Filters.{FiltersLaws};
 
 use crate::filter_error::FilterError;
 use nextest_filtering_arguments::FiltersetKind;
-use nextest_filtering_compiling::KnownGroups;
-use nextest_filtering_filters::{BinaryQuery, TestQuery};
+use nextest_filtering_filters::{BinaryQuery, KnownGroups, TestQuery};
 use nextest_text::Text;
 use std::alloc::{AllocError, Global};
 

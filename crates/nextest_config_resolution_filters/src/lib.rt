@@ -1,12 +1,10 @@
 //! What a configuration is generic over: filters, by which it tells tests apart, and platform specs, by which it tells
-//! builds apart; and filtersets as filters.
+//! builds apart.
 #![tactic(auto)]
 
 mod filter_error;
 mod filters;
-mod filterset;
 mod platform_specs;
-mod questions;
 mod spec_error;
 
 pub use filter_error::FilterError;

@@ -1,3 +1,6 @@
+pub mod Ending
+pub mod Inheriting
+pub mod Putting
 pub mod Found
 pub mod Kept
 pub mod Names

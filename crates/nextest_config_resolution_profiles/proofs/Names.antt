@@ -11,7 +11,7 @@ use Rattle.nextest_config_resolution_load.proofs.Configs.{same_names, same_paren
 use Rattle.nextest_config_resolution_values.specs.File.{Named}
 use Rattle.nextest_config_resolution_values.specs.declared.profile_config.ProfileConfig.{ProfileConfig}
 use Rattle.toml.specs.Data.{table, Members}
-use Rattle.nextest_config_resolution_built_in.specs.BuiltIn.{built_in_members, default_members, profiles_members}
+use Rattle.nextest_config_resolution_profiles.specs.BuiltIn.{built_in_members, default_members, profiles_members}
 use Rattle.nextest_config_resolution_load.specs.declared.loaded_config.LoadedConfig.{LoadedConfig}
 use Rattle.nextest_config_resolution_settings.specs.Nearest.{lent}
 use Rattle.nextest_config_resolution_sources.specs.declared.source.ConfigSource.{ConfigSource}

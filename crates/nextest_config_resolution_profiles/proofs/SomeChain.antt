@@ -6,7 +6,7 @@ use Rattle.std.specs.List.{All, Contains}
 use Rattle.std.specs.Option.{unwrap_or}
 use Rattle.std.specs.Str.{bytes_eq}
 use Rattle.toml.specs.Data.{table}
-use Rattle.nextest_config_resolution_built_in.specs.BuiltIn.{built_in_members, default_members, profiles_members}
+use Rattle.nextest_config_resolution_profiles.specs.BuiltIn.{built_in_members, default_members, profiles_members}
 use Rattle.nextest_config_resolution_inheritance.specs.Inheritance.{Name, Parents, Profile, IsAccepted, IsChain, IsOneOf, KnowsParent, default, names, next}
 use Rattle.nextest_config_resolution_inheritance.specs.Inheritance.IsChain.{ends, goes_on}
 use Rattle.nextest_config_resolution_inheritance.proofs.Chains.{one_chain}

@@ -3,7 +3,7 @@ use Rattle.std.proofs.Common.{◌≡◌, List, [], ◌∷◌, map, Ok, Err, refl
 use Rattle.toml.specs.Data.{Members}
 use Rattle.nextest_config_elements_reading.specs.Reading.{Path}
 use Rattle.nextest_config_elements_reading.specs.declared.bad_value.BadValue.{BadValue}
-use Rattle.nextest_config_resolution_built_in.specs.BuiltIn.{built_in_members}
+use Rattle.nextest_config_resolution_profiles.specs.BuiltIn.{built_in_members}
 use Rattle.nextest_config_resolution_inheritance.specs.Inheritance.{IsAccepted}
 use Rattle.nextest_config_resolution_inheritance.specs.Refusals.{IsFirstFault}
 use Rattle.nextest_config_resolution_inheritance.specs.declared.inheritance_fault.InheritanceFault.{InheritanceFault}

@@ -1,7 +1,7 @@
 -- A whole configuration, and its profiles.
 use Rattle.std.specs.Prelude.{◌≡◌, ℕ, List, Option, Some, Result, Ok, Err, ⊤, Contains, codes, find, map, option_map, unwrap_or}
 use Rattle.std.specs.Str.{bytes_eq}
-use Rattle.nextest_config_resolution_built_in.specs.BuiltIn.{built_in_members}
+use Rattle.nextest_config_resolution_profiles.specs.BuiltIn.{built_in_members}
 use Rattle.nextest_config_resolution_inheritance.specs.Inheritance.{Name, IsChain}
 use Rattle.nextest_config_resolution_load.specs.Load.{IsLoaded, parents_of, seen}
 use Rattle.nextest_config_resolution_load.specs.declared.load_error.LoadError.{LoadError}

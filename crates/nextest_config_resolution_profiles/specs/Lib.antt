@@ -1,3 +1,7 @@
+pub mod BuiltIn
+pub mod BuiltInLaws
+pub mod Profiles
+pub mod Rows
 pub mod Chains
 pub mod Config
 pub mod Kept

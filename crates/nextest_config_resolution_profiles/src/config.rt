@@ -3,7 +3,7 @@ use crate::chains::{all_names, chain_at, place_of};
 use crate::early_profile::EarlyProfile;
 use crate::profile_error::{ProfileError, ProfileNotFound};
 use crate::selection::select_kinds;
-use nextest_config_resolution_built_in::built_in;
+use crate::tree::built_in;
 use nextest_config_resolution_filters::{Filters, Specs};
 use nextest_config_resolution_load::{
     ConfigWarnings, LoadError, LoadedConfig, load, load_with_warnings,

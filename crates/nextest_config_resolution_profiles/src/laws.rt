@@ -1,6 +1,9 @@
 //! What holds of whole configurations. Each law is the contract of a function that does nothing.
 ghost use Rattle.nextest_config_resolution_profiles.specs.Kept.{KeptProfile};
 ghost use Rattle.nextest_config_resolution_profiles.specs.Laws.{OneProfile, SameChain, SomeChain, SomeConfig};
+ghost use Rattle.nextest_config_resolution_profiles.specs.BuiltInLaws.{Accepted, NoFallback, ReadAs, WrittenAs};
+
+use crate::default_config::DEFAULT_CONFIG;
 
 /// A profile of what is built in is one of every configuration that is loaded over it.
 pub fn kept_profile()
@@ -21,4 +24,25 @@ pub fn some_profile()
 /// The chain of a profile hangs on the profiles in it alone: others that have the same values under their names have the same one.
 pub fn same_chain()
     ensures { SameChain }
+{}
+
+/// Its text is a TOML document, and says just what its tree has.
+pub fn written_as()
+    ensures { WrittenAs DEFAULT_CONFIG.now }
+{}
+
+/// It is read as the values of its two profiles: `default` sets each setting that has a fallback, and to that, and
+/// `default-miri` sets nothing.
+pub fn read_as()
+    ensures { ReadAs }
+{}
+
+/// Its profiles keep the rules of inheritance.
+pub fn accepted()
+    ensures { Accepted }
+{}
+
+/// A chain that ends with its `default` sets each setting that has a fallback, so that none is ever used.
+pub fn no_fallback()
+    ensures { NoFallback }
 {}

@@ -3,11 +3,16 @@
 
 mod chains;
 mod config;
+mod default_config;
 mod early_profile;
 pub mod laws;
 mod profile_error;
+mod rows;
 mod selection;
+mod tree;
 
 pub use config::NextestConfig;
+pub use default_config::DEFAULT_CONFIG;
 pub use early_profile::{BuildPlatforms, EarlyProfile};
 pub use profile_error::{ProfileError, ProfileNotFound};
+pub use tree::built_in;

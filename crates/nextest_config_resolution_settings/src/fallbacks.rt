@@ -3,10 +3,9 @@ ghost use Rattle.std.specs.Prelude.{◌≡◌};
 ghost use Rattle.nextest_config_resolution_settings.specs.Fallbacks as fallback;
 
 use nextest_config_elements_counts::{
-    GlobalTimeout, JunitFlakyFailStatus, LeakTimeout, ReportSkipPolicy, RetryPolicy, SlowTimeout,
-    TestThreads, ThreadsRequired,
+    ConfigDuration, GlobalTimeout, JunitFlakyFailStatus, LeakTimeout, ReportSkipPolicy,
+    RetryPolicy, SlowTimeout, TestThreads, ThreadsRequired,
 };
-use nextest_config_elements_durations::ConfigDuration;
 use nextest_config_elements_plain::{
     FinalStatusLevel, FlakyResult, LeakTimeoutResult, MaxFail, NextestRunMode, SlowTimeoutResult,
     StatusLevel, TestOutputDisplay,

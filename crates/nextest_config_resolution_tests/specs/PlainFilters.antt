@@ -4,7 +4,7 @@ use Rattle.std.specs.Str.{bytes_eq}
 use Rattle.std.proofs.Common.{refl, sym, ap, subst, ◌∙◌}
 use Rattle.nextest_config_resolution_filters.specs.Filters.{AreAlike, FiltersLaws}
 use Rattle.nextest_filtering_arguments.specs.declared.ban.FiltersetKind.{FiltersetKind}
-use Rattle.nextest_filtering_compiling.specs.declared.known_groups.KnownGroups.{KnownGroups}
+use Rattle.nextest_filtering_filters.specs.declared.known_groups.KnownGroups.{KnownGroups}
 use Rattle.nextest_filtering_filters.specs.Query.{Binary, Test}
 use Rattle.nextest_config_resolution_tests.specs.declared.plain_filter.PlainFilter.{PlainFilter}
 use Rattle.nextest_config_resolution_tests.specs.declared.plain_filter.PlainFilter.TheVariants as plain

@@ -12,7 +12,6 @@ use nextest_config_resolution_profiles::{BuildPlatforms, NextestConfig, ProfileE
 use nextest_config_resolution_settings::SettingSource;
 use nextest_config_resolution_sources::ConfigSource;
 use nextest_filtering_arguments::FiltersetKind;
-use nextest_filtering_compiling::KnownGroups;
 use nextest_filtering_filters::TestQuery;
 use nextest_text::Text;
 use std::alloc::{AllocError, Global};

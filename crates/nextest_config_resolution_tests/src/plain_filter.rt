@@ -4,8 +4,7 @@ ghost use Rattle.nextest_config_resolution_tests.specs.PlainFilters.{binary_valu
 
 use nextest_config_resolution_filters::{FilterError, Filters};
 use nextest_filtering_arguments::FiltersetKind;
-use nextest_filtering_compiling::KnownGroups;
-use nextest_filtering_filters::{BinaryQuery, TestQuery};
+use nextest_filtering_filters::{BinaryQuery, KnownGroups, TestQuery};
 use nextest_text::Text;
 use std::alloc::{AllocError, Global};
 

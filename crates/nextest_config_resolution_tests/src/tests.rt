@@ -12,7 +12,7 @@ use nextest_config_resolution_settings::{
 };
 use nextest_config_resolution_sources::{ConfigSource, ConfigSourceOutcome};
 use nextest_filtering_arguments::FiltersetKind;
-use nextest_filtering_compiling::{Filterset, KnownGroups, ParseContext};
+use nextest_filtering_compiling::{Filterset, ParseContext};
 use nextest_filtering_filters::{BinaryQuery, TestQuery};
 use nextest_filtering_graph::PackageGraph;
 use nextest_filtering_trees::BuildPlatform;

@@ -9,7 +9,7 @@ pub use Rattle.nextest_filtering_trees.specs.Runtime
 pub use Rattle.nextest_filtering_trees.specs.Same
 pub use Rattle.nextest_filtering_trees.specs.Meaning
 pub use Rattle.nextest_filtering_trees.specs.Matching
-pub use Rattle.nextest_filtering_laws.specs.Laws
+pub use Rattle.nextest_filtering_syntax.specs.Laws
 -- reading: what is read, and where faults and predicates stand
 pub use Rattle.nextest_filtering_syntax.specs.Reading
 pub use Rattle.nextest_filtering_syntax.specs.Places
@@ -30,7 +30,7 @@ pub use Rattle.nextest_filtering_filters.specs.Filter
 pub use Rattle.nextest_filtering_filters.specs.Laws as FilterLaws
 pub use Rattle.nextest_filtering_filters.specs.Meaning as FilterMeaning
 pub use Rattle.nextest_filtering_filters.specs.Query
-pub use Rattle.nextest_filtering_formulas.specs.Formula
+pub use Rattle.nextest_filtering_filters.specs.Formula
 pub use Rattle.nextest_filtering_graph.specs.Graph
 pub use Rattle.nextest_filtering_graph.specs.Making
 pub use Rattle.nextest_filtering_graph.specs.Reaching
@@ -62,7 +62,7 @@ pub use Rattle.nextest_filtering_arguments.specs.declared.error.ParseSingleError
 pub use Rattle.nextest_filtering_compiling.specs.declared.error.FiltersetError
 pub use Rattle.nextest_filtering_compiling.specs.declared.error.FiltersetParseErrors
 pub use Rattle.nextest_filtering_compiling.specs.declared.filterset.Filterset
-pub use Rattle.nextest_filtering_compiling.specs.declared.known_groups.KnownGroups
+pub use Rattle.nextest_filtering_filters.specs.declared.known_groups.KnownGroups
 pub use Rattle.nextest_filtering_filters.specs.declared.leaf.FiltersetLeaf
 pub use Rattle.nextest_filtering_filters.specs.declared.query.BinaryQuery
 pub use Rattle.nextest_filtering_filters.specs.declared.query.TestQuery

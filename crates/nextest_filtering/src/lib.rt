@@ -8,10 +8,11 @@
 
 pub use nextest_filtering_arguments::{BannedPredicateReason, FiltersetKind, ParseSingleError};
 pub use nextest_filtering_compiling::{
-    Filterset, FiltersetError, FiltersetParseErrors, KnownGroups, ParseContext,
+    Filterset, FiltersetError, FiltersetParseErrors, ParseContext,
 };
 pub use nextest_filtering_filters::{
-    BinaryEvaluator, BinaryQuery, CompiledExpr, EvalContext, FiltersetLeaf, GroupLookup, TestQuery,
+    BinaryEvaluator, BinaryQuery, CompiledExpr, EvalContext, FiltersetLeaf, GroupLookup,
+    KnownGroups, TestQuery,
 };
 pub use nextest_filtering_globs::{
     ClassRange, GenericGlob, GlobConstructError, GlobMatcher, GlobToken,
@@ -28,7 +29,7 @@ pub mod laws {
     pub use nextest_filtering_compiling::laws::one_meaning;
     pub use nextest_filtering_filters::laws::{one_answer, same_without_groups, sure_of_tests};
     pub use nextest_filtering_globs::laws::one_reading as one_glob_reading;
-    pub use nextest_filtering_laws::laws::{one_tree, printed_reads_back, reads_back_exactly};
+    pub use nextest_filtering_syntax::laws::{one_tree, printed_reads_back, reads_back_exactly};
     pub use nextest_filtering_texts::laws::{escaped_reads_back, one_regex, one_text};
 }
 

@@ -23,7 +23,7 @@ use Rattle.nextest_filtering_compiling.specs.Context.{Context}
 use Rattle.nextest_filtering_compiling.specs.Faults.{NoPackage}
 use Rattle.nextest_filtering_compiling.specs.Packages.{AsksFor, HasId, IsNamed}
 use Rattle.nextest_filtering_compiling.specs.declared.compile.Outcome.TheVariants as outcome
-use Rattle.nextest_filtering_compiling.specs.declared.known_groups.KnownGroups.{KnownGroups}
+use Rattle.nextest_filtering_filters.specs.declared.known_groups.KnownGroups.{KnownGroups}
 use Rattle.nextest_filtering_compiling.specs.declared.packages.Asks.{Asks}
 use Rattle.nextest_filtering_compiling.specs.declared.packages.Asks.TheVariants as asks
 

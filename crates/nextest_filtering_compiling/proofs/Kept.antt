@@ -13,7 +13,7 @@ use Rattle.nextest_filtering_compiling.specs.Context.{Context}
 use Rattle.nextest_filtering_compiling.specs.Faults.{Have, LeafHas, listed}
 use Rattle.nextest_filtering_compiling.specs.declared.compile.Outcome.{Outcome}
 use Rattle.nextest_filtering_compiling.specs.declared.compile.Outcome.TheVariants as outcome
-use Rattle.nextest_filtering_compiling.specs.declared.known_groups.KnownGroups.{KnownGroups}
+use Rattle.nextest_filtering_filters.specs.declared.known_groups.KnownGroups.{KnownGroups}
 
 have_push : (cx : Context) (known : KnownGroups) (leaves : List ParsedLeaf) (it : ParsedLeaf) (faults : List ParseSingleError) (first : Option ParseSingleError)
     → Have cx known leaves faults → LeafHas cx known (place_of it) (leaf_of it) first → Have cx known (leaves ++ it ∷ []) (faults ++ listed first)

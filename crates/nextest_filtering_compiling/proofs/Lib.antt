@@ -5,3 +5,4 @@ pub mod Kept
 pub mod Placed
 pub mod Whole
 pub mod Meaning
+mod Results

@@ -9,9 +9,9 @@ use Rattle.nextest_filtering_filters.specs.Query.{Test}
 use Rattle.nextest_filtering_filters.specs.declared.leaf.FiltersetLeaf.{FiltersetLeaf}
 use Rattle.nextest_filtering_filters.specs.declared.leaf.FiltersetLeaf.TheVariants as leaf
 use Rattle.nextest_filtering_filters.proofs.Parts.{tells_one}
-use Rattle.nextest_filtering_formulas.specs.Formula as formula
-use Rattle.nextest_filtering_formulas.specs.Formula.{Formula, Gives, both_gives, either_gives, leaf_gives, negated_gives}
-use Rattle.nextest_filtering_formulas.proofs.Giving.{of_leaf}
+use Rattle.nextest_filtering_filters.specs.Formula as formula
+use Rattle.nextest_filtering_filters.specs.Formula.{Formula, Gives, both_gives, either_gives, leaf_gives, negated_gives}
+use Rattle.nextest_filtering_filters.proofs.Giving.{of_leaf}
 use Rattle.nextest_filtering_graph.specs.Graph.{Graph}
 use Rattle.nextest_filtering_trees.specs.Grammar.{Compares, Conjunction, Expression, IsFilterset, ReadsArgument, Unary, a_group, a_negation, a_predicate, first_conjunction, first_operand, joined, next_conjunction, next_operand}
 use Rattle.nextest_filtering_trees.specs.Meaning.{MatchesName}

@@ -6,7 +6,7 @@ use Rattle.std.proofs.lemmas.Option.{unwrap_or-slice_get}
 use Rattle.nextest_filtering_filters.specs.Filter.{leaf_at}
 use Rattle.nextest_filtering_filters.specs.declared.leaf.FiltersetLeaf.{FiltersetLeaf}
 use Rattle.nextest_filtering_filters.specs.declared.leaf.FiltersetLeaf.TheVariants as leaf
-use Rattle.nextest_filtering_formulas.specs.Formula.{with_leaves}
+use Rattle.nextest_filtering_filters.specs.Formula.{with_leaves}
 use Rattle.nextest_filtering_graph.specs.Graph.{Graph}
 use Rattle.nextest_filtering_trees.specs.Tree.{leaf_of}
 use Rattle.nextest_filtering_syntax.specs.Parsed.{tree_of}

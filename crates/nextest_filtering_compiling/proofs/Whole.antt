@@ -6,9 +6,9 @@ use Rattle.nextest_filtering_arguments.specs.declared.ban.FiltersetKind.{Filters
 use Rattle.nextest_filtering_arguments.specs.declared.error.ParseSingleError.{ParseSingleError}
 use Rattle.nextest_filtering_filters.specs.Filter.{Compiled, filter_of, leaf_at}
 use Rattle.nextest_filtering_filters.specs.declared.leaf.FiltersetLeaf.{FiltersetLeaf}
-use Rattle.nextest_filtering_formulas.specs.Formula.{Formula, with_leaves}
-use Rattle.nextest_filtering_formulas.specs.Steps.{formula_of}
-use Rattle.nextest_filtering_formulas.specs.declared.step.Step.{Step}
+use Rattle.nextest_filtering_filters.specs.Formula.{Formula, with_leaves}
+use Rattle.nextest_filtering_filters.specs.Steps.{formula_of}
+use Rattle.nextest_filtering_filters.specs.declared.step.Step.{Step}
 use Rattle.nextest_filtering_syntax.specs.Places.{StandsWhole}
 use Rattle.nextest_filtering_syntax.specs.Reading.{IsReadingOf}
 use Rattle.nextest_filtering_syntax.specs.declared.reading.Reading.{Reading}
@@ -27,7 +27,7 @@ use Rattle.nextest_filtering_compiling.specs.Context.{Context}
 use Rattle.nextest_filtering_compiling.specs.Faults.{Have, LeafHas, listed}
 use Rattle.nextest_filtering_compiling.specs.Leaves.{leaves_of, placed}
 use Rattle.nextest_filtering_compiling.specs.declared.filterset.Filtered.TheVariants as filtered
-use Rattle.nextest_filtering_compiling.specs.declared.known_groups.KnownGroups.{KnownGroups}
+use Rattle.nextest_filtering_filters.specs.declared.known_groups.KnownGroups.{KnownGroups}
 use Rattle.nextest_filtering_compiling.proofs.Placed.{tree_compiled}
 
 -- what has no items

@@ -17,7 +17,7 @@ use Rattle.nextest_filtering_compiling.specs.Leaves.{leaves_of}
 use Rattle.nextest_filtering_compiling.specs.declared.error.FiltersetError.{FiltersetError}
 use Rattle.nextest_filtering_compiling.specs.declared.error.FiltersetError.TheVariants as error
 use Rattle.nextest_filtering_compiling.specs.declared.filterset.Filterset.{Filterset}
-use Rattle.nextest_filtering_compiling.specs.declared.known_groups.KnownGroups.{KnownGroups}
+use Rattle.nextest_filtering_filters.specs.declared.known_groups.KnownGroups.{KnownGroups}
 
 -- each predicate may stand in a filterset of this kind, and something can be it
 abbrev pub IsFree : Context → FiltersetKind → KnownGroups → Tree → Type 0

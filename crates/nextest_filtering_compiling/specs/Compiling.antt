@@ -5,8 +5,8 @@ use Rattle.std.specs.List.{AllZip}
 use Rattle.nextest_filtering_filters.specs.Meaning.{Tells}
 use Rattle.nextest_filtering_filters.specs.declared.leaf.FiltersetLeaf.{FiltersetLeaf}
 use Rattle.nextest_filtering_filters.specs.declared.leaf.FiltersetLeaf.TheVariants as leaf
-use Rattle.nextest_filtering_formulas.specs.Formula as formula
-use Rattle.nextest_filtering_formulas.specs.Formula.{Formula}
+use Rattle.nextest_filtering_filters.specs.Formula as formula
+use Rattle.nextest_filtering_filters.specs.Formula.{Formula}
 use Rattle.nextest_filtering_graph.specs.Graph.{Graph}
 use Rattle.nextest_filtering_trees.specs.Tree.{Leaf, Matcher, Subject, Tree, matcher_of, matching, built_for, default_filter, everything, nothing, package_name, dependencies, dependents, kind, binary_name, binary_id, test_name, group, negation, union, intersection, difference, parens, set, leaf_of}
 use Rattle.nextest_filtering_trees.specs.declared.leaf.ParsedLeaf.{ParsedLeaf}

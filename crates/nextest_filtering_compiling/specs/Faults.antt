@@ -9,8 +9,8 @@ use Rattle.nextest_filtering_trees.specs.declared.leaf.SourceSpan.{SourceSpan}
 use Rattle.nextest_filtering_compiling.specs.Bans.{place_of}
 use Rattle.nextest_filtering_compiling.specs.Context.{Context}
 use Rattle.nextest_filtering_compiling.specs.Packages.{IsNamed}
-use Rattle.nextest_filtering_compiling.specs.declared.known_groups.KnownGroups.{KnownGroups}
-use Rattle.nextest_filtering_compiling.specs.declared.known_groups.KnownGroups.TheVariants as groups
+use Rattle.nextest_filtering_filters.specs.declared.known_groups.KnownGroups.{KnownGroups}
+use Rattle.nextest_filtering_filters.specs.declared.known_groups.KnownGroups.TheVariants as groups
 
 -- no package has such a name
 abbrev pub NoPackage : Context → Matcher → Type 0

@@ -8,3 +8,6 @@ pub mod Asking
 pub mod Outcomes
 pub mod Accepting
 pub mod Laws
+pub mod Filtersets
+pub mod Questions
+pub mod FiltersetLaws

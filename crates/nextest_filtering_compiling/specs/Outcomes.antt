@@ -18,7 +18,7 @@ use Rattle.nextest_filtering_compiling.specs.declared.compile.Outcome.{Outcome}
 use Rattle.nextest_filtering_compiling.specs.declared.compile.Outcome.TheVariants as outcome
 use Rattle.nextest_filtering_compiling.specs.declared.filterset.Filtered.{Filtered}
 use Rattle.nextest_filtering_compiling.specs.declared.filterset.Filtered.TheVariants as filtered
-use Rattle.nextest_filtering_compiling.specs.declared.known_groups.KnownGroups.{KnownGroups}
+use Rattle.nextest_filtering_filters.specs.declared.known_groups.KnownGroups.{KnownGroups}
 
 -- what a predicate is compiled to, or its fault, where it stands so
 abbrev pub IsOutcomeAt : Context → KnownGroups → SourceSpan → Leaf → Outcome → Type 0

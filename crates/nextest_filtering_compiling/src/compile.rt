@@ -7,14 +7,13 @@ ghost use Rattle.nextest_filtering_compiling.specs.Compiling.{AreCompiled};
 ghost use Rattle.nextest_filtering_compiling.specs.Context.{Context};
 ghost use Rattle.nextest_filtering_compiling.specs.Faults.{Have};
 ghost use Rattle.nextest_filtering_compiling.specs.Leaves.{behind};
-ghost use Rattle.nextest_filtering_compiling.specs.declared.known_groups.KnownGroups as groups;
+ghost use Rattle.nextest_filtering_filters.specs.declared.known_groups.KnownGroups as groups;
 
 use crate::faults::{lacks_group, lacks_id, lacks_name};
-use crate::known_groups::KnownGroups;
 use crate::packages::{Asks, named_places, packages_asked};
 use crate::parse_context::ParseContext;
 use nextest_filtering_arguments::ParseSingleError;
-use nextest_filtering_filters::FiltersetLeaf;
+use nextest_filtering_filters::{FiltersetLeaf, KnownGroups};
 use nextest_filtering_trees::{NameMatcher, ParsedLeaf, SourceSpan};
 use std::alloc::{AllocError, Global};
 

@@ -4,8 +4,8 @@ ghost use Rattle.nextest_filtering_filters.specs.Meaning.{Tells};
 ghost use Rattle.nextest_filtering_trees.specs.Tree.{matcher_of};
 ghost use Rattle.nextest_filtering_compiling.specs.Faults.{NoBinary, NoGroup};
 
-use crate::known_groups::KnownGroups;
 use crate::parse_context::ParseContext;
+use nextest_filtering_filters::KnownGroups;
 use nextest_filtering_trees::NameMatcher;
 use std::alloc::{AllocError, Global};
 

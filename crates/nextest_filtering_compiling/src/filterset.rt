@@ -2,7 +2,7 @@
 ghost use Rattle.std.specs.Prelude.{◌≡◌, ◌↔◌, IfOk, Some, true, false, codes};
 ghost use Rattle.std.specs.List.{list_any};
 ghost use Rattle.std.specs.Str.Iter.{HasSubslice};
-ghost use Rattle.nextest_filtering_formulas.specs.Formula.{IsValue};
+ghost use Rattle.nextest_filtering_filters.specs.Formula.{IsValue};
 ghost use Rattle.nextest_filtering_filters.specs.Filter.{filter_of, is_group};
 ghost use Rattle.nextest_filtering_filters.specs.Meaning.{CanBeOn, IsOn};
 ghost use Rattle.nextest_filtering_filters.specs.Query.{binary_of, test_of};
@@ -12,12 +12,13 @@ ghost use Rattle.nextest_filtering_compiling.specs.Outcomes.{IsFiltered};
 use crate::bans::banned_in;
 use crate::compile::{Compiled, compile_leaves};
 use crate::error::{FiltersetError, FiltersetParseErrors};
-use crate::known_groups::KnownGroups;
 use crate::leaves::leaves_of;
 use crate::parse_context::ParseContext;
 use crate::shape::shape_of;
 use nextest_filtering_arguments::{FiltersetKind, ParseSingleError};
-use nextest_filtering_filters::{BinaryQuery, CompiledExpr, EvalContext, GroupLookup, TestQuery};
+use nextest_filtering_filters::{
+    BinaryQuery, CompiledExpr, EvalContext, GroupLookup, KnownGroups, TestQuery,
+};
 use nextest_filtering_syntax::{ParsedExpr, Reading, needs_deps, read};
 use nextest_text::Text;
 use std::alloc::{AllocError, Global};

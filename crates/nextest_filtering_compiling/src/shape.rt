@@ -1,9 +1,9 @@
 // A tree as a formula over the places of its predicates.
 ghost use Rattle.std.specs.Prelude.{◌≡◌, ◌+◌, ◌<◌, ◌^◌, ◌∷◌, [], length, IfOk, OnOk, map};
-ghost use Rattle.nextest_filtering_formulas.specs.Steps.{formula_of, waiting_of};
+ghost use Rattle.nextest_filtering_filters.specs.Steps.{formula_of, waiting_of};
 ghost use Rattle.nextest_filtering_compiling.specs.Leaves.{behind, leaves_of, placed};
 
-use nextest_filtering_formulas::{Formula, FormulaBuilder};
+use nextest_filtering_filters::{Formula, FormulaBuilder};
 use nextest_filtering_syntax::ParsedExpr;
 use nextest_filtering_trees::ParsedLeaf;
 use std::alloc::{AllocError, Global};

@@ -10,12 +10,12 @@ use Rattle.std.proofs.lemmas.Bool.Decides.{Decides-eqb}
 use Rattle.std.proofs.lemmas.Slice.Eq.{bytes_eq-Decides}
 use Rattle.regex.specs.Patterns.{default_config, find_str}
 use Rattle.regex_syntax.specs.Grammar.{read}
-use Rattle.nextest_filtering_formulas.specs.Formula.{AreValues, Formula, Gives, IsValue, both, both_gives, either, either_gives, leaf, leaf_gives, negated, negated_gives, with_leaves}
-use Rattle.nextest_filtering_formulas.specs.Steps.{formula_of}
-use Rattle.nextest_filtering_formulas.specs.Values.{IsSome, one_value}
-use Rattle.nextest_filtering_formulas.specs.Waiting.{AreOf}
-use Rattle.nextest_filtering_formulas.specs.declared.values.Values.{Values}
-use Rattle.nextest_filtering_formulas.proofs.Giving.{gives_with, is_value, leaf_values, values_both, values_either, values_negated, with_gives}
+use Rattle.nextest_filtering_filters.specs.Formula.{AreValues, Formula, Gives, IsValue, both, both_gives, either, either_gives, leaf, leaf_gives, negated, negated_gives, with_leaves}
+use Rattle.nextest_filtering_filters.specs.Steps.{formula_of}
+use Rattle.nextest_filtering_filters.specs.Values.{IsSome, one_value}
+use Rattle.nextest_filtering_filters.specs.Waiting.{AreOf}
+use Rattle.nextest_filtering_filters.specs.declared.values.Values.{Values}
+use Rattle.nextest_filtering_filters.proofs.Giving.{gives_with, is_value, leaf_values, values_both, values_either, values_negated, with_gives}
 use Rattle.nextest_filtering_globs.specs.Inside.{has_last, run, start_of, state}
 use Rattle.nextest_filtering_globs.specs.Meaning.{Matches}
 use Rattle.nextest_filtering_globs.specs.declared.token.GlobToken.{GlobToken}

@@ -2,12 +2,12 @@
 use Rattle.std.proofs.Common.{◌≡◌, ℕ, Bool, true, false, List, [], ◌∷◌, zero, suc, not, Option, None, Some, refl, sym, ◌∙◌, subst, inl, inr}
 use Rattle.std.specs.List.{All, AllZip, list_any}
 use Rattle.std.specs.Prelude.{◌||◌}
-use Rattle.nextest_filtering_formulas.specs.Formula.{AreValues, Formula, Gives, IsValue}
-use Rattle.nextest_filtering_formulas.specs.Steps.{formula_of}
-use Rattle.nextest_filtering_formulas.specs.Values.{IsSome, may_by, nowhere, values_at}
-use Rattle.nextest_filtering_formulas.specs.declared.step.Step.{Step}
-use Rattle.nextest_filtering_formulas.specs.declared.values.Values.{Values}
-use Rattle.nextest_filtering_formulas.proofs.Giving.{gives_less, gives_one, gives_with, with_gives}
+use Rattle.nextest_filtering_filters.specs.Formula.{AreValues, Formula, Gives, IsValue}
+use Rattle.nextest_filtering_filters.specs.Steps.{formula_of}
+use Rattle.nextest_filtering_filters.specs.Values.{IsSome, may_by, nowhere, values_at}
+use Rattle.nextest_filtering_filters.specs.declared.step.Step.{Step}
+use Rattle.nextest_filtering_filters.specs.declared.values.Values.{Values}
+use Rattle.nextest_filtering_filters.proofs.Giving.{gives_less, gives_one, gives_with, with_gives}
 use Rattle.nextest_filtering_trees.specs.Meaning.{MatchesName}
 use Rattle.nextest_filtering_trees.specs.Tree.{Matcher, matcher_of}
 use Rattle.nextest_filtering_filters.specs.Asking.{AreOn, AreTold, IsTold, left_by, values_may}

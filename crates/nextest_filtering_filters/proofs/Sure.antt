@@ -1,8 +1,8 @@
 -- What holds of all filters.
 use Rattle.std.proofs.Common.{◌≡◌, Bool, true, false, refl}
 use Rattle.std.specs.List.{list_any}
-use Rattle.nextest_filtering_formulas.specs.Formula.{Formula, Gives}
-use Rattle.nextest_filtering_formulas.proofs.Giving.{gives_less}
+use Rattle.nextest_filtering_filters.specs.Formula.{Formula, Gives}
+use Rattle.nextest_filtering_filters.proofs.Giving.{gives_less}
 use Rattle.nextest_filtering_trees.specs.Meaning.{MatchesName}
 use Rattle.nextest_filtering_trees.specs.Tree.{Matcher}
 use Rattle.nextest_filtering_filters.specs.Filter.{Compiled, filter_of, is_group, leaf_at}

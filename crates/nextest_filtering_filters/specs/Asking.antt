@@ -1,8 +1,8 @@
 -- What is left to ask of a filter where its binary is known.
 use Rattle.std.specs.Prelude.{◌≡◌, ℕ, Bool, true, false, List, Option, None, Some}
-use Rattle.nextest_filtering_formulas.specs.Formula.{AreValues}
-use Rattle.nextest_filtering_formulas.specs.Values.{IsSome, may_by}
-use Rattle.nextest_filtering_formulas.specs.declared.values.Values.{Values}
+use Rattle.nextest_filtering_filters.specs.Formula.{AreValues}
+use Rattle.nextest_filtering_filters.specs.Values.{IsSome, may_by}
+use Rattle.nextest_filtering_filters.specs.declared.values.Values.{Values}
 use Rattle.nextest_filtering_trees.specs.Matching.{comparison_of, text_of}
 use Rattle.nextest_filtering_trees.specs.Meaning.{MatchesName}
 use Rattle.nextest_filtering_trees.specs.Tree.{Matcher, matcher_of}

@@ -1,8 +1,8 @@
 -- Filters that are compiled.
 use Rattle.std.specs.Prelude.{ℕ, Bool, true, false, List, slice_get, unwrap_or}
-use Rattle.nextest_filtering_formulas.specs.Formula.{Formula, with_leaves}
-use Rattle.nextest_filtering_formulas.specs.Steps.{formula_of}
-use Rattle.nextest_filtering_formulas.specs.declared.step.Step.{Step}
+use Rattle.nextest_filtering_filters.specs.Formula.{Formula, with_leaves}
+use Rattle.nextest_filtering_filters.specs.Steps.{formula_of}
+use Rattle.nextest_filtering_filters.specs.declared.step.Step.{Step}
 use Rattle.nextest_filtering_filters.specs.declared.leaf.FiltersetLeaf.{FiltersetLeaf}
 use Rattle.nextest_filtering_filters.specs.declared.leaf.FiltersetLeaf.TheVariants as leaf
 

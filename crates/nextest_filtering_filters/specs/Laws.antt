@@ -1,7 +1,7 @@
 -- What holds of all filters.
 use Rattle.std.specs.Prelude.{◌≡◌, Bool, true, false, Some}
 use Rattle.std.specs.List.{list_any}
-use Rattle.nextest_filtering_formulas.specs.Formula.{Formula, IsValue}
+use Rattle.nextest_filtering_filters.specs.Formula.{Formula, IsValue}
 use Rattle.nextest_filtering_trees.specs.Tree.{Matcher}
 use Rattle.nextest_filtering_filters.specs.Filter.{Compiled, filter_of, is_group}
 use Rattle.nextest_filtering_filters.specs.Meaning.{CanBeOn, IsOn}

@@ -1,3 +1,9 @@
+pub mod Formula
+pub mod Values
+pub mod Steps
+pub mod Waiting
+pub mod FormulaLaws
+pub mod WorkedRows
 pub mod Query
 pub mod Filter
 pub mod Meaning

@@ -1,7 +1,7 @@
 -- What filters are on binaries and on tests.
 use Rattle.std.specs.Prelude.{◌≡◌, ◌↔◌, Bool, true, false, ⊤}
 use Rattle.std.specs.BTreeSet.{contains_text}
-use Rattle.nextest_filtering_formulas.specs.Formula.{Formula, Gives}
+use Rattle.nextest_filtering_filters.specs.Formula.{Formula, Gives}
 use Rattle.nextest_filtering_trees.specs.Meaning.{MatchesName}
 use Rattle.nextest_filtering_trees.specs.Tree.{Matcher, matcher_of}
 use Rattle.nextest_filtering_filters.specs.declared.leaf.FiltersetLeaf.{FiltersetLeaf}

@@ -1,7 +1,7 @@
 // What a predicate is on a binary, and who is asked of the binary's tests.
 ghost use Rattle.std.specs.Prelude.{◌≡◌, Bool, IfOk};
-ghost use Rattle.nextest_filtering_formulas.specs.Formula.{AreValues};
-ghost use Rattle.nextest_filtering_formulas.specs.Values.{IsSome, may_by};
+ghost use Rattle.nextest_filtering_filters.specs.Formula.{AreValues};
+ghost use Rattle.nextest_filtering_filters.specs.Values.{IsSome, may_by};
 ghost use Rattle.nextest_filtering_filters.specs.Asking.{IsFor, IsTold, values_may};
 ghost use Rattle.nextest_filtering_filters.specs.Meaning.{Either, MayBe};
 ghost use Rattle.nextest_filtering_filters.specs.Query.{Binary, binary_of, test_of};
@@ -10,7 +10,7 @@ ghost use Rattle.nextest_filtering_filters.specs.declared.leaf.FiltersetLeaf.{Fi
 use crate::group_lookup::GroupLookup;
 use crate::leaf::FiltersetLeaf;
 use crate::query::{BinaryQuery, TestQuery};
-use nextest_filtering_formulas::Values;
+use crate::values::Values;
 use nextest_filtering_trees::{NameMatcher, NameMatching};
 use std::alloc::{AllocError, Global};
 

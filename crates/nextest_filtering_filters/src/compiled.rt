@@ -1,12 +1,13 @@
 // Filters that are compiled.
 ghost use Rattle.std.specs.Prelude.{◌≡◌, ◌∷◌, [], IfOk};
 ghost use Rattle.std.specs.List.{list_any};
-ghost use Rattle.nextest_filtering_formulas.specs.Formula.{leaf};
+ghost use Rattle.nextest_filtering_filters.specs.Formula.{leaf};
 ghost use Rattle.nextest_filtering_filters.specs.Filter.{filter_of, is_default, is_group};
 ghost use Rattle.nextest_filtering_filters.specs.declared.leaf.FiltersetLeaf.TheVariants.{All};
 
+use crate::builder::FormulaBuilder;
+use crate::formula::Formula;
 use crate::leaf::FiltersetLeaf;
-use nextest_filtering_formulas::{Formula, FormulaBuilder};
 use std::alloc::{AllocError, Global};
 use std::marker::Model;
 

@@ -1,8 +1,8 @@
 // A filter on a binary and its tests.
 ghost use Rattle.std.specs.Prelude.{◌≡◌, true, false, Some, IfOk};
 ghost use Rattle.std.specs.List.{list_any};
-ghost use Rattle.nextest_filtering_formulas.specs.Formula.{AreValues, Gives, IsValue};
-ghost use Rattle.nextest_filtering_formulas.specs.Values.{IsSome};
+ghost use Rattle.nextest_filtering_filters.specs.Formula.{AreValues, Gives, IsValue};
+ghost use Rattle.nextest_filtering_filters.specs.Values.{IsSome};
 ghost use Rattle.nextest_filtering_trees.specs.Meaning.{MatchesName};
 ghost use Rattle.nextest_filtering_filters.specs.Asking.{left_by};
 ghost use Rattle.nextest_filtering_filters.specs.Filter.{filter_of, is_default};
@@ -14,7 +14,7 @@ use crate::context::EvalContext;
 use crate::group_lookup::GroupLookup;
 use crate::part::Part;
 use crate::query::{BinaryQuery, TestQuery};
-use nextest_filtering_formulas::Values;
+use crate::values::Values;
 use std::alloc::{AllocError, Global};
 use std::marker::Model;
 

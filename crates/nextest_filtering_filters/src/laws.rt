@@ -1,5 +1,7 @@
 //! What holds of all filters. Each function does nothing, and its contract is the law.
 ghost use Rattle.nextest_filtering_filters.specs.Laws.{OneAnswer, SameWithoutGroups, SureOfTests};
+ghost use Rattle.nextest_filtering_filters.specs.FormulaLaws.{Stays};
+ghost use Rattle.nextest_filtering_filters.specs.WorkedRows.{WorkedRows};
 
 /// The one value that a filter has on a binary is the one that it has on each of the binary's tests, whoever is asked for
 /// groups.
@@ -15,4 +17,14 @@ pub fn same_without_groups()
 /// A filter doesn't both hold and not hold on a test.
 pub fn one_answer()
     ensures { OneAnswer }
+{}
+
+/// A formula that has one value whatever its leaves are has it also where more is known of them.
+pub fn stays()
+    ensures { Stays }
+{}
+
+/// Worked rows, whose values were found by hand: the definitions give them.
+pub fn worked_rows()
+    ensures { WorkedRows }
 {}

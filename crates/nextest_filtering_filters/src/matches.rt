@@ -1,7 +1,7 @@
 // Filters on one binary, and on one test.
 ghost use Rattle.std.specs.Prelude.{◌≡◌, false, Some, IfOk};
 ghost use Rattle.std.specs.List.{list_any};
-ghost use Rattle.nextest_filtering_formulas.specs.Formula.{IsValue};
+ghost use Rattle.nextest_filtering_filters.specs.Formula.{IsValue};
 ghost use Rattle.nextest_filtering_filters.specs.Filter.{filter_of, is_group};
 ghost use Rattle.nextest_filtering_filters.specs.Meaning.{CanBeOn, IsOn};
 ghost use Rattle.nextest_filtering_filters.specs.Query.{binary_of, test_of};

@@ -1,8 +1,8 @@
 // A filter on a binary, asked of the binary's tests.
 ghost use Rattle.std.specs.Prelude.{◌≡◌, Bool, List, Some, IfOk};
 ghost use Rattle.std.specs.List.{AllZip};
-ghost use Rattle.nextest_filtering_formulas.specs.Formula.{Gives, IsValue};
-ghost use Rattle.nextest_filtering_formulas.specs.Values.{IsSome};
+ghost use Rattle.nextest_filtering_filters.specs.Formula.{Gives, IsValue};
+ghost use Rattle.nextest_filtering_filters.specs.Values.{IsSome};
 ghost use Rattle.nextest_filtering_filters.specs.Asking.{AreOn, AreTold, IsFor, IsTold, values_may};
 ghost use Rattle.nextest_filtering_filters.specs.Filter.{filter_of};
 ghost use Rattle.nextest_filtering_filters.specs.Meaning.{Either, MayBe};
@@ -14,7 +14,7 @@ use crate::compiled::CompiledExpr;
 use crate::group_lookup::GroupLookup;
 use crate::leaf::FiltersetLeaf;
 use crate::query::{BinaryQuery, TestQuery};
-use nextest_filtering_formulas::Values;
+use crate::values::Values;
 use std::alloc::{AllocError, Global};
 use std::marker::Model;
 

@@ -1,3 +1,10 @@
+pub mod Texts
+pub mod Printed
+pub mod Arguments
+pub mod PrintedLeaves
+pub mod Trees
+pub mod Ends
+pub mod Unsigned
 pub mod Chains
 pub mod Closings
 pub mod Leaves

@@ -3,6 +3,7 @@
 
 mod closing;
 mod deps;
+pub mod laws;
 mod leaf;
 mod name;
 mod operators;

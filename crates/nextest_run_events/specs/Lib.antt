@@ -22,8 +22,8 @@ pub use Rattle.nextest_run_events_outcomes.specs.Laws
 pub use Rattle.nextest_run_events_outcomes.specs.Outcome
 pub use Rattle.nextest_run_events_outcomes.specs.Progress
 -- what a test or script is doing
-pub use Rattle.nextest_run_events_units.specs.State
-pub use Rattle.nextest_run_events_units.specs.Texts as UnitTexts
+pub use Rattle.nextest_run_events_outcomes.specs.State
+pub use Rattle.nextest_run_events_outcomes.specs.Texts as UnitTexts
 -- forms of JSON
 pub use Rattle.nextest_run_events_json.specs.Forms
 pub use Rattle.nextest_run_events_json.specs.Reading
@@ -99,15 +99,15 @@ pub use Rattle.nextest_run_events_outcomes.specs.declared.stress_progress.Stress
 pub use Rattle.nextest_run_events_outcomes.specs.declared.stress_progress.StressRemaining
 pub use Rattle.nextest_run_events_outcomes.specs.declared.stress_stats.StressFinalRunStats
 pub use Rattle.nextest_run_events_outcomes.specs.declared.stress_stats.StressRunStats
-pub use Rattle.nextest_run_events_units.specs.declared.terminate.UnitTerminateMethod
-pub use Rattle.nextest_run_events_units.specs.declared.terminate.UnitTerminateReason
-pub use Rattle.nextest_run_events_units.specs.declared.terminate.UnitTerminateSignal
-pub use Rattle.nextest_run_events_units.specs.declared.terminate.UnitTerminatingState
-pub use Rattle.nextest_run_events_units.specs.declared.test_info.TestInfoResponse
-pub use Rattle.nextest_run_events_units.specs.declared.test_list.TestList
-pub use Rattle.nextest_run_events_units.specs.declared.test_list.TestsNotSeen
-pub use Rattle.nextest_run_events_units.specs.declared.unit_kind.UnitKind
-pub use Rattle.nextest_run_events_units.specs.declared.unit_state.UnitState
+pub use Rattle.nextest_run_events_outcomes.specs.declared.terminate.UnitTerminateMethod
+pub use Rattle.nextest_run_events_outcomes.specs.declared.terminate.UnitTerminateReason
+pub use Rattle.nextest_run_events_outcomes.specs.declared.terminate.UnitTerminateSignal
+pub use Rattle.nextest_run_events_outcomes.specs.declared.terminate.UnitTerminatingState
+pub use Rattle.nextest_run_events_outcomes.specs.declared.test_info.TestInfoResponse
+pub use Rattle.nextest_run_events_outcomes.specs.declared.test_list.TestList
+pub use Rattle.nextest_run_events_outcomes.specs.declared.test_list.TestsNotSeen
+pub use Rattle.nextest_run_events_outcomes.specs.declared.unit_kind.UnitKind
+pub use Rattle.nextest_run_events_outcomes.specs.declared.unit_state.UnitState
 pub use Rattle.nextest_run_events_json.specs.declared.json_error.JsonError
 pub use Rattle.nextest_run_events_visibility.specs.declared.visibility.OutputOnTestFinished
 pub use Rattle.nextest_run_events_visibility.specs.declared.visibility.OutputStoreFinal

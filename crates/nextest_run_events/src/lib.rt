@@ -24,6 +24,8 @@ pub use nextest_run_events_json::{JsonError, JsonForm};
 pub use nextest_run_events_outcomes::{
     NonZeroDuration, RunFinishedStats, RunOutcome, StressCondition, StressCount,
     StressFinalRunStats, StressIndex, StressProgress, StressRemaining, StressRunStats,
+    TestInfoResponse, TestList, TestsNotSeen, UnitKind, UnitState, UnitTerminateMethod,
+    UnitTerminateReason, UnitTerminateSignal, UnitTerminatingState,
 };
 pub use nextest_run_events_outputs::{
     Boxed, ChildError, ChildErrorDescription, ChildExecutionOutput,
@@ -39,9 +41,5 @@ pub use nextest_run_events_results::{
     signal_name,
 };
 pub use nextest_run_events_slices::{ByteSubslice, TestOutputErrorSlice};
-pub use nextest_run_events_units::{
-    TestInfoResponse, TestList, TestsNotSeen, UnitKind, UnitState, UnitTerminateMethod,
-    UnitTerminateReason, UnitTerminateSignal, UnitTerminatingState,
-};
 pub use nextest_run_events_visibility::{OutputOnTestFinished, OutputStoreFinal, StatusLevels};
 pub use nextest_text::{Listing, Text};

@@ -15,8 +15,8 @@ use Rattle.nextest_run_events_outputs.specs.declared.output.ChildExecutionOutput
 use Rattle.nextest_run_events_outputs.specs.declared.output.ChildExecutionOutputDescription.TheVariants as came
 use Rattle.nextest_run_events_slices.specs.Slices.{captured, IsSlice}
 use Rattle.nextest_run_events_slices.specs.declared.slices.TestOutputErrorSlice.{TestOutputErrorSlice}
-use Rattle.nextest_run_events_units.specs.declared.unit_kind.UnitKind.{UnitKind}
-use Rattle.nextest_run_events_units.specs.declared.unit_kind.UnitKind.TheVariants as unit
+use Rattle.nextest_run_events_outcomes.specs.declared.unit_kind.UnitKind.{UnitKind}
+use Rattle.nextest_run_events_outcomes.specs.declared.unit_kind.UnitKind.TheVariants as unit
 use Rattle.nextest_run_events_errors.specs.Errors.{Aborted, Described, abort_value, exec_fail, child_process}
 use Rattle.nextest_run_events_errors.specs.declared.unit_error.UnitErrorDescription.{UnitErrorDescription}
 

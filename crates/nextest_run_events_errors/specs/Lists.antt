@@ -1,7 +1,7 @@
 -- What went wrong under one description.
 use Rattle.std.specs.Prelude.{◌≡◌, ◌≢◌, ℕ, List, [], codes, Option, Some, None}
-use Rattle.nextest_run_events_units.specs.declared.unit_kind.UnitKind.{UnitKind}
-use Rattle.nextest_run_events_units.specs.declared.unit_kind.UnitKind.TheVariants as unit
+use Rattle.nextest_run_events_outcomes.specs.declared.unit_kind.UnitKind.{UnitKind}
+use Rattle.nextest_run_events_outcomes.specs.declared.unit_kind.UnitKind.TheVariants as unit
 use Rattle.nextest_run_events_errors.specs.Errors.{Described}
 use Rattle.nextest_run_events_errors.specs.declared.list.DescribedErrorList.{DescribedErrorList}
 

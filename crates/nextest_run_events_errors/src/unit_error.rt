@@ -8,13 +8,13 @@ ghost use Rattle.nextest_run_events_errors.specs.Lists.{executing, IsListOf};
 
 use crate::described::UnitAbortDescription;
 use crate::list::{DescribedErrorList, DescribedErrors};
+use nextest_run_events_outcomes::UnitKind;
 use nextest_run_events_outputs::{
     Boxed, ChildErrorDescription, ChildExecutionOutputDescription, ChildOutputDescription,
     ChildSingleOutput, ChildStartErrorDescription, ErrorList, LiveSpec,
 };
 use nextest_run_events_results::{ExecutionResultDescription, FailureDescription};
 use nextest_run_events_slices::TestOutputErrorSlice;
-use nextest_run_events_units::UnitKind;
 
 /// What went wrong with an attempt of a test or a setup script, collected from what its process left, which it borrows.
 #[derive(Clone, Copy, Debug)]

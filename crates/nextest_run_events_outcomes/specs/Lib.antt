@@ -1,3 +1,5 @@
+pub mod State
+pub mod Texts
 pub mod Finished
 pub mod Laws
 pub mod Outcome

@@ -11,6 +11,11 @@ mod outcome;
 mod stress_count;
 mod stress_progress;
 mod stress_stats;
+mod terminate;
+mod test_info;
+mod test_list;
+mod unit_kind;
+mod unit_state;
 
 pub use finished_stats::RunFinishedStats;
 pub use nonzero_duration::NonZeroDuration;
@@ -18,3 +23,10 @@ pub use outcome::RunOutcome;
 pub use stress_count::{StressCondition, StressCount, StressIndex};
 pub use stress_progress::{StressProgress, StressRemaining};
 pub use stress_stats::{StressFinalRunStats, StressRunStats};
+pub use terminate::{
+    UnitTerminateMethod, UnitTerminateReason, UnitTerminateSignal, UnitTerminatingState,
+};
+pub use test_info::TestInfoResponse;
+pub use test_list::{TestList, TestsNotSeen};
+pub use unit_kind::UnitKind;
+pub use unit_state::UnitState;

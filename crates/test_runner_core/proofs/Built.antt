@@ -5,7 +5,7 @@ use Rattle.nextest_config_elements_plain.specs.declared.max_fail.MaxFail.{MaxFai
 use Rattle.nextest_config_elements_plain.specs.declared.max_fail.MaxFail.TheVariants as limits
 use Rattle.nextest_run_events_results.specs.declared.instance.OwnedTestInstanceId.{OwnedTestInstanceId}
 use Rattle.test_runner_core_inputs.specs.declared.inputs.Inputs.{Inputs}
-use Rattle.test_runner_core_plan.specs.Plan.{IsPlanOf, Planned, Plans, plan_test}
+use Rattle.test_runner_core_planning.specs.Plan.{IsPlanOf, Planned, Plans, plan_test}
 use Rattle.test_runner_core_plan.specs.declared.plan.Plan.{Plan}
 use Rattle.test_runner_core_plan.specs.declared.plan.PlanTest.{PlanTest}
 use Rattle.test_runner_core_runs.specs.RunPlan.{IsLimit, IsPlan}
@@ -16,7 +16,7 @@ use Rattle.test_runner_core_settings.specs.declared.configured.RunSettings.{RunS
 use Rattle.test_runner_core_settings.proofs.Limits.{sets_limit}
 use Rattle.test_runner_core_workspace.specs.Lister.{Answer}
 use Rattle.test_runner_core_workspace.specs.declared.record.Binary.{Binary}
-use Rattle.test_runner_core_plan.proofs.Once.{parts_of, settled_sets}
+use Rattle.test_runner_core_planning.proofs.Once.{parts_of, settled_sets}
 
 -- a number of failing tests that is one at least is a limit
 is_limit : (limit : MaxFail) → IsOneAtLeast limit → IsLimit limit

@@ -5,17 +5,17 @@ use Rattle.test_runner_core_inputs.specs.declared.inputs.Inputs.{Inputs}
 use Rattle.test_runner_core_listing.specs.Answers.{Answers}
 use Rattle.test_runner_core_listing.specs.Listing.{Found, listed_of, listing}
 use Rattle.test_runner_core_log_reader.specs.Items.{Item}
-use Rattle.test_runner_core_plan.specs.Filtering.{IsChosen}
-use Rattle.test_runner_core_plan.specs.Plan.{Builds, IsPlanOf, Planned, SettlesBehind, listed_in, passed_of, plan_test, settled_by}
+use Rattle.test_runner_core_planning.specs.Filtering.{IsChosen}
+use Rattle.test_runner_core_planning.specs.Plan.{Builds, IsPlanOf, Planned, SettlesBehind, listed_in, passed_of, plan_test, settled_by}
 use Rattle.test_runner_core_plan.specs.declared.plan.Plan.{Plan}
-use Rattle.test_runner_core_plan.specs.declared.plan_fault.PlanFault.{PlanFault}
-use Rattle.test_runner_core_plan.proofs.Once.{Parts, chosen_once, parts_of, settled_sets}
+use Rattle.test_runner_core_planning.specs.declared.plan_fault.PlanFault.{PlanFault}
+use Rattle.test_runner_core_planning.proofs.Once.{Parts, chosen_once, parts_of, settled_sets}
 use Rattle.test_runner_core_settings.specs.declared.configured.RunSettings.{RunSettings}
 use Rattle.test_runner_core_settings.proofs.Isolated.{isolated}
 use Rattle.test_runner_core_settings.proofs.Some.{some_settings}
 use Rattle.test_runner_core_telling.specs.Opening.{opening}
 use Rattle.test_runner_core_telling.specs.Parts.{IsText, Part}
-use Rattle.test_runner_core_versions.specs.declared.pass.VersionPass.{VersionPass}
+use Rattle.test_runner_core_settings.specs.declared.pass.VersionPass.{VersionPass}
 use Rattle.test_runner_core_workspace.specs.Lister.{Answer}
 use Rattle.test_runner_core_workspace.specs.declared.record.Binary.{Binary}
 use Rattle.test_runner_core_workspace.specs.declared.record.WorkspaceRecord.{WorkspaceRecord}

@@ -5,11 +5,11 @@ use Rattle.std.specs.List.{Contains, filter}
 use Rattle.std.proofs.lemmas.Bool.{both_ways, or_parts}
 use Rattle.std.proofs.lemmas.Map.Views.{list_any-from_Contains}
 use Rattle.test_runner_core_listing.specs.Listing.{ids_of}
-use Rattle.test_runner_core_plan.specs.Plan.{listed_in}
+use Rattle.test_runner_core_planning.specs.Plan.{listed_in}
 use Rattle.test_runner_core_workspace.specs.Workspace.{has_repeat, is_among}
 use Rattle.test_runner_core_workspace.specs.declared.record.Binary.{Binary}
 use Rattle.test_runner_core.specs.Laws.{ListsExactly}
-use Rattle.test_runner_core_plan.proofs.Once.{answers_are, parts_of}
+use Rattle.test_runner_core_planning.proofs.Once.{answers_are, parts_of}
 use Rattle.test_runner_core.proofs.Once.{planned_apart}
 use Rattle.test_runner_core.proofs.Selected.{filter_has, has_cases, has_of_filter, has_of_map, map_has, none_has}
 

@@ -18,7 +18,7 @@ use Rattle.test_runner_core_listing.specs.Answers.{Answers}
 use Rattle.test_runner_core_listing.specs.Listing.{Found, accepted, accepted_names, refused_name, ids_of, listing, selected_in, skipped_in, tests_of, ◌>>=◌}
 use Rattle.test_runner_core_listing.specs.declared.listing_fault.ListingFault.{ListingFault}
 use Rattle.test_runner_core_listing.specs.declared.listing_fault.ListingFault.TheVariants as refused
-use Rattle.test_runner_core_plan.specs.Plan.{Planned, Plans, listed_in, plan_test}
+use Rattle.test_runner_core_planning.specs.Plan.{Planned, Plans, listed_in, plan_test}
 use Rattle.test_runner_core_plan.specs.declared.plan.PlanTest.{PlanTest}
 use Rattle.test_runner_core_workspace.specs.Lister.{Answer}
 use Rattle.test_runner_core_workspace.specs.Workspace.{binary_ids, has_repeat, has_separator, is_among, is_bad_id, is_known_link, package_ids, refusal_of}
@@ -27,7 +27,7 @@ use Rattle.test_runner_core_workspace.specs.declared.record.WorkspaceRecord.{Wor
 use Rattle.test_runner_core_workspace.specs.declared.workspace_fault.WorkspaceFault.{WorkspaceFault}
 use Rattle.test_runner_core_workspace.specs.declared.workspace_fault.WorkspaceFault.TheVariants as bad
 use Rattle.test_runner_core.specs.Laws.{HasNoneTwice}
-use Rattle.test_runner_core_plan.proofs.Once.{parts_of, settled_workspace}
+use Rattle.test_runner_core_planning.proofs.Once.{parts_of, settled_workspace}
 
 -- ---- tests that are the same
 

@@ -4,10 +4,10 @@ use Rattle.std.specs.Io.KnownBytes.{Appends}
 use Rattle.test_runner_core_inputs.specs.declared.inputs.Inputs.{Inputs}
 use Rattle.test_runner_core_log_reader.specs.Feeds.{behind_feed}
 use Rattle.test_runner_core_log_reader.specs.Items.{Item, Line, Refused, items}
-use Rattle.test_runner_core_plan.specs.Texts.{status_of}
+use Rattle.test_runner_core_planning.specs.Texts.{status_of}
 use Rattle.test_runner_core_plan.specs.declared.plan.Plan.{Plan}
-use Rattle.test_runner_core_plan.specs.declared.plan_fault.PlanFault.{PlanFault}
-use Rattle.test_runner_core_plan.specs.declared.plan_fault.PlanFault.TheVariants as plan_refused
+use Rattle.test_runner_core_planning.specs.declared.plan_fault.PlanFault.{PlanFault}
+use Rattle.test_runner_core_planning.specs.declared.plan_fault.PlanFault.TheVariants as plan_refused
 use Rattle.test_runner_core_runs.proofs.OneEnd as runs
 use Rattle.test_runner_core_runs.proofs.WholeRuns as whole_runs
 use Rattle.test_runner_core_runs.specs.Assignment.{Assignment, IsUnstopped}

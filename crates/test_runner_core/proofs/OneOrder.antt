@@ -14,7 +14,7 @@ use Rattle.std.proofs.lemmas.List.Sums.{sum_by-cons}
 use Rattle.std.proofs.lemmas.Map.Text.{is_eq-slice_cmp}
 use Rattle.std.proofs.lemmas.Slice.Eq.{bytes_eq-Decides}
 use Rattle.nextest_run_events_results.specs.declared.instance.OwnedTestInstanceId.{OwnedTestInstanceId}
-use Rattle.test_runner_core_listing.specs.Listing.{instance_cmp}
+use Rattle.test_runner_core_plan.specs.Order.{instance_cmp}
 
 instances_compare : IsTotalOrder instance_cmp
 instances_compare = then_total (on_texts (λ (it : OwnedTestInstanceId). it.binary_id)) (on_texts (λ (it : OwnedTestInstanceId). it.test_name))

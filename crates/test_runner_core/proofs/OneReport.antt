@@ -2,10 +2,10 @@
 use Rattle.std.proofs.Common.{◌≡◌, ℕ, ◌+◌, List, [], ◌∷◌, ◌++◌, codes, map, length, Option, Ok, Err, refl, sym, ap, ◌∙◌, subst, inl, inr, append_assoc, append-nil}
 use Rattle.test_runner_core_inputs.specs.declared.inputs.Inputs.{Inputs}
 use Rattle.test_runner_core_log_reader.specs.Items.{Item, Line}
-use Rattle.test_runner_core_plan.specs.Plan.{Builds, Plans}
-use Rattle.test_runner_core_plan.specs.Texts.{status_of}
+use Rattle.test_runner_core_planning.specs.Plan.{Builds, Plans}
+use Rattle.test_runner_core_planning.specs.Texts.{status_of}
 use Rattle.test_runner_core_plan.specs.declared.plan.Plan.{Plan}
-use Rattle.test_runner_core_plan.specs.declared.plan_fault.PlanFault.{PlanFault}
+use Rattle.test_runner_core_planning.specs.declared.plan_fault.PlanFault.{PlanFault}
 use Rattle.test_runner_core_report.proofs.OneText.{one_done, one_shown}
 use Rattle.test_runner_core_runs.specs.State.{State, initial}
 use Rattle.test_runner_core_session.specs.Session.{run_plan}
@@ -17,7 +17,7 @@ use Rattle.test_runner_core.specs.Judging.{Finds}
 use Rattle.test_runner_core.specs.Laws.{EndsWithOneText, ToldFirst}
 use Rattle.test_runner_core.specs.Report.{Begun, Composed, Judged, SoFar, ending, exit_status}
 use Rattle.test_runner_core.specs.declared.refused_line.RefusedLine.{RefusedLine}
-use Rattle.test_runner_core_plan.proofs.Once.{plans_once}
+use Rattle.test_runner_core_planning.proofs.Once.{plans_once}
 use Rattle.test_runner_core.proofs.OneRun.{early_parts, finds_once, fronts_same, one_plan, same_rest, so_far_once, stands_before}
 
 -- ---- texts

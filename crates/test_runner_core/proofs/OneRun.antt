@@ -11,7 +11,7 @@ use Rattle.test_runner_core_log_reader.specs.Items.{Item, Line, Refused}
 use Rattle.test_runner_core_line_syntax.proofs.Lines.{nothing_empty, one_event}
 use Rattle.test_runner_core_line_syntax.specs.Spelling.{Spells}
 use Rattle.test_runner_core_line_syntax.specs.declared.log_line.LogLine.{LogLine}
-use Rattle.test_runner_core_plan.specs.Plan.{Builds, IsPlanOf, Planned, plan_test}
+use Rattle.test_runner_core_planning.specs.Plan.{Builds, IsPlanOf, Planned, plan_test}
 use Rattle.test_runner_core_plan.specs.declared.plan.Plan.{Plan}
 use Rattle.test_runner_core_plan.specs.declared.plan.PlanTest.{PlanTest}
 use Rattle.test_runner_core_runs.specs.Runs.{Run}
@@ -30,7 +30,7 @@ use Rattle.test_runner_core.specs.Report.{SoFar}
 use Rattle.test_runner_core.specs.declared.refused_line.LineRefusal.{LineRefusal}
 use Rattle.test_runner_core.specs.declared.refused_line.LineRefusal.TheVariants as refused
 use Rattle.test_runner_core.specs.declared.refused_line.RefusedLine.{RefusedLine}
-use Rattle.test_runner_core_plan.proofs.Once.{plans_once}
+use Rattle.test_runner_core_planning.proofs.Once.{plans_once}
 use Rattle.test_runner_core.proofs.OneOrder.{one_rising}
 
 -- an answer is one

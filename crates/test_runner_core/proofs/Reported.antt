@@ -7,13 +7,13 @@ use Rattle.test_runner_core_inputs.specs.declared.inputs.Inputs.{Inputs}
 use Rattle.test_runner_core_log_reader.specs.Cursor.{Cursor, items_ahead}
 use Rattle.test_runner_core_log_reader.specs.Items.{Item}
 use Rattle.test_runner_core_listing.specs.Listing.{AsksFor}
-use Rattle.test_runner_core_plan.specs.Plan as building
-use Rattle.test_runner_core_plan.specs.Plan.{Asks, AsksBehind, AsksWith, Builds, Plans, asked_by}
-use Rattle.test_runner_core_plan.specs.declared.plan_error.PlanError.{PlanError}
-use Rattle.test_runner_core_plan.specs.declared.plan_error.PlanError.TheVariants as build_error
-use Rattle.test_runner_core_plan.specs.Texts.{status_of}
+use Rattle.test_runner_core_planning.specs.Plan as building
+use Rattle.test_runner_core_planning.specs.Plan.{Asks, AsksBehind, AsksWith, Builds, Plans, asked_by}
+use Rattle.test_runner_core_planning.specs.declared.plan_error.PlanError.{PlanError}
+use Rattle.test_runner_core_planning.specs.declared.plan_error.PlanError.TheVariants as build_error
+use Rattle.test_runner_core_planning.specs.Texts.{status_of}
 use Rattle.test_runner_core_plan.specs.declared.plan.Plan.{Plan}
-use Rattle.test_runner_core_plan.specs.declared.plan_fault.PlanFault.{PlanFault}
+use Rattle.test_runner_core_planning.specs.declared.plan_fault.PlanFault.{PlanFault}
 use Rattle.test_runner_core_settings.specs.declared.configured.RunSettings.{RunSettings}
 use Rattle.test_runner_core_telling.specs.Parts.{Part}
 use Rattle.test_runner_core_telling.specs.Telling.{TellsAll, TellsFront}

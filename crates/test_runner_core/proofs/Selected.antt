@@ -5,19 +5,19 @@ use Rattle.std.proofs.lemmas.List.Elements.{Contains-append_left, Contains-appen
 use Rattle.std.proofs.lemmas.List.Sorted.{Contains-permutation, IsPermutation-sym}
 use Rattle.nextest_filtering_filters.specs.Meaning.{IsOn}
 use Rattle.nextest_filtering_filters.specs.declared.leaf.FiltersetLeaf.{FiltersetLeaf}
-use Rattle.nextest_filtering_formulas.specs.Formula.{Formula}
+use Rattle.nextest_filtering_filters.specs.Formula.{Formula}
 use Rattle.nextest_run_events_results.specs.declared.instance.OwnedTestInstanceId.{OwnedTestInstanceId}
 use Rattle.test_runner_core_listing.specs.Answers.{Answers, AreAnswers, IsOfGroup, seen_test}
 use Rattle.test_runner_core_listing.specs.Listing.{Found, accepted, accepted_names, refused_name, listing, selected_in, skipped_in, ◌>>=◌}
 use Rattle.test_runner_core_listing.specs.declared.listing_fault.ListingFault.{ListingFault}
 use Rattle.test_runner_core_inputs.specs.declared.inputs.Inputs.{Inputs}
-use Rattle.test_runner_core_plan.specs.Filtering.{everything}
-use Rattle.test_runner_core_plan.specs.Plan.{listed_in, plan_test}
+use Rattle.test_runner_core_planning.specs.Filtering.{everything}
+use Rattle.test_runner_core_planning.specs.Plan.{listed_in, plan_test}
 use Rattle.test_runner_core_plan.specs.declared.plan.PlanTest.{PlanTest}
 use Rattle.test_runner_core_settings.specs.declared.configured.RunSettings.{RunSettings}
 use Rattle.test_runner_core.specs.Laws.{HasExactlyTheWanted, IsWanted}
 use Rattle.nextest_filtering_filters.proofs.Sure.{on_test_can_be, one_on_test}
-use Rattle.test_runner_core_plan.proofs.Once.{answers_are, parts_of}
+use Rattle.test_runner_core_planning.proofs.Once.{answers_are, parts_of}
 use Rattle.test_runner_core_workspace.specs.Lister.{Answer}
 use Rattle.test_runner_core_workspace.specs.declared.record.Binary.{Binary}
 

@@ -13,8 +13,8 @@ use Rattle.test_runner_core_log_reader.specs.Feeds.{IsPlain, before_feed, behind
 use Rattle.test_runner_core_log_reader.specs.declared.fault.LogFault.{LogFault}
 use Rattle.test_runner_core_log_reader.specs.declared.fault.LogFault.TheVariants as unread
 use Rattle.test_runner_core_log_reader.specs.Items.{Item, items, whole_lines}
-use Rattle.test_runner_core_plan.specs.Plan.{Plans}
-use Rattle.test_runner_core_plan.specs.declared.plan_fault.PlanFault.{PlanFault}
+use Rattle.test_runner_core_planning.specs.Plan.{Plans}
+use Rattle.test_runner_core_planning.specs.declared.plan_fault.PlanFault.{PlanFault}
 use Rattle.test_runner_core_plan.specs.declared.plan.Plan.{Plan}
 use Rattle.test_runner_core_runs.specs.State.{State, initial}
 use Rattle.test_runner_core_runs.specs.declared.event.Event.{Event}

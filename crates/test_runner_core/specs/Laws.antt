@@ -4,16 +4,16 @@ use Rattle.std.specs.Io.KnownBytes.{Appends}
 use Rattle.std.specs.List.{AllPairs, Contains}
 use Rattle.nextest_filtering_filters.specs.Meaning.{CanBeOn, IsOn}
 use Rattle.nextest_filtering_filters.specs.declared.leaf.FiltersetLeaf.{FiltersetLeaf}
-use Rattle.nextest_filtering_formulas.specs.Formula.{Formula}
+use Rattle.nextest_filtering_filters.specs.Formula.{Formula}
 use Rattle.nextest_run_events_results.specs.declared.instance.OwnedTestInstanceId.{OwnedTestInstanceId}
 use Rattle.test_runner_core_inputs.specs.declared.inputs.Inputs.{Inputs}
 use Rattle.test_runner_core_log_reader.specs.Items.{Item}
 use Rattle.test_runner_core_listing.specs.Answers.{IsOfGroup, seen, seen_test}
-use Rattle.test_runner_core_plan.specs.Filtering.{IsInForce, everything}
-use Rattle.test_runner_core_plan.specs.Plan.{Builds, Settles}
+use Rattle.test_runner_core_planning.specs.Filtering.{IsInForce, everything}
+use Rattle.test_runner_core_planning.specs.Plan.{Builds, Settles}
 use Rattle.test_runner_core_plan.specs.declared.plan.Plan.{Plan}
 use Rattle.test_runner_core_plan.specs.declared.plan.PlanTest.{PlanTest}
-use Rattle.test_runner_core_plan.specs.declared.plan_fault.PlanFault.{PlanFault}
+use Rattle.test_runner_core_planning.specs.declared.plan_fault.PlanFault.{PlanFault}
 use Rattle.test_runner_core_runs.specs.Assignment.{Assignment, IsUnstopped}
 use Rattle.test_runner_core_runs.specs.Ends.{EndedWhole}
 use Rattle.test_runner_core_runs.specs.RunPlan.{IsPlan}

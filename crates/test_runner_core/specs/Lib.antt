@@ -33,10 +33,11 @@ pub use Rattle.test_runner_core_session.specs.Session
 pub use Rattle.test_runner_core_progress.specs.Progress
 pub use Rattle.test_runner_core_progress.specs.Statuses
 -- plans, and which tests they select
-pub use Rattle.test_runner_core_plan.specs.Plan
-pub use Rattle.test_runner_core_plan.specs.Filtering
-pub use Rattle.test_runner_core_plan.specs.Refusals
-pub use Rattle.test_runner_core_plan.specs.Texts as PlanTexts
+pub use Rattle.test_runner_core_plan.specs.Order
+pub use Rattle.test_runner_core_planning.specs.Plan
+pub use Rattle.test_runner_core_planning.specs.Filtering
+pub use Rattle.test_runner_core_planning.specs.Refusals
+pub use Rattle.test_runner_core_planning.specs.Texts as PlanTexts
 pub use Rattle.test_runner_core_listing.specs.Listing
 pub use Rattle.test_runner_core_listing.specs.Answers
 pub use Rattle.test_runner_core_settings.specs.Sets
@@ -44,9 +45,9 @@ pub use Rattle.test_runner_core_settings.specs.Settings
 pub use Rattle.test_runner_core_settings.specs.Laws as SettingsLaws
 -- the version pass: which sources count, how it takes them, what comes of what they ask for, and how a warning reads
 pub use Rattle.nextest_config_resolution_sources.specs.Counting
-pub use Rattle.test_runner_core_versions.specs.Sources as PassSources
-pub use Rattle.test_runner_core_versions.specs.Pass
-pub use Rattle.test_runner_core_versions.specs.Warnings
+pub use Rattle.test_runner_core_settings.specs.Sources as PassSources
+pub use Rattle.test_runner_core_settings.specs.Pass
+pub use Rattle.test_runner_core_settings.specs.Warnings
 -- inputs, workspaces and listers
 pub use Rattle.test_runner_core_inputs.specs.Reading as InputsReading
 pub use Rattle.test_runner_core_inputs.specs.Calls as InputsCalls
@@ -114,17 +115,17 @@ pub use Rattle.nextest_config_resolution_load.specs.declared.load_fault.LoadFaul
 pub use Rattle.nextest_config_resolution_load.specs.declared.load_fault.LoadKind
 pub use Rattle.nextest_config_resolution_profiles.specs.declared.profile_error.ProfileNotFound
 pub use Rattle.test_runner_core_plan.specs.declared.plan.Plan as PlanType
-pub use Rattle.test_runner_core_plan.specs.declared.plan_error.PlanError
-pub use Rattle.test_runner_core_plan.specs.declared.plan_fault.PlanFault
-pub use Rattle.test_runner_core_settings.specs.declared.plan_settings.PlanSettings
+pub use Rattle.test_runner_core_planning.specs.declared.plan_error.PlanError
+pub use Rattle.test_runner_core_planning.specs.declared.plan_fault.PlanFault
+pub use Rattle.test_runner_core_plan.specs.declared.plan_settings.PlanSettings
 pub use Rattle.test_runner_core_plan.specs.declared.plan.PlanTest
 pub use Rattle.test_runner_core_progress.specs.declared.start_fault.StartFault
 pub use Rattle.test_runner_core_runs.specs.declared.mark.Mark
 pub use Rattle.test_runner_core_runs.specs.declared.step_refusal.StepRefusal
 pub use Rattle.test_runner_core_session.specs.declared.session.Fate
 pub use Rattle.test_runner_core_streams.specs.declared.memory_writer.WriteFailure
-pub use Rattle.test_runner_core_versions.specs.declared.pass.VersionPass
-pub use Rattle.test_runner_core_versions.specs.declared.pass_error.VersionPassFault
+pub use Rattle.test_runner_core_settings.specs.declared.pass.VersionPass
+pub use Rattle.test_runner_core_settings.specs.declared.pass_error.VersionPassFault
 pub use Rattle.test_runner_core_workspace.specs.declared.record.Binary
 pub use Rattle.test_runner_core_workspace.specs.declared.record.BinaryKind
 pub use Rattle.test_runner_core_workspace.specs.declared.record.BinaryTests

@@ -7,9 +7,9 @@ use Rattle.test_runner_core_inputs.specs.declared.inputs.Inputs.{Inputs}
 use Rattle.test_runner_core_inputs.specs.declared.inputs_error.InputsRefusal.{InputsRefusal}
 use Rattle.test_runner_core_log_reader.specs.Feeds.{IsPlain, before_feed, behind_feed}
 use Rattle.test_runner_core_log_reader.specs.Items.{Item, Line, items, whole_lines}
-use Rattle.test_runner_core_plan.specs.Plan.{Builds, Plans}
+use Rattle.test_runner_core_planning.specs.Plan.{Builds, Plans}
 use Rattle.test_runner_core_plan.specs.declared.plan.Plan.{Plan}
-use Rattle.test_runner_core_plan.specs.declared.plan_fault.PlanFault.{PlanFault}
+use Rattle.test_runner_core_planning.specs.declared.plan_fault.PlanFault.{PlanFault}
 use Rattle.test_runner_core_runs.specs.Assignment.{Assignment, IsUnstopped, due_status}
 use Rattle.test_runner_core_runs.specs.Ends.{final_state}
 use Rattle.test_runner_core_runs.specs.Runs.{Agrees, IsNoMilder, IsNoStop, is_complete}

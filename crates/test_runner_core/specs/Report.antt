@@ -5,10 +5,10 @@ use Rattle.test_runner_core_inputs.specs.declared.inputs.Inputs.{Inputs}
 use Rattle.test_runner_core_inputs.specs.declared.inputs_error.InputsRefusal.{InputsRefusal}
 use Rattle.test_runner_core_inputs.specs.declared.inputs_error.InputsRefusal.TheVariants as unread
 use Rattle.test_runner_core_log_reader.specs.Items.{Item, Line, whole_lines}
-use Rattle.test_runner_core_plan.specs.Plan.{Builds, Plans}
-use Rattle.test_runner_core_plan.specs.Texts.{name_of, status_of}
+use Rattle.test_runner_core_planning.specs.Plan.{Builds, Plans}
+use Rattle.test_runner_core_planning.specs.Texts.{name_of, status_of}
 use Rattle.test_runner_core_plan.specs.declared.plan.Plan.{Plan}
-use Rattle.test_runner_core_plan.specs.declared.plan_fault.PlanFault.{PlanFault}
+use Rattle.test_runner_core_planning.specs.declared.plan_fault.PlanFault.{PlanFault}
 use Rattle.test_runner_core_runs.specs.Counters.{status}
 use Rattle.test_runner_core_runs.specs.State.{State, initial}
 use Rattle.test_runner_core_runs.specs.declared.event.Event.{Event}

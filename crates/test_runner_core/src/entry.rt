@@ -9,8 +9,8 @@ ghost use Rattle.test_runner_core.specs.Outcome.{EndsAsDue, HasNoPlan, IsDue, Is
 ghost use Rattle.test_runner_core.specs.Inside.{IsGotOf};
 ghost use Rattle.test_runner_core.specs.Report.{Begun, Composed, GotTo, Reports, TellsSoFar};
 ghost use Rattle.test_runner_core_log_reader.specs.Cursor.{items_ahead};
-ghost use Rattle.test_runner_core_plan.specs.Plan.{AsksWith, Builds, Plans};
-ghost use Rattle.test_runner_core_plan.specs.declared.plan_fault.PlanFault.{PlanFault};
+ghost use Rattle.test_runner_core_planning.specs.Plan.{AsksWith, Builds, Plans};
+ghost use Rattle.test_runner_core_planning.specs.declared.plan_fault.PlanFault.{PlanFault};
 ghost use Rattle.test_runner_core_workspace.specs.declared.record.Binary.{Binary};
 
 use crate::judge_fault::JudgeFault;
@@ -18,7 +18,8 @@ use crate::whole_report::{judge_plan, refuse_inputs, refuse_plan};
 use std::alloc::Global;
 use test_runner_core_inputs::{Inputs, InputsError, InputsRefusal};
 use test_runner_core_log_reader::LogLines;
-use test_runner_core_plan::{Plan, PlanError};
+use test_runner_core_plan::Plan;
+use test_runner_core_planning::{BuildPlan, PlanError};
 use test_runner_core_streams::{LogReader, ReportWriter};
 use test_runner_core_workspace::{Lister, TableLister};
 

@@ -43,12 +43,14 @@ pub use test_runner_core_line_syntax::{
 pub use test_runner_core_log_reader::{
     FIRST_LINE_LIMIT, LINE_LIMIT, LOG_LIMIT, LineFault, LogFault, LogLines, Next,
 };
-pub use test_runner_core_plan::{
-    LoadFault, LoadKind, Plan, PlanError, PlanFault, PlanSettings, PlanTest, ProfileNotFound,
+pub use test_runner_core_plan::{Plan, PlanSettings, PlanTest};
+pub use test_runner_core_planning::{
+    BuildPlan, LoadFault, LoadKind, PlanError, PlanFault, ProfileNotFound,
 };
 pub use test_runner_core_progress::StartFault;
 pub use test_runner_core_runs::{Mark, StepRefusal, exit_status};
 pub use test_runner_core_session::{Fate, Session};
+pub use test_runner_core_settings::owned_settings;
 pub use test_runner_core_streams::{
     LogReader, MemoryReader, MemoryWriter, ReportWriter, StdReader, StdWriter, WriteFailure,
 };

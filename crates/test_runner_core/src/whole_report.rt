@@ -1,7 +1,7 @@
 // The whole report: of a planned run, and of what is refused before one.
 ghost use Rattle.std.specs.Prelude.{◌≡◌, ◌+◌, ◌^◌, ◌<◌, ◌≤◌, [], ◌∷◌, IfOk, string_bytes};
 ghost use Rattle.test_runner_core_log_reader.specs.Limits.{log_reads};
-ghost use Rattle.test_runner_core_plan.specs.Texts.{status_of};
+ghost use Rattle.test_runner_core_planning.specs.Texts.{status_of};
 ghost use Rattle.test_runner_core_telling.specs.Parts.{Said};
 ghost use Rattle.test_runner_core_telling.specs.Telling as telling;
 ghost use Rattle.test_runner_core.specs.Faults.{TellsRead, TellsWrite};
@@ -14,7 +14,8 @@ use crate::refused_line::RefusedLine;
 use std::alloc::Global;
 use test_runner_core_inputs::InputsRefusal;
 use test_runner_core_log_reader::LogLines;
-use test_runner_core_plan::{Plan, PlanFault};
+use test_runner_core_plan::Plan;
+use test_runner_core_planning::PlanFault;
 use test_runner_core_session::Session;
 use test_runner_core_streams::{LogReader, ReportWriter, write_all};
 use test_runner_core_telling::{TellFault, tell_final, tell_words, write_waiting};

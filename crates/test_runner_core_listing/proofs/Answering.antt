@@ -5,7 +5,7 @@ use Rattle.nextest_filtering_filters.specs.Meaning.{CanBeOn, IsOn, Tells}
 use Rattle.nextest_filtering_filters.proofs.Deciding.{decided_name, decided_on_binary, decided_on_test}
 use Rattle.nextest_filtering_filters.proofs.Parts.{tells_one}
 use Rattle.nextest_filtering_filters.proofs.Sure.{one_on_test}
-use Rattle.nextest_filtering_formulas.specs.Formula.{IsValue}
+use Rattle.nextest_filtering_filters.specs.Formula.{IsValue}
 use Rattle.test_runner_core_listing.specs.Answers.{IsOfGroup, seen, seen_test}
 use Rattle.test_runner_core_listing.specs.Laws.{AnswersOnce, HasAnswers}
 use Rattle.test_runner_core_workspace.specs.declared.record.Binary.{Binary}

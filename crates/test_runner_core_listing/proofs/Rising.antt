@@ -7,7 +7,7 @@ use Rattle.std.specs.Cmp.Lexicographic.{slice_cmp, nat_list_cmp_total}
 use Rattle.std.specs.List.{IsEachAdjacentAnswer}
 use Rattle.std.specs.List.Sorted.{IsSorted}
 use Rattle.nextest_run_events_results.specs.declared.instance.OwnedTestInstanceId.{OwnedTestInstanceId}
-use Rattle.test_runner_core_listing.specs.Listing.{instance_cmp}
+use Rattle.test_runner_core_plan.specs.Order.{instance_cmp}
 
 abbrev not_greater : OwnedTestInstanceId → OwnedTestInstanceId → Bool
 not_greater = partial_le (λ a b. Some (instance_cmp a b))

@@ -2,7 +2,7 @@
 use Rattle.std.proofs.Common.{◌≡◌, Bool, true, false, not, Option, None, Some, refl, sym}
 use Rattle.std.specs.Bool.{beq}
 use Rattle.std.specs.Option.{option_eq}
-use Rattle.nextest_filtering_formulas.specs.Formula.{IsValue}
+use Rattle.nextest_filtering_filters.specs.Formula.{IsValue}
 use Rattle.nextest_filtering_filters.specs.Meaning.{Tells}
 
 -- what isn't known to be false can hold

@@ -3,7 +3,7 @@ use Rattle.std.specs.Prelude.{◌≡◌, false}
 use Rattle.nextest_filtering_filters.specs.Deciding.{AllLeaves, AreReadable}
 use Rattle.nextest_filtering_filters.specs.Filter.{Compiled, filter_of, is_default}
 use Rattle.nextest_filtering_filters.specs.declared.leaf.FiltersetLeaf.{FiltersetLeaf}
-use Rattle.nextest_filtering_formulas.specs.Formula.{Formula}
+use Rattle.nextest_filtering_filters.specs.Formula.{Formula}
 use Rattle.test_runner_core_listing.specs.Answers.{Answers, AreAnswers, AnswerAs}
 
 -- a filter has answers, where the globs of its matchers are globs, and the default filter has no `default()` in it

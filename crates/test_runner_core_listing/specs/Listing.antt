@@ -1,10 +1,8 @@
 -- What the listed binaries answer, and which of their tests are selected.
 use Rattle.std.specs.Prelude.{◌≡◌, ℕ, ◌==◌, Bool, true, false, not, length, List, [], ◌∷◌, ◌++◌, Option, None, Some, Result, Ok, Err, ⊤, map, filter, if◌then◌else◌}
-use Rattle.std.specs.Ordering.{nat_cmp, ordering_then}
-use Rattle.std.specs.declared.cmp.Ordering.{Ordering}
-use Rattle.std.specs.Cmp.Lexicographic.{slice_cmp}
 use Rattle.std.specs.List.Sorted.{IsSorted, IsPermutation}
 use Rattle.nextest_run_events_results.specs.declared.instance.OwnedTestInstanceId.{OwnedTestInstanceId}
+use Rattle.test_runner_core_plan.specs.Order.{instance_cmp}
 use Rattle.test_runner_core_workspace.specs.Lister.{Answer}
 use Rattle.test_runner_core_workspace.specs.Workspace.{is_among, has_separator}
 use Rattle.test_runner_core_workspace.specs.declared.record.Binary.{Binary}
@@ -109,10 +107,6 @@ abbrev pub Lists : Result Selection ListingError → Result Found ListingFault �
 Lists (Ok found) given listed = (given ≡ Ok (record { tests = found.tests; skipped = found.skipped })) × (found.listed ≡ ids_of listed)
 Lists (Err (error.Refused refusal)) given listed = given ≡ Err refusal
 Lists (Err error.OutOfMemory) given listed = ⊤
-
--- tests rise by binary id, and then by name, by bytes
-abbrev pub instance_cmp : OwnedTestInstanceId → OwnedTestInstanceId → Ordering
-instance_cmp a b = ordering_then (slice_cmp nat_cmp a.binary_id b.binary_id) (slice_cmp nat_cmp a.test_name b.test_name)
 
 -- a selection has the ids of the listed binaries, the selected tests in rising order, and leaves out the others as they were listed
 pub record Selects (binaries : List Binary) (found : Found) (selection : Selection) : Type 0 where

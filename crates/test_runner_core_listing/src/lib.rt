@@ -1,7 +1,6 @@
 //! Which tests a run selects: the binaries on which a filter can hold are asked for their tests, and it is tried on each.
 #![tactic(auto)]
 
-mod keyed_state;
 pub mod laws;
 mod listing;
 mod listing_error;
@@ -10,7 +9,6 @@ mod names;
 mod query;
 mod selection;
 
-pub use keyed_state::{KeyedState, TextsDigest};
 pub use listing::select;
 pub use listing_error::ListingError;
 pub use listing_fault::ListingFault;

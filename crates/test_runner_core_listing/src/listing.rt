@@ -3,6 +3,7 @@ ghost use Rattle.std.specs.Prelude.{◌≡◌, ◌∷◌, [], ◌++◌, IfOk, On
 ghost use Rattle.std.specs.List.Sorted.{IsSorted, IsPermutation};
 ghost use Rattle.test_runner_core_listing.specs.Answers as answers;
 ghost use Rattle.test_runner_core_listing.specs.Listing as words;
+ghost use Rattle.test_runner_core_plan.specs.Order.{instance_cmp};
 ghost use Rattle.test_runner_core_workspace.specs.declared.record.Binary.{Binary};
 
 use crate::listing_error::ListingError;
@@ -182,7 +183,7 @@ pub fn select<L: Lister>(
 // Tests, rising by binary id and then by name.
 fn sorted(tests: Listing<OwnedTestInstanceId>) -> Listing<OwnedTestInstanceId>
     ensures same { IsPermutation tests result }
-    ensures order { IsSorted words.instance_cmp result }
+    ensures order { IsSorted instance_cmp result }
 {
     if tests.as_slice().is_sorted() {
         return tests;

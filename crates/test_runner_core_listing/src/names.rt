@@ -5,11 +5,11 @@ ghost use Rattle.std.specs.List.Sorted.{IsStrictlySortedBy};
 ghost use Rattle.std.specs.Ordering.{nat_cmp};
 ghost use Rattle.test_runner_core_listing.specs.Listing.{refused_name};
 
-use crate::keyed_state::{KeyedState, TextsDigest};
 use crate::listing_fault::ListingFault;
 use nextest_text::Text;
 use std::alloc::{AllocError, Global};
 use std::collections::HashSet;
+use test_runner_core_plan::{KeyedState, TextsDigest};
 use test_runner_core_workspace::has_separator;
 
 // Why the names of a binary are refused, if they are.

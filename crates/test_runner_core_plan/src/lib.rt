@@ -1,16 +1,11 @@
-//! The plan of a run: which tests it selects of which binaries, with which settings, or why inputs have no plan.
+//! What a plan is: the tests that a run runs, in which order and with which settings. How plans are made stands in
+//! `test_runner_core_planning`; a session and a report stand on the type alone.
 #![tactic(auto)]
 
-mod build;
-mod filtering;
+mod keyed_state;
 mod plan;
-mod plan_error;
-mod plan_fault;
-mod wanted;
+mod plan_settings;
 
-pub use nextest_config_resolution_load::{LoadFault, LoadKind};
-pub use nextest_config_resolution_profiles::ProfileNotFound;
+pub use keyed_state::{KeyedState, TextsDigest};
 pub use plan::{Plan, PlanTest};
-pub use plan_error::PlanError;
-pub use plan_fault::PlanFault;
-pub use test_runner_core_settings::PlanSettings;
+pub use plan_settings::PlanSettings;

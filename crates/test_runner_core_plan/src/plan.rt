@@ -1,9 +1,9 @@
 // The plan of a run.
+use crate::plan_settings::PlanSettings;
 use nextest_config_elements_plain::MaxFail;
 use nextest_run_events_results::OwnedTestInstanceId;
 use nextest_run_events_visibility::StatusLevels;
 use nextest_text::{Listing, Text};
-use test_runner_core_settings::PlanSettings;
 
 /// A selected test.
 #[derive(Clone, Debug, PartialEq, Eq)]

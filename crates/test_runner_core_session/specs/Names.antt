@@ -7,7 +7,7 @@ use Rattle.std.specs.Str.{bytes_eq}
 use Rattle.indexmap.specs.IndexMap.{IndexMap, get_by}
 use Rattle.nextest_run_events_results.specs.declared.instance.OwnedTestInstanceId.{OwnedTestInstanceId}
 use Rattle.nextest_run_events_results.specs.declared.instance.TestInstanceId.{TestInstanceId}
-use Rattle.test_runner_core_listing.specs.Listing.{instance_cmp}
+use Rattle.test_runner_core_plan.specs.Order.{instance_cmp}
 
 -- a test has this binary id and name
 abbrev pub is_named : List ℕ → List ℕ → OwnedTestInstanceId → Bool

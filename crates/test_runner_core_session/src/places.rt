@@ -3,15 +3,14 @@ ghost use Rattle.std.specs.Prelude.{◌≡◌, false, IfOk, IsTrue, map, slice_g
 ghost use Rattle.std.specs.List.Sorted.{IsStrictlySortedBy};
 ghost use Rattle.std.specs.Option.{option_map_or};
 ghost use Rattle.std.specs.Ordering.{is_lt};
-ghost use Rattle.test_runner_core_listing.specs.Listing.{instance_cmp};
+ghost use Rattle.test_runner_core_plan.specs.Order.{instance_cmp};
 ghost use Rattle.test_runner_core_session.specs.Names.{IsIndex, is_named, name_of, place_of};
 
 use indexmap::IndexMap;
 use nextest_run_events_results::TestInstanceId;
 use std::alloc::{AllocError, Global};
 use std::marker::Model;
-use test_runner_core_listing::{KeyedState, TextsDigest};
-use test_runner_core_plan::PlanTest;
+use test_runner_core_plan::{KeyedState, PlanTest, TextsDigest};
 
 // The places of tests by their names. In a clause it is the tests' names by their places.
 #[derive(Drop)]

@@ -1,3 +1,5 @@
+pub mod Passing
+mod Shown
 pub mod Isolated
 pub mod Limits
 pub mod Once

@@ -41,7 +41,7 @@ use Rattle.test_runner_core_inputs.specs.declared.inputs.Inputs.{Inputs}
 use Rattle.test_runner_core_settings.specs.Laws.{OneSettings}
 use Rattle.test_runner_core_settings.specs.Settings.{AreRunSettings, owned_group, owned_of}
 use Rattle.test_runner_core_settings.specs.Sets.{HasNoProfile, Reads, SetsBy}
-use Rattle.test_runner_core_settings.specs.declared.plan_settings.PlanSettings.{PlanSettings}
+use Rattle.test_runner_core_plan.specs.declared.plan_settings.PlanSettings.{PlanSettings}
 use Rattle.test_runner_core_settings.specs.declared.configured.RunSettings.{RunSettings}
 use Rattle.test_runner_core_settings.specs.declared.settings_fault.SettingsFault.TheVariants as fault
 

@@ -11,7 +11,7 @@ use Rattle.nextest_config_resolution_settings.specs.declared.test_settings.TestG
 use Rattle.nextest_config_resolution_settings.specs.declared.test_settings.TestGroupRef.TheVariants as group_ref
 use Rattle.nextest_config_resolution_settings.specs.declared.test_settings.TestSettings.{TestSettings}
 use Rattle.nextest_config_resolution_values.specs.declared.profile_config.ProfileConfig.{ProfileConfig}
-use Rattle.test_runner_core_settings.specs.declared.plan_settings.PlanSettings.{PlanSettings}
+use Rattle.test_runner_core_plan.specs.declared.plan_settings.PlanSettings.{PlanSettings}
 use Rattle.test_runner_core_settings.specs.declared.configured.RunSettings.{RunSettings}
 
 -- a group, and settings of a test, that were lent

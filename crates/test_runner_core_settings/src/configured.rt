@@ -5,7 +5,7 @@ ghost use Rattle.test_runner_core_settings.specs.Calls.{Configures, SetsOf};
 ghost use Rattle.test_runner_core_settings.specs.Settings.{AreRunSettings};
 
 use crate::no_specs::NoSpecs;
-use crate::plan_settings::{PlanSettings, settings_of_tests};
+use crate::owned::settings_of_tests;
 use crate::settings_error::SettingsError;
 use crate::settings_fault::SettingsFault;
 use nextest_config_elements_plain::{MaxFail, NextestRunMode};
@@ -17,6 +17,7 @@ use nextest_run_events_visibility::StatusLevels;
 use nextest_text::{Listing, Text};
 use std::alloc::{AllocError, Global};
 use test_runner_core_inputs::Inputs;
+use test_runner_core_plan::PlanSettings;
 
 // A configuration of runs: tests are told apart by filtersets, and no platform spec is read yet.
 type RunConfig = NextestConfig<Filterset, NoSpecs>;

@@ -5,11 +5,18 @@
 mod configured;
 pub mod laws;
 mod no_specs;
-mod plan_settings;
+mod owned;
+mod pass;
+mod pass_error;
 mod settings_error;
 mod settings_fault;
+mod shown_path;
+mod sources;
+mod warning;
 
 pub use configured::{ConfiguredRun, RunSettings, run_settings};
-pub use plan_settings::PlanSettings;
+pub use owned::owned_settings;
+pub use pass::{VersionPass, version_pass};
+pub use pass_error::{VersionPassError, VersionPassFault};
 pub use settings_error::SettingsError;
 pub use settings_fault::SettingsFault;

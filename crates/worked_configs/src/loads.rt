@@ -2,8 +2,8 @@
 use crate::settings::setting;
 use crate::sources::{BAR, sources_of};
 use anyhow::{Context, Result, anyhow};
-use nextest_config_resolution_built_in::built_in;
 use nextest_config_resolution_load::{LoadError, LoadFault, LoadedConfig, NamedProfile, load};
+use nextest_config_resolution_profiles::built_in;
 use nextest_config_resolution_settings::EvaluatableProfile;
 use nextest_config_resolution_values::ProfileConfig;
 use std::alloc::Global;

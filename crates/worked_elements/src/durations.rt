@@ -1,6 +1,6 @@
 // Durations.
 use anyhow::Result;
-use nextest_config_elements_durations::ConfigDuration;
+use nextest_config_elements_counts::ConfigDuration;
 use std::alloc::Global;
 use worked_tables::Table;
 

@@ -1,6 +1,6 @@
 use Rattle.std.proofs.Common.{sym, subst}
-use Rattle.nextest_filtering_formulas.specs.Formula.{AreValues, Gives}
-use Rattle.nextest_filtering_formulas.specs.Values.{nowhere}
+use Rattle.nextest_filtering_filters.specs.Formula.{AreValues, Gives}
+use Rattle.nextest_filtering_filters.specs.Values.{nowhere}
 use Rattle.nextest_filtering_filters.specs.Asking.{values_may}
 use Rattle.nextest_filtering_filters.specs.Filter.{filter_of}
 use Rattle.nextest_filtering_filters.specs.Meaning.{Either, MayBe, Never}

@@ -2,7 +2,7 @@ use Rattle.std.proofs.Common.{subst}
 use Rattle.test_runner_core_workspace.specs.Lister.{table_answer}
 use Rattle.test_runner_core_workspace.specs.declared.record.Binary.{Binary}
 use Rattle.test_runner_core_workspace.specs.declared.record.WorkspaceRecord.{WorkspaceRecord}
-use Rattle.test_runner_core_plan.specs.Plan.{Builds}
+use Rattle.test_runner_core_planning.specs.Plan.{Builds}
 use Rattle.test_runner_core.proofs.entry.plan_by_table.Goals as goal
 
 pub returns : goal.returns

@@ -1,6 +1,6 @@
 use Rattle.std.proofs.Common.{Some, subst}
 use Rattle.std.proofs.lemmas.Result.{IfOk-weaker}
-use Rattle.nextest_filtering_formulas.specs.Formula.{IsValue}
+use Rattle.nextest_filtering_filters.specs.Formula.{IsValue}
 use Rattle.nextest_filtering_filters.specs.Filter.{filter_of}
 use Rattle.nextest_filtering_filters.specs.Meaning.{IsOn}
 use Rattle.nextest_filtering_filters.specs.Query as query

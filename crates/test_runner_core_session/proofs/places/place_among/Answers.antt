@@ -1,7 +1,7 @@
 use Rattle.std.proofs.Common.{rules, of_calls, sym, ◌∙◌}
 use Rattle.std.proofs.lemmas.List.Sorted.{IsPartitionPoint-from_clause}
 use Rattle.std.specs.Ordering.{is_lt}
-use Rattle.test_runner_core_listing.specs.Listing.{instance_cmp}
+use Rattle.test_runner_core_plan.specs.Order.{instance_cmp}
 use Rattle.test_runner_core_plan.specs.declared.plan.PlanTest.{PlanTest}
 use Rattle.test_runner_core_session.proofs.Rising.{is_parted, one, stands, stands_nowhere}
 use Rattle.test_runner_core_session.proofs.places.place_among.Goals as goal

@@ -1,7 +1,7 @@
 use Rattle.std.proofs.Common.{◌≡◌}
 use Rattle.std.specs.List.{AllAdjacentBelow}
 use Rattle.std.specs.declared.cmp.Ordering.TheVariants.{Less}
-use Rattle.test_runner_core_listing.specs.Listing.{instance_cmp}
+use Rattle.test_runner_core_plan.specs.Order.{instance_cmp}
 use Rattle.test_runner_core_session.proofs.places.rise.Given as goal
 
 -- the tests so far rise

@@ -1,5 +1,5 @@
 use Rattle.std.proofs.lemmas.Result.{IfOk-weaker}
-use Rattle.nextest_filtering_formulas.specs.Formula.{IsValue}
+use Rattle.nextest_filtering_filters.specs.Formula.{IsValue}
 use Rattle.nextest_filtering_filters.specs.Filter.{Compiled, filter_of}
 use Rattle.nextest_filtering_filters.specs.Meaning.{CanBeOn}
 use Rattle.nextest_filtering_filters.specs.Query.{Binary, binary_of}

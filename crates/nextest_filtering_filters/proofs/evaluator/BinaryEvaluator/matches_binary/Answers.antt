@@ -1,6 +1,6 @@
 use Rattle.std.proofs.Common.{◌∙◌, subst}
 use Rattle.std.proofs.lemmas.Result.{IfOk-weaker}
-use Rattle.nextest_filtering_formulas.specs.Formula.{AreValues, Gives, IsValue}
+use Rattle.nextest_filtering_filters.specs.Formula.{AreValues, Gives, IsValue}
 use Rattle.nextest_filtering_filters.specs.Asking.{Asking, values_may}
 use Rattle.nextest_filtering_filters.specs.Filter.{filter_of}
 use Rattle.nextest_filtering_filters.specs.Meaning.{CanBeOn, Either, MayBe, Never}

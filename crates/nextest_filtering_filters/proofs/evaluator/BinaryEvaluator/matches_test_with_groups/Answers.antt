@@ -1,6 +1,6 @@
 use Rattle.std.proofs.Common.{Bool, Some, ◌∙◌, subst}
 use Rattle.std.proofs.lemmas.Result.{IfOk-weaker}
-use Rattle.nextest_filtering_formulas.specs.Formula.{Gives, IsValue}
+use Rattle.nextest_filtering_filters.specs.Formula.{Gives, IsValue}
 use Rattle.nextest_filtering_trees.specs.Meaning.{MatchesName}
 use Rattle.nextest_filtering_trees.specs.Tree.{Matcher}
 use Rattle.nextest_filtering_filters.specs.Asking.{Asking, IsTold}

@@ -1,7 +1,7 @@
 use Rattle.std.proofs.Common.{sym, subst}
 use Rattle.std.specs.List.{AllZip}
 use Rattle.std.proofs.lemmas.Result.{IfOk-weaker}
-use Rattle.nextest_filtering_formulas.specs.Formula.{Gives, IsValue}
+use Rattle.nextest_filtering_filters.specs.Formula.{Gives, IsValue}
 use Rattle.nextest_filtering_filters.specs.Asking.{IsFor, PartOf, values_may}
 use Rattle.nextest_filtering_filters.specs.Filter.{filter_of}
 use Rattle.nextest_filtering_filters.specs.Meaning.{Either, MayBe}

@@ -1,6 +1,6 @@
 use Rattle.std.proofs.Common.{Some, sym, subst}
 use Rattle.std.specs.List.{AllZip}
-use Rattle.nextest_filtering_formulas.specs.Formula.{Gives, IsValue}
+use Rattle.nextest_filtering_filters.specs.Formula.{Gives, IsValue}
 use Rattle.nextest_filtering_filters.specs.Asking.{IsFor, IsTold, PartOf}
 use Rattle.nextest_filtering_filters.specs.Filter.{filter_of}
 use Rattle.nextest_filtering_filters.specs.Query.{binary_of, test_of}

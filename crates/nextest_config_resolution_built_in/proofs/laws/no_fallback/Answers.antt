@@ -1,5 +1,0 @@
-use Rattle.nextest_config_resolution_built_in.proofs.Ending.{no_fallback}
-use Rattle.nextest_config_resolution_built_in.proofs.laws.no_fallback.Goals as goal
-
-pub returns : goal.returns
-returns c = no_fallback

@@ -1,8 +1,0 @@
-use Rattle.std.proofs.Common.{refl}
-use Rattle.nextest_config_elements_durations.specs.Duration.{units}
-use Rattle.nextest_config_resolution_values.specs.Profile.{bench_in, junit_in, default_to_final, flaky_to_inherits, leak_to_slow, status_to_threads, profile_in}
-use Rattle.nextest_config_resolution_built_in.proofs.laws.read_as.Goals as goal
-
-pub returns : goal.returns
-unfolding units bench_in junit_in default_to_final flaky_to_inherits leak_to_slow status_to_threads profile_in
-returns c = refl

@@ -1,7 +1,0 @@
-use Rattle.std.proofs.Common.{refl}
-use Rattle.toml.proofs.OnLiterals.{toml_on_literals}
-use Rattle.nextest_config_resolution_built_in.proofs.laws.written_as.Goals as goal
-
-pub returns : goal.returns
-unfolding toml_on_literals
-returns c = refl

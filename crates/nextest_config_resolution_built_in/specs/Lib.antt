@@ -1,4 +1,0 @@
-pub mod BuiltIn
-pub mod Laws
-pub mod Profiles
-pub mod Rows

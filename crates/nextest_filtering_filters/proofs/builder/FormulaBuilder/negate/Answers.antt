@@ -1,0 +1,14 @@
+use Rattle.std.proofs.Common.{◌∷◌, refl, ap, ◌∙◌}
+use Rattle.nextest_filtering_filters.specs.Formula.{negated}
+use Rattle.nextest_filtering_filters.specs.Steps.{waiting_of}
+use Rattle.nextest_filtering_filters.specs.declared.step.Step.TheVariants as step
+use Rattle.nextest_filtering_filters.proofs.Building.{negation_waits, made_more}
+use Rattle.nextest_filtering_filters.proofs.builder.FormulaBuilder.negate.Goals as goal
+
+pub invariant_of-self-2 : goal.invariant_of-self-2
+invariant_of-self-2 c =
+    negation_waits c.self.inside.steps.items c.push.new.self.items (waiting_of c.args.self.now) c.in_ok-push.ensures.items c.self.invariant (ap waiting_of c.self.view_is) c.requires.some
+
+pub returns-clause-negated : goal.returns-clause-negated
+returns-clause-negated c = λ inside more same.
+    (made_more c.self.inside.steps.items c.push.new.self.items step.Not (inside ∷ more) (negated inside ∷ more) c.in_ok-push.ensures.items c.self.invariant (ap waiting_of c.self.view_is ∙ same) refl).1

@@ -1,4 +1,0 @@
-pub mod Giving
-pub mod Waiting
-pub mod Building
-pub mod Rows

@@ -1,4 +1,0 @@
-//! What holds of filtersets and of how they print.
-#![tactic(auto)]
-
-pub mod laws;

@@ -1,0 +1,63 @@
+// The settings of a selected test.
+use nextest_config_elements_counts::{
+    JunitFlakyFailStatus, LeakTimeout, ReportSkipPolicy, RetryPolicy, SlowTimeout, TestPriority,
+    ThreadsRequired,
+};
+use nextest_config_elements_identifiers::TestGroup;
+use nextest_config_elements_plain::{FlakyResult, TestOutputDisplay};
+use nextest_text::{Listing, Text};
+
+/// The settings of a selected test, as a plan keeps them: those of `TestSettings`, owned, but for a wrapper script, which no test has yet.
+#[derive(Clone, Debug, PartialEq, Eq)]
+pub struct PlanSettings {
+    /// `priority`: before which tests it runs.
+    pub priority: TestPriority,
+    /// `threads-required`: how many threads it takes.
+    pub threads_required: ThreadsRequired,
+    /// `run-extra-args`: the arguments that it is run with besides.
+    pub run_extra_args: Listing<Text>,
+    /// `retries`: how it is tried again.
+    pub retries: RetryPolicy,
+    /// `flaky-result`: what becomes of it where it passes on a later attempt than its first.
+    pub flaky_result: FlakyResult,
+    /// `slow-timeout`: when it is slow, and when it is ended for that.
+    pub slow_timeout: SlowTimeout,
+    /// `leak-timeout`: how long handles may stay open behind it.
+    pub leak_timeout: LeakTimeout,
+    /// `test-group`: the group that it is in.
+    pub test_group: TestGroup,
+    /// `success-output`: when its output is shown where it passes.
+    pub success_output: TestOutputDisplay,
+    /// `failure-output`: when its output is shown where it fails.
+    pub failure_output: TestOutputDisplay,
+    /// `junit.store-success-output`: whether the report in JUnit's form has its outputs where it passes.
+    pub junit_store_success_output: bool,
+    /// `junit.store-failure-output`: whether that report has its outputs where it fails.
+    pub junit_store_failure_output: bool,
+    /// `junit.report-skipped`: which skipped tests are in that report.
+    pub junit_report_skipped: ReportSkipPolicy,
+    /// `junit.flaky-fail-status`: how it stands there where it fails since it is flaky.
+    pub junit_flaky_fail_status: JunitFlakyFailStatus,
+}
+
+// One call drops it, whoever holds it.
+impl Drop for PlanSettings {
+    fn drop(self) {
+        let Self {
+            priority: _,
+            threads_required: _,
+            run_extra_args: _,
+            retries: _,
+            flaky_result: _,
+            slow_timeout: _,
+            leak_timeout: _,
+            test_group: _,
+            success_output: _,
+            failure_output: _,
+            junit_store_success_output: _,
+            junit_store_failure_output: _,
+            junit_report_skipped: _,
+            junit_flaky_fail_status: _,
+        } = self;
+    }
+}

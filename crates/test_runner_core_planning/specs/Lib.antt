@@ -1,0 +1,5 @@
+pub mod Refusals
+pub mod Filtering
+pub mod Plan
+pub mod Inside
+pub mod Texts

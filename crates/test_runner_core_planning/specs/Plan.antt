@@ -1,0 +1,179 @@
+-- Which inputs have a plan, and which: what is refused is looked for in this order.
+use Rattle.std.specs.Prelude.{◌≡◌, ℕ, ◌+◌, ◌==◌, Bool, true, false, ◌&&◌, ◌||◌, length, List, [], ◌++◌, min, Option, None, Some, Result, Ok, Err, ⊤, map, is_some, nat_lt, if◌then◌else◌}
+use Rattle.nextest_config_elements_counts.specs.Retries.{count_of}
+use Rattle.nextest_run_events_results.specs.declared.instance.OwnedTestInstanceId.{OwnedTestInstanceId}
+use Rattle.test_runner_core_inputs.specs.declared.inputs.Inputs.{Inputs}
+use Rattle.test_runner_core_listing.specs.Answers.{Answers}
+use Rattle.test_runner_core_listing.specs.Listing.{AsksFor, Found, Selects, listing, listed_of, asked_of}
+use Rattle.test_runner_core_listing.specs.declared.listing_fault.ListingFault.{ListingFault}
+use Rattle.test_runner_core_listing.specs.declared.selection.Selection.{Selection}
+use Rattle.test_runner_core_settings.specs.Sets.{Sets, key_warnings}
+use Rattle.test_runner_core_plan.specs.declared.plan_settings.PlanSettings.{PlanSettings}
+use Rattle.test_runner_core_settings.specs.declared.configured.RunSettings.{RunSettings}
+use Rattle.test_runner_core_settings.specs.declared.settings_fault.SettingsFault.{SettingsFault}
+use Rattle.test_runner_core_settings.specs.Pass.{pass_of}
+use Rattle.test_runner_core_settings.specs.declared.pass.VersionPass.{VersionPass}
+use Rattle.test_runner_core_settings.specs.declared.pass_error.VersionPassFault.{VersionPassFault}
+use Rattle.test_runner_core_workspace.specs.Lister.{Answer}
+use Rattle.test_runner_core_workspace.specs.Workspace.{refusal_of}
+use Rattle.test_runner_core_workspace.specs.declared.record.Binary.{Binary}
+use Rattle.test_runner_core_workspace.specs.declared.record.WorkspaceRecord.{WorkspaceRecord}
+use Rattle.test_runner_core_workspace.specs.declared.workspace_fault.WorkspaceFault.{WorkspaceFault}
+use Rattle.test_runner_core_planning.specs.Filtering.{IsChosen}
+use Rattle.test_runner_core_planning.specs.Refusals.{of_listing, of_pass, of_settings, of_workspace}
+use Rattle.test_runner_core_plan.specs.declared.plan.Plan.{Plan}
+use Rattle.test_runner_core_plan.specs.declared.plan.PlanTest.{PlanTest}
+use Rattle.test_runner_core_planning.specs.declared.plan_error.PlanError.{PlanError}
+use Rattle.test_runner_core_planning.specs.declared.plan_error.PlanError.TheVariants as error
+use Rattle.test_runner_core_planning.specs.declared.plan_fault.PlanFault.{PlanFault}
+use Rattle.test_runner_core_planning.specs.declared.plan_fault.PlanFault.TheVariants as refused
+
+infixl 10 ◌>>=◌
+abbrev pub ◌>>=◌ : {A B : Type 0} → Result A PlanFault → (A → Result B PlanFault) → Result B PlanFault
+Ok x >>= next = next x
+Err refusal >>= next = Err refusal
+
+-- the workspace, unless it is refused
+abbrev pub workspace_of : WorkspaceRecord → Option WorkspaceFault → Result WorkspaceRecord PlanFault
+workspace_of workspace None = Ok workspace
+workspace_of workspace (Some refusal) = Err (of_workspace refusal)
+
+-- the parts of inputs that aren't read yet: platforms
+abbrev pub asks_for_more : Inputs → Bool
+asks_for_more inputs = (nat_lt 0 (length inputs.host.triple) || nat_lt 0 (length inputs.host.facts)) || is_some inputs.target
+
+-- the version pass
+abbrev pub passed_by : Result VersionPass VersionPassFault → Result VersionPass PlanFault
+passed_by (Ok passed) = Ok passed
+passed_by (Err refusal) = Err (of_pass refusal)
+
+-- what comes before the configuration is looked at: the workspace, then the version pass
+abbrev pub passed_of : Inputs → Result VersionPass PlanFault
+passed_of inputs = do
+  workspace ← workspace_of inputs.workspace (refusal_of inputs.workspace)
+  passed_by (pass_of inputs)
+
+-- what the configuration sets, unless the inputs ask for what isn't read yet
+abbrev pub settled_by : Inputs → Result RunSettings SettingsFault → Result RunSettings PlanFault
+settled_by inputs (Ok settings) = if asks_for_more inputs then Err refused.NotYet else Ok settings
+settled_by inputs (Err refusal) = Err (of_settings refusal)
+
+-- what comes behind the version pass
+abbrev pub SettlesBehind : Inputs → Result VersionPass PlanFault → Result RunSettings PlanFault → Type 0
+SettlesBehind inputs (Ok passed) given = (set : Result RunSettings SettingsFault) × Sets inputs set × (settled_by inputs set ≡ given)
+SettlesBehind inputs (Err refusal) given = given ≡ Err refusal
+
+-- the settings that inputs ask for, or the first reason before their filterset why they have no plan
+abbrev pub Settles : Inputs → Result RunSettings PlanFault → Type 0
+Settles inputs = SettlesBehind inputs (passed_of inputs)
+
+-- the warnings of what passed
+abbrev pub warnings_in : Result VersionPass VersionPassFault → List (List ℕ)
+warnings_in (Ok passed) = passed.warnings
+warnings_in (Err refusal) = []
+
+-- all warnings: of the version first, then of the files, from the lowest on
+abbrev pub warnings_of : Inputs → List (List ℕ)
+warnings_of inputs = warnings_in (pass_of inputs) ++ key_warnings inputs
+
+abbrev pub found_by : Result Found ListingFault → Result Found PlanFault
+found_by (Ok found) = Ok found
+found_by (Err refusal) = Err (of_listing refusal)
+
+-- a selected test has more retries than can be counted with its first attempt
+abbrev pub has_too_many : RunSettings → List OwnedTestInstanceId → Bool
+has_too_many settings tests = count_of settings.test.retries == 4294967295 && nat_lt 0 (length tests)
+
+-- what inputs ask for and the tests that are selected, or the first reason why there is no plan
+pub record Planned : Type 0 where
+  pub settings : RunSettings
+  pub answers : Answers
+  pub found : Found
+
+-- the binaries that are listed
+abbrev pub listed_in : Inputs → Answers → List Binary
+listed_in inputs answers = listed_of answers inputs.workspace.binaries
+
+-- what is planned where the filter in force answers so, or its filterset is refused
+abbrev pub planned_by : (Binary → Answer) → Inputs → RunSettings → Result Answers PlanFault → Result Planned PlanFault
+planned_by answer inputs settings chosen = do
+  answers ← chosen
+  found ← found_by (listing answer answers (listed_in inputs answers))
+  if has_too_many settings found.tests then Err refused.RetriesTooMany else Ok (record { settings = settings; answers = answers; found = found })
+
+-- with the settings that inputs ask for
+abbrev pub PlansWith : (Binary → Answer) → Inputs → Result RunSettings PlanFault → Result Planned PlanFault → Type 0
+PlansWith answer inputs (Ok settings) it =
+    (chosen : Result Answers PlanFault) × IsChosen inputs.workspace inputs.filterset chosen × (planned_by answer inputs settings chosen ≡ it)
+PlansWith answer inputs (Err refusal) it = it ≡ Err refusal
+
+-- inputs have this planned, or this is the first reason why they have no plan
+abbrev pub Plans : (Binary → Answer) → Inputs → Result Planned PlanFault → Type 0
+Plans answer inputs it = (settings : Result RunSettings PlanFault) × Settles inputs settings × PlansWith answer inputs settings it
+
+-- the ids that the lister is asked for where the filter in force answers so: none where its filterset is refused
+abbrev pub asked_by : (Binary → Answer) → Inputs → Result Answers PlanFault → List (List ℕ)
+asked_by answer inputs (Ok answers) = asked_of answer (listed_in inputs answers)
+asked_by answer inputs (Err refusal) = []
+
+-- a selected test with its settings: it has one try more than retries
+abbrev pub plan_test : RunSettings → OwnedTestInstanceId → PlanTest
+plan_test settings instance = record { instance = instance; settings = settings.test; tries = count_of settings.test.retries + 1 }
+
+-- the plan of what is selected
+pub record IsPlanOf (inputs : Inputs) (it : Planned) (plan : Plan) : Type 0 where
+  pub selection : Selection
+  pub selected : Selects (listed_in inputs it.answers) it.found selection
+  pub tests : plan.tests ≡ map (plan_test it.settings) selection.tests
+  pub skipped : plan.skipped ≡ it.found.skipped
+  pub listed : plan.listed ≡ map (λ binary. binary.id) (listed_in inputs it.answers)
+  pub limit : plan.limit ≡ it.settings.max_fail
+  pub levels : plan.levels ≡ it.settings.levels
+  pub scripts : plan.scripts ≡ []
+  pub warnings : plan.warnings ≡ warnings_of inputs
+
+-- a call builds the plan, or refuses as is written; want of memory says nothing
+abbrev pub Builds : (Binary → Answer) → Inputs → Result Plan PlanError → Type 0
+Builds answer inputs (Ok plan) = (it : Planned) × Plans answer inputs (Ok it) × IsPlanOf inputs it plan
+Builds answer inputs (Err (error.Refused refusal)) = Plans answer inputs (Err refusal)
+Builds answer inputs (Err error.OutOfMemory) = ⊤
+
+-- a call answers what a part of this gives; want of memory says nothing
+abbrev pub Gives : {A : Type 0} → Result A PlanError → Result A PlanFault → Type 0
+Gives (Ok x) given = given ≡ Ok x
+Gives (Err (error.Refused refusal)) given = given ≡ Err refusal
+Gives (Err error.OutOfMemory) given = ⊤
+
+-- a call gives what the listed binaries give; want of memory says nothing
+abbrev pub Selected : Result Selection PlanError → Result Found ListingFault → List Binary → Type 0
+Selected (Ok selection) given listed = (found : Found) × (given ≡ Ok found) × Selects listed found selection
+Selected (Err (error.Refused refusal)) given listed = (fault : ListingFault) × (given ≡ Err fault) × (refusal ≡ of_listing fault)
+Selected (Err error.OutOfMemory) given listed = ⊤
+
+-- there was no memory
+abbrev pub lacks_memory : {A : Type 0} → Result A PlanError → Bool
+lacks_memory (Ok done) = false
+lacks_memory (Err (error.Refused refusal)) = false
+lacks_memory (Err error.OutOfMemory) = true
+
+-- the list of ids asked for grows by those that the lister is asked for; where there was no memory by a front of them
+abbrev pub Asks : {A : Type 0} → Result A PlanError → List (List ℕ) → List (List ℕ) → List (List ℕ) → Type 0
+Asks result = AsksFor (lacks_memory result)
+
+-- by those that the filter in force lists; by none where the inputs are refused before
+abbrev pub AsksBehind : (Binary → Answer) → Inputs → Result RunSettings PlanFault → Bool → List (List ℕ) → List (List ℕ) → Type 0
+AsksBehind answer inputs (Ok settings) lacks old new =
+    (chosen : Result Answers PlanFault) → IsChosen inputs.workspace inputs.filterset chosen → AsksFor lacks old (asked_by answer inputs chosen) new
+AsksBehind answer inputs (Err refusal) lacks old new = new ≡ old
+
+-- whichever settings the inputs have
+abbrev pub AsksWith : (Binary → Answer) → Inputs → Bool → List (List ℕ) → List (List ℕ) → Type 0
+AsksWith answer inputs lacks old new = (settings : Result RunSettings PlanFault) → Settles inputs settings → AsksBehind answer inputs settings lacks old new
+
+-- how many attempts a test has: what can't be counted is refused before
+abbrev pub tries_of : PlanSettings → ℕ
+tries_of settings = min (count_of settings.retries + 1) 4294967295
+
+-- a test of a plan, with these settings
+abbrev pub with_settings : PlanSettings → OwnedTestInstanceId → PlanTest
+with_settings settings instance = record { instance = instance; settings = settings; tries = tries_of settings }

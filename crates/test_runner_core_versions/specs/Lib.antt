@@ -1,4 +1,0 @@
-pub mod Pass
-pub mod Sources
-pub mod Told
-pub mod Warnings
