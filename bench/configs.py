@@ -15,7 +15,7 @@ import time
 
 ROOT = pathlib.Path(__file__).resolve().parent.parent
 LINE = (
-    "time_load: nextest_config_resolution_load nextest_config_resolution_built_in nextest_config_resolution_sources"
+    "time_load: nextest_config_resolution_load nextest_config_resolution_profiles nextest_config_resolution_sources"
     " nextest_config_elements_identifiers nextest_text toml anyhow\n"
 )
 PROGRAM = """//! Reads three files as TOML, or loads them one over the other.
@@ -23,7 +23,7 @@ PROGRAM = """//! Reads three files as TOML, or loads them one over the other.
 
 use anyhow::Result;
 use nextest_config_elements_identifiers::{ConfigSourceKind, ToolName};
-use nextest_config_resolution_built_in::built_in;
+use nextest_config_resolution_profiles::built_in;
 use nextest_config_resolution_load::{LoadError, load};
 use nextest_config_resolution_sources::{ConfigSource, ConfigSourceOutcome};
 use nextest_text::Text;

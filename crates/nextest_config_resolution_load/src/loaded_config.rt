@@ -4,7 +4,6 @@ use nextest_config_resolution_values::ProfileConfig;
 use nextest_text::{Listing, Text};
 
 /// A profile by its name.
-#[derive(Debug, PartialEq, Eq)]
 pub struct NamedProfile {
     /// Its name.
     pub name: Text,
@@ -37,7 +36,6 @@ impl Inherits for NamedProfile {
 }
 
 /// What the files of a configuration come to, each over the lower ones.
-#[derive(Debug, PartialEq, Eq)]
 pub struct LoadedConfig {
     /// The profiles, by the bytes of their names.
     pub profiles: Listing<NamedProfile>,

@@ -26,7 +26,7 @@ pub struct EarlyProfile<'c, F, S> {
 }
 
 /// What is known of the platform that is built on, and of the one that is built for where it is another.
-#[derive(Clone, Copy, Debug)]
+#[derive(Clone, Copy)]
 pub struct BuildPlatforms<'f, Facts> {
     /// What is known of the platform that is built on.
     pub host: &'f Facts,

@@ -31,7 +31,7 @@ use nextest_text::Text;
 use std::alloc::{AllocError, Global};
 
 /// A profile: each of its settings has the value that the nearest profile of its chain sets, else a fallback.
-#[derive(Debug, Drop)]
+#[derive(Drop)]
 pub struct EvaluatableProfile<'c> {
     name: &'c str,
     root: &'c str,

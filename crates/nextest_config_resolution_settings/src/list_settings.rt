@@ -5,7 +5,7 @@ ghost use Rattle.std.specs.Option.{option_copied};
 use crate::wrapper_script::WrapperScriptConfig;
 
 /// The settings with which the tests of a binary are listed. With each stands what is kept of where it is taken from.
-#[derive(Clone, Copy, Debug)]
+#[derive(Drop)]
 pub struct ListSettings<'p, Source = ()> {
     /// `list-wrapper`: the script that the command is handed to, if there is one.
     pub list_wrapper: (Option<&'p WrapperScriptConfig>, Source),

@@ -11,7 +11,7 @@ use nextest_config_elements_plain::{FlakyResult, TestOutputDisplay};
 use nextest_text::Text;
 
 /// The group that a test is in, lent.
-#[derive(Clone, Copy, Debug, PartialEq, Eq)]
+#[derive(Clone, Copy)]
 pub enum TestGroupRef<'p> {
     /// `@global`: the group of all tests that no rule puts into another.
     Global,
@@ -20,7 +20,7 @@ pub enum TestGroupRef<'p> {
 }
 
 /// The settings of a test. With each stands what is kept of where it is taken from: nothing, or a `SettingSource`.
-#[derive(Clone, Copy, Debug)]
+#[derive(Drop)]
 pub struct TestSettings<'p, Source = ()> {
     /// `priority`: before which tests it runs.
     pub priority: (TestPriority, Source),

@@ -2,7 +2,6 @@
 use nextest_text::{Listing, Text};
 
 /// A wrapper script: a command that the command of a test, or of what lists tests, is handed to.
-#[derive(Debug, PartialEq, Eq)]
 pub struct WrapperScriptConfig {
     /// `command`: what is run.
     pub command: ScriptCommand,
@@ -34,7 +33,6 @@ pub enum WrapperScriptTargetRunner {
 }
 
 /// The command of a script.
-#[derive(Debug, PartialEq, Eq)]
 pub struct ScriptCommand {
     /// The program, as it is written.
     pub program: Text,
@@ -59,7 +57,6 @@ impl Drop for ScriptCommand {
 }
 
 /// Environment variables with their values.
-#[derive(Debug, PartialEq, Eq)]
 pub struct ScriptCommandEnvMap {
     /// Each variable's name and value.
     pub variables: Listing<(Text, Text)>,

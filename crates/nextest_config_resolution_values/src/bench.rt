@@ -11,7 +11,7 @@ use std::alloc::Global;
 use toml::{Table, Value};
 
 /// `bench`: what holds of benchmarks. Each setting is `None` where its key is left out.
-#[derive(Clone, Copy, Debug, PartialEq, Eq)]
+#[derive(Clone, Copy)]
 pub struct ProfileBench {
     /// `global-timeout`: how long a run of them may take.
     pub global_timeout: Option<GlobalTimeout>,

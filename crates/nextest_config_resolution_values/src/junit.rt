@@ -12,7 +12,6 @@ use std::alloc::Global;
 use toml::Table;
 
 /// `junit`: the report in JUnit's form. Each setting is `None` where its key is left out.
-#[derive(Debug, PartialEq, Eq)]
 pub struct ProfileJunit {
     /// `flaky-fail-status`: how a test is reported that fails since it is flaky.
     pub flaky_fail_status: Option<JunitFlakyFailStatus>,

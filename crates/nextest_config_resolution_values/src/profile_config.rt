@@ -5,7 +5,6 @@ use crate::settings::{ProfileOutput, ProfileRun, ProfileTest};
 use nextest_text::{Listing, Text};
 
 /// The values of a profile, as its table has them. Each is `None` where its key is left out.
-#[derive(Debug, PartialEq, Eq)]
 pub struct ProfileConfig {
     /// `inherits`: the name of the profile that holds where this one says nothing.
     pub inherits: Option<Text>,

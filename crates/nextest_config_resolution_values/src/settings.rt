@@ -7,7 +7,7 @@ use nextest_config_elements_plain::{
 };
 
 /// How a run goes. Each setting is `None` where its key is left out.
-#[derive(Clone, Copy, Debug, PartialEq, Eq)]
+#[derive(Clone, Copy)]
 pub struct ProfileRun {
     /// `fail-fast`: when failing tests stop it.
     pub fail_fast: Option<MaxFail>,
@@ -18,7 +18,7 @@ pub struct ProfileRun {
 }
 
 /// How each test is run. Each setting is `None` where its key is left out.
-#[derive(Clone, Copy, Debug, PartialEq, Eq)]
+#[derive(Clone, Copy)]
 pub struct ProfileTest {
     /// `flaky-result`: what becomes of it where it passes on a later attempt than its first.
     pub flaky_result: Option<FlakyResult>,
@@ -33,7 +33,7 @@ pub struct ProfileTest {
 }
 
 /// What is shown. Each setting is `None` where its key is left out.
-#[derive(Clone, Copy, Debug, PartialEq, Eq)]
+#[derive(Clone, Copy)]
 pub struct ProfileOutput {
     /// `failure-output`: when the output of a test is shown that fails.
     pub failure_output: Option<TestOutputDisplay>,

@@ -6,7 +6,6 @@ use std::fmt;
 
 /// A filterset as it was written, blanks aside. It prints as it was written, with one space on both sides of an operator
 /// and behind `not`.
-#[derive(Debug)]
 pub enum ParsedExpr {
     /// `not a`
     Not(NotOperator, Box<ParsedExpr>),

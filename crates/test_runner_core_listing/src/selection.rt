@@ -3,7 +3,7 @@ use nextest_run_events_results::OwnedTestInstanceId;
 use nextest_text::{Listing, Text};
 
 /// The listed binaries, the selected tests, and those that are left out.
-#[derive(Clone, Debug, PartialEq, Eq, Drop)]
+#[derive(Drop)]
 pub struct Selection {
     /// The ids of the listed binaries, in their order.
     pub listed: Listing<Text>,

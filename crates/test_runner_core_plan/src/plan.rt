@@ -6,7 +6,6 @@ use nextest_run_events_visibility::StatusLevels;
 use nextest_text::{Listing, Text};
 
 /// A selected test.
-#[derive(Clone, Debug, PartialEq, Eq)]
 pub struct PlanTest {
     /// Which test of which binary.
     pub instance: OwnedTestInstanceId,
@@ -28,7 +27,6 @@ impl Drop for PlanTest {
 }
 
 /// The plan of a run.
-#[derive(Clone, Debug, PartialEq, Eq)]
 pub struct Plan {
     /// The ids of the setup scripts that are to run, in their order.
     pub scripts: Listing<Text>,

@@ -8,7 +8,7 @@ use nextest_config_elements_plain::{FlakyResult, TestOutputDisplay};
 use nextest_text::{Listing, Text};
 
 /// The settings of a selected test, as a plan keeps them: those of `TestSettings`, owned, but for a wrapper script, which no test has yet.
-#[derive(Clone, Debug, PartialEq, Eq)]
+#[derive(Clone, PartialEq, Eq)]
 pub struct PlanSettings {
     /// `priority`: before which tests it runs.
     pub priority: TestPriority,

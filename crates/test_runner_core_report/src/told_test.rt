@@ -19,7 +19,7 @@ use std::marker::Model;
 use test_runner_core_runs::{Mark, RunTest};
 
 /// A test as a report tells of it: its name, and how far it is. In a clause it is these two.
-#[derive(Debug, Drop)]
+#[derive(Drop)]
 pub struct ToldTest<'a> {
     name: TestInstanceId<'a>,
     plan: RunTest,

@@ -23,7 +23,6 @@ use test_runner_core_plan::PlanSettings;
 type RunConfig = NextestConfig<Filterset, NoSpecs>;
 
 /// What a profile sets for a run.
-#[derive(Clone, Debug, PartialEq, Eq)]
 pub struct RunSettings {
     /// The settings of each test.
     pub test: PlanSettings,
@@ -45,7 +44,7 @@ impl Drop for RunSettings {
 }
 
 /// What inputs set for their run, and what is told of their configuration.
-#[derive(Debug, PartialEq, Eq, Drop)]
+#[derive(Drop)]
 pub struct ConfiguredRun {
     /// What the chosen profile sets.
     pub settings: RunSettings,

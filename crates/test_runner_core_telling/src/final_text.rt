@@ -15,7 +15,7 @@ use test_runner_core_session::Session;
 use test_runner_core_streams::ReportWriter;
 
 /// A test of a plan, as far as its run is, with what is set of what is shown of it.
-#[derive(Debug, Drop)]
+#[derive(Drop)]
 pub struct ShownTest<'s> {
     /// What is set of what is shown of it.
     pub shows: Shows,

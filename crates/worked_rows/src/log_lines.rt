@@ -1,7 +1,7 @@
 // Lines of a log, and the event that each is read as.
 use anyhow::{Result, anyhow};
 use std::alloc::Global;
-use test_runner_core::{LogLine, ParseLineError};
+use test_runner_core_line_syntax::{LogLine, ParseLineError};
 use worked_tables::Table;
 
 /// Lines, each with its event, `no event`, or the name under which it is refused. An event's line is what it prints, or that is

@@ -1,123 +1,124 @@
 // Inputs, and their plan.
 use crate::changes::Changed;
 use anyhow::{Result, anyhow};
+use nextest_run_events_results::OwnedTestInstanceId;
 use nextest_text::Text;
 use std::alloc::Global;
-use test_runner_core::{Inputs, OwnedTestInstanceId, Plan, PlanError, PlanTest, TableLister};
+use test_runner_core_inputs::Inputs;
+use test_runner_core_plan::{Plan, PlanTest};
+use test_runner_core_planning::{BuildPlan, PlanError};
+use test_runner_core_workspace::TableLister;
 use worked_tables::Table;
 
-/// Changes of inputs, each with the plan's tests and how often they may be tried, the limit, the skipped tests, or the name
-/// under which the inputs are refused; and the binaries that were asked for their tests.
+/// Inputs, each with what is shown of their plan, or the name under which they are refused.
 #[derive(Clone, Copy)]
-pub struct Plans<'a>(pub &'a Changed);
+pub struct Plans<'a> {
+    /// The table's name.
+    pub name: &'static str,
+    /// The inputs of which a row changes parts; each row has whole inputs where there are none.
+    pub base: Option<&'a Changed>,
+    /// What is shown of a plan: its tests with their tries and settings, the limit, the levels and the warnings. Else the tests
+    /// with their tries, those that are skipped, the limit, the listed binaries, and those that were asked for their tests.
+    pub has_settings: bool,
+}
 
 impl Table for Plans<'_> {
     fn name(&self) -> &'static str {
-        "plans"
+        self.name
     }
 
     fn answer(&self, alloc: Global, input: &str) -> Result<String> {
-        let text = self.0.by(alloc, input)?;
-        planned(alloc, text.as_str())
-    }
-}
-
-/// Whole inputs, each with the same.
-#[derive(Clone, Copy)]
-pub struct Selected;
-
-impl Table for Selected {
-    fn name(&self) -> &'static str {
-        "selected"
-    }
-
-    fn answer(&self, alloc: Global, input: &str) -> Result<String> {
-        planned(alloc, input)
-    }
-}
-
-/// Whole inputs, each with the warnings of their plan, or the name under which they are refused.
-#[derive(Clone, Copy)]
-pub struct Versions;
-
-impl Table for Versions {
-    fn name(&self) -> &'static str {
-        "versions"
-    }
-
-    fn answer(&self, alloc: Global, input: &str) -> Result<String> {
-        let inputs = Inputs::from_json(alloc, input.as_bytes())?;
-        let mut lister = TableLister::new(alloc, &inputs.workspace)?;
-        match Plan::build(alloc, &inputs, &mut lister) {
-            Ok(plan) => warned(alloc, plan.warnings.as_slice()),
-            Err(PlanError::Refused(fault)) => Ok(String::from_str(alloc, fault.name())?),
-            Err(PlanError::OutOfMemory) => Err(anyhow!("out of memory")),
+        match self.base {
+            Some(base) => planned(alloc, base.by(alloc, input)?.as_str(), self.has_settings),
+            None => planned(alloc, input, self.has_settings),
         }
     }
 }
 
-/// The warnings, each in brackets.
-pub fn warned(alloc: Global, warnings: &[Text]) -> Result<String> {
-    let mut told = String::from_str(alloc, "warnings")?;
-    for warning in warnings {
-        told.push_str(" [")?;
-        told.push_str(warning.as_str())?;
-        told.push(']')?;
-    }
-    Ok(told)
-}
-
-fn planned(alloc: Global, text: &str) -> Result<String> {
+fn planned(alloc: Global, text: &str, has_settings: bool) -> Result<String> {
     let inputs = Inputs::from_json(alloc, text.as_bytes())?;
     let mut lister = TableLister::new(alloc, &inputs.workspace)?;
     let mut told = match Plan::build(alloc, &inputs, &mut lister) {
-        Ok(plan) => shown(alloc, &plan)?,
+        Ok(plan) => shown(alloc, &plan, has_settings)?,
         Err(PlanError::Refused(fault)) => String::from_str(alloc, fault.name())?,
         Err(PlanError::OutOfMemory) => return Err(anyhow!("out of memory")),
     };
-    told.push_str("; asked")?;
-    push_all(&mut told, lister.asked())?;
+    if !has_settings {
+        told.push_str("; asked")?;
+        push_each(&mut told, " ", lister.asked(), "")?;
+    }
     Ok(told)
 }
 
-fn push_all(told: &mut String, ids: &[Text]) -> Result<()> {
-    for id in ids {
-        told.push(' ')?;
-        told.push_str(id.as_str())?;
-    }
-    Ok(())
-}
-
-fn shown(alloc: Global, plan: &Plan) -> Result<String> {
+fn shown(alloc: Global, plan: &Plan, has_settings: bool) -> Result<String> {
     let mut told = String::from_str(alloc, "run")?;
-    push_planned(alloc, &mut told, plan.tests.as_slice())?;
-    told.push_str("; skip")?;
-    push_skipped(alloc, &mut told, plan.skipped.as_slice())?;
-    let limit = format!(in alloc; "; limit {:?}; listed", plan.limit)?;
-    told.push_str(limit.as_str())?;
-    push_all(&mut told, plan.listed.as_slice())?;
+    push_tests(alloc, &mut told, plan.tests.as_slice(), has_settings)?;
+    if has_settings {
+        push_settings(alloc, &mut told, plan)?;
+    } else {
+        push_selection(alloc, &mut told, plan)?;
+    }
     Ok(told)
 }
 
-fn push_planned(alloc: Global, told: &mut String, tests: &[PlanTest]) -> Result<()> {
+fn push_tests(
+    alloc: Global,
+    told: &mut String,
+    tests: &[PlanTest],
+    has_settings: bool,
+) -> Result<()> {
     for test in tests {
-        let OwnedTestInstanceId {
-            binary_id,
-            test_name,
-        } = &test.instance;
-        let shown = format!(in alloc; " [{binary_id} {test_name} x{}]", test.tries)?;
-        told.push_str(shown.as_str())?;
+        told.push_str(shown_test(alloc, test, has_settings)?.as_str())?;
     }
     Ok(())
+}
+
+fn shown_test(alloc: Global, test: &PlanTest, has_settings: bool) -> Result<String> {
+    let instance = format!(in alloc;
+        "{} {} x{}",
+        test.instance.binary_id, test.instance.test_name, test.tries
+    )?;
+    if !has_settings {
+        return Ok(format!(in alloc; " [{instance}]")?);
+    }
+    let settings = &test.settings;
+    Ok(format!(in alloc;
+        " [{instance} {:?} {:?} {:?}]",
+        settings.flaky_result, settings.success_output, settings.failure_output
+    )?)
+}
+
+fn push_settings(alloc: Global, told: &mut String, plan: &Plan) -> Result<()> {
+    let levels = plan.levels;
+    let run = format!(in alloc;
+        "; limit {:?}; levels {:?} {:?}; warnings",
+        plan.limit, levels.status_level, levels.final_status_level
+    )?;
+    told.push_str(run.as_str())?;
+    push_each(told, " [", plan.warnings.as_slice(), "]")
+}
+
+fn push_selection(alloc: Global, told: &mut String, plan: &Plan) -> Result<()> {
+    told.push_str("; skip")?;
+    push_skipped(alloc, told, plan.skipped.as_slice())?;
+    told.push_str(format!(in alloc; "; limit {:?}; listed", plan.limit)?.as_str())?;
+    push_each(told, " ", plan.listed.as_slice(), "")
 }
 
 fn push_skipped(alloc: Global, told: &mut String, tests: &[OwnedTestInstanceId]) -> Result<()> {
-    for OwnedTestInstanceId {
-        binary_id,
-        test_name,
-    } in tests {
-        let shown = format!(in alloc; " [{binary_id} {test_name}]")?;
+    for test in tests {
+        let shown = format!(in alloc; " [{} {}]", test.binary_id, test.test_name)?;
         told.push_str(shown.as_str())?;
+    }
+    Ok(())
+}
+
+// Each of these texts, with what stands around it.
+fn push_each(told: &mut String, before: &str, texts: &[Text], behind: &str) -> Result<()> {
+    for text in texts {
+        told.push_str(before)?;
+        told.push_str(text.as_str())?;
+        told.push_str(behind)?;
     }
     Ok(())
 }

@@ -1,0 +1,371 @@
+#!/usr/bin/env python3
+"""Runs the built program on the rows of rows/, and prints each row whose answer isn't what the program comes to.
+
+    python3 scripts/whole_runs.py [--program PATH] [--counts] [TABLE ..]
+
+What each table has stands in rows/README.md. The program is crates/test_runner/out/test_runner, which `rt ci` leaves, or the one at
+PATH; it is fed on standard input. Without names all tables are compared. It says nothing where all rows hold, but how many hold of
+each table with --counts; else its last line is `N passed, M failed`, and the exit status 1.
+"""
+import argparse
+import concurrent.futures
+import dataclasses
+import os
+import pathlib
+import re
+import socket
+import subprocess
+import sys
+import threading
+
+ROOT = pathlib.Path(__file__).resolve().parent.parent
+ROWS = ROOT / "rows"
+DATA = ROOT / "crates/worked_rows/data"
+PROGRAM = ROOT / "crates/test_runner/out/test_runner"
+
+# The most seconds that a run takes.
+LIMIT = 60
+
+# The pieces in which short streams are fed once more, in bytes, and which are short.
+PIECES, SHORT = (1, 7), 65_536
+
+ARROW, BAR, BREAK = " => ", " | ", "; "
+SIGNS = {"␉": "\t", "␊": "\n", "␍": "\r"}
+BYTES = re.compile(rb"\xe2\x9f\xaa([0-9A-F]+)(?:\xc3\x97([0-9]+))?\xe2\x9f\xab")
+
+FINAL = "== final ==\n"
+NO_REASON = "\ncancel-reason\t-\n"
+
+# Why a line is refused for what it says, which hangs on the plan.
+OF_STEPS = "UnknownScript UnknownTest Stopped ScriptsPending OutOfOrder Running Finished NotRunning InnerReason".split()
+
+# The statuses that are no milder than one.
+NO_MILDER = {0: (0, 100, 105), 100: (100, 105)}
+
+# What a row of told_tests sets in the default profile.
+RULES = {
+    "pass": "flaky-result = 'pass', fail-fast = false",
+    "fail": "flaky-result = 'fail', fail-fast = false",
+    "pass immediate": "fail-fast = { max-fail = 1, terminate = 'immediate' }",
+}
+
+
+def with_signs(text):
+    for character, sign in {it: sign for sign, it in SIGNS.items()}.items():
+        text = text.replace(character, sign)
+    return text
+
+
+def without_signs(text):
+    for sign, character in SIGNS.items():
+        text = text.replace(sign, character)
+    return text
+
+
+def as_fed(stream):
+    """The bytes of a stream, where `⟪HEX⟫` stands for bytes and `⟪HEX×N⟫` for N times these."""
+    return BYTES.sub(lambda it: bytes.fromhex(it[1].decode()) * int(it[2] or 1), stream.encode())
+
+
+def on_a_line(inputs):
+    """Inputs as the first line of a stream."""
+    return inputs.replace("\n", " ") + "\n"
+
+
+def with_tabs(log, divided=BREAK):
+    """The lines of a log whose fields are divided by a space."""
+    return "".join(line.replace(" ", "\t") + "\n" for line in log.split(divided) if line)
+
+
+# ---- runs of the program
+
+
+@dataclasses.dataclass
+class Run:
+    """What the program came to: its exit status, its report, and what it wrote to standard error, where nothing is due."""
+
+    status: int
+    report: str
+    error: str = ""
+
+    def shown(self):
+        return f"{self.report}(status {self.status})\n{self.error}"
+
+    def final_text(self):
+        """The final text behind its first line, or none where something is refused."""
+        return self.report.split(FINAL, 1)[1] if FINAL in self.report else None
+
+    def is_unstopped(self):
+        """Whether it came to its final text, and no reason to stop it stood."""
+        return NO_REASON in (self.final_text() or "")
+
+
+def ended(process, report, error):
+    return Run(process.returncode, report.decode("utf-8", "backslashreplace"), error.decode("utf-8", "backslashreplace"))
+
+
+def send_pieces(sender, stream, piece):
+    """Sends a stream so that each read of it gets a piece."""
+    with sender:
+        try:
+            for place in range(0, len(stream), piece):
+                sender.send(stream[place : place + piece])
+        except OSError:
+            # The program reads no further, which its report shows.
+            pass
+
+
+@dataclasses.dataclass
+class Program:
+    """The program, which is fed streams."""
+
+    path: str
+
+    def run(self, stream):
+        process = subprocess.run([self.path], input=as_fed(stream), capture_output=True, timeout=LIMIT)
+        return ended(process, process.stdout, process.stderr)
+
+    def run_in_pieces(self, stream, piece):
+        """The same, where each read gets so many bytes."""
+        sender, taker = socket.socketpair(socket.AF_UNIX, socket.SOCK_SEQPACKET)
+        pipes = {"stdin": taker, "stdout": subprocess.PIPE, "stderr": subprocess.PIPE}
+        with taker:
+            process = subprocess.Popen([self.path], **pipes)
+        thread = threading.Thread(target=send_pieces, args=(sender, as_fed(stream), piece))
+        thread.start()
+        try:
+            return ended(process, *process.communicate(timeout=LIMIT))
+        finally:
+            process.kill()
+            thread.join()
+
+    def come_to(self, stream):
+        """What a stream comes to, also in pieces where it is short."""
+        told = self.run(stream).shown()
+        for piece in PIECES if len(as_fed(stream)) < SHORT else ():
+            other = self.run_in_pieces(stream, piece).shown()
+            if other != told:
+                return f"{told}in pieces of {piece}:\n{other}"
+        return told
+
+
+# ---- what tables answer
+
+
+def changed(file):
+    """What a row makes of a text: the first place of each part has the other text in place of it."""
+    text = file.read_text(encoding="utf-8")
+
+    def by(changes):
+        pieces, made = changes.split(ARROW), text
+        for part, other in zip(pieces[::2], pieces[1::2]):
+            if part not in made:
+                raise SystemExit(f"{file.name} has no part {part}")
+            made = made.replace(part, other, 1)
+        return made
+
+    return by
+
+
+FULL = changed(DATA / "inputs/full.in")
+PLAN = changed(DATA / "plan.json")
+STREAM = changed(ROWS / "profiles_runs.in")
+
+
+def runs(program, stream):
+    return program.come_to(stream)
+
+
+def profiles_runs(program, changes):
+    return program.run(STREAM(changes)).shown()
+
+
+def inputs(program, text):
+    """`read`, `syntax`, or the path that is told."""
+    run = program.run(on_a_line(text))
+    fields = run.report.removesuffix("\n").split("\t")
+    if fields[:2] == ["refused", "Syntax"]:
+        return "syntax" if run.status == 96 else run.shown()
+    if fields[:2] == ["refused", "Field"]:
+        return fields[2] if run.status == 96 else run.shown()
+    return "read" if run.report and not run.error else run.shown()
+
+
+def inputs_changed(program, changes):
+    return inputs(program, FULL(changes))
+
+
+def versions(program, text):
+    """The warnings, or the name under which inputs are refused."""
+    run = program.run(on_a_line(text))
+    fields = run.report.removesuffix("\n").split("\t")
+    if fields[0] == "refused":
+        return fields[1] if run.status == (92 if fields[1] == "VersionError" else 96) else run.shown()
+    if run.final_text() is None:
+        return run.shown()
+    lines = [line.removeprefix("warning\t") for line in run.report.split("\n") if line.startswith("warning\t")]
+    return " ".join(["warnings", *(f"[{line}]" for line in lines)])
+
+
+def refused_lines(program, log):
+    """The first line that is refused whatever the plan. Behind a line that only this plan refuses the log is judged anew."""
+    first = 0
+    while True:
+        told = program.come_to(on_a_line(PLAN("")) + log)
+        found = re.search(r"^refused\tline\t(\d+)\t(\w+)\n\(status 96\)\n\Z", told, re.M)
+        if not found:
+            return "none" if FINAL in told else told
+        if found[2] not in OF_STEPS:
+            return f"{first + int(found[1])} {found[2]}"
+        first += int(found[1])
+        log = log.split("\n", int(found[1]))[-1]
+
+
+def block(text, head):
+    """The lines of a test: the one that begins so, and those up to the next test's."""
+    lines, told = text.splitlines(keepends=True), ""
+    for line in lines:
+        if line.startswith(head) or told and not re.match(r"done\t|test\t", line):
+            told += line
+        elif told:
+            break
+    return told
+
+
+def told_tests(program, row):
+    """What is written as `p a` finishes, and its part of the final text."""
+    words, log = row.split(": ", 1)
+    tries, rule = words.split(" ", 1)
+    source = f"profile.default = {{ retries = {int(tries) - 1}, {RULES[rule]} }}"
+    stream = on_a_line(PLAN(f'"sources":[]{ARROW}"sources":[{{"kind":"explicit","path":"n","text":"{source}"}}]')) + with_tabs(log)
+    run = program.run(stream)
+    if run.final_text() is None:
+        return run.shown()
+    done, final = run.report.split(FINAL, 1)
+    return "|".join([block(done, "done\tp\ta\t"), block(final, "test\tp\ta\t")])
+
+
+def pairs(program, row):
+    """The status of two logs, and how much of their reports is the same."""
+    changes, one, other = row.split(BAR)
+    one, other = (program.run(on_a_line(PLAN(changes)) + with_tabs(log)) for log in (one, other))
+    if one.report == other.report:
+        shared = "one report"
+    elif one.final_text() is not None and one.final_text() == other.final_text():
+        shared = "one final text"
+    else:
+        shared = "two final texts"
+    return f"{one.status} and {other.status}, {shared}"
+
+
+def agrees(kind, log, first):
+    """Whether a log is as the first one wants it."""
+    if kind != "whole":
+        return log.status in NO_MILDER.get(first.status, (first.status,))
+    as_first = log.status == first.status and log.is_unstopped() == first.is_unstopped()
+    return as_first and (not first.is_unstopped() or log.final_text() == first.final_text())
+
+
+def agreeing(program, row):
+    """What logs come to that agree with one assignment."""
+    changes, lines, logs = row.split(BAR)
+    lines, given = lines.split(BREAK), on_a_line(PLAN(changes))
+    told = []
+    for log in logs.split(BREAK):
+        kind, *numbers = log.split(" ")
+        chosen = BREAK.join(lines[int(it)] for it in numbers if it)
+        told.append((kind, program.run(given + with_tabs(chosen))))
+    first = told[0][1]
+    words = [f"due {first.status}, {'unstopped' if first.is_unstopped() else 'stopped'}:", str(first.status)]
+    for kind, log in told[1:]:
+        words.append(str(log.status) + ("" if agrees(kind, log, first) else " differs"))
+    return " ".join(words)
+
+
+# Each table, and what answers its inputs.
+TABLES = {
+    "runs": runs,
+    "profiles_runs": profiles_runs,
+    "told_tests": told_tests,
+    "pairs": pairs,
+    "agreeing": agreeing,
+    "versions": versions,
+    "inputs_changed": inputs_changed,
+    "inputs_other": inputs,
+    "refused_lines": refused_lines,
+}
+
+
+# ---- rows
+
+
+@dataclasses.dataclass
+class Row:
+    """A row: its table, what is shown of it, its input and its answer."""
+
+    table: str
+    shown: str
+    input: str
+    answer: str
+
+    def differs(self, program):
+        """What is said of it where the program comes to something else."""
+        try:
+            given = TABLES[self.table](program, self.input)
+        except subprocess.TimeoutExpired:
+            given = f"no end within {LIMIT} seconds"
+        return None if given == self.answer else f"{self.shown}\n    but the answer is: {with_signs(given)}"
+
+
+def rows_of_lines(table):
+    """The rows of a table that are lines."""
+    for line in (ROWS / f"{table}.txt").read_text(encoding="utf-8").split("\n"):
+        if line and not line.startswith("#"):
+            if ARROW not in line:
+                raise SystemExit(f"a line of {table} is no row: {line}")
+            given, answer = map(without_signs, line.rsplit(ARROW, 1))
+            yield Row(table, f"{table}: {line}", given, answer)
+
+
+def rows_of_cases(table):
+    """The rows of a table that are two files each."""
+    for file in sorted((ROWS / table).glob("*.in")):
+        answer = file.with_suffix(".out").read_text(encoding="utf-8")
+        given = file.read_bytes().hex().upper()
+        yield Row(table, f"{table}/{file.stem}: {with_signs(answer)}", f"⟪{given}⟫" if given else "", answer)
+
+
+def rows_of(table):
+    return list(rows_of_cases(table) if (ROWS / table).is_dir() else rows_of_lines(table))
+
+
+def main():
+    parser = argparse.ArgumentParser(description="Compares the rows of rows/ with what the built program comes to.")
+    parser.add_argument("--program", default=PROGRAM, help="the program that is run")
+    parser.add_argument("--counts", action="store_true", help="says how many rows of each table hold")
+    parser.add_argument("tables", nargs="*", metavar="TABLE", help=f"one of {', '.join(TABLES)}")
+    words = parser.parse_args()
+    if not set(words.tables) <= set(TABLES):
+        parser.error(f"the tables are {', '.join(TABLES)}")
+    path = os.path.abspath(words.program)
+    if not os.access(path, os.X_OK):
+        print(f"There is no program {path}: `make test` builds it, and `make run` does.")
+        return 1
+    passed = failed = 0
+    with concurrent.futures.ThreadPoolExecutor(2 * len(os.sched_getaffinity(0))) as pool:
+        told = {table: pool.map(lambda row: row.differs(Program(path)), rows_of(table)) for table in words.tables or TABLES}
+        for table, answers in told.items():
+            answers = list(answers)
+            for it in filter(None, answers):
+                print(it)
+            held = answers.count(None)
+            passed, failed = passed + held, failed + len(answers) - held
+            if words.counts:
+                print(f"{table}: {held} rows hold")
+    if failed:
+        print(f"{passed} passed, {failed} failed")
+    return 1 if failed else 0
+
+
+if __name__ == "__main__":
+    sys.exit(main())
