@@ -5,6 +5,7 @@ use Rattle.test_runner_core_line_syntax.specs.declared.log_line.LogLine.{LogLine
 use Rattle.test_runner_core_line_syntax.specs.declared.log_line.LogLine.TheVariants as lines
 use Rattle.test_runner_core_log_reader.specs.Items.{Item, Line, Refused}
 use Rattle.test_runner_core_plan.specs.declared.plan.Plan.{Plan}
+use Rattle.test_runner_core_planning.proofs.OnePlan.{with_warnings}
 use Rattle.test_runner_core_plan.specs.declared.plan.PlanTest.{PlanTest}
 use Rattle.test_runner_core_report.specs.declared.shows.Shows.{Shows}
 use Rattle.test_runner_core_runs.specs.Finishing.{finishing}
@@ -24,10 +25,6 @@ use Rattle.test_runner_core.specs.Report.{Judged, SoFar, ending, refused_line}
 use Rattle.test_runner_core.specs.declared.refused_line.LineRefusal.{LineRefusal}
 use Rattle.test_runner_core.specs.declared.refused_line.LineRefusal.TheVariants as refused
 use Rattle.test_runner_core.specs.declared.refused_line.RefusedLine.{RefusedLine}
-
--- a plan with other warnings
-abbrev pub with_warnings : List (List ℕ) → Plan → Plan
-with_warnings warnings plan = record plan { warnings = warnings }
 
 -- ---- lines
 

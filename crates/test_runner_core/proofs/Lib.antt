@@ -5,13 +5,9 @@ pub mod NextLine
 pub mod Reported
 pub mod Stream
 pub mod OneStep
-mod OneOrder
 pub mod OneRun
 pub mod OneReport
 pub mod Built
-pub mod Selected
-pub mod Once
-pub mod Listed
 pub mod Due
 pub mod OneEnd
 pub mod Written

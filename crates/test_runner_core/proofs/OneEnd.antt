@@ -27,7 +27,7 @@ use Rattle.test_runner_core.specs.declared.judge_fault.JudgeFault.{JudgeFault}
 use Rattle.test_runner_core.specs.declared.refused_line.RefusedLine.{RefusedLine}
 use Rattle.test_runner_core.proofs.Due.{ends_as_its_run, plan_of_run, stream_composes, told_of}
 use Rattle.test_runner_core.proofs.OneReport.{one_text, parted}
-use Rattle.test_runner_core.proofs.OneRun.{one_plan}
+use Rattle.test_runner_core_planning.proofs.OnePlan.{one_plan}
 
 -- ---- the final text that is due
 

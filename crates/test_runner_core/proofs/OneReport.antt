@@ -18,7 +18,8 @@ use Rattle.test_runner_core.specs.Laws.{EndsWithOneText, ToldFirst}
 use Rattle.test_runner_core.specs.Report.{Begun, Composed, Judged, SoFar, ending, exit_status}
 use Rattle.test_runner_core.specs.declared.refused_line.RefusedLine.{RefusedLine}
 use Rattle.test_runner_core_planning.proofs.Once.{plans_once}
-use Rattle.test_runner_core.proofs.OneRun.{early_parts, finds_once, fronts_same, one_plan, same_rest, so_far_once, stands_before}
+use Rattle.test_runner_core.proofs.OneRun.{early_parts, finds_once, fronts_same, same_rest, so_far_once, stands_before}
+use Rattle.test_runner_core_planning.proofs.OnePlan.{one_plan}
 
 -- ---- texts
 

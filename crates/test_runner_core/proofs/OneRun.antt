@@ -31,7 +31,7 @@ use Rattle.test_runner_core.specs.declared.refused_line.LineRefusal.{LineRefusal
 use Rattle.test_runner_core.specs.declared.refused_line.LineRefusal.TheVariants as refused
 use Rattle.test_runner_core.specs.declared.refused_line.RefusedLine.{RefusedLine}
 use Rattle.test_runner_core_planning.proofs.Once.{plans_once}
-use Rattle.test_runner_core.proofs.OneOrder.{one_rising}
+use Rattle.test_runner_core_planning.proofs.OneOrder.{one_rising}
 
 -- an answer is one
 ok_once : {A E : Type 0} {result : Result A E} {x y : A} → result ≡ Ok x → result ≡ Ok y → x ≡ y
@@ -42,32 +42,6 @@ err_once to_x to_y = let e = sym to_x ∙ to_y in cc
 
 never_ok_and_err : {A E : Type 0} {result : Result A E} {x : A} {y : E} → result ≡ Ok x → result ≡ Err y → ⊥
 never_ok_and_err to_x to_y = absurd (let e = sym to_x ∙ to_y in cc)
-
--- ---- plans
-
--- plans of one selection are the same
-pub plans_same : (a b : Plan) → a.scripts ≡ b.scripts → a.tests ≡ b.tests → a.listed ≡ b.listed → a.skipped ≡ b.skipped → a.limit ≡ b.limit → a.levels ≡ b.levels → a.warnings ≡ b.warnings → a ≡ b
-plans_same a b scripts tests listed skipped limit levels warnings =
-    ap (λ (x : List (List ℕ)). record { scripts = x; tests = a.tests; listed = a.listed; skipped = a.skipped; limit = a.limit; levels = a.levels; warnings = a.warnings }) scripts
-    ∙ ap (λ (x : List PlanTest). record { scripts = b.scripts; tests = x; listed = a.listed; skipped = a.skipped; limit = a.limit; levels = a.levels; warnings = a.warnings }) tests
-    ∙ ap (λ (x : List (List ℕ)). record { scripts = b.scripts; tests = b.tests; listed = x; skipped = a.skipped; limit = a.limit; levels = a.levels; warnings = a.warnings }) listed
-    ∙ ap (λ (x : List OwnedTestInstanceId). record { scripts = b.scripts; tests = b.tests; listed = b.listed; skipped = x; limit = a.limit; levels = a.levels; warnings = a.warnings }) skipped
-    ∙ ap (λ (x : MaxFail). record { scripts = b.scripts; tests = b.tests; listed = b.listed; skipped = b.skipped; limit = x; levels = a.levels; warnings = a.warnings }) limit
-    ∙ ap (λ (x : StatusLevels). record { scripts = b.scripts; tests = b.tests; listed = b.listed; skipped = b.skipped; limit = b.limit; levels = x; warnings = a.warnings }) levels
-    ∙ ap (λ (x : List (List ℕ)). record { scripts = b.scripts; tests = b.tests; listed = b.listed; skipped = b.skipped; limit = b.limit; levels = b.levels; warnings = x }) warnings
-
-plans_of_one : (inputs : Inputs) (it : Planned) (a b : Plan) → IsPlanOf inputs it a → IsPlanOf inputs it b → a ≡ b
-plans_of_one inputs it a b of_a of_b =
-    let tests : of_a.selection.tests ≡ of_b.selection.tests =
-    one_rising it.found.tests of_a.selection.tests of_b.selection.tests of_a.selected.tests of_b.selected.tests of_a.selected.order of_b.selected.order in
-    plans_same a b (of_a.scripts ∙ sym of_b.scripts)
-    (of_a.tests ∙ ap (λ (xs : List OwnedTestInstanceId). map (plan_test it.settings) xs) tests ∙ sym of_b.tests)
-    (of_a.listed ∙ sym of_b.listed) (of_a.skipped ∙ sym of_b.skipped) (of_a.limit ∙ sym of_b.limit) (of_a.levels ∙ sym of_b.levels) (of_a.warnings ∙ sym of_b.warnings)
-
-pub one_plan : (answer : Binary → Answer) (inputs : Inputs) (a b : Plan) → Builds answer inputs (Ok a) → Builds answer inputs (Ok b) → a ≡ b
-one_plan answer inputs a b of_a of_b =
-    let same : of_a.0 ≡ of_b.0 = plans_once answer inputs (Ok of_a.0) (Ok of_b.0) of_a.1 of_b.1 in
-    plans_of_one inputs of_b.0 a b (subst (λ (it : Planned). IsPlanOf inputs it a) same of_a.2) of_b.2
 
 -- ---- lines
 

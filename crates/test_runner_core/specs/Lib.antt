@@ -35,6 +35,7 @@ pub use Rattle.test_runner_core_progress.specs.Statuses
 -- plans, and which tests they select
 pub use Rattle.test_runner_core_plan.specs.Order
 pub use Rattle.test_runner_core_planning.specs.Plan
+pub use Rattle.test_runner_core_planning.specs.Laws as PlanLaws
 pub use Rattle.test_runner_core_planning.specs.Filtering
 pub use Rattle.test_runner_core_planning.specs.Refusals
 pub use Rattle.test_runner_core_planning.specs.Texts as PlanTexts

@@ -1,7 +1,9 @@
 //! What holds of every run that a log tells. Each function does nothing, and its contract is the law. The laws over runs
 //! hold of the run of each plan that is built (`built_plan`).
-ghost use Rattle.test_runner_core.specs.Laws.{AsksForSome, BuiltIsPlan, EndsNoMilder, EndsWithDueStatus, EndsWithOneText, HasExactlyTheWanted, HasNoneTwice, HasOneReport, IsolatesPlans, IsolatesReports, ListsExactly, StopsWhereDue, SucceedsWhole, ToldFirst, WrittenFirst};
+ghost use Rattle.test_runner_core.specs.Laws.{BuiltIsPlan, EndsNoMilder, EndsWithDueStatus, EndsWithOneText, HasOneReport, IsolatesReports, StopsWhereDue, SucceedsWhole, ToldFirst, WrittenFirst};
+ghost use Rattle.test_runner_core_planning.specs.Laws.{IsolatesPlans};
 
+pub use test_runner_core_planning::laws::{listed, selected, selected_once, some_settings};
 pub use test_runner_core_runs::laws::{after_a_reason, no_dead_end};
 
 /// Whatever the lister answers, inputs and a log have one report at most: one text and one exit status.
@@ -50,30 +52,10 @@ pub fn built_plan()
     ensures { BuiltIsPlan }
 {}
 
-/// A test is selected exactly if a binary of the workspace answers its name and the filter in force holds on it.
-pub fn selected()
-    ensures { HasExactlyTheWanted }
-{}
-
-/// A binary is listed exactly if the filter in force can hold on it, by some answers to what it asks of the binary's tests.
-pub fn listed()
-    ensures { ListsExactly }
-{}
-
-/// A plan that was built has each selected test once: no two of its tests have the same binary's id and the same name.
-pub fn selected_once()
-    ensures { HasNoneTwice }
-{}
-
 /// Profiles outside of the chosen one's chain change nothing: where two inputs ask for the same tests of one workspace, choose one
 /// profile and say the same in it, in its parents and in `default`, and both have a plan, then it is one plan, and a log has one
 /// exit status and one report, warnings aside.
 pub fn isolated()
     ensures plan { IsolatesPlans }
     ensures report { IsolatesReports }
-{}
-
-/// All inputs ask for settings, or there is a first reason, before their filterset is looked at, why they have no plan.
-pub fn some_settings()
-    ensures { AsksForSome }
 {}

@@ -2,3 +2,9 @@ pub mod Building
 pub mod Answering
 pub mod Context
 pub mod Once
+pub mod OneOrder
+pub mod OnePlan
+pub mod Selected
+pub mod NoneTwice
+pub mod Listed
+pub mod Isolated

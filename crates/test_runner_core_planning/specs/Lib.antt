@@ -3,3 +3,4 @@ pub mod Filtering
 pub mod Plan
 pub mod Inside
 pub mod Texts
+pub mod Laws

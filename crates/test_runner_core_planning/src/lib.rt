@@ -3,6 +3,7 @@
 
 mod build;
 mod filtering;
+pub mod laws;
 mod plan_error;
 mod plan_fault;
 mod wanted;

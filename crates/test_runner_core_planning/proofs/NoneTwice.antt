@@ -26,7 +26,7 @@ use Rattle.test_runner_core_workspace.specs.declared.record.Binary.{Binary}
 use Rattle.test_runner_core_workspace.specs.declared.record.WorkspaceRecord.{WorkspaceRecord}
 use Rattle.test_runner_core_workspace.specs.declared.workspace_fault.WorkspaceFault.{WorkspaceFault}
 use Rattle.test_runner_core_workspace.specs.declared.workspace_fault.WorkspaceFault.TheVariants as bad
-use Rattle.test_runner_core.specs.Laws.{HasNoneTwice}
+use Rattle.test_runner_core_planning.specs.Laws.{HasNoneTwice}
 use Rattle.test_runner_core_planning.proofs.Once.{parts_of, settled_workspace}
 
 -- ---- tests that are the same

@@ -8,10 +8,10 @@ use Rattle.test_runner_core_listing.specs.Listing.{ids_of}
 use Rattle.test_runner_core_planning.specs.Plan.{listed_in}
 use Rattle.test_runner_core_workspace.specs.Workspace.{has_repeat, is_among}
 use Rattle.test_runner_core_workspace.specs.declared.record.Binary.{Binary}
-use Rattle.test_runner_core.specs.Laws.{ListsExactly}
+use Rattle.test_runner_core_planning.specs.Laws.{ListsExactly}
 use Rattle.test_runner_core_planning.proofs.Once.{answers_are, parts_of}
-use Rattle.test_runner_core.proofs.Once.{planned_apart}
-use Rattle.test_runner_core.proofs.Selected.{filter_has, has_cases, has_of_filter, has_of_map, map_has, none_has}
+use Rattle.test_runner_core_planning.proofs.NoneTwice.{planned_apart}
+use Rattle.test_runner_core_planning.proofs.Selected.{filter_has, has_cases, has_of_filter, has_of_map, map_has, none_has}
 
 -- an id that isn't among those of binaries is that of none of them
 id_of_none : (id : List ℕ) (binary : Binary) (binaries : List Binary) → is_among (ids_of binaries) id ≡ false → Contains binaries binary → id ≡ binary.id → ⊥

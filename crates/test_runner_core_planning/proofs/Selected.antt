@@ -15,7 +15,7 @@ use Rattle.test_runner_core_planning.specs.Filtering.{everything}
 use Rattle.test_runner_core_planning.specs.Plan.{listed_in, plan_test}
 use Rattle.test_runner_core_plan.specs.declared.plan.PlanTest.{PlanTest}
 use Rattle.test_runner_core_settings.specs.declared.configured.RunSettings.{RunSettings}
-use Rattle.test_runner_core.specs.Laws.{HasExactlyTheWanted, IsWanted}
+use Rattle.test_runner_core_planning.specs.Laws.{HasExactlyTheWanted, IsWanted}
 use Rattle.nextest_filtering_filters.proofs.Sure.{on_test_can_be, one_on_test}
 use Rattle.test_runner_core_planning.proofs.Once.{answers_are, parts_of}
 use Rattle.test_runner_core_workspace.specs.Lister.{Answer}

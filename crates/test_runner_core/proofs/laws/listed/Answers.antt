@@ -1,5 +1,0 @@
-use Rattle.test_runner_core.proofs.Listed.{lists_exactly}
-use Rattle.test_runner_core.proofs.laws.listed.Goals as goal
-
-pub returns : goal.returns
-returns c = lists_exactly

@@ -1,5 +1,0 @@
-use Rattle.test_runner_core.proofs.Selected.{exactly_the_wanted}
-use Rattle.test_runner_core.proofs.laws.selected.Goals as goal
-
-pub returns : goal.returns
-returns c = exactly_the_wanted

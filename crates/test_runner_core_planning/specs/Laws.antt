@@ -1,0 +1,65 @@
+-- What holds of every plan.
+use Rattle.std.specs.Prelude.{◌≡◌, ◌≢◌, ◌↔◌, true, List, map, Result, Ok}
+use Rattle.std.specs.List.{AllPairs, Contains}
+use Rattle.nextest_filtering_filters.specs.Meaning.{CanBeOn, IsOn}
+use Rattle.nextest_filtering_filters.specs.declared.leaf.FiltersetLeaf.{FiltersetLeaf}
+use Rattle.nextest_filtering_filters.specs.Formula.{Formula}
+use Rattle.nextest_run_events_results.specs.declared.instance.OwnedTestInstanceId.{OwnedTestInstanceId}
+use Rattle.test_runner_core_inputs.specs.declared.inputs.Inputs.{Inputs}
+use Rattle.test_runner_core_listing.specs.Answers.{IsOfGroup, seen, seen_test}
+use Rattle.test_runner_core_plan.specs.declared.plan.Plan.{Plan}
+use Rattle.test_runner_core_plan.specs.declared.plan.PlanTest.{PlanTest}
+use Rattle.test_runner_core_settings.specs.Laws.{AgreeOnChain}
+use Rattle.test_runner_core_settings.specs.declared.configured.RunSettings.{RunSettings}
+use Rattle.test_runner_core_workspace.specs.Lister.{Answer}
+use Rattle.test_runner_core_workspace.specs.declared.record.Binary.{Binary}
+use Rattle.test_runner_core_planning.specs.Filtering.{IsInForce, everything}
+use Rattle.test_runner_core_planning.specs.Plan.{Builds, Settles}
+use Rattle.test_runner_core_planning.specs.declared.plan_fault.PlanFault.{PlanFault}
+
+-- a test is wanted: a binary of the workspace has its binary's id and answered its name, and the filter in force holds on it
+pub record IsWanted (answer : Binary → Answer) (inputs : Inputs) (filter : Formula FiltersetLeaf) (test : OwnedTestInstanceId) : Type 0 where
+  pub binary : Binary
+  pub among : Contains inputs.workspace.binaries binary
+  pub id : binary.id ≡ test.binary_id
+  pub names : List (List ℕ)
+  pub answered : answer binary ≡ Ok names
+  pub named : Contains names test.test_name
+  pub holds : IsOn filter everything (seen_test binary test.test_name) IsOfGroup true
+
+-- a plan has exactly the tests that are wanted
+abbrev pub HasExactlyTheWanted : Type 0
+HasExactlyTheWanted =
+    (answer : Binary → Answer) (inputs : Inputs) (plan : Plan) (filter : Formula FiltersetLeaf)
+    → Builds answer inputs (Ok plan) → IsInForce inputs.workspace inputs.filterset filter
+    → (test : OwnedTestInstanceId) → Contains (map (λ (t : PlanTest). t.instance) plan.tests) test ↔ IsWanted answer inputs filter test
+
+-- a plan lists exactly the binaries on which the filter in force can hold, by some answers to what it asks of their tests
+abbrev pub ListsExactly : Type 0
+ListsExactly =
+    (answer : Binary → Answer) (inputs : Inputs) (plan : Plan) (filter : Formula FiltersetLeaf)
+    → Builds answer inputs (Ok plan) → IsInForce inputs.workspace inputs.filterset filter
+    → (binary : Binary) → Contains inputs.workspace.binaries binary → Contains plan.listed binary.id ↔ CanBeOn filter everything (seen binary) true
+
+-- a plan has no test twice: no two of its tests have the same binary's id and the same name
+abbrev pub HasNoneTwice : Type 0
+HasNoneTwice =
+    (answer : Binary → Answer) (inputs : Inputs) (plan : Plan) → Builds answer inputs (Ok plan)
+    → AllPairs (λ one other. one ≢ other) (map (λ (t : PlanTest). t.instance) plan.tests)
+
+-- Two inputs ask for the same tests of one workspace, and for the same in each profile of the chosen one's chain. Other profiles may be
+-- others, and so may what is asked of versions.
+pub record DifferOutside (inputs other : Inputs) : Type 0 where
+  pub workspace : other.workspace ≡ inputs.workspace
+  pub filterset : other.filterset ≡ inputs.filterset
+  pub chain : AgreeOnChain inputs other
+
+-- profiles outside of the chosen one's chain change nothing of a plan, its warnings aside
+abbrev pub IsolatesPlans : Type 0
+IsolatesPlans =
+    (answer : Binary → Answer) (inputs other : Inputs) (one second : Plan) → DifferOutside inputs other
+    → Builds answer inputs (Ok one) → Builds answer other (Ok second) → second ≡ record one { warnings = second.warnings }
+
+-- inputs ask for settings, or there is a first reason before their filterset why they have no plan
+abbrev pub AsksForSome : Type 0
+AsksForSome = (inputs : Inputs) → (given : Result RunSettings PlanFault) × Settles inputs given
