@@ -4,7 +4,7 @@
     python3 scripts/compare_clauses.py BEFORE [AFTER] [OLD=NEW ..]
 
 BEFORE and AFTER are commits; without AFTER it is the working tree. OLD=NEW says that a function was renamed. Printed are the clauses (`requires`, `ensures`, a struct's or
-trait's `ghost` members) and the definitions of specs/ that stood before and don't stand after, and the `requires` that are new. A
+trait's `ghost` members) and the definitions of specs/ that stood before and don't stand after, and the `requires` that are new on a function that stood before. A
 clause is known by the function, type or trait that it belongs to and by its text, a definition by its name and its text; blanks,
 comments the paths of imports and the names under which a file imports a module don't count, and the crates of tests and tables are left out. The exit status is 1 where
 something is missing or a `requires` is new.
@@ -122,7 +122,8 @@ def main(before, after=None, *pairs):
     renamed = dict(it.split("=") for it in pairs)
     old, new = clauses_in(files_of(before, ".rt"), renamed), clauses_in(files_of(after, ".rt"), {})
     lost = list((old - new).elements())
-    wanted = [it for it in (new - old).elements() if it[1] == "requires"]
+    owners = {it[0] for it in old}
+    wanted = [it for it in (new - old).elements() if it[1] == "requires" and it[0] in owners]
     gone = list((definitions_in(files_of(before, ".antt")) - definitions_in(files_of(after, ".antt"))).elements())
     for owner, kind, name, body in lost:
         print(f"no longer there: {owner}: {kind} {name} {{ {body} }}")

@@ -58,6 +58,32 @@ pub fn judge<L: Lister, R: LogReader, W: ReportWriter>(
     ensures read_failures { TellsRead result (R.failures log.old) (R.failures log.new) (R.last_failed log.new) }
     ensures write_failures { TellsWrite result (W.failures report.old) (W.failures report.new) (W.last_failed report.new) }
 {
+    reported(alloc, inputs, lister, log, report)
+}
+
+// Does what `judge` does: what follows from the report alone is said there.
+fn reported<L: Lister, R: LogReader, W: ReportWriter>(
+    alloc: Global,
+    inputs: &Inputs,
+    lister: &mut L,
+    log: &mut R,
+    report: &mut W,
+) -> Result<u8, JudgeFault>
+    requires calls_fit { R.calls log.old < 2 ^ 62 }
+    requires failures_fit { R.failures log.old < 2 ^ 62 }
+    requires writes_fit { W.failures report.old < 2 ^ 62 }
+    ensures reports { Reports result
+        (λ parts code. IfSome (R.left log.old) (λ bytes. Composed (L.answer lister.old) inputs.now (items 0 bytes) parts code))
+        (λ parts. IfSome (R.left log.old) (λ bytes. IfSome (R.left log.new) (λ rest. GotTo (L.answer lister.old) inputs.now bytes rest parts)))
+        (λ parts. IfSome (R.left log.old) (λ bytes. Begun (L.answer lister.old) inputs.now (items 0 bytes) parts))
+        (W.taken report.old) (W.taken report.new) }
+    ensures stays { (other : Binary) → L.answer lister.new other ≡ L.answer lister.old other }
+    ensures asks { AsksWith (L.answer lister.old) inputs.now (lacks_memory result) (L.asked lister.old) (L.asked lister.new) }
+    ensures unread { (refusal : PlanFault) → Plans (L.answer lister.old) inputs.now (Err refusal) → R.calls log.new ≡ R.calls log.old }
+    ensures reads { R.calls log.new ≤ R.calls log.old + log_reads }
+    ensures read_failures { TellsRead result (R.failures log.old) (R.failures log.new) (R.last_failed log.new) }
+    ensures write_failures { TellsWrite result (W.failures report.old) (W.failures report.new) (W.last_failed report.new) }
+{
     match Plan::build(alloc, inputs, lister) {
         Ok(plan) => judge_plan(alloc, &plan, &mut LogLines::new(alloc), log, report),
         Err(PlanError::Refused(refusal)) => Ok(refuse_plan(alloc, &refusal, report)?),
@@ -84,6 +110,28 @@ pub fn judge_stream<R: LogReader, W: ReportWriter>(
     ensures due { IfOk result (λ code. IfSome (R.left input.old) (λ bytes. IsStreamDue bytes code)) }
     ensures no_milder { IfOk result (λ code. IfSome (R.left input.old) (λ bytes. IsStreamNoMilder bytes code)) }
     ensures one_report { IfOk result (λ code. IfSome (R.left input.old) (λ bytes. StreamEndsAsDue bytes (W.taken report.old) (W.taken report.new))) }
+    ensures unread { IfSome (R.left input.old) (λ bytes. HasNoPlan (read_inputs (before_feed bytes)) → R.calls input.new ≤ R.calls input.old + first_line_reads) }
+    ensures reads { R.calls input.new ≤ R.calls input.old + first_line_reads + log_reads }
+    ensures read_failures { TellsRead result (R.failures input.old) (R.failures input.new) (R.last_failed input.new) }
+    ensures write_failures { TellsWrite result (W.failures report.old) (W.failures report.new) (W.last_failed report.new) }
+{
+    stream_reported(alloc, input, report)
+}
+
+// The same of one stream.
+fn stream_reported<R: LogReader, W: ReportWriter>(
+    alloc: Global,
+    input: &mut R,
+    report: &mut W,
+) -> Result<u8, JudgeFault>
+    requires calls_fit { R.calls input.old < 2 ^ 62 }
+    requires failures_fit { R.failures input.old < 2 ^ 62 }
+    requires writes_fit { W.failures report.old < 2 ^ 62 }
+    ensures reports { Reports result
+        (λ parts code. IfSome (R.left input.old) (λ bytes. StreamComposed bytes parts code))
+        (λ parts. IfSome (R.left input.old) (λ bytes. IfSome (R.left input.new) (λ rest. StreamGotTo bytes rest parts)))
+        (λ parts. IfSome (R.left input.old) (λ bytes. StreamBegun bytes parts))
+        (W.taken report.old) (W.taken report.new) }
     ensures unread { IfSome (R.left input.old) (λ bytes. HasNoPlan (read_inputs (before_feed bytes)) → R.calls input.new ≤ R.calls input.old + first_line_reads) }
     ensures reads { R.calls input.new ≤ R.calls input.old + first_line_reads + log_reads }
     ensures read_failures { TellsRead result (R.failures input.old) (R.failures input.new) (R.last_failed input.new) }
