@@ -14,8 +14,8 @@ PROGRAM = ROOT / "crates/test_runner/out/test_runner"
 SAMPLES = [
     ROOT / "examples/retried-test.txt",
     ROOT / "examples/filterset.txt",
-    ROOT / "crates/worked_rows/data/runs/limit-finishes-tests-between-attempts.in",
-    ROOT / "crates/worked_rows/data/runs/version-too-old-passed-over.in",
+    ROOT / "rows/runs/limit-finishes-tests-between-attempts.in",
+    ROOT / "rows/runs/version-too-old-passed-over.in",
 ]
 
 # Stands before the C library's calls: the request of the chosen number fails, counted from the program's first.

@@ -1,11 +1,15 @@
 #!/usr/bin/env python3
-"""Runs the gate, and prints the processor seconds that it took, by crate and kind, read from the process table as it goes.
+"""Runs the gate, and prints what it took by crate and kind, read from the process table as it goes, in units and in seconds.
 
 Run it from the repository's root: `bench/gate.py`, or `bench/gate.py COMMAND ..` for another command of `rt` (as
 `rt must-fail nextest_text`). What the command prints goes to bench/gate.log. The exit status is the command's. The kinds:
 proof (the crate, from nothing), tests (the crate once more with its tests), edits (its wrong bodies), build (what LLVM and
 Rattle's own compiler make of a proved program or of tests). A process that lives less than the time between two looks may be
 missed; the sum of all, by the system's own count, stands in the last line.
+
+Seconds of one day are no seconds of another, so one small proof is timed before and after, once a processor side by side, and a
+unit is a 35th of what it takes on average (scripts/calibration.py). Where the two times are far apart the machine wasn't quiet.
+What other processes used meanwhile is told as well: of /proc/stat what the run and this script didn't use themselves.
 """
 import collections
 import os
@@ -17,10 +21,18 @@ import sys
 import time
 
 ROOT = pathlib.Path(__file__).resolve().parent.parent
+sys.dont_write_bytecode = True
+sys.path.insert(0, str(ROOT / "scripts"))
+from calibration import UNITS, Unfit, calibrate, used
+
 LOG = ROOT / "bench/gate.log"
 KINDS = ("proof", "tests", "edits", "build")
 BETWEEN_LOOKS = 0.4
 TICK = os.sysconf("SC_CLK_TCK")
+
+# How far the two times of the small proof may be apart, and how long the machine is looked at before and after.
+MOST_APART = 0.10
+LOOK_SECONDS = 3
 
 
 def read(path):
@@ -86,29 +98,87 @@ def watch(running):
     return seconds, works
 
 
-def table(seconds, works):
+def mark():
+    """The time, the processor seconds that the machine was busy and that were taken from it, and those of this run."""
+    ticks = [int(it) / TICK for it in read(pathlib.Path("/proc/stat")).split(b"\n")[0].split()[1:9]]
+    busy, stolen = (sum(ticks[:3]) + sum(ticks[5:7]), ticks[7]) if len(ticks) == 8 else (None, None)
+    own = resource.getrusage(resource.RUSAGE_SELF)
+    return time.time(), busy, stolen, used() + own.ru_utime + own.ru_stime
+
+
+def tell_others(when, one, other):
+    """Prints how many processors others used between two marks, and how much of them the machine below took away."""
+    if one[1] is None or other[1] is None:
+        print(f"{when}: what others use can't be told here", flush=True)
+        return
+    clock, busy, stolen, own = (after - before for before, after in zip(one, other))
+    others = f"{max(busy - own, 0) / clock:.2f} of {os.cpu_count()} processors used by other processes"
+    print(f"{when}: {others}, {stolen / clock:.2f} taken by other machines", flush=True)
+
+
+def tell_load(when):
+    """Looks at the machine while nothing of this run goes."""
+    began = mark()
+    time.sleep(LOOK_SECONDS)
+    tell_others(when, began, mark())
+
+
+def time_proof(when):
+    """What the small proof takes in processor seconds; `None` where there is no unit."""
+    try:
+        timed = calibrate()
+    except Unfit as why:
+        print(f"{when}: no unit, and raw seconds alone, since {why}", flush=True)
+        return None
+    print(f"{when}: the small proof took {timed}", flush=True)
+    return timed.processor_seconds
+
+
+def seconds_of_unit(before, after):
+    """The processor seconds of a unit, by the two times of the small proof; `None` where one is missing."""
+    if before is None or after is None:
+        return None
+    mean = (before + after) / 2
+    apart = abs(after - before) / mean
+    print(f"the two are {100 * apart:.0f} % apart; a unit is {mean / UNITS:.3f} processor seconds")
+    if apart > MOST_APART:
+        print(f"warning: that is more than {100 * MOST_APART:.0f} %, so the machine wasn't quiet, and the figures are no better")
+    return mean / UNITS
+
+
+def table(seconds, works, unit):
+    """Prints the kinds of each crate in units, and their sum in units and in seconds, or all in seconds if there is no unit."""
     spent = collections.defaultdict(lambda: collections.Counter())
     for key, (crate, kind) in works.items():
         spent[crate][kind] += seconds[key]
     rows = sorted(spent.items(), key=lambda row: -sum(row[1].values()))
-    print("| Crate | " + " | ".join(KINDS) + " | sum |\n|" + "---|" * (len(KINDS) + 2))
+    rows.append(("all", sum((kinds for _, kinds in rows), collections.Counter())))
+    names = ["Crate", *KINDS, *(["units"] if unit else []), "seconds"]
+    print(f"\n| {' | '.join(names)} |\n|{'---|' * len(names)}")
     for crate, kinds in rows:
-        cells = [f"{kinds[kind]:.0f}" if kinds[kind] >= 0.5 else "" for kind in KINDS]
-        print(f"| {crate} | " + " | ".join(cells) + f" | {sum(kinds.values()):.0f} |")
-    sums = [sum(kinds[kind] for _, kinds in rows) for kind in KINDS]
-    print("| all | " + " | ".join(f"{it:.0f}" for it in sums) + f" | {sum(seconds.values()):.0f} |")
+        number = lambda it: f"{it / (unit or 1):.0f}"
+        cells = [number(kinds[kind]) if kinds[kind] >= 0.5 * (unit or 1) else "" for kind in KINDS]
+        whole = sum(kinds.values())
+        print(f"| {crate} | {' | '.join([*cells, *([number(whole)] if unit else []), f'{whole:.0f}'])} |")
 
 
 def main():
-    began = time.time()
+    tell_load("before")
+    before = time_proof("before")
+    began, used_before = mark(), used()
     with open(LOG, "wb") as log:
         running = subprocess.Popen(sys.argv[1:] or ["rt", "ci"], cwd=ROOT, stdout=log, stderr=subprocess.STDOUT)
         seconds, works = watch(running)
-    table(seconds, works)
-    used = resource.getrusage(resource.RUSAGE_CHILDREN)
+    ended, spent = mark(), used() - used_before
+    tell_others("meanwhile", began, ended)
+    after = time_proof("after") if before else None
+    tell_load("after")
+    unit = seconds_of_unit(before, after)
+    table(seconds, works, unit)
     lines = re.findall(r"\S.*", LOG.read_text(errors="replace"))
     print(f"\n{lines[-1] if lines else 'it printed nothing'}")
-    print(f"{used.ru_utime + used.ru_stime:.0f} processor seconds, {time.time() - began:.0f} seconds by the clock")
+    units = f", {spent / unit:,.0f} units" if unit else ""
+    print(f"{spent:.0f} processor seconds{units}, {ended[0] - began[0]:.0f} seconds by the clock")
     return running.returncode
 
 

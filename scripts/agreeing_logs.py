@@ -1,5 +1,5 @@
 #!/usr/bin/env python3
-"""Writes the table `agreeing` of the program `worked_rows`: a hundred random plans, an assignment of each, and ten logs that
+"""Writes the table `agreeing` of rows/: a hundred random plans, an assignment of each, and ten logs that
 agree with it.
 
     python3 scripts/agreeing_logs.py
@@ -20,7 +20,7 @@ import json
 import pathlib
 import random
 
-TABLE = pathlib.Path(__file__).resolve().parent.parent / "crates/worked_rows/data/agreeing.txt"
+TABLE = pathlib.Path(__file__).resolve().parent.parent / "rows/agreeing.txt"
 SEED, CASES, LOGS = 16, 100, 10
 HEAD = """\
 # Made by scripts/agreeing_logs.py. Changes of plan.json | the lines of the logs, from 0, with a space for each tab: of each test its

@@ -1,5 +1,5 @@
 #!/usr/bin/env python3
-"""Writes the tables of the program `worked_configs`, and the numbers of their rows into what it has to print.
+"""Writes the tables of configurations in the program `worked_layers`, and the numbers of their rows into what it has to print.
 
     python3 scripts/config_rows.py
 
@@ -18,15 +18,12 @@ It knows nothing of the program: a row has texts in TOML, which Python reads, an
   begins with `default-` and isn't `default-miri`.
 """
 import itertools
-import pathlib
 import random
 import re
 import tomllib
 
 import element_rows as elements
-from element_rows import KINDS, NOTHING, SIGNS, Refused, found, toml
-
-CRATE = pathlib.Path(__file__).resolve().parent.parent / "crates/worked_configs"
+from element_rows import CRATE, KINDS, NOTHING, SIGNS, Refused, found, toml
 
 BUILT_IN = """
 store.dir = "target/nextest"
@@ -750,14 +747,14 @@ TABLE_ROWS = {
 
 
 def main():
-    printed = []
+    numbers = {}
     for name, (head, pairs) in TABLE_ROWS.items():
         rows = dict.fromkeys(f"{text} => {answer}".translate(SIGNS) for text, answer in pairs())
         lines = [f"# Made by scripts/config_rows.py. {head}", *rows]
         (CRATE / f"data/{name}.txt").write_text("\n".join(lines) + "\n")
-        printed.append(f"{name}: {len(rows)} rows hold\n")
-    (CRATE / "stdout").write_text("".join(printed))
-    print("".join(printed), end="")
+        numbers[name] = len(rows)
+    elements.tell_numbers(numbers)
+    print(numbers)
 
 
 if __name__ == "__main__":

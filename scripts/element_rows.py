@@ -1,5 +1,5 @@
 #!/usr/bin/env python3
-"""Writes the tables of the program `worked_elements`, and the numbers of their rows into what it has to print.
+"""Writes the tables of elements in the program `worked_layers`, and the numbers of their rows into what it has to print.
 
     python3 scripts/element_rows.py
 
@@ -23,7 +23,7 @@ import re
 import unicodedata
 from typing import Callable, NamedTuple
 
-CRATE = pathlib.Path(__file__).resolve().parent.parent / "crates/worked_elements"
+CRATE = pathlib.Path(__file__).resolve().parent.parent / "crates/worked_layers"
 BLANK = " \t\r\n"
 MOST_NANOS, MOST_COUNT, MOST_32 = 2**64 - 1, 2**63 - 1, 2**32 - 1
 
@@ -813,15 +813,23 @@ TABLE_ROWS = {
 }
 
 
+def tell_numbers(numbers):
+    """Puts the numbers of the rows of these tables into what the program has to print."""
+    text = (CRATE / "stdout").read_text()
+    for name, number in numbers.items():
+        text = re.sub(rf"(?m)^{name}: \d+ rows", f"{name}: {number} rows", text)
+    (CRATE / "stdout").write_text(text)
+
+
 def main():
-    printed = []
+    numbers = {}
     for name, (head, inputs, answer) in TABLE_ROWS.items():
         pairs = ((it, it) if isinstance(it, str) else it for it in inputs())
         rows = dict.fromkeys(f"{text} => {answer(given)}".translate(SIGNS) for text, given in pairs)
         lines = [f"# Made by scripts/element_rows.py. {head}", *rows]
         (CRATE / f"data/{name}.txt").write_text("\n".join(lines) + "\n")
-        printed.append(f"{name}: {len(rows)} rows hold\n")
-    (CRATE / "stdout").write_text("".join(printed))
+        numbers[name] = len(rows)
+    tell_numbers(numbers)
 
 
 if __name__ == "__main__":

@@ -1,6 +1,6 @@
 #!/usr/bin/env python3
-"""Writes two tables of the program `worked_rows`: `profiles_plans`, what the configurations and the profile of inputs come to, and
-`profiles_runs`, whole runs under settings of every kind.
+"""Writes two tables: `profiles_plans` of the program `worked_rows`, what the configurations and the profile of inputs come to, and
+`profiles_runs` of rows/, whole runs under settings of every kind.
 
     python3 scripts/run_rows.py
 
@@ -29,7 +29,7 @@ import version_rows as versions
 from config_rows import in_order, on_one_line
 from element_rows import SIGNS, toml
 
-DATA = versions.ROOT / "crates/worked_rows/data"
+DATA, ROWS = versions.ROOT / "crates/worked_rows/data", versions.ROOT / "rows"
 
 STATUS_LEVELS = ["None", "Fail", "Retry", "Slow", "Leak", "Pass", "Skip", "All"]
 FINAL_LEVELS = ["None", "Fail", "Flaky", "Slow", "Skip", "Leak", "Pass", "All"]
@@ -512,23 +512,25 @@ def changed(text, changes):
     return text
 
 
-def write(name, head, rows):
+def write(folder, name, head, rows):
     lines = dict.fromkeys(f"{' => '.join(changes)} => {answer}".translate(SIGNS) for changes, answer in rows)
-    (DATA / f"{name}.txt").write_text("\n".join([f"# Made by scripts/run_rows.py. {head}", *lines]) + "\n", encoding="utf-8")
+    (folder / f"{name}.txt").write_text("\n".join([f"# Made by scripts/run_rows.py. {head}", *lines]) + "\n", encoding="utf-8")
     print(f"{name}: {len(lines)} rows")
 
 
 def main():
     plan = (DATA / "plan.json").read_text(encoding="utf-8")
     run = base_run(plan)
-    (DATA / "profiles_runs.in").write_text(run, encoding="utf-8")
+    (ROWS / "profiles_runs.in").write_text(run, encoding="utf-8")
     write(
+        DATA,
         "profiles_plans",
         "Changes of plan.json => the tests, each with its most attempts, its flaky rule and when its output is shown where it passes and"
         " where it fails; the limit, the levels of lines and of the final text, and the warnings; or the name under which it is refused.",
         ((changes, plan_answer(json.loads(changed(plan, changes)))) for changes in plan_rows()),
     )
     write(
+        ROWS,
         "profiles_runs",
         "Changes of profiles_runs.in, the inputs and a log => the report, and a line with the status.",
         ((changes, run_answer(changed(run, changes))) for changes in run_rows()),

@@ -4,8 +4,9 @@
     python3 scripts/whole_runs.py [--program PATH] [--counts] [TABLE ..]
 
 What each table has stands in rows/README.md. The program is crates/test_runner/out/test_runner, which `rt ci` leaves, or the one at
-PATH; it is fed on standard input. Without names all tables are compared. It says nothing where all rows hold, but how many hold of
-each table with --counts; else its last line is `N passed, M failed`, and the exit status 1.
+PATH, and beside it, where it is there, PATH.by-rattle, which Rattle's own compiler built: a row holds where it holds of both. Without
+names all tables are compared. It says nothing where all rows hold, but how many hold of each table with --counts; else its last line
+is `N passed, M failed`, and the exit status 1.
 """
 import argparse
 import concurrent.futures
@@ -23,8 +24,11 @@ ROWS = ROOT / "rows"
 DATA = ROOT / "crates/worked_rows/data"
 PROGRAM = ROOT / "crates/test_runner/out/test_runner"
 
-# The most seconds that a run takes.
-LIMIT = 60
+# What the other compiler's build is called.
+BY_RATTLE = ".by-rattle"
+
+# The most seconds that a run takes, and the most characters that are shown of an answer.
+LIMIT, SHOWN = 60, 10_000
 
 # The pieces in which short streams are fed once more, in bytes, and which are short.
 PIECES, SHORT = (1, 7), 65_536
@@ -95,6 +99,10 @@ class Run:
         """The final text behind its first line, or none where something is refused."""
         return self.report.split(FINAL, 1)[1] if FINAL in self.report else None
 
+    def fields(self):
+        """The fields of the first line of the report."""
+        return self.report.split("\n", 1)[0].split("\t")
+
     def is_unstopped(self):
         """Whether it came to its final text, and no reason to stop it stood."""
         return NO_REASON in (self.final_text() or "")
@@ -160,7 +168,7 @@ def changed(file):
         pieces, made = changes.split(ARROW), text
         for part, other in zip(pieces[::2], pieces[1::2]):
             if part not in made:
-                raise SystemExit(f"{file.name} has no part {part}")
+                raise ValueError(f"{file.name} has no part {part}")
             made = made.replace(part, other, 1)
         return made
 
@@ -183,12 +191,12 @@ def profiles_runs(program, changes):
 def inputs(program, text):
     """`read`, `syntax`, or the path that is told."""
     run = program.run(on_a_line(text))
-    fields = run.report.removesuffix("\n").split("\t")
+    fields = run.fields()
     if fields[:2] == ["refused", "Syntax"]:
         return "syntax" if run.status == 96 else run.shown()
     if fields[:2] == ["refused", "Field"]:
         return fields[2] if run.status == 96 else run.shown()
-    return "read" if run.report and not run.error else run.shown()
+    return "read" if fields[0] == "refused" or run.final_text() is not None else run.shown()
 
 
 def inputs_changed(program, changes):
@@ -198,13 +206,13 @@ def inputs_changed(program, changes):
 def versions(program, text):
     """The warnings, or the name under which inputs are refused."""
     run = program.run(on_a_line(text))
-    fields = run.report.removesuffix("\n").split("\t")
+    fields = run.fields()
     if fields[0] == "refused":
         return fields[1] if run.status == (92 if fields[1] == "VersionError" else 96) else run.shown()
     if run.final_text() is None:
         return run.shown()
-    lines = [line.removeprefix("warning\t") for line in run.report.split("\n") if line.startswith("warning\t")]
-    return " ".join(["warnings", *(f"[{line}]" for line in lines)])
+    warnings = re.findall(r"^warning\t(.*)$", run.report, re.M)
+    return " ".join(["warnings", *(f"[{it}]" for it in warnings)])
 
 
 def refused_lines(program, log):
@@ -308,13 +316,19 @@ class Row:
     input: str
     answer: str
 
-    def differs(self, program):
-        """What is said of it where the program comes to something else."""
-        try:
-            given = TABLES[self.table](program, self.input)
-        except subprocess.TimeoutExpired:
-            given = f"no end within {LIMIT} seconds"
-        return None if given == self.answer else f"{self.shown}\n    but the answer is: {with_signs(given)}"
+    def differs(self, programs):
+        """What is said of it where a program comes to something else."""
+        for program in programs:
+            try:
+                given = TABLES[self.table](program, self.input)
+            except subprocess.TimeoutExpired:
+                given = f"no end within {LIMIT} seconds"
+            except (ValueError, IndexError, KeyError) as error:
+                given = f"none, since the input is none: {error!r}"
+            if given != self.answer:
+                of = f" of {os.path.basename(program.path)}" if len(programs) > 1 else ""
+                return f"{self.shown}\n    but the answer{of} is: {with_signs(given)[:SHOWN]}"
+        return None
 
 
 def rows_of_lines(table):
@@ -349,11 +363,12 @@ def main():
         parser.error(f"the tables are {', '.join(TABLES)}")
     path = os.path.abspath(words.program)
     if not os.access(path, os.X_OK):
-        print(f"There is no program {path}: `make test` builds it, and `make run` does.")
+        print(f"There is no program {path}: `make test` builds it, and so does `make run`.")
         return 1
+    programs = [Program(it) for it in (path, path + BY_RATTLE) if it == path or os.access(it, os.X_OK)]
     passed = failed = 0
     with concurrent.futures.ThreadPoolExecutor(2 * len(os.sched_getaffinity(0))) as pool:
-        told = {table: pool.map(lambda row: row.differs(Program(path)), rows_of(table)) for table in words.tables or TABLES}
+        told = {table: pool.map(lambda row: row.differs(programs), rows_of(table)) for table in words.tables or TABLES}
         for table, answers in told.items():
             answers = list(answers)
             for it in filter(None, answers):

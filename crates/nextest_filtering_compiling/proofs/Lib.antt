@@ -4,5 +4,4 @@ pub mod Asked
 pub mod Kept
 pub mod Placed
 pub mod Whole
-pub mod Meaning
 mod Results

@@ -9,7 +9,7 @@ use Rattle.nextest_filtering_compiling.specs.Compiling.{IsCompiled}
 use Rattle.nextest_filtering_compiling.specs.Context.{Context}
 use Rattle.nextest_filtering_compiling.specs.declared.filterset.Filterset.{Filterset}
 use Rattle.nextest_filtering_filters.specs.declared.known_groups.KnownGroups.{KnownGroups}
-use Rattle.nextest_filtering_compiling.proofs.Meaning.{readable, same_on_binary, same_on_test}
+use Rattle.nextest_filtering_compiling.specs.Meaning.{readable, same_on_binary, same_on_test}
 use Rattle.nextest_filtering_filters.specs.Filter.{Compiled, filter_of, is_default, is_runtime_only, leaf_at}
 use Rattle.nextest_filtering_filters.specs.Deciding.{AllLeaves, AreReadable, IsReadable}
 use Rattle.nextest_filtering_filters.specs.Meaning.{CanBeOn, Either, IsOn, MayBe, Never, Tells}

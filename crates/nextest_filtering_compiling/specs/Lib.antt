@@ -8,6 +8,7 @@ pub mod Asking
 pub mod Outcomes
 pub mod Accepting
 pub mod Laws
+pub mod Meaning
 pub mod Filtersets
 pub mod Questions
 pub mod FiltersetLaws

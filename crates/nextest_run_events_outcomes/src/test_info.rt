@@ -1,7 +1,6 @@
 // What is told of a test that runs, on request.
-
+use super::stress_count::StressIndex;
 use super::unit_state::UnitState;
-use nextest_run_events_outcomes::StressIndex;
 use nextest_run_events_outputs::{ChildExecutionOutputDescription, LiveSpec, RetryData};
 use nextest_run_events_results::TestInstanceId;
 

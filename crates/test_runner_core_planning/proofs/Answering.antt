@@ -1,7 +1,7 @@
 -- What a filter in force answers, however its filterset is compiled.
 use Rattle.std.proofs.Common.{true, [], ◌∷◌, refl}
 use Rattle.nextest_filtering_compiling.specs.Compiling.{IsCompiled}
-use Rattle.nextest_filtering_compiling.proofs.Meaning.{same_on_binary, same_on_test}
+use Rattle.nextest_filtering_compiling.specs.Meaning.{same_on_binary, same_on_test}
 use Rattle.nextest_filtering_filters.specs.Deciding.{AreReadable}
 use Rattle.nextest_filtering_filters.specs.Filter.{Compiled, filter_of}
 use Rattle.nextest_filtering_filters.specs.declared.leaf.FiltersetLeaf.{FiltersetLeaf}

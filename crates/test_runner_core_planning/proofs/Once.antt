@@ -3,7 +3,7 @@ use Rattle.std.proofs.Common.{◌≡◌, ℕ, List, Bool, true, false, Option, N
 use Rattle.std.specs.Prelude.{if◌then◌else◌}
 use Rattle.nextest_filtering_compiling.specs.Compiling.{IsCompiled}
 use Rattle.nextest_filtering_compiling.specs.Context.{Context}
-use Rattle.nextest_filtering_compiling.proofs.Meaning.{readable}
+use Rattle.nextest_filtering_compiling.specs.Meaning.{readable}
 use Rattle.nextest_filtering_filters.specs.Deciding.{AreReadable}
 use Rattle.nextest_filtering_filters.specs.declared.leaf.FiltersetLeaf.{FiltersetLeaf}
 use Rattle.nextest_filtering_filters.specs.Formula.{Formula}

@@ -1,5 +1,5 @@
 -- What holds of every plan.
-use Rattle.std.specs.Prelude.{◌≡◌, ◌≢◌, ◌↔◌, true, List, map, Result, Ok}
+use Rattle.std.specs.Prelude.{◌≡◌, ◌≢◌, ◌↔◌, ℕ, true, List, map, Result, Ok}
 use Rattle.std.specs.List.{AllPairs, Contains}
 use Rattle.nextest_filtering_filters.specs.Meaning.{CanBeOn, IsOn}
 use Rattle.nextest_filtering_filters.specs.declared.leaf.FiltersetLeaf.{FiltersetLeaf}

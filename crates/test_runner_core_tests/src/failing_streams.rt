@@ -1,14 +1,15 @@
 // One run, each of whose reads and writes fails in turn: it is told, nothing is tried again, and the report is a front. Where a read
 // fails, it is what the whole lines tell that were read before.
-use super::one_run::{End, end_of};
+ghost use Rattle.std.specs.Prelude.{◌≡◌, ◌^◌, ◌<◌};
+
 use super::three_tests::{REPORT, STREAM, told_by};
 use std::alloc::Global;
 use std::io;
 use std::io::{ErrorKind, Read, Write};
 use std::test::Fail;
 use test_runner_core::{
-    JudgeFault, LogFault, MemoryReader, MemoryWriter, StdReader, StdWriter, WriteFailure,
-    judge_stream,
+    JudgeFault, LogReader, MemoryReader, MemoryWriter, ReportWriter, StdReader, StdWriter,
+    WriteFailure, judge_stream,
 };
 
 // Moves 64 bytes a call, and is interrupted at the second.
@@ -57,18 +58,31 @@ impl Write for FaultyWriter {
     }
 }
 
-#[test]
-fn pieces_change_nothing(rt: HostRuntime) -> Result<(), Fail> {
-    for piece in [1, 7, 64, 4096] {
-        let mut input = MemoryReader::new(STREAM, piece);
-        let mut report = MemoryWriter::new(rt.alloc(), REPORT.len(), piece)?;
-        let end = end_of(judge_stream(rt.alloc(), &mut input, &mut report));
-        assert!(rt;
-            end == End::Status(100) && report.written() == REPORT,
-            "{piece}"
-        );
+// How a judging ended.
+#[derive(Clone, Copy, PartialEq, Eq)]
+enum End {
+    // With this exit status.
+    Status(u8),
+    // A read failed so.
+    Read(ErrorKind),
+    // A write failed so.
+    Write(ErrorKind),
+    // For want of memory.
+    Memory,
+}
+
+// Judges a stream, and answers how that ended.
+fn end_of<R: LogReader, W: ReportWriter>(alloc: Global, input: &mut R, report: &mut W) -> End
+    requires calls_fit { R.calls input.old < 2 ^ 62 }
+    requires failures_fit { R.failures input.old < 2 ^ 62 }
+    requires writes_fit { W.failures report.old < 2 ^ 62 }
+{
+    match judge_stream(alloc, input, report) {
+        Ok(status) => End::Status(status),
+        Err(JudgeFault::Read(cause)) => End::Read(cause.kind()),
+        Err(JudgeFault::Write(cause)) => End::Write(cause.kind()),
+        Err(JudgeFault::Memory) => End::Memory,
     }
-    Ok(())
 }
 
 // How the run ends whose reader moves so many bytes a call and fails after so many calls; whether the reader wasn't called again, and
@@ -76,64 +90,75 @@ fn pieces_change_nothing(rt: HostRuntime) -> Result<(), Fail> {
 fn of_failing_reader(alloc: Global, piece: usize, calls: u64) -> Result<(End, bool, bool), Fail> {
     let mut input = MemoryReader::new(STREAM, piece).failing_after(calls);
     let mut report = MemoryWriter::new(alloc, REPORT.len(), 64)?;
-    let end = end_of(judge_stream(alloc, &mut input, &mut report));
+    let end = end_of(alloc, &mut input, &mut report);
     let is_last = input.failures() == 1 && input.last_failed();
     let read = STREAM.len().saturating_sub(input.left().len());
     Ok((end, is_last, report.written() == told_by(read)))
+}
+
+// After how many calls the first read fails that isn't told so, of this many reads.
+fn untold(alloc: Global, piece: usize, reads: u64) -> Result<Option<u64>, Fail> {
+    for calls in 0..reads {
+        if of_failing_reader(alloc, piece, calls)? != (End::Read(ErrorKind::Other), true, true) {
+            return Ok(Some(calls));
+        }
+    }
+    Ok(None)
 }
 
 #[test]
 fn each_read_that_fails_is_told(rt: HostRuntime) -> Result<(), Fail> {
     // Each piece is a read, and one more finds the end.
     for (piece, reads) in [(1, 332), (64, 7)] {
-        for calls in 0..reads {
-            let told = of_failing_reader(rt.alloc(), piece, calls)?;
-            assert!(rt;
-                told == (End::Read(ErrorKind::Other), true, true),
-                "{piece} {calls}"
-            );
-        }
+        assert!(rt; untold(rt.alloc(), piece, reads)?.is_none(), "{piece}");
         let (end, ..) = of_failing_reader(rt.alloc(), piece, reads)?;
         assert!(rt; end == End::Status(100), "{piece}");
     }
     Ok(())
 }
 
-#[test]
-fn each_write_that_fails_is_told(rt: HostRuntime) -> Result<(), Fail> {
-    for (how, kind) in [
-        (WriteFailure::Error, ErrorKind::Other),
-        (WriteFailure::TakesNone, ErrorKind::WriteZero),
-    ] {
-        // Each byte is a write.
-        for call in 0..598 {
-            let mut input = MemoryReader::new(STREAM, 4096);
-            let mut report = MemoryWriter::new(rt.alloc(), REPORT.len(), 1)?.failing_after(
-                call, how,
-            );
-            let end = end_of(judge_stream(rt.alloc(), &mut input, &mut report));
-            let front = report.written();
-            assert!(rt; end == End::Write(kind) && report.failures() == 1, "{call}");
-            assert!(rt;
-                REPORT.starts_with(front) && front.len() as u64 == call,
-                "{call}"
-            );
-        }
+// How the run ends that is written so, how many writes failed, and how many bytes were written; none where they are no front of the
+// report.
+fn of_writer(alloc: Global, mut report: MemoryWriter) -> Option<(End, u64, usize)>
+    requires { report.failures ≡ 0 }
+{
+    let mut input = MemoryReader::new(STREAM, 64);
+    let end = end_of(alloc, &mut input, &mut report);
+    let front = report.written();
+    if REPORT.starts_with(front) {
+        Some((end, report.failures(), front.len()))
+    } else {
+        None
     }
-    Ok(())
 }
 
 #[test]
-fn a_report_without_room_is_cut(rt: HostRuntime) -> Result<(), Fail> {
-    for room in 0..598 {
-        let mut input = MemoryReader::new(STREAM, 64);
-        let mut report = MemoryWriter::new(rt.alloc(), room, 4)?;
-        let end = end_of(judge_stream(rt.alloc(), &mut input, &mut report));
-        let front = report.written();
-        assert!(rt; end == End::Write(ErrorKind::StorageFull), "{room}");
+fn each_write_that_fails_is_told(rt: HostRuntime) -> Result<(), Fail> {
+    // Each byte is a write, and each time there is room for as many as are written.
+    for count in 0..598 {
+        let failing = MemoryWriter::new(rt.alloc(), REPORT.len(), 1)?;
+        let told = of_writer(
+            rt.alloc(),
+            failing.failing_after(count as u64, WriteFailure::Error),
+        );
         assert!(rt;
-            REPORT.starts_with(front) && room.saturating_sub(front.len()) < 4,
-            "{room}"
+            told == Some((End::Write(ErrorKind::Other), 1, count)),
+            "{count}"
+        );
+        let taking_none = MemoryWriter::new(rt.alloc(), REPORT.len(), 1)?;
+        let told = of_writer(
+            rt.alloc(),
+            taking_none.failing_after(count as u64, WriteFailure::TakesNone),
+        );
+        assert!(rt;
+            told == Some((End::Write(ErrorKind::WriteZero), 1, count)),
+            "{count}"
+        );
+        let full = MemoryWriter::new(rt.alloc(), count, 1)?;
+        let told = of_writer(rt.alloc(), full);
+        assert!(rt;
+            told == Some((End::Write(ErrorKind::StorageFull), 1, count)),
+            "{count}"
         );
     }
     Ok(())
@@ -145,40 +170,26 @@ fn std_streams_are_not_tried_again(rt: HostRuntime) {
         left: STREAM,
         calls: 0,
     });
-    let mut whole = StdWriter::new(Vec::new(rt.alloc()));
-    let end = end_of(judge_stream(rt.alloc(), &mut input, &mut whole));
+    let end = end_of(
+        rt.alloc(),
+        &mut input,
+        &mut StdWriter::new(Vec::new(rt.alloc())),
+    );
     assert!(rt; end == End::Read(ErrorKind::Interrupted) && input.into_inner().calls == 2);
     for (takes_none, kind) in [
         (true, ErrorKind::WriteZero),
         (false, ErrorKind::Interrupted),
     ] {
-        let mut input = StdReader::new(STREAM);
         let mut report = StdWriter::new(FaultyWriter {
             takes_none,
             calls: 0,
             flushes: 0,
         });
-        let end = end_of(judge_stream(rt.alloc(), &mut input, &mut report));
+        let end = end_of(rt.alloc(), &mut StdReader::new(STREAM), &mut report);
         let below = report.into_inner();
         assert!(rt; end == End::Write(kind) && (below.calls, below.flushes) == (2, 0));
     }
-    let end = end_of(judge_stream(rt.alloc(), &mut StdReader::new(STREAM), &mut whole));
+    let mut whole = StdWriter::new(Vec::new(rt.alloc()));
+    let end = end_of(rt.alloc(), &mut StdReader::new(STREAM), &mut whole);
     assert!(rt; end == End::Status(100) && whole.into_inner().as_slice() == REPORT);
-}
-
-#[test]
-fn faults_print_what_they_are(rt: HostRuntime) -> Result<(), Fail> {
-    let read = LogFault::Read(io::Error::other("gone"));
-    let write = JudgeFault::Write(io::Error::other("full"));
-    let memory = JudgeFault::from(LogFault::Memory);
-    let text = format!(in rt.alloc(); "{}; {read}; {memory}; {write}", LogFault::Memory)?;
-    assert_eq!(rt;
-        text.as_str(),
-        "out of memory; the log can't be read: gone; out of memory; the report can't be written: full"
-    );
-    assert_eq!(rt;
-        format!(in rt.alloc(); "{}", JudgeFault::from(read))?.as_str(),
-        "the log can't be read: gone"
-    );
-    Ok(())
 }

@@ -1,11 +1,9 @@
 // A lister of one's own: it is asked for each listed binary once, and its answers are the run's tests.
-use super::one_run::REPORT;
 use nextest_text::{Listing, Text};
 use std::alloc::Global;
 use std::test::Fail;
 use test_runner_core::{
-    Binary, BinaryTests, Inputs, ListFault, Lister, MemoryReader, MemoryWriter, TableLister,
-    Workspace, WorkspaceRecord, judge,
+    Binary, BinaryTests, Inputs, ListFault, Lister, MemoryReader, MemoryWriter, Workspace, judge,
 };
 
 // Answers what a binary says of itself.
@@ -37,6 +35,10 @@ const TWO_BINARIES: &[u8] =
 
 const PASSES: &[u8] = b"start\tp\ta\nend\tp\ta\tpass\t-\t1\t-\t-\n";
 
+// The report of the run in which the test passes.
+const REPORT: &[u8] =
+    b"done\tp\ta\tpass\t1/1\n== final ==\nstatus\t0\noutcome success\ninitial-run-count\t1\nfinished-count\t1\nsetup-scripts-initial-count\t0\nsetup-scripts-finished-count\t0\nsetup-scripts-passed\t0\nsetup-scripts-failed\t0\nsetup-scripts-exec-failed\t0\nsetup-scripts-timed-out\t0\npassed\t1\npassed-slow\t0\npassed-timed-out\t0\nflaky\t0\nfailed\t0\nfailed-slow\t0\nfailed-timed-out\t0\nleaky\t0\nleaky-failed\t0\nexec-failed\t0\nskipped\t0\ncancel-reason\t-\n";
+
 // Whether the run of inputs is judged to its end.
 fn is_judged(alloc: Global, inputs: &Inputs, lister: &mut OwnLister) -> Result<bool, Fail> {
     let mut log = MemoryReader::new(PASSES, 4096);
@@ -54,24 +56,7 @@ fn a_lister_of_ones_own_answers(rt: HostRuntime) -> Result<(), Fail> {
     assert!(rt; is_judged(rt.alloc(), &inputs, &mut lister)?);
     let asked = lister.asked.as_slice();
     assert!(rt; asked.len() == 2 && asked.last().is_some_and(|id| id.as_str() == "q"));
-    Ok(())
-}
-
-// How many tests a binary lists at most, and how many were asked, by the table of their workspace.
-fn listed(alloc: Global, workspace: &WorkspaceRecord) -> Result<(usize, usize), ListFault> {
-    let mut lister = TableLister::new(alloc, workspace)?;
-    let mut longest = 0;
-    for binary in workspace.binaries.as_slice() {
-        longest = lister.list(binary)?.len().max(longest);
-    }
-    Ok((longest, lister.asked().len()))
-}
-
-#[test]
-fn a_workspace_is_read_and_lists(rt: HostRuntime) -> Result<(), Fail> {
-    let inputs = Inputs::from_json(rt.alloc(), TWO_BINARIES)?;
     let workspace = Workspace::read(rt.alloc(), inputs.workspace.clone()?)?;
-    assert!(rt; listed(rt.alloc(), workspace.record())? == (1, 2));
     assert!(rt; workspace.into_record() == inputs.workspace);
     Ok(())
 }

@@ -27,7 +27,6 @@ fn of_filter_trees(name: &str, alloc: Global, input: &str) -> Option<String> {
         "leaves" => filter_trees::leaves(alloc, input),
         "deps" => filter_trees::deps(alloc, input),
         "name_matches" => filter_trees::name_matches(alloc, input),
-        "levels" => filter_trees::levels(alloc, input),
         "page" => filter_trees::page(alloc, input),
         _ => of_filter_texts(name, alloc, input),
     }

@@ -85,14 +85,16 @@ pub(crate) fn answers(alloc: Global, input: &str) -> Option<String> {
         binary_query: binary(name, id)?,
         test_name: test,
     };
-    if default.compiled.has_default() || default.compiled.has_group_matchers() {
-        return None;
-    }
-    value_told(alloc, &filterset.compiled, &default.compiled, &test, group).ok()
+    value_told(alloc, &filterset.compiled, &default.compiled, &test, group)
 }
 
 // The filterset of a text, where no group is known.
-fn accepted(alloc: Global, cx: &ParseContext, kind: FiltersetKind, text: &str) -> Option<Filterset> {
+fn accepted(
+    alloc: Global,
+    cx: &ParseContext,
+    kind: FiltersetKind,
+    text: &str,
+) -> Option<Filterset> {
     let known = KnownGroups::Unavailable;
     let text = Text::from_str(alloc, text).ok()?;
     Filterset::parse(alloc, text, cx, kind, &known).ok()
@@ -105,19 +107,22 @@ fn value_told(
     default: &CompiledExpr,
     test: &TestQuery<'_>,
     group: &str,
-) -> Result<String, AllocError>
-    requires no_default { IsFalse (has_default (formula_of default.now)) }
-{
+) -> Option<String> {
+    if default.has_default() || default.has_group_matchers() {
+        return None;
+    }
     let ecx = EvalContext::new(default);
-    let mut asked = BinaryEvaluator::new(alloc, filter, &ecx, &test.binary_query)?;
-    let on_binary = match asked.matches_binary()? {
+    let mut asked = BinaryEvaluator::new(alloc, filter, &ecx, &test.binary_query).ok()?;
+    let on_binary = match asked.matches_binary().ok()? {
         Some(true) => "true",
         Some(false) => "false",
         None => "undecided",
     };
     let groups = InGroup { alloc, group };
-    let on_test = asked.matches_test_with_groups(test.test_name, &groups)?;
-    format!(in alloc; "binary {on_binary}, test {on_test}")
+    let on_test = asked
+        .matches_test_with_groups(test.test_name, &groups)
+        .ok()?;
+    format!(in alloc; "binary {on_binary}, test {on_test}").ok()
 }
 
 // Each test is in this group.

@@ -6,9 +6,6 @@ use nextest_filtering::{
 use nextest_text::Text;
 use std::alloc::{AllocError, Global};
 
-// How many levels a tree of many levels has.
-const LEVELS: u32 = 1000;
-
 // What a text is read as: its tree as it prints, or `-`, and its faults.
 pub(crate) fn filtersets(alloc: Global, input: &str) -> Option<String> {
     let reading = read(alloc, input).ok()?;
@@ -23,10 +20,37 @@ pub(crate) fn filtersets(alloc: Global, input: &str) -> Option<String> {
 pub(crate) fn trees(alloc: Global, input: &str) -> Option<String> {
     let reading = read(alloc, input).ok()?;
     let tree = match &reading.tree {
-        Some(tree) => format!(in alloc; "{tree:?}"),
-        None => String::from_str(alloc, "-"),
+        Some(tree) => held(alloc, tree)?,
+        None => String::from_str(alloc, "-").ok()?,
     };
-    with_faults(alloc, tree.ok()?, reading.faults.as_slice())
+    with_faults(alloc, tree, reading.faults.as_slice())
+}
+
+// A tree with all that it holds.
+fn held(alloc: Global, tree: &ParsedExpr) -> Option<String> {
+    let (word, left, right) = match tree {
+        ParsedExpr::Set(leaf) => return format!(in alloc; "Set({leaf:?})").ok(),
+        ParsedExpr::Parens(inside) => {
+            return format!(in alloc; "Parens({})", held(alloc, inside)?).ok();
+        }
+        ParsedExpr::Not(sign, inside) => {
+            return format!(in alloc; "Not({sign:?}, {})", held(alloc, inside)?).ok();
+        }
+        ParsedExpr::Union(sign, left, right) => {
+            (format!(in alloc; "Union({sign:?}").ok()?, left, right)
+        }
+        ParsedExpr::Intersection(sign, left, right) => {
+            (
+                format!(in alloc; "Intersection({sign:?}").ok()?,
+                left,
+                right,
+            )
+        }
+        ParsedExpr::Difference(sign, left, right) => {
+            (format!(in alloc; "Difference({sign:?}").ok()?, left, right)
+        }
+    };
+    format!(in alloc; "{word}, {}, {})", held(alloc, left)?, held(alloc, right)?).ok()
 }
 
 // What a text is parsed as: its tree as it prints, or `-` and its faults.
@@ -47,7 +71,9 @@ pub(crate) fn with_faults(
     faults: &[ParseSingleError],
 ) -> Option<String> {
     for fault in faults {
-        answer.push_str(fault_told(alloc, fault).ok()?.as_str()).ok()?;
+        answer
+            .push_str(fault_told(alloc, fault).ok()?.as_str())
+            .ok()?;
     }
     Some(answer)
 }
@@ -68,7 +94,9 @@ pub(crate) fn leaves(alloc: Global, input: &str) -> Option<String> {
     let leaves = tree.runtime_only_leaves(alloc).ok()?;
     let mut answer = format!(in alloc; "{}", leaves.len()).ok()?;
     for leaf in leaves.iter() {
-        answer.push_str(format!(in alloc; " {leaf}").ok()?.as_str()).ok()?;
+        answer
+            .push_str(format!(in alloc; " {leaf}").ok()?.as_str())
+            .ok()?;
     }
     Some(answer)
 }
@@ -87,27 +115,6 @@ pub(crate) fn name_matches(alloc: Global, input: &str) -> Option<String> {
         }
         _ => None,
     }
-}
-
-// Whether a tree of a thousand levels prints as it was written: what opens each level, what is in the innermost, and what
-// closes each.
-pub(crate) fn levels(alloc: Global, input: &str) -> Option<String> {
-    let (front, rest) = input.split_once(" | ")?;
-    let (middle, end) = rest.split_once(" | ")?;
-    let mut text = String::new(alloc);
-    push_levels(&mut text, front)?;
-    text.push_str(middle).ok()?;
-    push_levels(&mut text, end)?;
-    let tree = ParsedExpr::parse(alloc, text.as_str()).ok()?;
-    let printed = format!(in alloc; "{tree}").ok()?;
-    format!(in alloc; "printed as written {}", printed == text).ok()
-}
-
-fn push_levels(text: &mut String, part: &str) -> Option<()> {
-    for _ in 0..LEVELS {
-        text.push_str(part).ok()?;
-    }
-    Some(())
 }
 
 // Whether the page of all names has just the names of these predicates, as they print, each on a line.

@@ -30,7 +30,7 @@ use std::alloc::Global;
 use worked_tables::{Table, rows_hold};
 
 // The tables by their names: filtersets, run events, elements of configurations, configurations.
-const TABLES: [&str; 63] = [
+const TABLES: [&str; 62] = [
     "filtersets",
     "parsed",
     "trees",
@@ -46,7 +46,6 @@ const TABLES: [&str; 63] = [
     "arguments",
     "compiled",
     "answers",
-    "levels",
     "page",
     "decimals",
     "tool_names",
@@ -97,6 +96,7 @@ const TABLES: [&str; 63] = [
 ];
 
 // The table of a name.
+#[derive(Drop)]
 struct Named(&'static str);
 
 impl Table for Named {

@@ -1,4 +1,5 @@
 // Parts of inputs, and parts of answers.
+use nextest_text::{Listing, Text};
 use std::alloc::Global;
 use std::fmt::{Debug, Display};
 
@@ -12,6 +13,15 @@ pub(crate) fn three(input: &str) -> Option<(&str, &str, &str)> {
 // A number without a sign.
 pub(crate) fn number(word: &str) -> Option<u32> {
     word.parse::<u32>().ok()
+}
+
+// Texts, each with a comma behind it.
+pub(crate) fn texts_of(alloc: Global, words: &str) -> Option<Listing<Text>> {
+    let mut texts = Listing::new(alloc);
+    for word in words.split_terminator(',') {
+        texts.push(Text::from_str(alloc, word).ok()?).ok()?;
+    }
+    Some(texts)
 }
 
 // Adds a part to an answer, with something between it and those before it.

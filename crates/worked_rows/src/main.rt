@@ -1,4 +1,5 @@
-//! The program `worked_rows`: it answers the input of each row of the core's tables, and says which answers differ.
+//! The program `worked_rows`: it answers the input of each row of the tables that need a call of the core, and says which answers
+//! differ. What is seen on the built program itself stands in `rows/`.
 #![tactic(auto)]
 
 mod changes;

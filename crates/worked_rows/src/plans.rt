@@ -5,7 +5,7 @@ use nextest_run_events_results::OwnedTestInstanceId;
 use nextest_text::Text;
 use std::alloc::Global;
 use test_runner_core_inputs::Inputs;
-use test_runner_core_plan::{Plan, PlanTest};
+use test_runner_core_plan::{Plan, PlanSettings, PlanTest};
 use test_runner_core_planning::{BuildPlan, PlanError};
 use test_runner_core_workspace::TableLister;
 use worked_tables::Table;
@@ -68,22 +68,24 @@ fn push_tests(
     has_settings: bool,
 ) -> Result<()> {
     for test in tests {
-        told.push_str(shown_test(alloc, test, has_settings)?.as_str())?;
+        let instance = shown_instance(alloc, &test.instance)?;
+        let tries = format!(in alloc; " [{instance} x{}", test.tries)?;
+        told.push_str(tries.as_str())?;
+        if has_settings {
+            told.push_str(shown_settings(alloc, &test.settings)?.as_str())?;
+        }
+        told.push(']')?;
     }
     Ok(())
 }
 
-fn shown_test(alloc: Global, test: &PlanTest, has_settings: bool) -> Result<String> {
-    let instance = format!(in alloc;
-        "{} {} x{}",
-        test.instance.binary_id, test.instance.test_name, test.tries
-    )?;
-    if !has_settings {
-        return Ok(format!(in alloc; " [{instance}]")?);
-    }
-    let settings = &test.settings;
+fn shown_instance(alloc: Global, test: &OwnedTestInstanceId) -> Result<String> {
+    Ok(format!(in alloc; "{} {}", test.binary_id, test.test_name)?)
+}
+
+fn shown_settings(alloc: Global, settings: &PlanSettings) -> Result<String> {
     Ok(format!(in alloc;
-        " [{instance} {:?} {:?} {:?}]",
+        " {:?} {:?} {:?}",
         settings.flaky_result, settings.success_output, settings.failure_output
     )?)
 }
@@ -107,8 +109,8 @@ fn push_selection(alloc: Global, told: &mut String, plan: &Plan) -> Result<()> {
 
 fn push_skipped(alloc: Global, told: &mut String, tests: &[OwnedTestInstanceId]) -> Result<()> {
     for test in tests {
-        let shown = format!(in alloc; " [{} {}]", test.binary_id, test.test_name)?;
-        told.push_str(shown.as_str())?;
+        let instance = shown_instance(alloc, test)?;
+        told.push_str(format!(in alloc; " [{instance}]")?.as_str())?;
     }
     Ok(())
 }

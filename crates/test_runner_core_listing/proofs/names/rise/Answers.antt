@@ -2,7 +2,7 @@ use Rattle.std.proofs.Common.{◌≡◌, sym, ◌∙◌, arith}
 use Rattle.std.specs.Cmp.Lexicographic.{slice_cmp, nat_list_cmp_total}
 use Rattle.std.specs.Ordering.{nat_cmp}
 use Rattle.std.specs.declared.cmp.Ordering.TheVariants.{Less}
-use Rattle.test_runner_core_listing.proofs.Strict.{greater, one_more, strictly}
+use Rattle.test_runner_core_plan.proofs.Strict.{greater, one_more, strictly}
 use Rattle.test_runner_core_listing.proofs.names.rise.Goals as goal
 
 pub loop-place-preserved : goal.loop-place-preserved

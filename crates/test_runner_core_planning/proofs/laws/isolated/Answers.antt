@@ -2,4 +2,4 @@ use Rattle.test_runner_core_planning.proofs.Isolated.{isolates_plans}
 use Rattle.test_runner_core_planning.proofs.laws.isolated.Goals as goal
 
 pub returns : goal.returns
-returns c = isolates_plans
+returns c = record { plan = isolates_plans }

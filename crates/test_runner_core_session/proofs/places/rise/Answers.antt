@@ -3,8 +3,8 @@ use Rattle.std.specs.Ordering.{is_le, is_some_and}
 use Rattle.std.specs.declared.cmp.Ordering.{Ordering}
 use Rattle.std.specs.declared.cmp.Ordering.TheVariants.{Less}
 use Rattle.test_runner_core_plan.specs.Order.{instance_cmp}
-use Rattle.test_runner_core_listing.proofs.Strict.{greater, one_more, strictly}
-use Rattle.test_runner_core_listing.proofs.Rising.{agrees}
+use Rattle.test_runner_core_plan.proofs.Strict.{greater, one_more, strictly}
+use Rattle.test_runner_core_plan.proofs.Rising.{agrees}
 use Rattle.test_runner_core_plan.specs.declared.plan.PlanTest.{PlanTest}
 use Rattle.test_runner_core_session.proofs.Rising.{adjacent_names, instance_total}
 use Rattle.test_runner_core_session.proofs.places.rise.Goals as goal

@@ -1,0 +1,189 @@
+// What is asked of any filters, of any platform specs, and of configurations of both; and rows over those of one's own.
+ghost use Rattle.std.specs.Prelude.{◌≡◌, IfOk};
+ghost use Rattle.nextest_filtering_arguments.specs.declared.ban.FiltersetKind.TheVariants as purpose;
+ghost use Rattle.nextest_filtering_filters.specs.Query.{test_of};
+ghost use Rattle.worked_layers.specs.Configs.{AreRetriesOf};
+
+use crate::configs::{BAR, sources_of};
+use crate::parts::texts_of;
+use crate::plain_filter::PlainFilter;
+use crate::plain_spec::PlainSpec;
+use nextest_config_elements::{NextestRunMode, RetryPolicy};
+use nextest_config_resolution::{
+    BuildPlatforms, ConfigSource, FilterError, Filters, LoadError, NextestConfig, ProfileError,
+    SettingSource, SpecError, Specs,
+};
+use nextest_filtering::{
+    BinaryQuery, BuildPlatform, Filterset, FiltersetKind, KnownGroups, PackageGraph, ParseContext,
+    TestQuery,
+};
+use nextest_text::{Listing, Text};
+use std::alloc::{AllocError, Global};
+
+// Whether the filter of an override holds on a test, beside a default filter, both by their texts. What is sure of the
+// test's binary isn't asked of the test.
+fn holds<F: Filters>(
+    alloc: Global,
+    filter_text: Text,
+    default_text: Text,
+    cx: &F::Cx,
+    known_groups: &KnownGroups,
+    query: &TestQuery<'_>,
+) -> Result<bool, FilterError>
+    ensures { IfOk result (λ value. (filter default : F) × F.is_parsed cx.now purpose.OverrideFilter known_groups.now filter_text filter × F.is_parsed cx.now purpose.DefaultFilter known_groups.now default_text default × F.on_test filter default (test_of query.now) value) }
+{
+    let filter = F::parse(
+        alloc,
+        filter_text,
+        cx,
+        FiltersetKind::OverrideFilter,
+        known_groups,
+    )?;
+    let default = F::parse(
+        alloc,
+        default_text,
+        cx,
+        FiltersetKind::DefaultFilter,
+        known_groups,
+    )?;
+    match filter.matches_binary(alloc, &query.binary_query, &default)? {
+        Some(sure) => Ok(sure),
+        None => Ok(filter.matches_test(alloc, query, &default)?),
+    }
+}
+
+// Whether the platform spec of a text holds on a platform of which this is known.
+fn holds_on<S: Specs>(
+    alloc: Global,
+    text: &str,
+    facts: &S::Facts,
+) -> Result<Option<bool>, SpecError>
+    ensures { IfOk result (λ value. (spec : S) × S.is_parsed text.now spec × (value ≡ S.value_on spec facts.now)) }
+{
+    let spec = S::parse(alloc, text)?;
+    Ok(spec.eval(facts))
+}
+
+// How the profile of a name has failing tests tried again, and where it takes that from, whatever filters and specs its
+// configuration has. `None` where the sources are refused, or no profile has the name; want of memory says nothing of them.
+fn retries_of<F: Filters, S: Specs>(
+    alloc: Global,
+    cx: &F::Cx,
+    sources: &[ConfigSource],
+    name: &str,
+    platforms: &BuildPlatforms<'_, S::Facts>,
+) -> Result<Option<(RetryPolicy, SettingSource)>, AllocError>
+    ensures { IfOk result (AreRetriesOf sources.now name.now) }
+{
+    let config = match NextestConfig::<F, S>::from_sources(alloc, "", cx, sources) {
+        Ok(config) => config,
+        Err(LoadError::Refused(_)) => return Ok(None),
+        Err(LoadError::OutOfMemory) => return Err(AllocError),
+    };
+    let profile = match config.profile(alloc, name) {
+        Ok(early) => early.apply_build_platforms(platforms),
+        Err(ProfileError::NotFound(_)) => return Ok(None),
+        Err(ProfileError::OutOfMemory) => return Err(AllocError),
+    };
+    Ok(Some(
+        profile
+            .settings_with_source_for(NextestRunMode::Test)
+            .retries,
+    ))
+}
+
+// A filter and a default filter: whether the one holds on the test `slow` of a library.
+fn held<F: Filters>(alloc: Global, input: &str, cx: &F::Cx) -> Option<String> {
+    let (filter, default) = input.split_once(BAR)?;
+    let query = TestQuery {
+        binary_query: BinaryQuery {
+            package_id: "a-1",
+            binary_id: "a",
+            kind: "lib",
+            binary_name: "a",
+            platform: BuildPlatform::Target,
+        },
+        test_name: "slow",
+    };
+    let filter = Text::from_str(alloc, filter).ok()?;
+    let default = Text::from_str(alloc, default).ok()?;
+    match holds::<F>(
+        alloc,
+        filter,
+        default,
+        cx,
+        &KnownGroups::Unavailable,
+        &query,
+    ) {
+        Ok(value) => format!(in alloc; "{value}").ok(),
+        Err(FilterError::Refused) => String::from_str(alloc, "refused").ok(),
+        Err(FilterError::OutOfMemory) => None,
+    }
+}
+
+// What a filter is asked: whether it asks for groups, whether it asks what only tests tell, and whether it serves as a default.
+fn told_of<F: Filters>(alloc: Global, input: &str, cx: &F::Cx) -> Option<String> {
+    let text = Text::from_str(alloc, input).ok()?;
+    let filter = F::parse(
+        alloc,
+        text,
+        cx,
+        FiltersetKind::Test,
+        &KnownGroups::Unavailable,
+    )
+    .ok()?;
+    let (groups, leaves) = (filter.has_groups(), filter.has_runtime_leaves());
+    format!(in alloc;
+        "groups {groups}, tests {leaves}, default {}",
+        filter.serves_as_default()
+    )
+    .ok()
+}
+
+// Of filters without a language: a filter and a default filter, and whether the one holds on the test `slow`.
+pub(crate) fn plain_filters(alloc: Global, input: &str) -> Option<String> {
+    held::<PlainFilter>(alloc, input, &())
+}
+
+// Of filtersets the same; of one alone what it asks for.
+pub(crate) fn filters(alloc: Global, input: &str) -> Option<String> {
+    let graph = PackageGraph::new(alloc, &[("a-1", "a")], &[]).ok()?;
+    let cx = ParseContext::new(alloc, graph).ok()?;
+    if input.contains(BAR) {
+        held::<Filterset>(alloc, input, &cx)
+    } else {
+        told_of::<Filterset>(alloc, input, &cx)
+    }
+}
+
+// The names of a platform, each with a comma behind it, and a spec: whether it holds there.
+pub(crate) fn plain_specs(alloc: Global, input: &str) -> Option<String> {
+    let (words, spec) = input.split_once(BAR)?;
+    let names = texts_of(alloc, words)?;
+    match holds_on::<PlainSpec>(alloc, spec, &names) {
+        Ok(value) => format!(in alloc; "{value:?}").ok(),
+        Err(SpecError::Refused) => String::from_str(alloc, "refused").ok(),
+        Err(SpecError::OutOfMemory) => None,
+    }
+}
+
+// A profile and sources: its retries and where it takes them from, in a configuration of plain filters and plain specs.
+pub(crate) fn plain_configs(alloc: Global, input: &str) -> Option<String> {
+    let (name, sources) = input.split_once(BAR)?;
+    let sources = sources_of(alloc, sources)?;
+    let platforms = BuildPlatforms {
+        host: &Listing::new(alloc),
+        target: None,
+    };
+    match retries_of::<PlainFilter, PlainSpec>(
+        alloc,
+        &(),
+        sources.as_slice(),
+        name,
+        &platforms,
+    ).ok()?
+    {
+        Some((retries, source)) => format!(in alloc; "{retries:?} {source:?}").ok(),
+        None => String::from_str(alloc, "no such profile").ok(),
+    }
+}

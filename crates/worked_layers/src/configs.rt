@@ -1,0 +1,145 @@
+// What sources of configurations come to, and what is told of a file.
+use crate::parts::{joined, push_part};
+use crate::settings::setting;
+use nextest_config_resolution::{
+    ConfigSource, ConfigSourceKind, ConfigSourceOutcome, DefaultConfigWarnings, EvaluatableProfile,
+    LoadError, LoadFault, LoadedConfig, NamedProfile, ProfileConfig, ToolName, built_in, load,
+    tell_file,
+};
+use nextest_text::Text;
+use std::alloc::Global;
+
+// What stands between the parts of a row.
+pub(crate) const BAR: &str = " | ";
+
+// The sources of a row, in their order: each a kind, a path and what came of reading it.
+pub(crate) fn sources_of(alloc: Global, sources: &str) -> Option<Vec<ConfigSource>> {
+    let mut found = Vec::new(alloc);
+    for source in sources.split(BAR) {
+        let (kind, rest) = source.split_once(' ')?;
+        let (path, outcome) = rest.split_once(' ')?;
+        found
+            .push(ConfigSource {
+                kind: kind_of(alloc, kind)?,
+                path: Text::from_str(alloc, path).ok()?,
+                outcome: outcome_of(alloc, outcome)?,
+            })
+            .ok()?;
+    }
+    Some(found)
+}
+
+// Where a source comes from.
+pub(crate) fn kind_of(alloc: Global, word: &str) -> Option<ConfigSourceKind> {
+    match word {
+        "tool" => Some(ConfigSourceKind::Tool(ToolName::new(alloc, "t").ok()?)),
+        "explicit" => Some(ConfigSourceKind::ExplicitRepository),
+        "discovered" => Some(ConfigSourceKind::DiscoveredRepository),
+        _ => None,
+    }
+}
+
+// What came of reading a source: `text` and the text, `missing`, or `failed` and the cause.
+fn outcome_of(alloc: Global, outcome: &str) -> Option<ConfigSourceOutcome> {
+    let (word, rest) = outcome.split_once(' ').unwrap_or((outcome, ""));
+    let rest = Text::from_str(alloc, rest).ok()?;
+    match word {
+        "text" => Some(ConfigSourceOutcome::Text(rest)),
+        "failed" => Some(ConfigSourceOutcome::Failed(rest)),
+        "missing" => Some(ConfigSourceOutcome::NotFound),
+        _ => None,
+    }
+}
+
+// A profile and the settings that are asked for, with commas between them, and then sources: what each setting is, or why the
+// sources are refused.
+pub(crate) fn loads(alloc: Global, input: &str) -> Option<String> {
+    let (head, sources) = input.split_once(BAR)?;
+    let sources = sources_of(alloc, sources)?;
+    match load(alloc, &built_in(alloc).ok()?, sources.as_slice()) {
+        Ok(config) => settings_told(alloc, &config, head),
+        Err(LoadError::Refused(fault)) => refused(alloc, &fault),
+        Err(LoadError::OutOfMemory) => None,
+    }
+}
+
+// Why sources are refused: the rule, and what the fault says of the place; the reader's own words are left out.
+fn refused(alloc: Global, fault: &LoadFault) -> Option<String> {
+    let kind = fault.kind();
+    match fault {
+        LoadFault::Unread { path, .. } | LoadFault::Toml { path, .. } => {
+            format!(in alloc; "refused {kind} {path}").ok()
+        }
+        _ => format!(in alloc; "refused {kind} {fault}").ok(),
+    }
+}
+
+// What the settings of a profile are.
+fn settings_told(alloc: Global, config: &LoadedConfig, head: &str) -> Option<String> {
+    let (name, settings) = head.split_once(' ')?;
+    let Some(chain) = chain_of(alloc, config.profiles.as_slice(), name) else {
+        return String::from_str(alloc, "no such profile").ok();
+    };
+    let store_dir = config.store_dir.as_ref().map_or("", |dir| dir.as_str());
+    let profile = EvaluatableProfile::new(name, "/work", store_dir, chain);
+    let mut answer = String::new(alloc);
+    for key in settings.split(',') {
+        let value = setting(alloc, config, &profile, key)?;
+        push_part(
+            &mut answer,
+            "; ",
+            format!(in alloc; "{key} = {value}").ok()?.as_str(),
+        )?;
+    }
+    Some(answer)
+}
+
+// What a profile and its parents set, one after another, and `default` last.
+fn chain_of<'c>(
+    alloc: Global,
+    profiles: &'c [NamedProfile],
+    name: &'c str,
+) -> Option<Vec<&'c ProfileConfig>> {
+    let mut chain = Vec::new(alloc);
+    let mut here = name;
+    for _ in profiles {
+        let config = config_of(profiles, here)?;
+        chain.push(config).ok()?;
+        if here == "default" {
+            return Some(chain);
+        }
+        here = parent_of(config);
+    }
+    None
+}
+
+// What a profile sets.
+fn config_of<'c>(profiles: &'c [NamedProfile], name: &str) -> Option<&'c ProfileConfig> {
+    for profile in profiles {
+        if profile.name.as_str() == name {
+            return Some(&profile.config);
+        }
+    }
+    None
+}
+
+// The profile that holds where one says nothing.
+fn parent_of(config: &ProfileConfig) -> &str {
+    match &config.inherits {
+        Some(parent) => parent.as_str(),
+        None => "default",
+    }
+}
+
+// The path of a file and its text: what is told of it, one behind the other, or `-` where nothing is.
+pub(crate) fn warnings(alloc: Global, input: &str) -> Option<String> {
+    let (path, text) = input.split_once(' ')?;
+    let file = toml::table_from_str(alloc, text).ok()?;
+    let mut warnings = DefaultConfigWarnings::new(alloc);
+    tell_file(alloc, &mut warnings, path, &file).ok()?;
+    let answer = joined(alloc, "; ", warnings.lines())?;
+    if answer.is_empty() {
+        return String::from_str(alloc, "-").ok();
+    }
+    Some(answer)
+}

@@ -1,0 +1,113 @@
+// Stress runs, and what they still have to do.
+use crate::parts::{number, three};
+use nextest_run_events::{
+    FinalRunStats, NonZeroDuration, RunFinishedStats, RunStatsFailureKind, StressCount,
+    StressIndex, StressProgress, StressRemaining, StressRunStats,
+};
+use std::alloc::Global;
+use std::num::NonZeroU32;
+use std::time::Duration;
+use uuid::Uuid;
+
+// How many sub-runs failed and what the last one came to: what the run comes to, and its last sub-run.
+pub(crate) fn stress_ends(alloc: Global, input: &str) -> Option<String> {
+    let (failed_count, last) = input.split_once(' ')?;
+    let last_final_stats = match last {
+        "no tests run" => FinalRunStats::NoTestsRun,
+        _ => FinalRunStats::Failed {
+            kind: RunStatsFailureKind::SetupScript,
+        },
+    };
+    let stats = StressRunStats {
+        completed: StressIndex {
+            current: 1,
+            total: None,
+        },
+        success_count: 1,
+        failed_count: number(failed_count)?,
+        last_final_stats,
+    };
+    let (all, last) = (
+        stats.summarize_final(),
+        RunFinishedStats::Stress(stats).final_stats(),
+    );
+    format!(in alloc; "{all:?}, {last:?}").ok()
+}
+
+// A number above 0; `-` and 0 are none.
+fn total_of(word: &str) -> Option<NonZeroU32> {
+    NonZeroU32::new(number(word)?)
+}
+
+// A span of time as its seconds and nanoseconds.
+fn span_of(seconds: &str, nanos: &str) -> Option<Duration> {
+    let nanos = number(nanos)?;
+    if nanos > 999_999_999 {
+        return None;
+    }
+    Some(Duration::new(seconds.parse::<u64>().ok()?, nanos))
+}
+
+// A run by its number of sub-runs, `-` where it has no end, and how many were completed; or by its seconds, and how many seconds
+// and nanoseconds it took.
+fn progress_of(input: &str) -> Option<StressProgress> {
+    let (kind, total, rest) = three(input)?;
+    match kind {
+        "count" => Some(StressProgress::Count {
+            total: match total_of(total) {
+                Some(count) => StressCount::Count { count },
+                None => StressCount::Infinite,
+            },
+            elapsed: Duration::ZERO,
+            completed: number(rest)?,
+        }),
+        _ => {
+            let (seconds, nanos) = rest.split_once(' ')?;
+            Some(StressProgress::Time {
+                total: span_of(total, "0")?,
+                elapsed: span_of(seconds, nanos)?,
+                completed: 3,
+            })
+        }
+    }
+}
+
+// Such a run: what is left of it.
+pub(crate) fn stress_remaining(alloc: Global, input: &str) -> Option<String> {
+    match progress_of(input)?.remaining() {
+        None => String::from_str(alloc, "nothing").ok(),
+        Some(StressRemaining::Infinite) => String::from_str(alloc, "no end").ok(),
+        Some(StressRemaining::Count(count)) => format!(in alloc; "{} sub-runs", count.get()).ok(),
+        Some(StressRemaining::Time(span)) => span_told(alloc, span),
+    }
+}
+
+fn span_told(alloc: Global, span: NonZeroDuration) -> Option<String> {
+    let span = span.get();
+    format!(in alloc;
+        "{} seconds {} nanoseconds",
+        span.as_secs(),
+        span.subsec_nanos()
+    )
+    .ok()
+}
+
+// A run's id, and the run: the id of its next sub-run.
+pub(crate) fn stress_names(alloc: Global, input: &str) -> Option<String> {
+    let (run_id, progress) = input.split_once(' ')?;
+    let run_id = Uuid::parse_str(run_id).ok()?;
+    format!(in alloc;
+        "{}",
+        progress_of(progress)?.unique_id(alloc, &run_id).ok()?
+    )
+    .ok()
+}
+
+// How many sub-runs there are, `-` where that isn't known: the same as a plain number.
+pub(crate) fn stress_totals(alloc: Global, input: &str) -> Option<String> {
+    let index = StressIndex {
+        current: 0,
+        total: total_of(input),
+    };
+    format!(in alloc; "{:?}", index.total_get()).ok()
+}

@@ -1,0 +1,160 @@
+// The workspaces that the tables of compiled filtersets name; their heads say what is in each.
+use crate::parts::three;
+use nextest_filtering::{BinaryQuery, BuildPlatform, PackageGraph, ParseContext};
+use nextest_text::Text;
+use std::alloc::{AllocError, Global};
+
+const CHAIN_PACKAGES: [(&str, &str); 3] = [("a-1", "a"), ("b-1", "b"), ("c-1", "c")];
+
+const CHAIN_LINKS: [(&str, &str); 2] = [("a-1", "b-1"), ("b-1", "c-1")];
+
+const CHAIN_BINARIES: &str = "a a-1 lib a target
+a::it a-1 test it target
+b b-1 lib b target
+b::bench/fast b-1 bench fast target
+b::example/show b-1 example show host
+c c-1 proc-macro c host
+c::bin/tool c-1 bin tool target";
+
+const NET_PACKAGES: [(&str, &str); 7] = [
+    ("app-1", "app"),
+    ("core-1", "core"),
+    ("util-1", "util"),
+    ("log-1", "log"),
+    ("twin-1", "twin"),
+    ("twin-2", "twin"),
+    ("grey-1", "grey"),
+];
+
+const NET_LINKS: [(&str, &str); 5] = [
+    ("app-1", "core-1"),
+    ("app-1", "util-1"),
+    ("core-1", "log-1"),
+    ("util-1", "log-1"),
+    ("twin-1", "core-1"),
+];
+
+const NET_BINARIES: &str = "app::bin/app app-1 bin app target
+core core-1 lib core target
+util::it util-1 test it target
+log log-1 lib log host
+log::macros log-1 proc-macro macros host
+one::it twin-1 test it target
+two::it twin-2 test it host
+grey::bench/slow grey-1 bench slow target";
+
+const RING_PACKAGES: [(&str, &str); 5] = [
+    ("red-1", "red"),
+    ("green-1", "grün"),
+    ("blue-1", "blue"),
+    ("grey-1", "grey"),
+    ("far-1", "far_blue"),
+];
+
+const RING_LINKS: [(&str, &str); 4] = [
+    ("red-1", "green-1"),
+    ("green-1", "blue-1"),
+    ("blue-1", "red-1"),
+    ("grey-1", "red-1"),
+];
+
+const RING_BINARIES: &str = "red red-1 lib red target
+grün green-1 lib grün host
+blue::it blue-1 test it target
+grey grey-1 lib grey target
+far_blue far-1 lib far_blue target";
+
+const LINE_LENGTH: u32 = 65;
+
+const LINE_BINARIES: &str = "p0 p0 lib p0 target
+p1 p1 lib p1 target
+p31 p31 lib p31 target
+p32 p32 lib p32 target
+p63 p63 lib p63 target
+p64 p64 lib p64 target";
+
+// A workspace by its name.
+pub(crate) fn workspace(alloc: Global, name: &str) -> Option<ParseContext> {
+    let cx = ParseContext::new(alloc, graph(alloc, name)?).ok()?;
+    let mut binaries = Vec::new(alloc);
+    for line in binary_lines(name).lines() {
+        let binary = binary_of(line)?;
+        let id = Text::from_str(alloc, binary.binary_id).ok()?;
+        binaries
+            .push((id, Text::from_str(alloc, binary.binary_name).ok()?))
+            .ok()?;
+    }
+    Some(cx.with_binaries(binaries))
+}
+
+// The binary of an id in the workspace of a name.
+pub(crate) fn binary(name: &str, id: &str) -> Option<BinaryQuery<'static>> {
+    for line in binary_lines(name).lines() {
+        let binary = binary_of(line)?;
+        if binary.binary_id == id {
+            return Some(binary);
+        }
+    }
+    None
+}
+
+fn graph(alloc: Global, name: &str) -> Option<PackageGraph> {
+    match name {
+        "chain" | "bare" => PackageGraph::new(alloc, &CHAIN_PACKAGES, &CHAIN_LINKS).ok(),
+        "net" => PackageGraph::new(alloc, &NET_PACKAGES, &NET_LINKS).ok(),
+        "ring" => PackageGraph::new(alloc, &RING_PACKAGES, &RING_LINKS).ok(),
+        "line" => line(alloc),
+        _ => None,
+    }
+}
+
+// So many packages, each linked to the next.
+fn line(alloc: Global) -> Option<PackageGraph> {
+    let names = line_names(alloc).ok()?;
+    let mut packages = Vec::new(alloc);
+    let mut links = Vec::new(alloc);
+    let mut before = "";
+    for name in &names {
+        packages.push((name.as_str(), name.as_str())).ok()?;
+        if !before.is_empty() {
+            links.push((before, name.as_str())).ok()?;
+        }
+        before = name.as_str();
+    }
+    PackageGraph::new(alloc, packages.as_slice(), links.as_slice()).ok()
+}
+
+fn line_names(alloc: Global) -> Result<Vec<String>, AllocError> {
+    let mut names = Vec::new(alloc);
+    for place in 0..LINE_LENGTH {
+        names.push(format!(in alloc; "p{place}")?)?;
+    }
+    Ok(names)
+}
+
+// The binaries of the workspace of a name, one a line: id, package's id, kind, name, platform.
+fn binary_lines(name: &str) -> &'static str {
+    match name {
+        "chain" => CHAIN_BINARIES,
+        "net" => NET_BINARIES,
+        "ring" => RING_BINARIES,
+        "line" => LINE_BINARIES,
+        _ => "",
+    }
+}
+
+fn binary_of(line: &'static str) -> Option<BinaryQuery<'static>> {
+    let (binary_id, package_id, rest) = three(line)?;
+    let (kind, binary_name, platform) = three(rest)?;
+    let platform = match platform {
+        "host" => BuildPlatform::Host,
+        _ => BuildPlatform::Target,
+    };
+    Some(BinaryQuery {
+        package_id,
+        binary_id,
+        kind,
+        binary_name,
+        platform,
+    })
+}
