@@ -88,31 +88,39 @@ pub(crate) fn scripts(alloc: Global, input: &str) -> Option<String> {
     counters_of(alloc, &stats)
 }
 
+// How many counters there are.
+const COUNTERS: usize = 19;
+
+// The counter at a place, with its name.
+fn counter_at(stats: &RunStats, place: usize) -> (&'static str, usize) {
+    match place {
+        0 => ("initial", stats.initial_run_count),
+        1 => ("finished", stats.finished_count),
+        2 => ("scripts initial", stats.setup_scripts_initial_count),
+        3 => ("scripts finished", stats.setup_scripts_finished_count),
+        4 => ("scripts passed", stats.setup_scripts_passed),
+        5 => ("scripts failed", stats.setup_scripts_failed),
+        6 => ("scripts exec-failed", stats.setup_scripts_exec_failed),
+        7 => ("scripts timed out", stats.setup_scripts_timed_out),
+        8 => ("passed", stats.passed),
+        9 => ("passed slow", stats.passed_slow),
+        10 => ("passed timed out", stats.passed_timed_out),
+        11 => ("flaky", stats.flaky),
+        12 => ("failed", stats.failed),
+        13 => ("failed slow", stats.failed_slow),
+        14 => ("failed timed out", stats.failed_timed_out),
+        15 => ("leaky", stats.leaky),
+        16 => ("leaky failed", stats.leaky_failed),
+        17 => ("exec-failed", stats.exec_failed),
+        _ => ("skipped", stats.skipped),
+    }
+}
+
 // The counters above 0 with their names.
 fn counters_of(alloc: Global, stats: &RunStats) -> Option<String> {
-    let counters = [
-        ("initial", stats.initial_run_count),
-        ("finished", stats.finished_count),
-        ("scripts initial", stats.setup_scripts_initial_count),
-        ("scripts finished", stats.setup_scripts_finished_count),
-        ("scripts passed", stats.setup_scripts_passed),
-        ("scripts failed", stats.setup_scripts_failed),
-        ("scripts exec-failed", stats.setup_scripts_exec_failed),
-        ("scripts timed out", stats.setup_scripts_timed_out),
-        ("passed", stats.passed),
-        ("passed slow", stats.passed_slow),
-        ("passed timed out", stats.passed_timed_out),
-        ("flaky", stats.flaky),
-        ("failed", stats.failed),
-        ("failed slow", stats.failed_slow),
-        ("failed timed out", stats.failed_timed_out),
-        ("leaky", stats.leaky),
-        ("leaky failed", stats.leaky_failed),
-        ("exec-failed", stats.exec_failed),
-        ("skipped", stats.skipped),
-    ];
     let mut text = String::new(alloc);
-    for (name, number) in counters {
+    for place in 0..COUNTERS {
+        let (name, number) = counter_at(stats, place);
         if number > 0 {
             push_part(
                 &mut text,

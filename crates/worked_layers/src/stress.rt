@@ -72,24 +72,25 @@ fn progress_of(input: &str) -> Option<StressProgress> {
     }
 }
 
-// Such a run: what is left of it.
-pub(crate) fn stress_remaining(alloc: Global, input: &str) -> Option<String> {
-    match progress_of(input)?.remaining() {
-        None => String::from_str(alloc, "nothing").ok(),
-        Some(StressRemaining::Infinite) => String::from_str(alloc, "no end").ok(),
-        Some(StressRemaining::Count(count)) => format!(in alloc; "{} sub-runs", count.get()).ok(),
-        Some(StressRemaining::Time(span)) => span_told(alloc, span),
+// What is left of a run: `sub-runs` and how many, `time` and its seconds and nanoseconds, or `endless`; nothing in other words.
+fn left_of(words: &str) -> Option<StressRemaining> {
+    if words == "endless" {
+        return Some(StressRemaining::Infinite);
     }
+    let (kind, rest) = words.split_once(' ')?;
+    if kind == "sub-runs" {
+        return Some(StressRemaining::Count(total_of(rest)?));
+    }
+    let (seconds, nanos) = rest.split_once(' ')?;
+    let span = NonZeroDuration::new(span_of(seconds, nanos)?)?;
+    Some(StressRemaining::Time(span))
 }
 
-fn span_told(alloc: Global, span: NonZeroDuration) -> Option<String> {
-    let span = span.get();
-    format!(in alloc;
-        "{} seconds {} nanoseconds",
-        span.as_secs(),
-        span.subsec_nanos()
-    )
-    .ok()
+// Such a run, and what is left of it: whether that is so.
+pub(crate) fn stress_remaining(alloc: Global, input: &str) -> Option<String> {
+    let (progress, left) = input.split_once(" leaves ")?;
+    let is_left = progress_of(progress)?.remaining() == left_of(left);
+    format!(in alloc; "{is_left}").ok()
 }
 
 // A run's id, and the run: the id of its next sub-run.
