@@ -14,14 +14,14 @@ use Rattle.test_runner_core_runs.specs.Step.{step}
 use Rattle.test_runner_core_runs.specs.declared.event.Event.{Event}
 use Rattle.test_runner_core_runs.specs.declared.step_refusal.StepRefusal.{StepRefusal}
 use Rattle.test_runner_core_session.specs.Session.{run_plan}
-use Rattle.test_runner_core_telling.specs.Final.{final_parts, shown_part, shown_tests, shows_of}
+use Rattle.test_runner_core_telling.specs.Final.{shown_part, shown_tests, shows_of}
 use Rattle.test_runner_core_telling.specs.Opening.{opening}
 use Rattle.test_runner_core_telling.specs.Parts.{Part, Said}
 use Rattle.test_runner_core_telling.specs.RunEnd.{end_of, end_text}
 use Rattle.test_runner_core_telling.specs.Steps.{all_done, done, done_at, parts_after, progress}
 use Rattle.test_runner_core_telling.specs.declared.final_text.ShownTest.{ShownTest}
-use Rattle.test_runner_core.specs.Judging.{Finds, Leads, Refuses, TellsEvents, event_of}
-use Rattle.test_runner_core.specs.Report.{Judged, SoFar, ending, refused_line}
+use Rattle.test_runner_core.specs.Judging.{Finds, Refuses, TellsEvents, event_of}
+use Rattle.test_runner_core.specs.Report.{Judged, ending}
 use Rattle.test_runner_core.specs.declared.refused_line.LineRefusal.{LineRefusal}
 use Rattle.test_runner_core.specs.declared.refused_line.LineRefusal.TheVariants as refused
 use Rattle.test_runner_core.specs.declared.refused_line.RefusedLine.{RefusedLine}

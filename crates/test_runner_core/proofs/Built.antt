@@ -1,5 +1,5 @@
 -- That a plan that was built is one, and which tests it has.
-use Rattle.std.proofs.Common.{ℕ, ◌<◌, List, [], ◌∷◌, Ok, map, length, ap, sym, subst, arith}
+use Rattle.std.proofs.Common.{◌<◌, List, [], ◌∷◌, Ok, map, length, ap, sym, subst, arith}
 use Rattle.std.specs.List.{AllByRecursion}
 use Rattle.nextest_config_elements_plain.specs.declared.max_fail.MaxFail.{MaxFail}
 use Rattle.nextest_config_elements_plain.specs.declared.max_fail.MaxFail.TheVariants as limits

@@ -8,7 +8,7 @@ use Rattle.test_runner_core_telling.specs.Opening.{opening}
 use Rattle.test_runner_core_telling.specs.Parts.{IsText, Part}
 use Rattle.test_runner_core_workspace.specs.Lister.{Answer}
 use Rattle.test_runner_core_workspace.specs.declared.record.Binary.{Binary}
-use Rattle.test_runner_core.specs.Laws.{DifferInWarnings, IsolatesReports}
+use Rattle.test_runner_core.specs.Laws.{IsolatesReports}
 use Rattle.test_runner_core.specs.Report.{Composed, Judged}
 use Rattle.test_runner_core.proofs.Aside.{judged_aside}
 use Rattle.test_runner_core.proofs.OneReport.{judged_once, never_planned, one_text, parted}

@@ -3,7 +3,6 @@ use Rattle.std.proofs.Common.{◌≡◌, ℕ, ◌+◌, List, [], ◌∷◌, ◌+
 use Rattle.test_runner_core_inputs.specs.declared.inputs.Inputs.{Inputs}
 use Rattle.test_runner_core_log_reader.specs.Items.{Item, Line}
 use Rattle.test_runner_core_planning.specs.Plan.{Builds, Plans}
-use Rattle.test_runner_core_planning.specs.Texts.{status_of}
 use Rattle.test_runner_core_plan.specs.declared.plan.Plan.{Plan}
 use Rattle.test_runner_core_planning.specs.declared.plan_fault.PlanFault.{PlanFault}
 use Rattle.test_runner_core_report.proofs.OneText.{one_done, one_shown}

@@ -3,17 +3,11 @@ use Rattle.std.proofs.Common.{◌≡◌, ℕ, ◌+◌, List, [], ◌∷◌, ◌+
 use Rattle.std.proofs.lemmas.List.{length-append}
 use Rattle.std.proofs.lemmas.Str.{IsUtf8-nil}
 use Rattle.std.specs.Str.{IsUtf8}
-use Rattle.nextest_config_elements_plain.specs.declared.max_fail.MaxFail.{MaxFail}
-use Rattle.nextest_run_events_visibility.specs.declared.visibility.StatusLevels.{StatusLevels}
-use Rattle.nextest_run_events_results.specs.declared.instance.OwnedTestInstanceId.{OwnedTestInstanceId}
-use Rattle.test_runner_core_inputs.specs.declared.inputs.Inputs.{Inputs}
 use Rattle.test_runner_core_log_reader.specs.Items.{Item, Line, Refused}
 use Rattle.test_runner_core_line_syntax.proofs.Lines.{nothing_empty, one_event}
 use Rattle.test_runner_core_line_syntax.specs.Spelling.{Spells}
 use Rattle.test_runner_core_line_syntax.specs.declared.log_line.LogLine.{LogLine}
-use Rattle.test_runner_core_planning.specs.Plan.{Builds, IsPlanOf, Planned, plan_test}
 use Rattle.test_runner_core_plan.specs.declared.plan.Plan.{Plan}
-use Rattle.test_runner_core_plan.specs.declared.plan.PlanTest.{PlanTest}
 use Rattle.test_runner_core_runs.specs.Runs.{Run}
 use Rattle.test_runner_core_runs.specs.State.{State, initial}
 use Rattle.test_runner_core_runs.specs.Step.{step}
@@ -23,15 +17,11 @@ use Rattle.test_runner_core_session.specs.Session.{run_plan}
 use Rattle.test_runner_core_telling.specs.Opening.{opening}
 use Rattle.test_runner_core_telling.specs.Parts.{Part}
 use Rattle.test_runner_core_telling.specs.Steps.{parts_after, progress}
-use Rattle.test_runner_core_workspace.specs.Lister.{Answer}
-use Rattle.test_runner_core_workspace.specs.declared.record.Binary.{Binary}
 use Rattle.test_runner_core.specs.Judging.{Finds, Leads, Refuses, TellsEvents, event_of}
 use Rattle.test_runner_core.specs.Report.{SoFar}
 use Rattle.test_runner_core.specs.declared.refused_line.LineRefusal.{LineRefusal}
 use Rattle.test_runner_core.specs.declared.refused_line.LineRefusal.TheVariants as refused
 use Rattle.test_runner_core.specs.declared.refused_line.RefusedLine.{RefusedLine}
-use Rattle.test_runner_core_planning.proofs.Once.{plans_once}
-use Rattle.test_runner_core_planning.proofs.OneOrder.{one_rising}
 
 -- an answer is one
 ok_once : {A E : Type 0} {result : Result A E} {x y : A} → result ≡ Ok x → result ≡ Ok y → x ≡ y

@@ -15,19 +15,13 @@ use Rattle.test_runner_core_log_reader.specs.declared.fault.LogFault.TheVariants
 use Rattle.test_runner_core_log_reader.specs.Items.{Item, items, whole_lines}
 use Rattle.test_runner_core_planning.specs.Plan.{Plans}
 use Rattle.test_runner_core_planning.specs.declared.plan_fault.PlanFault.{PlanFault}
-use Rattle.test_runner_core_plan.specs.declared.plan.Plan.{Plan}
-use Rattle.test_runner_core_runs.specs.State.{State, initial}
-use Rattle.test_runner_core_runs.specs.declared.event.Event.{Event}
-use Rattle.test_runner_core_session.specs.Session.{run_plan}
-use Rattle.test_runner_core_telling.specs.Steps.{progress}
 use Rattle.test_runner_core_telling.proofs.Told.{appends_none, front_none}
 use Rattle.test_runner_core_telling.specs.Parts.{Part}
 use Rattle.test_runner_core.specs.Faults.{fault_of}
 use Rattle.test_runner_core.specs.Inside.{IsGotOf}
 use Rattle.test_runner_core.specs.declared.judge_fault.JudgeFault.{JudgeFault}
-use Rattle.test_runner_core.specs.Judging.{TellsEvents}
 use Rattle.test_runner_core.specs.Outcome.{HasNoPlan, LineBegun, LineComposed, StreamBegun, StreamComposed, StreamGotTo, table_of}
-use Rattle.test_runner_core.specs.Report.{Begun, Composed, Reports, SoFar, TellsSoFar, refused_inputs}
+use Rattle.test_runner_core.specs.Report.{Begun, Composed, Reports, TellsSoFar, refused_inputs}
 
 -- what a stream is, where its first line was read
 log_behind : (bytes behind : List ℕ) (lines : Cursor) → PartsAtFirst bytes (Some lines) (Some behind) → lines.handed ≡ 0 → items_ahead lines behind ≡ items 0 (behind_feed bytes)

@@ -13,10 +13,20 @@ use std::alloc::{AllocError, Global};
 pub(crate) fn compiled(alloc: Global, input: &str) -> Option<String> {
     let (name, kind, rest) = three(input)?;
     let (groups, text) = rest.split_once(' ')?;
-    let cx = workspace(alloc, name)?;
+    let kind = kind_of(kind)?;
     let known = known_groups(alloc, groups).ok()?;
+    verdict_told(alloc, &workspace(alloc, name)?, kind, &known, text)
+}
+
+fn verdict_told(
+    alloc: Global,
+    cx: &ParseContext,
+    kind: FiltersetKind,
+    known: &KnownGroups,
+    text: &str,
+) -> Option<String> {
     let text = Text::from_str(alloc, text).ok()?;
-    match &Filterset::parse(alloc, text, &cx, kind_of(kind)?, &known) {
+    match &Filterset::parse(alloc, text, cx, kind, known) {
         Ok(_) => String::from_str(alloc, "accepted").ok(),
         Err(FiltersetError::Refused(refused)) => faults_told(alloc, refused.errors.as_slice()),
         Err(FiltersetError::OutOfMemory) => None,
@@ -76,16 +86,28 @@ fn reason_word(fault: &ParseSingleError) -> &'static str {
 // A workspace, the default filter, a binary, a test, its group, and a filterset: its value on the binary and on the test.
 pub(crate) fn answers(alloc: Global, input: &str) -> Option<String> {
     let (name, default, rest) = three(input)?;
-    let (id, test, rest) = three(rest)?;
+    let (id, test_name, rest) = three(rest)?;
     let (group, text) = rest.split_once(' ')?;
-    let cx = workspace(alloc, name)?;
-    let default = accepted(alloc, &cx, FiltersetKind::DefaultFilter, default)?;
-    let filterset = accepted(alloc, &cx, FiltersetKind::Test, text)?;
+    let binary_query = binary(name, id)?;
     let test = TestQuery {
-        binary_query: binary(name, id)?,
-        test_name: test,
+        binary_query,
+        test_name,
     };
-    value_told(alloc, &filterset.compiled, &default.compiled, &test, group)
+    asked(alloc, &workspace(alloc, name)?, default, text, &test, group)
+}
+
+// The value of a filterset on a test's binary, and on the test, which is in the group, beside a default filter.
+fn asked(
+    alloc: Global,
+    cx: &ParseContext,
+    default: &str,
+    text: &str,
+    test: &TestQuery<'_>,
+    group: &str,
+) -> Option<String> {
+    let default = accepted(alloc, cx, FiltersetKind::DefaultFilter, default)?;
+    let filterset = accepted(alloc, cx, FiltersetKind::Test, text)?;
+    value_told(alloc, &filterset.compiled, &default.compiled, test, group)
 }
 
 // The filterset of a text, where no group is known.

@@ -19,38 +19,43 @@ pub(crate) fn filtersets(alloc: Global, input: &str) -> Option<String> {
 // What a text is read as: its tree with all that it holds, or `-`, and its faults.
 pub(crate) fn trees(alloc: Global, input: &str) -> Option<String> {
     let reading = read(alloc, input).ok()?;
-    let tree = match &reading.tree {
-        Some(tree) => held(alloc, tree)?,
-        None => String::from_str(alloc, "-").ok()?,
-    };
-    with_faults(alloc, tree, reading.faults.as_slice())
+    let mut answer = String::new(alloc);
+    match &reading.tree {
+        Some(tree) => push_tree(alloc, &mut answer, tree)?,
+        None => answer.push('-').ok()?,
+    }
+    with_faults(alloc, answer, reading.faults.as_slice())
 }
 
-// A tree with all that it holds.
-fn held(alloc: Global, tree: &ParsedExpr) -> Option<String> {
-    let (word, left, right) = match tree {
-        ParsedExpr::Set(leaf) => return format!(in alloc; "Set({leaf:?})").ok(),
-        ParsedExpr::Parens(inside) => {
-            return format!(in alloc; "Parens({})", held(alloc, inside)?).ok();
+// A tree with all that it holds, up to its operands.
+fn head(alloc: Global, tree: &ParsedExpr) -> Option<String> {
+    match tree {
+        ParsedExpr::Set(leaf) => format!(in alloc; "Set({leaf:?}"),
+        ParsedExpr::Parens(_) => String::from_str(alloc, "Parens("),
+        ParsedExpr::Not(sign, _) => format!(in alloc; "Not({sign:?}, "),
+        ParsedExpr::Union(sign, _, _) => format!(in alloc; "Union({sign:?}, "),
+        ParsedExpr::Intersection(sign, _, _) => format!(in alloc; "Intersection({sign:?}, "),
+        ParsedExpr::Difference(sign, _, _) => format!(in alloc; "Difference({sign:?}, "),
+    }
+    .ok()
+}
+
+fn push_tree(alloc: Global, text: &mut String, tree: &ParsedExpr) -> Option<()> {
+    text.push_str(head(alloc, tree)?.as_str()).ok()?;
+    match tree {
+        ParsedExpr::Set(_) => {}
+        ParsedExpr::Parens(inside) | ParsedExpr::Not(_, inside) => {
+            push_tree(alloc, text, inside)?;
         }
-        ParsedExpr::Not(sign, inside) => {
-            return format!(in alloc; "Not({sign:?}, {})", held(alloc, inside)?).ok();
+        ParsedExpr::Union(_, left, right)
+        | ParsedExpr::Intersection(_, left, right)
+        | ParsedExpr::Difference(_, left, right) => {
+            push_tree(alloc, text, left)?;
+            text.push_str(", ").ok()?;
+            push_tree(alloc, text, right)?;
         }
-        ParsedExpr::Union(sign, left, right) => {
-            (format!(in alloc; "Union({sign:?}").ok()?, left, right)
-        }
-        ParsedExpr::Intersection(sign, left, right) => {
-            (
-                format!(in alloc; "Intersection({sign:?}").ok()?,
-                left,
-                right,
-            )
-        }
-        ParsedExpr::Difference(sign, left, right) => {
-            (format!(in alloc; "Difference({sign:?}").ok()?, left, right)
-        }
-    };
-    format!(in alloc; "{word}, {}, {})", held(alloc, left)?, held(alloc, right)?).ok()
+    }
+    text.push(')').ok()
 }
 
 // What a text is parsed as: its tree as it prints, or `-` and its faults.

@@ -29,71 +29,69 @@ use anyhow::{Context, Result, ensure};
 use std::alloc::Global;
 use worked_tables::{Table, rows_hold};
 
-// The tables by their names: filtersets, run events, elements of configurations, configurations.
-const TABLES: [&str; 62] = [
-    "filtersets",
-    "parsed",
-    "trees",
-    "leaves",
-    "deps",
-    "globs",
-    "glob_matches",
-    "name_matches",
-    "texts",
-    "escapes",
-    "printed",
-    "regexes",
-    "arguments",
-    "compiled",
-    "answers",
-    "page",
-    "decimals",
-    "tool_names",
-    "json_forms",
-    "printed_forms",
-    "signals",
-    "exits",
-    "ends",
-    "attempts",
-    "scripts",
-    "summaries",
-    "outcomes",
-    "errors",
-    "run_modes",
-    "slices",
-    "visibility",
-    "causes",
-    "described",
-    "has_errors",
-    "unit_errors",
-    "stream_lengths",
-    "last_attempts",
-    "displays",
-    "orders",
-    "shown_texts",
-    "words",
-    "stress_ends",
-    "stress_remaining",
-    "stress_names",
-    "stress_totals",
-    "durations",
-    "identifiers",
-    "tool_config_files",
-    "test_groups",
-    "limits",
-    "exceeded",
-    "flaky_messages",
-    "priorities",
-    "threads",
-    "values",
-    "verdicts",
-    "loads",
-    "warnings",
-    "plain_filters",
-    "filters",
-    "plain_specs",
-    "plain_configs",
-];
+// The tables, one name a line: filtersets, run events, elements of configurations, configurations.
+const TABLES: &str = "filtersets
+parsed
+trees
+leaves
+deps
+globs
+glob_matches
+name_matches
+texts
+escapes
+printed
+regexes
+arguments
+compiled
+answers
+page
+decimals
+tool_names
+json_forms
+printed_forms
+signals
+exits
+ends
+attempts
+scripts
+summaries
+outcomes
+errors
+run_modes
+slices
+visibility
+causes
+described
+has_errors
+unit_errors
+stream_lengths
+last_attempts
+displays
+orders
+shown_texts
+words
+stress_ends
+stress_remaining
+stress_names
+stress_totals
+durations
+identifiers
+tool_config_files
+test_groups
+limits
+exceeded
+flaky_messages
+priorities
+threads
+values
+verdicts
+loads
+warnings
+plain_filters
+filters
+plain_specs
+plain_configs";
 
 // The table of a name.
 #[derive(Drop)]
@@ -111,7 +109,7 @@ impl Table for Named {
 
 fn main(rt: HostRuntime) -> Result<()> {
     let mut hold = true;
-    for name in TABLES {
+    for name in TABLES.lines() {
         hold &= rows_hold(&rt, &Named(name))?;
     }
     ensure!(hold, "a row has another answer");
