@@ -1,7 +1,9 @@
 -- How the names of features are read, one by one.
-use Rattle.std.proofs.Common.{◌≡◌, ℕ, ◌+◌, true, false, List, [], ◌∷◌, ◌++◌, None, Ok, Err, decimal, refl, sym, ap, ◌∙◌}
-use Rattle.std.proofs.lemmas.List.{append_assoc}
+use Rattle.std.proofs.Common.{◌≡◌, ℕ, ◌+◌, ◌<◌, length, get_or, drop, Bool, true, false, if◌then◌else◌, List, [], ◌∷◌, ◌++◌, None, Ok, Err, String, Global, string_bytes, decimal, refl, sym, ap, ◌∙◌}
+use Rattle.std.proofs.lemmas.List.{append_assoc, drop_more}
 use Rattle.toml.specs.Data.{Data, Items, item, Members, member, string, boolean, as_bool, as_str}
+use Rattle.toml.specs.View.{items_view, members_view, view}
+use Rattle.toml.specs.declared.value.Value.{Value}
 use Rattle.nextest_config_elements_reading.specs.Reading.{Reading}
 use Rattle.nextest_config_elements_versions.specs.Demand.{keys_in, names_in}
 
@@ -30,6 +32,14 @@ pub names_more : (place : ℕ) (name : List ℕ) (names : List (List ℕ)) (more
 names_more place name names more =
     ap (joined names) (string_first place name (names_in (place + 1) more) more refl) ∙ name_first name names (names_in (place + 1) more)
 
+pub item_more : (names : List (List ℕ)) (told : List ℕ) (added : List (List ℕ)) (place : ℕ) (given : Value) (items : List Value)
+    → place < length items → given ≡ get_or items place given → view given ≡ string told → added ≡ names ++ told ∷ []
+    → joined names (names_in place (items_view (drop place items))) ≡ joined added (names_in (place + 1) (items_view (drop (place + 1) items)))
+item_more names told added place given items within is says adds =
+    let here : drop place items ≡ given ∷ drop (place + 1) items =
+    drop_more items place given within ∙ ap (λ (it : Value). it ∷ drop (place + 1) items) (sym is) in
+    rw (here, says, adds) (names_more place told names (items_view (drop (place + 1) items)))
+
 pub names_refused : (place : ℕ) (given : Data) (names : List (List ℕ)) (more : Items) → as_str given ≡ None
     → joined names (names_in place (item given more)) ≡ Err (decimal place ∷ [])
 names_refused place given names more none = rw none refl
@@ -40,19 +50,21 @@ true_first : (name : List ℕ) (read : Reading (List (List ℕ))) (more : Member
 true_first name (Ok names) more is = rw is refl
 true_first name (Err path) more is = rw is refl
 
-pub keys_more_true : (name : List ℕ) (names : List (List ℕ)) (more : Members)
-    → joined names (keys_in (member name (boolean true) more)) ≡ joined (names ++ name ∷ []) (keys_in more)
-keys_more_true name names more =
-    ap (joined names) (true_first name (keys_in more) more refl) ∙ name_first name names (keys_in more)
-
 false_first : (name : List ℕ) (read : Reading (List (List ℕ))) (more : Members) → keys_in more ≡ read
     → keys_in (member name (boolean false) more) ≡ read
 false_first name (Ok names) more is = rw is refl
 false_first name (Err path) more is = rw is refl
 
-pub keys_more_false : (name : List ℕ) (names : List (List ℕ)) (more : Members)
-    → joined names (keys_in (member name (boolean false) more)) ≡ joined names (keys_in more)
-keys_more_false name names more = ap (joined names) (false_first name (keys_in more) more refl)
+pub keys_more : (asked : Bool) (name : List ℕ) (names : List (List ℕ)) (more : Members)
+    → joined names (keys_in (member name (boolean asked) more)) ≡ joined (if asked then names ++ name ∷ [] else names) (keys_in more)
+keys_more true name names more = ap (joined names) (true_first name (keys_in more) more refl) ∙ name_first name names (keys_in more)
+keys_more false name names more = ap (joined names) (false_first name (keys_in more) more refl)
+
+pub key_more : (names : List (List ℕ)) (told : List ℕ) (added : List (List ℕ)) (asked : Bool) (key : String Global) (given : Value) (ahead more : List (String Global × Value))
+    → ahead ≡ (key, given) ∷ more → view given ≡ boolean asked → told ≡ string_bytes key → added ≡ (if asked then names ++ told ∷ [] else names)
+    → joined names (keys_in (members_view ahead)) ≡ joined added (keys_in (members_view more))
+key_more names told added asked key given ahead more here is says adds =
+    rw (here, is, adds, says) (keys_more asked (string_bytes key) names (members_view more))
 
 pub keys_refused : (name : List ℕ) (given : Data) (names : List (List ℕ)) (more : Members) → as_bool given ≡ None
     → joined names (keys_in (member name given more)) ≡ Err (name ∷ [])

@@ -1,11 +1,12 @@
 // How the names of features are read.
+ghost use Rattle.std.specs.Prelude.{◌≡◌, ◌++◌, [], ◌∷◌, IfOk, decimal, if◌then◌else◌};
 ghost use Rattle.toml.specs.View.{view, items_view, table_view};
-ghost use Rattle.nextest_config_elements_reading.specs.Paths.{Gives};
+ghost use Rattle.nextest_config_elements_reading.specs.Paths.{Gives, IsRefusedAt, texts};
 ghost use Rattle.nextest_config_elements_versions.specs.Demand.{features, keys_in, names_in};
 
 use nextest_config_elements_reading::{ValueError, refused, refused_below};
 use nextest_text::{Listing, Text};
-use std::alloc::Global;
+use std::alloc::{AllocError, Global};
 use toml::{Table, Value};
 
 /// The names of the features that `value`, at `path`, asks for: an array of texts, or a table of truth values, of which
@@ -36,12 +37,21 @@ fn names_in(alloc: Global, items: &[Value], path: &[&str]) -> Result<Listing<Tex
     let mut names = Listing::new(alloc);
     for (place, item) in items.iter().enumerate() {
         let Value::String(name) = item else {
-            let key = format!(in alloc; "{place}")?;
-            return Err(refused_below(alloc, path, key.as_str(), Some(item), "a string"));
+            return Err(refused_at(alloc, path, place, item));
         };
-        names.push(Text::from_str(alloc, name.as_str())?)?;
+        push_text(alloc, &mut names, name.as_str())?;
     }
     Ok(names)
+}
+
+// Refuses the item of a list at a place.
+fn refused_at(alloc: Global, path: &[&str], place: usize, item: &Value) -> ValueError
+    ensures { IsRefusedAt (texts path.now ++ decimal place ∷ []) result }
+{
+    match format!(in alloc; "{place}") {
+        Ok(key) => refused_below(alloc, path, key.as_str(), Some(item), "a string"),
+        Err(AllocError) => ValueError::OutOfMemory,
+    }
 }
 
 // Each key of a table that is true.
@@ -53,9 +63,31 @@ fn keys_in(alloc: Global, table: &Table, path: &[&str]) -> Result<Listing<Text>,
         let Value::Boolean(is_asked) = given else {
             return Err(refused_below(alloc, path, name.as_str(), Some(given), "a boolean"));
         };
-        if *is_asked {
-            names.push(Text::from_str(alloc, name.as_str())?)?;
-        }
+        push_asked(alloc, &mut names, name.as_str(), *is_asked)?;
     }
     Ok(names)
+}
+
+// Adds the name of a key that is true.
+fn push_asked(
+    alloc: Global,
+    names: &mut Listing<Text>,
+    name: &str,
+    is_asked: bool,
+) -> Result<(), AllocError>
+    ensures { IfOk result (λ _. names.new ≡ (if is_asked then names.old ++ name.now ∷ [] else names.old)) }
+{
+    if is_asked {
+        push_text(alloc, names, name)
+    } else {
+        Ok(())
+    }
+}
+
+// Adds a text to a list.
+fn push_text(alloc: Global, texts: &mut Listing<Text>, text: &str) -> Result<(), AllocError>
+    ensures { IfOk result (λ _. texts.new ≡ texts.old ++ text.now ∷ []) }
+{
+    texts.push(Text::from_str(alloc, text)?)?;
+    Ok(())
 }

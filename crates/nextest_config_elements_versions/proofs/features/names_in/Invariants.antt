@@ -7,4 +7,4 @@ use Rattle.nextest_config_elements_versions.proofs.features.names_in.Given as go
 -- the names so far, and then those that are ahead
 abbrev pub invariant-loop-place : goal.invariant-loop-place
 invariant-loop-place l =
-    names_in 0 (items_view l.items) ≡ joined l.names (names_in l.place-counter (items_view (drop l.place-counter l.items)))
+    names_in 0 (items_view l.items) ≡ joined l.names (names_in l.place (items_view (drop l.place l.items)))
