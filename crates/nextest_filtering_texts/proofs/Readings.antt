@@ -1,6 +1,6 @@
 -- What a reading of a text with escapes knows, escape by escape.
 use Rattle.std.proofs.lemmas.Str.{encode_same, len_utf8_bounds, length-encode}
-use Rattle.std.proofs.Common.{◌≡◌, ◌≢◌, ℕ, ◌+◌, ◌-◌, ◌<◌, ◌≤◌, Bool, true, false, not, eqb, List, [], ◌∷◌, ◌++◌, length, get_or, Some, None, refl, sym, ap, ◌∙◌, subst, arith, inl, inr, suc}
+use Rattle.std.proofs.Common.{◌≡◌, ◌≢◌, ℕ, ◌+◌, ◌-◌, ◌<◌, ◌≤◌, Bool, true, false, not, eqb, Option, List, [], ◌∷◌, ◌++◌, length, get_or, Some, None, refl, sym, ap, ◌∙◌, subst, arith, inl, inr, suc}
 use Rattle.std.specs.Prelude.{encode_utf8}
 use Rattle.std.specs.List.{AllByRecursion, flat_map}
 use Rattle.std.specs.Str.Parse.{AllDigits}
@@ -277,6 +277,29 @@ readable_bad raw rest text bad plain behind ahead after span known parted bare (
           ∙ ap (λ (n : ℕ). span ∷ spans_of n parts) next)
           ∙ sym (append_assoc bad (span ∷ []) (spans_of (length (before ++ bytes)) parts)));
     }
+
+-- what is ahead is shorter
+pub behind_within : (raw rest text : List ℕ) (bad : List EscapeSpan) (plain behind : List ℕ) → Readable raw rest text bad → rest ≡ plain ++ 92 ∷ behind
+    → length behind < length raw
+behind_within raw rest text bad plain behind known parted =
+    let first = length-append known.front rest in
+    let second = length-append plain (92 ∷ behind) in
+    omega (arith, ap length known.whole, ap length parted)
+
+piece_long : (piece : Piece) → 1 ≤ length (spelling piece)
+piece_long (Plain byte) = omega arith
+piece_long (Escaped letter meant) = omega arith
+piece_long (Unicode digits scalar) = omega arith
+
+pub ahead_within : (behind : List ℕ) (meant : Option ℕ) (ahead : List ℕ) → ReadsEscape behind meant ahead → length ahead ≤ length behind
+ahead_within behind (Some character) ahead (piece, is, spelled, means) =
+    omega (arith, ap length spelled, length-append (spelling piece) ahead, piece_long piece)
+ahead_within behind None ahead (none, (bytes, spelled, is_bad)) = omega (arith, ap length spelled, length-append bytes ahead, bad_long bytes ahead is_bad)
+
+pub ahead_shorter : (rest plain behind : List ℕ) (meant : Option ℕ) (ahead : List ℕ) → rest ≡ plain ++ 92 ∷ behind → ReadsEscape behind meant ahead
+    → length ahead < length rest
+ahead_shorter rest plain behind meant ahead parted read =
+    omega (arith, ap length parted, length-append plain (92 ∷ behind), ahead_within behind meant ahead read)
 
 -- the end
 pub readable_text : (raw rest text after : List ℕ) (bad : List EscapeSpan) → Readable raw rest text bad → IsBare rest → after ≡ text ++ rest

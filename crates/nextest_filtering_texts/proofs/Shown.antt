@@ -1,16 +1,16 @@
 -- How a text prints: it is read back, and has no blank ends.
-use Rattle.std.proofs.Common.{◌≡◌, ◌≢◌, ◌↔◌, ◌⊎◌, ℕ, ◌<◌, ◌≤◌, true, false, ◌||◌, eqb, ltb, leb, List, [], ◌∷◌, ◌++◌, length, get_or, suc, Some, refl, sym, ap, ◌∙◌, subst, arith, inl, inr, lit<, lit≤}
+use Rattle.std.proofs.Common.{◌≡◌, ◌≢◌, ◌↔◌, ◌⊎◌, ℕ, ◌<◌, ◌≤◌, Bool, true, false, ◌||◌, eqb, ltb, leb, Option, List, [], ◌∷◌, ◌++◌, length, get_or, suc, Some, None, if◌then◌else◌, refl, sym, ap, ◌∙◌, subst, arith, inl, inr, lit<, lit≤}
 use Rattle.std.specs.Prelude.{encode_utf8}
 use Rattle.std.specs.Fmt.{digits}
 use Rattle.std.specs.List.{flat_map}
-use Rattle.std.proofs.lemmas.Bool.{eqb-true, eqb-false, or_cases, or_parts, or_from, and_from, not_from_false, ltb-true, ltb-false, cases_lt, leb-true, cond_both, agree_below_at, false≢true, cond-false, ne_eqb}
+use Rattle.std.proofs.lemmas.Bool.{eqb-true, eqb-false, or_cases, or_parts, or_from, and_from, not_from_false, ltb-true, ltb-false, lt-ltb, cases_lt, leb-true, cond_both, agree_below_at, false≢true, cond-false, ne_eqb}
 use Rattle.std.proofs.lemmas.Fmt.{digits_is_IsNumeral}
 use Rattle.std.proofs.lemmas.List.{append-nil, append_assoc}
 use Rattle.std.proofs.lemmas.Str.{encode_ascii, inside_one}
 use Rattle.std.proofs.lemmas.List.Concat.{flat_map-append}
 use lib.Utf8.{low_scalar}
 use Rattle.nextest_filtering_texts.specs.Text.{Plain, Escaped, Unicode, IsText, is_plain, is_blank, is_end, escape_of}
-use Rattle.nextest_filtering_texts.specs.Printing.{by_number, printed, printed_character, escaped, escaped_behind}
+use Rattle.nextest_filtering_texts.specs.Printing.{by_number, letter_of, printed, printed_character, escaped, escaped_behind}
 use Rattle.nextest_filtering_texts.specs.Laws.{BeginsAs, HasNoBlankEnds}
 use Rattle.nextest_filtering_texts.proofs.Pieces.{text_none, text_piece, text-append}
 
@@ -45,6 +45,18 @@ special byte is =
       at n stands blank same =
           let is_n = sym (eqb-true byte n same) in
           (subst (λ (b : ℕ). escape_of b ≡ Some b) is_n stands, subst (λ (b : ℕ). is_blank b ≡ false) is_n blank)
+
+special_small : (byte : ℕ) → ((eqb byte 92 || eqb byte 47) || is_end byte) ≡ true → byte < 128
+special_small byte is = elim (or_cases (eqb byte 92 || eqb byte 47) (is_end byte) is) [
+  | inl first ↦ elim (or_cases (eqb byte 92) (eqb byte 47) first) [
+    | inl same ↦ omega (arith, eqb-true byte 92 same)
+    | inr same ↦ omega (arith, eqb-true byte 47 same)
+  ]
+  | inr second ↦ elim (or_cases (eqb byte 41) (eqb byte 44) second) [
+    | inl same ↦ omega (arith, eqb-true byte 41 same)
+    | inr same ↦ omega (arith, eqb-true byte 44 same)
+  ]
+]
 
 letter_text : (byte n letter : ℕ) → eqb byte n ≡ true → escape_of letter ≡ Some n → IsText (92 ∷ letter ∷ []) (byte ∷ [])
 letter_text byte n letter same stands =
@@ -291,3 +303,62 @@ printed_more whole done rest ahead character known parted =
     (ap (λ (x : List ℕ). flat_map printed x) parted ∙ flat_map-append printed (encode_utf8 character) ahead
     ∙ ap (λ (x : List ℕ). x ++ flat_map printed ahead) (character_printed character))
     ∙ sym (append_assoc done (printed_character character) (flat_map printed ahead))
+
+-- how a character prints, by the letter that it prints as
+letter_small : (character letter : ℕ) → Some letter ≡ letter_of character → (character < 128) × (letter < 128)
+letter_small character letter =
+    let Q : Option ℕ → Type 0 = λ found. Some letter ≡ found → (character < 128) × (letter < 128) in
+    cond_both ((eqb character 92 || eqb character 47) || is_end character) (Some character) _ Q (λ yes. itself (special_small character yes)) (λ _.
+    cond_both (eqb character 10) _ _ Q (λ yes. other 10 110 (eqb-true character 10 yes) (lit< tt) (lit< tt)) (λ _.
+    cond_both (eqb character 13) _ _ Q (λ yes. other 13 114 (eqb-true character 13 yes) (lit< tt) (lit< tt)) (λ _.
+    cond_both (eqb character 9) _ _ Q (λ yes. other 9 116 (eqb-true character 9 yes) (lit< tt) (lit< tt)) (λ _. λ is. cc is)))) where
+      itself : character < 128 → Some letter ≡ Some character → (character < 128) × (letter < 128)
+      itself small is = let same : letter ≡ character = cc is in (small, omega (arith, same, small))
+
+      other : (n shown : ℕ) → character ≡ n → n < 128 → shown < 128 → Some letter ≡ Some shown → (character < 128) × (letter < 128)
+      other n shown at low small is = let same : letter ≡ shown = cc is in (omega (arith, at, low), omega (arith, same, small))
+
+by_letter : (a b c d : Bool) (character letter : ℕ) (rest : List ℕ)
+    → Some letter ≡ (if a then Some character else if b then Some 110 else if c then Some 114 else if d then Some 116 else None)
+    → (if a then 92 ∷ character ∷ [] else if b then 92 ∷ 110 ∷ [] else if c then 92 ∷ 114 ∷ [] else if d then 92 ∷ 116 ∷ [] else rest) ≡ 92 ∷ letter ∷ []
+by_letter true b c d character letter rest is = cc is
+by_letter false true c d character letter rest is = cc is
+by_letter false false true d character letter rest is = cc is
+by_letter false false false true character letter rest is = cc is
+by_letter false false false false character letter rest is = cc is
+
+no_letter : (a b c d : Bool) (character : ℕ) (rest : List ℕ)
+    → None ≡ (if a then Some character else if b then Some 110 else if c then Some 114 else if d then Some 116 else None)
+    → (if a then 92 ∷ character ∷ [] else if b then 92 ∷ 110 ∷ [] else if c then 92 ∷ 114 ∷ [] else if d then 92 ∷ 116 ∷ [] else rest) ≡ rest
+no_letter true b c d character rest is = cc is
+no_letter false true c d character rest is = cc is
+no_letter false false true d character rest is = cc is
+no_letter false false false true character rest is = cc is
+no_letter false false false false character rest is = refl
+
+pub printed_letter : (character letter : ℕ) → Some letter ≡ letter_of character → 92 ∷ encode_utf8 letter ≡ printed_character character
+printed_letter character letter is =
+    let small = letter_small character letter is in
+    ap (λ (shown : List ℕ). 92 ∷ shown) (encode_ascii letter small.1) ∙ sym (
+    ap (λ (low : Bool). if low then printed character else encode_utf8 character) (lt-ltb character 128 small.0)
+    ∙ by_letter _ _ _ _ character letter _ is)
+
+pub printed_control : (character : ℕ) → None ≡ letter_of character → (ltb character 32 || eqb character 127) ≡ true
+    → by_number character ≡ printed_character character
+printed_control character none control = sym (
+    ap (λ (low : Bool). if low then printed character else encode_utf8 character) (lt-ltb character 128 (control_small character control))
+    ∙ no_letter _ _ _ _ character _ none
+    ∙ ap (λ (low : Bool). if low then by_number character else character ∷ []) control)
+
+pub printed_plain : (character : ℕ) → None ≡ letter_of character → (ltb character 32 || eqb character 127) ≡ false
+    → encode_utf8 character ≡ printed_character character
+printed_plain character none other =
+    cond_both (ltb character 128) (printed character) (encode_utf8 character) (λ (shown : List ℕ). encode_utf8 character ≡ shown)
+    (λ yes. encode_ascii character (ltb-true character 128 yes) ∙ sym (
+    no_letter _ _ _ _ character _ none ∙ ap (λ (low : Bool). if low then by_number character else character ∷ []) other))
+    (λ _. refl)
+
+-- nothing is left to print
+pub printed_none : (whole done rest : List ℕ) → whole ≡ done ++ flat_map printed rest → length rest ≡ 0 → done ≡ whole
+printed_none whole done [] known none = sym (known ∙ append-nil done)
+printed_none whole done (byte ∷ rest) known none = absurd (omega (arith, none))

@@ -1,5 +1,5 @@
 -- How a text and a regular expression print.
-use Rattle.std.specs.Prelude.{ℕ, ◌==◌, ◌||◌, false, List, [], ◌∷◌, ◌++◌, if◌then◌else◌, nat_lt, encode_utf8}
+use Rattle.std.specs.Prelude.{ℕ, ◌==◌, ◌||◌, false, List, [], ◌∷◌, ◌++◌, Option, Some, None, if◌then◌else◌, nat_lt, encode_utf8}
 use Rattle.std.specs.Fmt.{digits}
 use Rattle.std.specs.List.{flat_map}
 use Rattle.nextest_filtering_texts.specs.Text.{is_end}
@@ -17,6 +17,15 @@ printed byte =
     else if byte == 9 then 92 ∷ 116 ∷ []
     else if nat_lt byte 32 || byte == 127 then by_number byte
     else byte ∷ []
+
+-- the letter behind a `\` that a character prints as, where it prints so
+abbrev pub letter_of : ℕ → Option ℕ
+letter_of character =
+    if character == 92 || character == 47 || is_end character then Some character
+    else if character == 10 then Some 110
+    else if character == 13 then Some 114
+    else if character == 9 then Some 116
+    else None
 
 -- a character inside a text
 abbrev pub printed_character : ℕ → List ℕ

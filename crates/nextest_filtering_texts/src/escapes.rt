@@ -1,10 +1,10 @@
 // What a text with escapes stands for.
-ghost use Rattle.std.specs.Prelude.{◌≡◌, ◌≢◌, ℕ, List, [], IfOk, length};
+ghost use Rattle.std.specs.Prelude.{◌≡◌, ◌≢◌, ◌+◌, ◌-◌, ◌<◌, ◌≤◌, ℕ, List, [], IfOk, length};
 ghost use Rattle.std.specs.List.{AllByRecursion};
 ghost use Rattle.nextest_filtering_texts.specs.Text.{IsText, escape_of};
 ghost use Rattle.nextest_filtering_texts.specs.Ends.{IsUnended};
 ghost use Rattle.nextest_filtering_texts.specs.Spans.{IsSpanOf, Rise};
-ghost use Rattle.nextest_filtering_texts.specs.Parts.{IsRead};
+ghost use Rattle.nextest_filtering_texts.specs.Parts.{IsRead, span_at};
 ghost use Rattle.nextest_filtering_texts.specs.Reading.{ReadsEscape, SplitsFirst};
 
 use super::hexadecimal::read_unicode;
@@ -70,6 +70,18 @@ fn read_escape(behind: &str) -> (Option<char>, &str)
     }
 }
 
+/// Where the escape stands that begins before `behind` and ends before `ahead`, both of which end `raw`.
+fn span_of(raw: &str, behind: &str, ahead: &str) -> EscapeSpan
+    requires within { length behind.now < length raw.now }
+    requires ends { length ahead.now ≤ length behind.now }
+    ensures { result ≡ span_at (length raw.now - length behind.now - 1) (length behind.now - length ahead.now + 1) }
+{
+    EscapeSpan {
+        offset: raw.len() - behind.len() - 1,
+        length: behind.len() - ahead.len() + 1,
+    }
+}
+
 /// What `raw` stands for, as `split_text` gives it, and its bad escapes. It fails only on allocation.
 pub fn unescape(alloc: Global, raw: &str) -> Result<Unescaped, AllocError>
     ensures text { IfOk result (λ read. read.bad ≡ [] → IsUnended raw.now → IsText raw.now read.text) }
@@ -86,10 +98,7 @@ pub fn unescape(alloc: Global, raw: &str) -> Result<Unescaped, AllocError>
         let (meant, ahead) = read_escape(behind);
         match meant {
             Some(character) => text.push(character)?,
-            None => bad.push(EscapeSpan {
-                offset: raw.len() - behind.len() - 1,
-                length: behind.len() - ahead.len() + 1,
-            })?,
+            None => bad.push(span_of(raw, behind, ahead))?,
         }
         rest = ahead;
     }

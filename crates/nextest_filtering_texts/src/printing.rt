@@ -1,7 +1,7 @@
 // How a text and a regular expression print.
-ghost use Rattle.std.specs.Prelude.{◌≡◌, ◌++◌, Some};
+ghost use Rattle.std.specs.Prelude.{◌≡◌, ◌==◌, ◌||◌, ◌++◌, Some, nat_lt};
 ghost use Rattle.std.specs.List.{flat_map};
-ghost use Rattle.nextest_filtering_texts.specs.Printing.{escaped, escaped_behind, printed, printed_character, slashed};
+ghost use Rattle.nextest_filtering_texts.specs.Printing.{escaped, escaped_behind, letter_of, printed, printed_character, slashed};
 
 use std::fmt;
 
@@ -27,6 +27,26 @@ pub fn slashed_text(text: &str) -> SlashedText<'_>
     SlashedText(text)
 }
 
+/// The letter behind a backslash that a character prints as, where it prints so.
+fn letter_of(character: char) -> Option<char>
+    ensures { result ≡ letter_of character }
+{
+    match character {
+        '\\' | '/' | ')' | ',' => Some(character),
+        '\n' => Some('n'),
+        '\r' => Some('r'),
+        '\t' => Some('t'),
+        _ => None,
+    }
+}
+
+/// Whether a character is one that controls, below U+0080.
+fn is_control(character: char) -> bool
+    ensures { result ≡ (nat_lt character 32 || character == 127) }
+{
+    character < ' ' || character == '\u{7f}'
+}
+
 /// A character inside a text.
 #[derive(Clone, Copy)]
 struct Inside(char);
@@ -35,15 +55,10 @@ impl fmt::Display for Inside {
     ghost output = { λ inside. Some (printed_character inside.0) };
 
     fn fmt<W: fmt::Write>(&self, f: &mut fmt::Formatter<W>) -> fmt::Result {
-        match self.0 {
-            '\\' | '/' | ')' | ',' => write!(f, "\\{}", self.0),
-            '\n' => write!(f, "\\n"),
-            '\r' => write!(f, "\\r"),
-            '\t' => write!(f, "\\t"),
-            character if character < ' ' || character == '\u{7f}' => {
-                write!(f, "\\u{{{:x}}}", character as u32)
-            }
-            character => write!(f, "{character}"),
+        match letter_of(self.0) {
+            Some(letter) => write!(f, "\\{letter}"),
+            None if is_control(self.0) => write!(f, "\\u{{{:x}}}", self.0 as u32),
+            None => f.write_char(self.0),
         }
     }
 }

@@ -1,8 +1,30 @@
 use Rattle.std.proofs.Common.{◌≡◌, ◌++◌, ℕ, List, ap, ◌∙◌, refl, lit<, rules}
 use Rattle.std.specs.Prelude.{string_bytes, encode_utf8}
 use Rattle.std.proofs.lemmas.Str.Pattern.{split_parts}
+use Rattle.nextest_filtering_texts.specs.declared.escapes.EscapeSpan.{EscapeSpan}
 use Rattle.nextest_filtering_texts.proofs.Readings as lemma
 use Rattle.nextest_filtering_texts.proofs.escapes.unescape.Goals as goal
+
+pub span_of-requires-clause-within : goal.span_of-requires-clause-within
+span_of-requires-clause-within c =
+    let rest = c.loop-plain.rest.now in
+    let parts = rw c.in-Some.is at (split_parts 92 rest c.split_once.result c.split_once.ensures.cases (lit< tt)) in
+    lemma.behind_within c.args.raw.now rest (string_bytes c.loop-plain.text) c.loop-plain.bad c.in-Some.plain.now c.in-Some.behind.now c.loop-plain.invariant.0 parts.0
+
+pub span_of-requires-clause-ends : goal.span_of-requires-clause-ends
+span_of-requires-clause-ends c = lemma.ahead_within c.in-Some.behind.now c.read_escape-meant.result.0 c.read_escape-meant.result.1.now c.read_escape-meant.ensures
+
+pub loop-plain-smaller-in_ok-push-in-Some-meant : goal.loop-plain-smaller-in_ok-push-in-Some-meant
+loop-plain-smaller-in_ok-push-in-Some-meant c =
+    let rest = c.loop-plain.rest.now in
+    let parts = rw c.in-Some.is at (split_parts 92 rest c.split_once.result c.split_once.ensures.cases (lit< tt)) in
+    lemma.ahead_shorter rest c.in-Some.plain.now c.in-Some.behind.now c.read_escape-meant.result.0 c.read_escape-meant.result.1.now parts.0 c.read_escape-meant.ensures
+
+pub loop-plain-smaller : goal.loop-plain-smaller
+loop-plain-smaller c =
+    let rest = c.loop-plain.rest.now in
+    let parts = rw c.in-Some.is at (split_parts 92 rest c.split_once.result c.split_once.ensures.cases (lit< tt)) in
+    lemma.ahead_shorter rest c.in-Some.plain.now c.in-Some.behind.now c.read_escape-meant.result.0 c.read_escape-meant.result.1.now parts.0 c.read_escape-meant.ensures
 
 pub loop-plain-preserved-in_ok-push-in-Some-meant : goal.loop-plain-preserved-in_ok-push-in-Some-meant
 loop-plain-preserved-in_ok-push-in-Some-meant c =
@@ -30,9 +52,10 @@ loop-plain-preserved c =
     let ahead = c.read_escape-meant.result.1.now in
     let parts = rw c.in-Some.is at (split_parts 92 rest c.split_once.result c.split_once.ensures.cases (lit< tt)) in
     let read = rw c.in-None.is at c.read_escape-meant.ensures in
-    let pushed = c.in_ok-push-in-None.ensures.ok in (
+    let pushed = c.in_ok-push-in-None.ensures.ok in
+    let span = c.span_of.ensures in (
       rw pushed (lemma.readable_bad raw rest (string_bytes c.loop-plain.text) c.loop-plain.bad plain behind ahead (string_bytes c.push_str.new.self)
-          _ c.loop-plain.invariant.0 parts.0 (lemma.bare_from plain parts.1) read c.in_ok-push_str.ensures.bytes refl refl),
+          _ c.loop-plain.invariant.0 parts.0 (lemma.bare_from plain parts.1) read c.in_ok-push_str.ensures.bytes (ap (λ (it : EscapeSpan). it.offset) span) (ap (λ (it : EscapeSpan). it.length) span)),
       search rules,
     )
 
