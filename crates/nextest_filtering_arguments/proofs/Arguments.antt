@@ -1,7 +1,7 @@
 -- Arguments that texts are made into.
 use Rattle.std.proofs.Common.{◌≡◌, refl, ℕ, ◌+◌, Bool, false, List, [], ◌∷◌, ◌++◌, length, Option, Some, None, Result, Ok, Err, sym, ap, subst, ◌∙◌, arith}
 use Rattle.std.specs.Borrow.{Bor}
-use Rattle.nextest_filtering_texts.specs.Regex.{IsRegexText, HasRegexText, IsOnlyRegex}
+use Rattle.nextest_filtering_texts.specs.Regex.{IsRegexText, HasNoRegex, HasRegexText, IsOnlyRegex}
 use Rattle.nextest_filtering_texts.proofs.Slashes.{one_regex}
 use Rattle.nextest_filtering_trees.specs.declared.leaf.BuildPlatform.{BuildPlatform}
 use Rattle.nextest_filtering_trees.specs.declared.leaf.BuildPlatform.TheVariants.{Host, Target}
@@ -14,7 +14,7 @@ use Rattle.nextest_filtering_arguments.specs.declared.stop.Stop.{Stop}
 use Rattle.nextest_filtering_arguments.specs.declared.stop.Stop.TheVariants.{NoTree, Memory}
 use Rattle.nextest_filtering_arguments.specs.Faults.{IsSuffix}
 use Rattle.nextest_filtering_arguments.specs.Texts.{IsTextArgument}
-use Rattle.nextest_filtering_arguments.specs.Matchers.{IsArgument, FindsMatcher, IsMade, ReadsCompared, ReadsPattern, ReadsPlatform, platform_itself}
+use Rattle.nextest_filtering_arguments.specs.Matchers.{IsArgument, IsNoArgument, FindsMatcher, IsMade, ReadsCompared, ReadsPattern, ReadsPlatform, platform_itself}
 use Rattle.nextest_filtering_arguments.proofs.Spans.{suffix_trans}
 use Rattle.nextest_filtering_arguments.proofs.Cutting.{unblanked_stops}
 
@@ -113,6 +113,12 @@ pattern_found text raw rest spelled source pattern n whole ends sole stands sour
           let same = same_regex text raw rest pattern sole spelling value end has in
           (refl, (matcher.Regex pattern, refl, matcher_same value regex false pattern has.0 has.1 same.0), ap unblanked same.1);
     }
+
+pub pattern_unclosed : (text : List ℕ) (old new : ℕ) → HasNoRegex text → new ≡ old + 1 → IsNoArgument ReadsPattern text old new
+pattern_unclosed text old new none told = record {
+  more = Prim.omega (arith, told);
+  never = λ value end x has closes. none has.3.0 value.text end has.3.2 has.3.1;
+}
 
 pub pattern_refused : (text raw rest spelled source : List ℕ) (old new : ℕ) → text ≡ raw ++ 47 ∷ rest → HasRegexText raw → IsOnlyRegex text raw rest
     → (HasRegexText raw → IsRegexText raw spelled) → source ≡ spelled → (IsRegex source → ⊥) → new ≡ old + 1

@@ -1,13 +1,16 @@
 -- Where bad escapes stand in the input.
 use Rattle.std.proofs.Common.{◌≡◌, refl, ℕ, zero, suc, ◌+◌, ◌-◌, ◌<◌, ◌≤◌, List, [], ◌∷◌, ◌++◌, length, get_or, sym, ap, subst, ◌∙◌, arith, append_assoc, length-append}
 use Rattle.std.specs.List.{AllByRecursion}
+use Rattle.std.proofs.lemmas.List.{nil_from_length}
+use Rattle.nextest_filtering_texts.specs.Text.{IsText}
+use Rattle.nextest_filtering_texts.specs.Ends.{IsUnended}
 use Rattle.nextest_filtering_texts.specs.Spans.{IsBadEscape, IsSpanOf}
 use Rattle.nextest_filtering_texts.specs.Parts.{IsRead}
 use Rattle.nextest_filtering_texts.proofs.Ended.{bad_escapes_stay}
 use Rattle.nextest_filtering_texts.specs.declared.escapes.EscapeSpan.{EscapeSpan}
 use Rattle.nextest_filtering_trees.specs.declared.leaf.SourceSpan.{SourceSpan}
 use Rattle.nextest_filtering_arguments.specs.Faults.{IsSuffix, here, within, Lies, spanned, past}
-use Rattle.nextest_filtering_arguments.specs.Texts.{IsFront}
+use Rattle.nextest_filtering_arguments.specs.Texts.{IsFront, IsLookedAt}
 use Rattle.nextest_filtering_arguments.proofs.Spans.{told, told_past, suffix_trans, suffix_len}
 
 -- what holds of each element holds of the one at a place
@@ -55,3 +58,11 @@ escape_told input ahead span place is suffix at =
     let it = told input tail at.behind place at.bytes same within refl in
     let behind = told_past input tail at.behind place at.bytes same within refl in
     (it.0, subst (IsBadEscape (spanned input place)) (sym behind) (subst (λ (l : List ℕ). IsBadEscape l at.behind) (sym it.1) at.bad))
+
+-- what was looked at: each bad escape is a fault more
+pub looked_at : (whole text : List ℕ) (bad items : List EscapeSpan) (old new : ℕ) → items ≡ bad → (bad ≡ [] → IsUnended whole → IsText whole text)
+    → new ≡ old + length items → IsLookedAt whole old new
+looked_at whole text bad items old new is reads more = record {
+  more = Prim.omega (arith, more);
+  good = λ same goes. (text, reads (sym is ∙ nil_from_length items (Prim.omega (arith, more, same))) goes);
+}

@@ -1,5 +1,5 @@
 -- A text as an argument: what was read, and that nothing else stands there.
-use Rattle.std.proofs.Common.{◌≡◌, ◌≢◌, refl, ℕ, ◌≤◌, Bool, true, false, eqb, not, ◌&&◌, List, [], ◌∷◌, ◌++◌, length, sym, ap, subst, ◌∙◌, arith, rules, append_assoc, length-append}
+use Rattle.std.proofs.Common.{◌≡◌, ◌≢◌, refl, ℕ, ◌+◌, ◌≤◌, Bool, true, false, eqb, not, ◌&&◌, List, [], ◌∷◌, ◌++◌, length, sym, ap, subst, ◌∙◌, arith, rules, append_assoc, length-append}
 use Rattle.std.proofs.lemmas.Bool.{false≢true}
 use Rattle.nextest_filtering_texts.specs.Text.{IsText, is_end}
 use Rattle.nextest_filtering_texts.specs.Ends.{Stops, unended, IsUnended, IsOnlyText}
@@ -33,6 +33,14 @@ not_empty {X = X} xs b is fails none = false≢true (sym fails ∙ is ∙ ap (λ
 empty : {X : Type 0} (xs : List X) (b : Bool) → b ≡ eqb (length xs) 0 → b ≡ true → xs ≡ []
 empty [] b is holds = refl
 empty (x ∷ xs) b is holds = Prim.search rules
+
+-- an empty text, which was told
+pub empty_meant : (raw found : List ℕ) (old new : ℕ) (b : Bool) → b ≡ eqb (length raw) 0 → b ≡ true → new ≡ old + 1 → IsMeant raw old new found
+empty_meant raw found old new b raw_is none told = record {
+  more = Prim.omega (arith, told);
+  reads = λ same. absurd (Prim.omega (arith, told, same));
+  only = λ other some _. absurd (some (empty raw b raw_is none));
+}
 
 -- a text with no bad escape
 pub good_meant : (whole raw found : List ℕ) (bad : List EscapeSpan) (n : ℕ) (b e : Bool) → b ≡ eqb (length raw) 0 → b ≡ false → e ≡ eqb (length bad) 0 → e ≡ true

@@ -1,5 +1,7 @@
 // A text as an argument.
-ghost use Rattle.std.specs.Prelude.{◌≡◌, IfOk, OnOk};
+ghost use Rattle.std.specs.Prelude.{◌≡◌, ◌+◌, IfOk, OnOk, length};
+ghost use Rattle.std.specs.List.{AllByRecursion};
+ghost use Rattle.nextest_filtering_texts.specs.Spans.{IsSpanOf};
 ghost use Rattle.nextest_filtering_arguments.specs.Blanks.{IsTrimmed};
 ghost use Rattle.nextest_filtering_arguments.specs.Faults.{IsSuffix, Lies, count};
 ghost use Rattle.nextest_filtering_arguments.specs.Texts.{IsFront, IsPlaced, IsLookedAt, IsMeant, IsTextArgument};
@@ -7,7 +9,7 @@ ghost use Rattle.nextest_filtering_arguments.specs.Texts.{IsFront, IsPlaced, IsL
 use crate::cursor::{skip_blanks, trim_blanks_end};
 use crate::error::ParseSingleError;
 use crate::faults::Faults;
-use nextest_filtering_texts::{split_text, unescape};
+use nextest_filtering_texts::{EscapeSpan, split_text, unescape};
 use nextest_filtering_trees::SourceSpan;
 use nextest_text::Text;
 use std::alloc::{AllocError, Global};
@@ -23,6 +25,24 @@ pub struct TextArgument<'i> {
     pub rest: &'i str,
 }
 
+// Tells of bad escapes, which stand in `ahead`.
+fn report_spans(
+    faults: &mut Faults<'_>,
+    ahead: &str,
+    spans: &[EscapeSpan],
+) -> Result<(), AllocError>
+    requires suffix { IsSuffix ahead.now faults.old.input }
+    requires spans { AllByRecursion (IsSpanOf ahead.now) spans.now }
+    ensures input { faults.new.input ≡ faults.old.input }
+    ensures told { OnOk result (count faults.new ≡ count faults.old + length spans.now) }
+{
+    for span in spans {
+        let place = faults.span_within(ahead, span.offset, span.length);
+        faults.report(ParseSingleError::InvalidEscapeCharacter(place))?;
+    }
+    Ok(())
+}
+
 // Tells of each bad escape of `whole`, with which `ahead` begins.
 fn report_escapes(
     alloc: Global,
@@ -36,11 +56,7 @@ fn report_escapes(
     ensures told { OnOk result (IsLookedAt whole.now (count faults.old) (count faults.new)) }
 {
     let read = unescape(alloc, whole)?;
-    for span in read.bad.as_slice() {
-        let place = faults.span_within(ahead, span.offset, span.length);
-        faults.report(ParseSingleError::InvalidEscapeCharacter(place))?;
-    }
-    Ok(())
+    report_spans(faults, ahead, read.bad.as_slice())
 }
 
 // What `raw` stands for, which is `whole` without the blanks at its end; `ahead` begins with both. Tells of bad escapes

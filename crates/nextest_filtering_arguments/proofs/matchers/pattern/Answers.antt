@@ -1,7 +1,10 @@
 use Rattle.std.proofs.Common.{Err, ap, ◌∙◌}
 use Rattle.nextest_filtering_trees.specs.declared.pattern.PatternError.{PatternError}
-use Rattle.nextest_filtering_arguments.proofs.Arguments.{pattern_found, pattern_refused}
+use Rattle.nextest_filtering_arguments.proofs.Arguments.{pattern_found, pattern_refused, pattern_unclosed}
 use Rattle.nextest_filtering_arguments.proofs.matchers.pattern.Goals as goal
+
+pub returns-in_default-clause-finds : goal.returns-in_default-clause-finds
+returns-in_default-clause-finds c = pattern_unclosed _ _ _ c.in_default.ensures.none c.in_ok-report.ensures.ok
 
 pub returns-in-Ok-clause-finds : goal.returns-in-Ok-clause-finds
 returns-in-Ok-clause-finds c =

@@ -1,5 +1,8 @@
-use Rattle.nextest_filtering_arguments.proofs.Reading.{good_meant, bad_meant}
+use Rattle.nextest_filtering_arguments.proofs.Reading.{empty_meant, good_meant, bad_meant}
 use Rattle.nextest_filtering_arguments.proofs.text.meaning_of.Goals as goal
+
+pub returns-then-is_empty-clause-meant : goal.returns-then-is_empty-clause-meant
+returns-then-is_empty-clause-meant c = empty_meant _ _ _ _ _ c.is_empty.ensures c.if-is_empty.true c.in_ok-report.ensures.ok
 
 pub returns-then-is_empty-2-clause-meant : goal.returns-then-is_empty-2-clause-meant
 returns-then-is_empty-2-clause-meant c =

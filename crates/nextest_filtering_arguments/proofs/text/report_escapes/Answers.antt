@@ -1,16 +1,14 @@
-use Rattle.std.proofs.Common.{List, ℕ, sym, subst}
-use Rattle.nextest_filtering_arguments.specs.Faults.{IsSuffix}
-use Rattle.nextest_filtering_arguments.proofs.Escapes.{span_at, spans_ahead, escape_inside, escape_told}
+use Rattle.std.proofs.Common.{sym, subst}
+use Rattle.std.specs.List.{AllByRecursion}
+use Rattle.std.proofs.lemmas.Result.{on_ok_weaker}
+use Rattle.nextest_filtering_texts.specs.Spans.{IsSpanOf}
+use Rattle.nextest_filtering_arguments.proofs.Escapes.{looked_at, spans_ahead}
 use Rattle.nextest_filtering_arguments.proofs.text.report_escapes.Goals as goal
 
-pub span_within-place-requires : goal.span_within-place-requires
-span_within-place-requires c = record {
-  suffix = subst (λ (l : List ℕ). IsSuffix c.args.ahead.now l) (sym c.loop-span.invariant.0) c.requires.suffix;
-  inside = escape_inside _ _ (span_at _ _ _ _ _ c.as_slice-span-items.ensures (spans_ahead _ _ _ _ c.requires.front c.in_ok-read.ensures.read) c.loop-span-test.true);
-}
+pub report_spans-requires-clause-spans : goal.report_spans-requires-clause-spans
+report_spans-requires-clause-spans c =
+    subst (AllByRecursion (IsSpanOf c.args.ahead.now)) (sym c.as_slice.ensures) (spans_ahead _ _ _ _ c.requires.front c.in_ok-read.ensures.read)
 
-pub report-requires : goal.report-requires
-report-requires c = record {
-  fault = escape_told _ _ _ _ c.span_within-place.ensures (subst (λ (l : List ℕ). IsSuffix c.args.ahead.now l) (sym c.loop-span.invariant.0) c.requires.suffix)
-      (span_at _ _ _ _ record { offset = 0; length = 0 } c.as_slice-span-items.ensures (spans_ahead _ _ _ _ c.requires.front c.in_ok-read.ensures.read) c.loop-span-test.true);
-}
+pub returns-clause-told : goal.returns-clause-told
+returns-clause-told c =
+    on_ok_weaker c.report_spans.result (looked_at _ _ _ _ _ _ c.as_slice.ensures c.in_ok-read.ensures.text) c.report_spans.ensures.told
