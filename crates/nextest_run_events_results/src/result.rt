@@ -172,6 +172,42 @@ impl fmt::Display for StatusDigits {
     }
 }
 
+// What is printed of a signal behind its number.
+#[derive(Clone, Copy)]
+struct SignalSuffix<'a>(&'a Option<Text>);
+
+impl fmt::Display for SignalSuffix<'_> {
+    ghost use Rattle.std.specs.Prelude.{Some};
+    ghost use Rattle.nextest_run_events_results.specs.Texts.{signal_suffix};
+
+    ghost output = { λ it. Some (signal_suffix it.0.now) };
+
+    fn fmt<W: fmt::Write>(&self, f: &mut fmt::Formatter<W>) -> fmt::Result {
+        match self.0 {
+            Some(name) => write!(f, " (SIG{name})"),
+            None => Ok(()),
+        }
+    }
+}
+
+// What is printed of a status behind its code.
+#[derive(Clone, Copy)]
+struct StatusSuffix<'a>(&'a Option<Text>);
+
+impl fmt::Display for StatusSuffix<'_> {
+    ghost use Rattle.std.specs.Prelude.{Some};
+    ghost use Rattle.nextest_run_events_results.specs.Texts.{status_suffix};
+
+    ghost output = { λ it. Some (status_suffix it.0.now) };
+
+    fn fmt<W: fmt::Write>(&self, f: &mut fmt::Formatter<W>) -> fmt::Result {
+        match self.0 {
+            Some(message) => write!(f, ": {message}"),
+            None => Ok(()),
+        }
+    }
+}
+
 impl fmt::Display for AbortDescription {
     ghost use Rattle.std.specs.Prelude.{Some};
     ghost use Rattle.nextest_run_events_results.specs.Texts.{text_of_abort};
@@ -181,20 +217,15 @@ impl fmt::Display for AbortDescription {
     fn fmt<W: fmt::Write>(&self, f: &mut fmt::Formatter<W>) -> fmt::Result {
         match self {
             AbortDescription::UnixSignal { signal, name } => {
-                write!(f, "aborted with signal {signal}")?;
-                match name {
-                    Some(name) => write!(f, " (SIG{name})"),
-                    None => Ok(()),
-                }
+                write!(f, "aborted with signal {signal}{}", SignalSuffix(name))
             }
-            AbortDescription::WindowsNtStatus { code, message } => {
-                write!(f, "aborted with code 0x{}", StatusDigits(*code))?;
-                match message {
-                    Some(message) => write!(f, ": {message}"),
-                    None => Ok(()),
-                }
-            }
-            AbortDescription::WindowsJobObject => write!(f, "terminated via job object"),
+            AbortDescription::WindowsNtStatus { code, message } => write!(
+                f,
+                "aborted with code 0x{}{}",
+                StatusDigits(*code),
+                StatusSuffix(message)
+            ),
+            AbortDescription::WindowsJobObject => f.write_str("terminated via job object"),
         }
     }
 }
