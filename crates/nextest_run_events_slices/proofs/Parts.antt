@@ -3,10 +3,13 @@ use Rattle.std.proofs.Common.{◌≡◌, ◌+◌, ◌-◌, ◌≤◌, ℕ, Bool,
 use Rattle.std.specs.List.{Contains, concat}
 use Rattle.std.proofs.lemmas.List.{append-nil, take_at, drop_at, drop_more}
 use Rattle.std.proofs.lemmas.List.Elements.{All-contains, Contains-push}
+use Rattle.std.specs.Char.{is_whitespace}
+use Rattle.bstr.specs.Trim.{trim_end_by}
 use Rattle.bstr.specs.Text.{lines_of, no_cr, without_terminator}
 use Rattle.nextest_run_events_slices.specs.Notes.{IsNote}
 use Rattle.nextest_run_events_slices.specs.Places.{Span, IsPanic, IsLastPanic, IsPanicStart}
-use Rattle.nextest_run_events_slices.specs.Slices.{HasNoPanic}
+use Rattle.nextest_run_events_slices.specs.Slices.{HasNoPanic, IsPartFrom, IsPartOf}
+use Rattle.nextest_run_events_slices.specs.declared.slices.ByteSubslice.{ByteSubslice}
 use Rattle.nextest_run_events_slices.proofs.NoteLines.{split_lines}
 use Rattle.nextest_run_events_slices.proofs.Taken.{some_bytes}
 
@@ -70,3 +73,11 @@ note_within output place text is =
     let front : IsFront text (drop place output) =
     front_then text line (drop place output) (subst (λ t. IsFront t line) (sym is.reads) (front_line line)) (concat (drop (is.number + 1) lines), ahead ∙ next) in
     sym (ap (take (length text)) front.1 ∙ take_at text front.0 (length text) refl)
+
+-- a part of an output from a place on, without white space at its end
+pub part_within : (output : List ℕ) (start : ℕ) (part : ByteSubslice) → IsPartFrom output start part → IsPartOf output part
+part_within output start part reads =
+    let whole = drop part.start output in
+    let is : part.slice.now ≡ trim_end_by is_whitespace whole = reads.1 ∙ ap (λ n. trim_end_by is_whitespace (drop n output)) (sym reads.0) in
+    let front : IsFront part.slice.now whole = subst (λ t. IsFront t whole) (sym is) (front_take _ whole) in
+    sym (ap (take (length part.slice.now)) front.1 ∙ take_at part.slice.now front.0 (length part.slice.now) refl)
