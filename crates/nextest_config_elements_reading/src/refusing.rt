@@ -68,15 +68,14 @@ fn bad_value(
 fn told(alloc: Global, found: Option<&Value>) -> Result<Text, AllocError>
     ensures { IfOk result (λ text. IsTold (option_map (λ it. view it.now) found.entry) text) }
 {
-    let text = match found {
-        None => String::from_str(alloc, "nothing")?,
-        Some(Value::String(text)) => format!(in alloc; "{text:?}")?,
-        Some(Value::Integer(number)) => format!(in alloc; "{number}")?,
-        Some(Value::Boolean(truth)) => format!(in alloc; "{truth}")?,
-        Some(Value::Float(_)) => String::from_str(alloc, "a float")?,
-        Some(Value::Datetime(_)) => String::from_str(alloc, "a date or time")?,
-        Some(Value::Array(_)) => String::from_str(alloc, "an array")?,
-        Some(Value::Table(_)) => String::from_str(alloc, "a table")?,
-    };
-    Ok(Text::from(text))
+    match found {
+        None => Text::from_str(alloc, "nothing"),
+        Some(Value::String(text)) => Ok(Text::from(format!(in alloc; "{text:?}")?)),
+        Some(Value::Integer(number)) => Ok(Text::from(format!(in alloc; "{number}")?)),
+        Some(Value::Boolean(truth)) => Ok(Text::from(format!(in alloc; "{truth}")?)),
+        Some(Value::Float(_)) => Text::from_str(alloc, "a float"),
+        Some(Value::Datetime(_)) => Text::from_str(alloc, "a date or time"),
+        Some(Value::Array(_)) => Text::from_str(alloc, "an array"),
+        Some(Value::Table(_)) => Text::from_str(alloc, "a table"),
+    }
 }
