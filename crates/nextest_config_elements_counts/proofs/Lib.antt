@@ -1,4 +1,5 @@
 pub mod Fronts
+pub mod Halves
 pub mod Meanings
 pub mod Nanos
 pub mod Numbers

@@ -1,8 +1,8 @@
 // The units of durations.
-ghost use Rattle.std.specs.Prelude.{◌≡◌, nat_eq};
+ghost use Rattle.std.specs.Prelude.{◌≡◌, nat_eq, take, drop};
 ghost use Rattle.std.specs.Cmp.Lexicographic.{pointwise};
 ghost use Rattle.std.specs.List.{list_any};
-ghost use Rattle.nextest_config_elements_counts.specs.Duration.{unit_nanos};
+ghost use Rattle.nextest_config_elements_counts.specs.Duration.{look_up, unit_nanos, units};
 
 // Whether a word is a name.
 fn is_name(name: &str, word: &[u8]) -> bool
@@ -19,9 +19,19 @@ fn is_among(names: &[&str], word: &[u8]) -> bool
 }
 
 // The nanoseconds of the unit that a word names.
-#[tactic(auto, unfolding(crate::specs::Duration::units))]
 pub(crate) fn unit_nanos(word: &[u8]) -> Option<u64>
     ensures { result ≡ unit_nanos word.now }
+{
+    if let Some(nanos) = short_unit_nanos(word) {
+        return Some(nanos);
+    }
+    long_unit_nanos(word)
+}
+
+// Those of a unit up to the minute.
+#[tactic(auto, unfolding(crate::specs::Duration::units))]
+fn short_unit_nanos(word: &[u8]) -> Option<u64>
+    ensures { result ≡ look_up (take 5 units) word.now }
 {
     if is_among(&["ns", "nsec", "nanos"], word) {
         return Some(1);
@@ -38,6 +48,14 @@ pub(crate) fn unit_nanos(word: &[u8]) -> Option<u64>
     if is_among(&["m", "min", "mins", "minute", "minutes"], word) {
         return Some(60_000_000_000);
     }
+    None
+}
+
+// Those of a unit from the hour on.
+#[tactic(auto, unfolding(crate::specs::Duration::units))]
+fn long_unit_nanos(word: &[u8]) -> Option<u64>
+    ensures { result ≡ look_up (drop 5 units) word.now }
+{
     if is_among(&["h", "hr", "hrs", "hour", "hours"], word) {
         return Some(3_600_000_000_000);
     }
