@@ -1,5 +1,5 @@
 //! The line of an output which says that its test should have panicked.
-ghost use Rattle.std.specs.Prelude.{◌≡◌, MatchOption};
+ghost use Rattle.std.specs.Prelude.{◌≡◌, MatchOption, codes};
 ghost use Rattle.bstr.specs.Text.{no_cr, without_terminator};
 ghost use Rattle.nextest_run_events_slices.specs.Notes.{HasNoNote, IsNote};
 
@@ -28,11 +28,11 @@ fn line_text(line: &[u8]) -> &[u8]
     line
 }
 
-/// The first line that has the note: where it begins, and the line without its end.
-pub fn first_note(output: &[u8]) -> Option<(usize, &[u8])>
+/// The first line in which `note` finds the note: where it begins, and the line without its end.
+fn first_found<'o>(note: &Finder<'_>, output: &'o [u8]) -> Option<(usize, &'o [u8])>
+    requires { note.now ≡ codes "note: test did not panic as expected" }
     ensures { MatchOption result (HasNoNote output.now) (λ found. IsNote output.now found.0 found.1.now) }
 {
-    let note = Finder::new(NOTE);
     let mut start = 0;
     for line in output.lines_with_terminator() {
         let text = line_text(line);
@@ -42,4 +42,12 @@ pub fn first_note(output: &[u8]) -> Option<(usize, &[u8])>
         start += line.len();
     }
     None
+}
+
+/// The first line that has the note: where it begins, and the line without its end.
+pub fn first_note(output: &[u8]) -> Option<(usize, &[u8])>
+    ensures { MatchOption result (HasNoNote output.now) (λ found. IsNote output.now found.0 found.1.now) }
+{
+    let note = Finder::new(NOTE);
+    first_found(&note, output)
 }

@@ -5,15 +5,15 @@ use Rattle.std.proofs.lemmas.List.{length_push}
 use Rattle.bstr.specs.Text.{Contains, lines_of}
 use Rattle.nextest_run_events_slices.specs.Notes.{HasNote}
 use Rattle.nextest_run_events_slices.proofs.NoteLines.{onward, bounded, none_more, found, has_found, has_not_found}
-use Rattle.nextest_run_events_slices.proofs.notes.first_note.Goals as goal
+use Rattle.nextest_run_events_slices.proofs.notes.first_found.Goals as goal
 
 pub returns-then-is_some : goal.returns-then-is_some
 returns-then-is_some c =
     let output = c.args.output.now in
     let turn = YieldsList-turn (YieldsList-from_first (λ x. x.now) (λ rest. rest) (lines_of output) cc) c.loop-line.yielded _ c.loop-line.yielded_by _ _ c.in-Some.line c.in-Some.is c.next.ensures.steps in
     found output (length c.loop-line.yielded) c.loop-line.start c.in-Some.line.now turn.0 turn.1 c.loop-line.invariant.0 c.loop-line.invariant.1 c.line_text-text.result.now c.line_text-text.ensures
-    (subst (Contains c.line_text-text.result.now) c.new-note.ensures
-    (has_found c.line_text-text.result.now c.new-note.result c.find.result c.find.ensures (sym c.is_some.ensures ∙ c.if-is_some.true)))
+    (subst (Contains c.line_text-text.result.now) c.requires
+    (has_found c.line_text-text.result.now c.args.note.now c.find.result c.find.ensures (sym c.is_some.ensures ∙ c.if-is_some.true)))
 
 pub overflow_add-start : goal.overflow_add-start
 overflow_add-start c =
@@ -31,8 +31,8 @@ loop-line-preserved c =
       onward output n c.loop-line.start c.in-Some.line.now turn.0 turn.1 c.loop-line.invariant.0,
       none_more output n c.loop-line.start c.in-Some.line.now turn.0 turn.1 c.loop-line.invariant.0 c.loop-line.invariant.1
           (subst (λ l. ¬ (Contains l (codes "note: test did not panic as expected"))) c.line_text-text.ensures
-          (subst (λ needle. ¬ (Contains c.line_text-text.result.now needle)) c.new-note.ensures
-          (has_not_found c.line_text-text.result.now c.new-note.result c.find.result c.find.ensures (sym c.is_some.ensures ∙ c.if-is_some.false)))),
+          (subst (λ needle. ¬ (Contains c.line_text-text.result.now needle)) c.requires
+          (has_not_found c.line_text-text.result.now c.args.note.now c.find.result c.find.ensures (sym c.is_some.ensures ∙ c.if-is_some.false)))),
     )
 
 pub returns : goal.returns

@@ -2,7 +2,7 @@ use Rattle.std.proofs.Common.{◌≡◌, ◌<◌, ℕ, length, take}
 use Rattle.std.specs.List.{concat}
 use Rattle.bstr.specs.Text.{lines_of}
 use Rattle.nextest_run_events_slices.specs.Notes.{HasNote}
-use Rattle.nextest_run_events_slices.proofs.notes.first_note.Given as goal
+use Rattle.nextest_run_events_slices.proofs.notes.first_found.Given as goal
 
 abbrev pub invariant-loop-line : goal.invariant-loop-line
 invariant-loop-line l =
