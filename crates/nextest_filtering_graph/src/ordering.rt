@@ -15,25 +15,48 @@ pub(crate) fn steps(
     count: usize,
     links: &[(usize, usize)],
 ) -> Result<Vec<(usize, usize)>, AllocError> {
-    let ends = ends_of(alloc, count, links)?;
-    let starts = starts_of(alloc, count, links)?;
+    let ends = ends_of(alloc, count, links, false)?;
+    let against = searched_against(alloc, count, links, ends.as_slice())?;
+    steps_of(alloc, ends.as_slice(), &against)
+}
+
+// The search against the links, begun with the places that a search along them left last.
+fn searched_against(
+    alloc: Global,
+    count: usize,
+    links: &[(usize, usize)],
+    ends: &[Vec<usize>],
+) -> Result<Search, AllocError> {
     let places = all_places(alloc, count)?;
-    let along = search_lists(alloc, ends.as_slice(), places.as_slice())?;
-    let last_left = reversed(alloc, along.left.as_slice())?;
-    let against = search_lists(alloc, starts.as_slice(), last_left.as_slice())?;
-    let heads_first = reversed(alloc, against.left.as_slice())?;
-    let heads = heads_of(alloc, count, heads_first.as_slice(), &against)?;
-    let again = search_lists(alloc, ends.as_slice(), heads_first.as_slice())?;
+    let along = search_lists(alloc, ends, places.as_slice())?;
+    let starts = ends_of(alloc, count, links, true)?;
+    search_lists(alloc, starts.as_slice(), along.left.as_slice())
+}
+
+// The steps to the heads of the groups that a search against the links found, and from them back to the others.
+fn steps_of(
+    alloc: Global,
+    ends: &[Vec<usize>],
+    against: &Search,
+) -> Result<Vec<(usize, usize)>, AllocError> {
     let mut steps = Vec::new(alloc);
-    push_parents(&mut steps, heads_first.as_slice(), &against)?;
-    push_ends(
-        &mut steps,
-        again.left.as_slice(),
-        ends.as_slice(),
-        heads.as_slice(),
-    )?;
-    push_parents(&mut steps, heads_first.as_slice(), &against)?;
+    push_parents(&mut steps, against)?;
+    push_along(alloc, &mut steps, ends, against)?;
+    push_parents(&mut steps, against)?;
     Ok(steps)
+}
+
+// Steps along the links, from the places in the order in which a search along them, begun with the heads, left them.
+fn push_along(
+    alloc: Global,
+    steps: &mut Vec<(usize, usize)>,
+    ends: &[Vec<usize>],
+    against: &Search,
+) -> Result<(), AllocError> {
+    let heads = heads_of(alloc, ends.len(), against)?;
+    let mut again = search_lists(alloc, ends, against.left.as_slice())?;
+    again.left.reverse();
+    push_ends(steps, again.left.as_slice(), ends, heads.as_slice())
 }
 
 // Empty lists, one for each place.
@@ -45,31 +68,22 @@ fn empty_lists(alloc: Global, count: usize) -> Result<Vec<Vec<usize>>, AllocErro
     Ok(lists)
 }
 
-// For each place the ends of the links from it.
+// For each place the ends of the links from it, or against them the starts of the links to it.
 fn ends_of(
     alloc: Global,
     count: usize,
     links: &[(usize, usize)],
+    is_against: bool,
 ) -> Result<Vec<Vec<usize>>, AllocError> {
     let mut lists = empty_lists(alloc, count)?;
     for (from, to) in links {
-        if let Some(list) = lists.get_mut(*from) {
-            list.push(*to)?;
-        }
-    }
-    Ok(lists)
-}
-
-// For each place the starts of the links to it.
-fn starts_of(
-    alloc: Global,
-    count: usize,
-    links: &[(usize, usize)],
-) -> Result<Vec<Vec<usize>>, AllocError> {
-    let mut lists = empty_lists(alloc, count)?;
-    for (from, to) in links {
-        if let Some(list) = lists.get_mut(*to) {
-            list.push(*from)?;
+        let (place, end) = if is_against {
+            (*to, *from)
+        } else {
+            (*from, *to)
+        };
+        if let Some(list) = lists.get_mut(place) {
+            list.push(end)?;
         }
     }
     Ok(lists)
@@ -77,18 +91,7 @@ fn starts_of(
 
 // The places from 0 on.
 fn all_places(alloc: Global, count: usize) -> Result<Vec<usize>, AllocError> {
-    let mut places = Vec::with_capacity(alloc, count)?;
-    for place in 0..count {
-        places.push(place)?;
-    }
-    Ok(places)
-}
-
-// The places in the other direction.
-fn reversed(alloc: Global, places: &[usize]) -> Result<Vec<usize>, AllocError> {
-    let mut copy = Vec::from_slice(alloc, places)?;
-    copy.reverse();
-    Ok(copy)
+    (0..count).collect(alloc)
 }
 
 // The place that a search went on to for a place, or the place itself.
@@ -100,14 +103,9 @@ fn at(places: &[usize], place: usize) -> usize {
 }
 
 // For each place the one that the search of its group began with.
-fn heads_of(
-    alloc: Global,
-    count: usize,
-    heads_first: &[usize],
-    against: &Search,
-) -> Result<Vec<usize>, AllocError> {
+fn heads_of(alloc: Global, count: usize, against: &Search) -> Result<Vec<usize>, AllocError> {
     let mut heads = all_places(alloc, count)?;
-    for place in heads_first {
+    for place in against.left.as_slice() {
         let head = at(heads.as_slice(), against.parent(*place));
         if *place < heads.len() {
             heads[*place] = head;
@@ -117,12 +115,8 @@ fn heads_of(
 }
 
 // A step from each place to the one that it was found from.
-fn push_parents(
-    steps: &mut Vec<(usize, usize)>,
-    places: &[usize],
-    found: &Search,
-) -> Result<(), AllocError> {
-    for place in places {
+fn push_parents(steps: &mut Vec<(usize, usize)>, found: &Search) -> Result<(), AllocError> {
+    for place in found.left.as_slice() {
         steps.push((*place, found.parent(*place)))?;
     }
     Ok(())

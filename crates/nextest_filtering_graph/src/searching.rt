@@ -1,7 +1,7 @@
 // Depth-first searches along lists of places. Nothing is promised of what they find: only time hangs on it.
 use std::alloc::{AllocError, Global};
 
-// What a search found: the places in the order in which they were left, and for each the place that it was found from,
+// What a search found: the places, those that were left last first, and for each the place that it was found from,
 // itself where a search began with it.
 pub(crate) struct Search {
     pub(crate) left: Vec<usize>,
@@ -65,6 +65,7 @@ pub(crate) fn search_lists(
     for root in roots {
         walk(alloc, lists, *root, &mut search)?;
     }
+    search.left.reverse();
     Ok(search)
 }
 
