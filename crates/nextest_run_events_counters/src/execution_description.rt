@@ -7,9 +7,10 @@ use nextest_config_elements_plain::{
 };
 use nextest_run_events_outputs::{ExecuteStatus, OutputSpec};
 use nextest_run_events_results::ExecutionResultDescription;
+use std::alloc::AllocError;
 
 /// What the attempts of a test come to.
-#[derive_where(Clone, Copy)]
+#[derive_where(Copy)]
 #[derive_where(Debug; S::ChildOutputDesc)]
 pub enum ExecutionDescription<'a, S: OutputSpec> {
     /// The only attempt was a success.
@@ -35,6 +36,18 @@ pub enum ExecutionDescription<'a, S: OutputSpec> {
         /// The attempts after the first.
         retries: &'a [ExecuteStatus<S>],
     },
+}
+
+impl<S: OutputSpec> Clone for ExecutionDescription<'_, S> {
+    ghost use Rattle.std.specs.Prelude.{⊤};
+
+    ghost is_clone = { λ original copy. copy ≡ original };
+
+    ghost is_infallible = { λ _. ⊤ };
+
+    fn clone(&self) -> Result<Self, AllocError> {
+        Ok(*self)
+    }
 }
 
 impl<'a, S: OutputSpec> ExecutionDescription<'a, S> {
