@@ -3,7 +3,7 @@ ghost use Rattle.std.specs.Prelude.{◌≡◌, ◌++◌, [], ◌∷◌, map, IfO
 ghost use Rattle.toml.specs.Data.{table};
 ghost use Rattle.toml.specs.View.{view, table_view};
 ghost use Rattle.nextest_config_elements_reading.specs.Paths.{texts};
-ghost use Rattle.nextest_config_resolution_tree.specs.Entries.{end_of};
+ghost use Rattle.nextest_config_resolution_tree.specs.Entries.{data_of, end_of};
 ghost use Rattle.nextest_config_resolution_tree.specs.Tree.{along, ends, members_ends, IsSorted, AreSorted};
 
 use crate::entry::{Ending, Entry};
@@ -22,11 +22,9 @@ pub(crate) fn push_table<'a>(
     ensures sorted { IfOk result (λ _. AreSorted (table_view members.now)) }
 {
     if members.is_empty() {
-        let ending = Ending::EmptyTable;
-        return Ok(entries.push(Entry { path, ending })?);
+        return push_entry(entries, path, Ending::EmptyTable);
     }
-    push_members(alloc, entries, path.as_slice(), members)?;
-    Ok(())
+    push_members(alloc, entries, path.as_slice(), members)
 }
 
 // Adds the ends of the members of a table.
@@ -41,29 +39,40 @@ fn push_members<'a>(
     ensures sorted { IfOk result (λ _. AreSorted (table_view members.now)) }
 {
     for (key, member) in members.iter() {
-        push_value(alloc, entries, longer(alloc, path, key.as_str())?, member)?;
+        push_value(alloc, entries, path, key.as_str(), member)?;
     }
     Ok(())
 }
 
-// Adds the ends of a value at a path.
+// Adds the ends of a value at a key behind a path.
 #[cycle(ends)]
 fn push_value<'a>(
     alloc: Global,
     entries: &mut Vec<Entry<'a>>,
-    path: Vec<&'a str>,
+    path: &[&'a str],
+    key: &'a str,
     value: &'a Value,
 ) -> Result<(), AllocError>
-    ensures ends { IfOk result (λ _. map end_of entries.new.items ≡ map end_of entries.old.items ++ map (along (texts path.entry.items)) (ends (view value.now))) }
+    ensures ends { IfOk result (λ _. map end_of entries.new.items ≡ map end_of entries.old.items ++ map (along (texts path.now ++ key.now ∷ [])) (ends (view value.now))) }
     ensures sorted { IfOk result (λ _. IsSorted (view value.now)) }
 {
+    let path = longer(alloc, path, key)?;
     match value {
         Value::Table(table) => push_table(alloc, entries, path, table),
-        _ => {
-            let ending = Ending::Leaf(value);
-            Ok(entries.push(Entry { path, ending })?)
-        }
+        _ => push_entry(entries, path, Ending::Leaf(value)),
     }
+}
+
+// Adds an entry.
+fn push_entry<'a>(
+    entries: &mut Vec<Entry<'a>>,
+    path: Vec<&'a str>,
+    ending: Ending<'a>,
+) -> Result<(), AllocError>
+    ensures { IfOk result (λ _. map end_of entries.new.items ≡ map end_of entries.old.items ++ (texts path.entry.items, data_of ending.entry) ∷ []) }
+{
+    entries.push(Entry { path, ending })?;
+    Ok(())
 }
 
 // A path with one more key.

@@ -16,7 +16,7 @@ push_members-loop-key-preserved t c =
     let all : c.args.members.now.entries ≡ done ++ pair ∷ left = c.loop-key.invariant.1 ∙ ap (λ pairs. done ++ pairs) c.in-Some.ensures.steps in (
       done ++ pair ∷ [],
       all ∙ sym (append_assoc done (pair ∷ []) left),
-      c.in_ok-push_value.ensures.ends ∙ rw (c.in_ok-longer.ensures, c.as_str.ensures.value, c.loop-key.invariant.2)
+      c.in_ok-push_value.ensures.ends ∙ rw (c.as_str.ensures.value, c.loop-key.invariant.2)
           (added (texts c.args.path.now) (map end_of c.args.entries.now.items) done pair),
       sorted_push done pair c.loop-key.invariant.3 c.in_ok-push_value.ensures.sorted,
     )
@@ -30,4 +30,4 @@ push_members-returns-clause-sorted t c =
 pub push_table-returns-clause-ends : goal.push_table-returns-clause-ends
 push_table-returns-clause-ends t c =
     let some : length c.args.members.now.entries ≡ 0 → ⊥ = λ none. false≢true (sym c.if-is_empty.false ∙ c.is_empty.ensures.1 none) in
-    rw (table_ends c.args.members.now.entries some) (rw (c.as_slice.ensures.value) at c.in_ok-push_members.ensures.ends)
+    rw (table_ends c.args.members.now.entries some) (rw (c.as_slice.ensures.value) at c.push_members.ensures.ends)
