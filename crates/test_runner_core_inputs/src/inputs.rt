@@ -2,7 +2,7 @@
 ghost use Rattle.std.specs.Prelude.{◌≡◌, codes};
 ghost use Rattle.nextest_json.specs.Seen.{seen};
 ghost use Rattle.nextest_json.specs.Calls.{Gives};
-ghost use Rattle.test_runner_core_inputs.specs.Calls.{Parses, Reads};
+ghost use Rattle.test_runner_core_inputs.specs.Calls.{IsTold, Parses, Reads};
 ghost use Rattle.test_runner_core_inputs.specs.Given as given;
 ghost use Rattle.test_runner_core_inputs.specs.Reading as read;
 
@@ -78,19 +78,73 @@ impl Form<Inputs> for Inputs {
         if !value.is_object() {
             return Err(Fault::here(alloc).below(Step::Name("workspace")));
         }
-        Ok(Inputs {
+        let first = FirstInputs {
             workspace: required(alloc, value, "workspace")?,
             sources: required(alloc, value, "sources")?,
             current_version: required(alloc, value, "current_version")?,
             profile: profile_of(alloc, value)?,
             mode: defaulted(alloc, value, "mode", NextestRunMode::Test)?,
             host: defaulted(alloc, value, "host", PlatformRecord::empty(alloc))?,
-            target: optional(alloc, value, "target")?,
-            filterset: optional(alloc, value, "filterset")?,
-            ignore_default_filter: defaulted(alloc, value, "ignore_default_filter", false)?,
-            override_version_check: defaulted(alloc, value, "override_version_check", false)?,
-            processors: defaulted(alloc, value, "processors", Positive::one())?.get(),
-            root: defaulted(alloc, value, "root", Text::new(alloc))?,
+        };
+        first.with_more(alloc, value)
+    }
+}
+
+// The inputs up to the host, which stand first in the written order.
+struct FirstInputs {
+    workspace: WorkspaceRecord,
+    sources: Listing<ConfigSource>,
+    current_version: PlainVersion,
+    profile: Text,
+    mode: NextestRunMode,
+    host: PlatformRecord,
+}
+
+impl Drop for FirstInputs {
+    fn drop(self) {
+        let Self {
+            workspace: _,
+            sources: _,
+            current_version: _,
+            profile: _,
+            mode: _,
+            host: _,
+        } = self;
+    }
+}
+
+impl FirstInputs {
+    // The inputs whose first ones these are; those that stand behind them are read.
+    fn with_more(self, alloc: Global, value: &JsonValue<'_, '_>) -> Result<Inputs, Fault>
+        ensures { Gives result (read.inputs_behind self (seen value.now)) }
+    {
+        let target = optional(alloc, value, "target")?;
+        let filterset = optional(alloc, value, "filterset")?;
+        let ignore_default_filter = defaulted(alloc, value, "ignore_default_filter", false)?;
+        let override_version_check = defaulted(alloc, value, "override_version_check", false)?;
+        let processors = defaulted(alloc, value, "processors", Positive::one())?.get();
+        let root = defaulted(alloc, value, "root", Text::new(alloc))?;
+        let Self {
+            workspace,
+            sources,
+            current_version,
+            profile,
+            mode,
+            host,
+        } = self;
+        Ok(Inputs {
+            workspace,
+            sources,
+            current_version,
+            profile,
+            mode,
+            host,
+            target,
+            filterset,
+            ignore_default_filter,
+            override_version_check,
+            processors,
+            root,
         })
     }
 }
@@ -115,13 +169,20 @@ impl Inputs {
     {
         let mut memory = JsonMemory::new(alloc);
         let document = document_of(alloc, bytes, &mut memory)?;
-        match Inputs::from_value(alloc, &document.root()) {
-            Ok(inputs) => Ok(inputs),
-            Err(Fault::At(path)) => Err(InputsError::Refused(InputsRefusal::Field(path.dotted(
-                alloc,
-            )?))),
-            Err(Fault::OutOfMemory) => Err(InputsError::OutOfMemory),
+        told(alloc, Inputs::from_value(alloc, &document.root()))
+    }
+}
+
+// What was read, with the path of a fault as a text.
+fn told(alloc: Global, read: Result<Inputs, Fault>) -> Result<Inputs, InputsError>
+    ensures { IsTold read result }
+{
+    match read {
+        Ok(inputs) => Ok(inputs),
+        Err(Fault::At(path)) => {
+            Err(InputsError::Refused(InputsRefusal::Field(path.dotted(alloc)?)))
         }
+        Err(Fault::OutOfMemory) => Err(InputsError::OutOfMemory),
     }
 }
 
