@@ -19,9 +19,10 @@ use Rattle.test_runner_core_runs.specs.RunPlan.{RunPlan}
 use Rattle.test_runner_core_runs.specs.Runs.{Run}
 use Rattle.test_runner_core_runs.specs.State.{TestState, State, initial, waiting, is_finished, is_finished_mark, failed_weight}
 use Rattle.test_runner_core_runs.specs.Step.{step, with_test, finished_by, stopped_mark, stopped_by, after_attempt, finishes, limited, limit_reason}
-use Rattle.test_runner_core_runs.specs.Finishing.{places_among, finished_at, newly_finished_at, newly_finished, finishing, ended_first, stops_run, is_stopped_mark, is_stopped_at, stopped_places, KeepsReasons}
+use Rattle.test_runner_core_runs.specs.Finishing.{places_among, finished_at, newly_finished_at, newly_finished, finishing, ended_first, stops_run, is_stopped_mark, is_stopped_at, stopped_places, finished_places, KeepsReasons}
 use Rattle.test_runner_core_runs.specs.declared.event.Event.{Event}
 use Rattle.test_runner_core_runs.specs.declared.event.Event.TheVariants as events
+use Rattle.test_runner_core_runs.specs.declared.finished.Finished.{Finished}
 use Rattle.test_runner_core_runs.specs.declared.mark.Mark.{Mark}
 use Rattle.test_runner_core_runs.specs.declared.mark.Mark.TheVariants as marks
 use Rattle.test_runner_core_runs.specs.declared.run_test.RunTest.{RunTest}
@@ -187,10 +188,11 @@ none_newly : (old new : State) → new.tests ≡ old.tests → newly_finished ol
 none_newly old new same =
     filter_none (newly_finished_at old.tests new.tests) (range_with_len 0 (length new.tests)) (λ place. stays old.tests new.tests place (ap (λ (ts : List TestState). slice_get ts place) same))
 
-no_stop : (old new : State) → new.reason ≡ old.reason → stops_run old new ≡ false
+-- whether a step stops the run, by the reasons before it and after it
+pub no_stop : (old new : State) → new.reason ≡ old.reason → stops_run old new ≡ false
 no_stop old new same = ap (λ (o : Option CancelReason). not (is_some old.reason) && is_some o) same ∙ not_and (is_some old.reason)
 
-stop_is : (old new : State) (reason : CancelReason) → old.reason ≡ None → new.reason ≡ Some reason → stops_run old new ≡ true
+pub stop_is : (old new : State) (reason : CancelReason) → old.reason ≡ None → new.reason ≡ Some reason → stops_run old new ≡ true
 stop_is old new reason none some =
     ap (λ (o : Option CancelReason). not (is_some o) && is_some new.reason) none ∙ ap is_some some
 
@@ -371,6 +373,19 @@ finishes_all old new event keeps happens = by_test (stops_run old new) refl
     by_test : (b : Bool) → stops_run old new ≡ b → finishing event old new ≡ ended_first event new ++ cond b (stopped_places new) []
     by_test true e = finishes_stopping old new event keeps happens e
     by_test false e = finishes_going old new event happens e ∙ sym (append-nil (ended_first event new))
+
+-- so an answer that says which attempt's test is over, and whether the run was stopped, says what the step finished
+pub finishes_as : (old new : State) (event : Event) (finished : Finished) → KeepsReasons old → step old event ≡ Ok new
+    → option_map_or (λ place. place ∷ []) finished.ended [] ≡ ended_first event new → finished.stops ≡ stops_run old new
+    → finishing event old new ≡ finished_places finished new
+finishes_as old new event finished keeps happens ended stops =
+    finishes_all old new event keeps happens
+    ∙ ap (λ (first : List ℕ). first ++ cond (stops_run old new) (stopped_places new) []) (sym ended)
+    ∙ ap (λ (b : Bool). option_map_or (λ (place : ℕ). place ∷ []) finished.ended [] ++ cond b (stopped_places new) []) (sym stops)
+
+-- an attempt that starts stops no run
+pub start_stops_none : (old new : State) (place : ℕ) → step old (events.Started place) ≡ Ok new → stops_run old new ≡ false
+start_stops_none old new place happens = no_stop old new (ap (λ (s : State). s.reason) (start_shows old new place happens).is)
 
 -- an attempt whose end stops the run finished its test
 pub stopping_finished : (old new : State) (place : ℕ) (told : Record) → step old (events.Ended place told) ≡ Ok new → stops_run old new ≡ true → finished_at new.tests place ≡ true

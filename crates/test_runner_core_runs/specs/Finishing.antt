@@ -5,6 +5,7 @@ use Rattle.std.specs.Option.{option_map_or}
 use Rattle.test_runner_core_runs.specs.State.{TestState, State, is_finished}
 use Rattle.test_runner_core_runs.specs.declared.event.Event.{Event}
 use Rattle.test_runner_core_runs.specs.declared.event.Event.TheVariants as events
+use Rattle.test_runner_core_runs.specs.declared.finished.Finished.{Finished}
 use Rattle.test_runner_core_runs.specs.declared.mark.Mark.{Mark}
 use Rattle.test_runner_core_runs.specs.declared.mark.Mark.TheVariants as marks
 
@@ -57,6 +58,12 @@ is_stopped_at tests place = option_map_or (λ test. is_stopped_mark test.mark) (
 -- the places of the tests that are over under a reason, in plan order
 abbrev pub stopped_places : State → List ℕ
 stopped_places state = places_among (is_stopped_at state.tests) (length state.tests)
+
+-- the places of the tests that a step finished, as it answers: that of the attempt that ended first, and behind it, where the step
+-- stopped the run, those of the tests that are over under a reason in the state after it
+abbrev pub finished_places : Finished → State → List ℕ
+finished_places finished new =
+    option_map_or (λ place. place ∷ []) finished.ended [] ++ (if finished.stops then stopped_places new else [])
 
 -- where no reason stands, no test is over under one
 abbrev pub KeepsReasons : State → Type 0

@@ -7,6 +7,7 @@
 
 mod decisions;
 mod event;
+mod finished;
 pub mod laws;
 mod mark;
 mod run_test;
@@ -16,6 +17,7 @@ mod step_refusal;
 
 pub use decisions::{end_refusal, start_refusal, stop_refusal};
 pub use event::Event;
+pub use finished::Finished;
 pub use mark::Mark;
 pub use run_test::RunTest;
 pub use script_order::script_refusal;
