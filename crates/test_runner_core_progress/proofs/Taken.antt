@@ -1,5 +1,5 @@
 -- What a step that is taken says, and where it leads.
-use Rattle.std.proofs.Common.{◌≡◌, ℕ, Bool, true, false, cond, ltb, leb, eqb, not, List, ◌++◌, ◌∷◌, [], length, Option, Some, None, option_map, ◌<◌, Result, Ok, Err, refl, sym, ap, ◌∙◌, arith}
+use Rattle.std.proofs.Common.{◌≡◌, ℕ, Bool, true, false, cond, ltb, leb, eqb, not, ◌&&◌, List, ◌++◌, ◌∷◌, [], length, Option, Some, None, option_map, ◌<◌, Result, Ok, Err, refl, sym, ap, ◌∙◌, arith}
 use Rattle.std.specs.Prelude.{slice_get, is_some}
 use Rattle.std.specs.Option.{option_map_or}
 use Rattle.std.proofs.lemmas.Bool.Decides.{nat_tests}
@@ -11,14 +11,19 @@ use Rattle.nextest_run_events_results.specs.declared.cancel_reason.CancelReason.
 use Rattle.nextest_run_events_results.specs.declared.cancel_reason.CancelReason.TheVariants as why
 use Rattle.nextest_run_events_results.specs.declared.record.Record.{Record}
 use Rattle.test_runner_core_runs.specs.State.{TestState, State, failed_weight, is_finished, is_running, is_finished_mark, is_running_mark}
-use Rattle.test_runner_core_runs.specs.Step.{start_of, start_from, started, end_from, attempt_ended, after_attempt, finishes, limit_reason, limited, with_test, script_ended, after_script, stopped, stopped_by}
+use Rattle.test_runner_core_runs.specs.Finishing.{ended_first, finished_at, stops_run}
+use Rattle.test_runner_core_runs.specs.Step.{step, start_of, start_from, started, end_from, attempt_ended, after_attempt, finishes, limit_reason, limited, with_test, script_ended, after_script, stopped, stopped_by}
 use Rattle.nextest_run_events_results.specs.Cancel.{is_inner}
 use Rattle.test_runner_core_runs.specs.Decisions.{Decides, ShowsTest}
 use Rattle.test_runner_core_runs.specs.declared.mark.Mark.{Mark}
 use Rattle.test_runner_core_runs.specs.declared.mark.Mark.TheVariants as marks
+use Rattle.test_runner_core_runs.specs.declared.event.Event.{Event}
 use Rattle.test_runner_core_runs.specs.declared.event.Event.TheVariants as events
+use Rattle.test_runner_core_runs.specs.declared.finished.Finished.{Finished}
 use Rattle.test_runner_core_runs.specs.declared.step_refusal.StepRefusal.TheVariants as refused
+use Rattle.test_runner_core_runs.proofs.Finishing.{finishes_as, no_stop, start_stops_none, stop_is}
 use Rattle.test_runner_core_progress.specs.Parts.{IsStartable, IsRunningAt, ChangesAt}
+use Rattle.test_runner_core_progress.specs.Progress.{TakesStep}
 
 -- a mark that was found is that of a test
 pub shown_test : (state : State) (place : ℕ) (mark : Mark) → Some mark ≡ option_map (λ (t : TestState). t.mark) (slice_get state.tests place) → ShowsTest state place mark
@@ -35,6 +40,41 @@ found_ok f (Some x) e y h = (x, refl, h)
 guard_ok : {Y E : Type 0} (b : Bool) (e : E) (more : Result Y E) (y : Y) → cond b (Err e) more ≡ Ok y → (b ≡ false) × (more ≡ Ok y)
 guard_ok true e more y h = cc
 guard_ok false e more y h = (refl, h)
+
+-- what a step answers that is taken: whether the test of its attempt is over, and whether it stops the run
+pub takes_step : (old new : State) (event : Event) (finished : Finished) → step old event ≡ Ok new
+    → option_map_or (λ place. place ∷ []) finished.ended [] ≡ ended_first event new → finished.stops ≡ stops_run old new → TakesStep old event finished new
+takes_step old new event finished happens ended stops =
+    record { taken = happens; stops = stops; finishes = λ keeps. finishes_as old new event finished keeps happens ended stops }
+
+-- an attempt that starts finishes no test
+pub takes_start : (old new : State) (place : ℕ) → step old (events.Started place) ≡ Ok new → TakesStep old (events.Started place) (record { ended = None; stops = false }) new
+takes_start old new place happens =
+    takes_step old new (events.Started place) (record { ended = None; stops = false }) happens refl (sym (start_stops_none old new place happens))
+
+-- the place of the attempt that ended, where its test is over
+pub ended_is : (state : State) (place : ℕ) (told : Record) (ended : Option ℕ) → ended ≡ cond (finished_at state.tests place) (Some place) None
+    → option_map_or (λ p. p ∷ []) ended [] ≡ ended_first (events.Ended place told) state
+ended_is state place told ended is = ap (λ (o : Option ℕ). option_map_or (λ p. p ∷ []) o []) is ∙ by_test (finished_at state.tests place)
+  where
+    by_test : (b : Bool) → option_map_or (λ p. p ∷ []) (cond b (Some place) None) [] ≡ cond b (place ∷ []) []
+    by_test true = refl
+    by_test false = refl
+
+-- a run that isn't stopped is stopped where a reason is given
+pub stop_given : (old mid : State) (given : Option CancelReason) → old.reason ≡ None → mid.reason ≡ None
+    → stops_run old (option_map_or (λ new. stopped_by new mid) given mid) ≡ is_some given
+stop_given old mid None none same = no_stop old mid (same ∙ sym none)
+stop_given old mid (Some reason) none same = stop_is old (stopped_by reason mid) reason none refl
+
+-- where a reason stands after a step, the step stopped the run if none stood before
+pub stops_unless : (old new : State) (reason : CancelReason) → new.reason ≡ Some reason → not (is_some old.reason) ≡ stops_run old new
+stops_unless old new reason some =
+    by_test (is_some old.reason) ∙ sym (ap (λ (o : Option CancelReason). not (is_some old.reason) && is_some o) some)
+  where
+    by_test : (b : Bool) → not b ≡ (not b && true)
+    by_test true = refl
+    by_test false = refl
 
 -- an attempt that may start
 record Starting (state : State) (place : ℕ) : Type 0 where
@@ -94,14 +134,18 @@ end_leads state place told tests finished it new is_finished =
     ∙ ap (λ (b : Bool). Ok (limited b (with_test state place (after_attempt state it.test told)))) (sym (is_finished it.test it.found))
     ∙ ap (λ (ts : List TestState). Ok (limited finished (record state { tests = ts }))) (sym (new it.test it.found))
 
+no_reason : {X : Type 0} (o : Option X) → is_some o ≡ false → o ≡ None
+no_reason None h = refl
+no_reason (Some x) h = cc
+
 -- a script that may end
 pub script_within : (state : State) (script : ℕ) (told : Record) → Decides state (events.ScriptEnded script told) None
-    → (length state.scripts < state.planned_scripts) × (script_ended state script told ≡ Ok (after_script state told))
+    → (length state.scripts < state.planned_scripts) × (state.reason ≡ None) × (script_ended state script told ≡ Ok (after_script state told))
 script_within state script told taken =
     let known = guard_ok (leb state.planned_scripts script) refused.UnknownScript _ taken.0 taken.1 in
     let free = guard_ok (is_some state.reason) refused.Stopped _ taken.0 known.1 in
     let next = guard_ok (not (eqb script (length state.scripts))) refused.OutOfOrder _ taken.0 free.1 in
-    (grind (arith, nat_tests, known.0, next.0), taken.1 ∙ sym next.1)
+    (grind (arith, nat_tests, known.0, next.0), no_reason state.reason free.0, taken.1 ∙ sym next.1)
 
 -- the state after a script, by why it stops the run
 pub script_leads : (state : State) (told : Record) (failed : Option CancelReason) → failed ≡ cond (is_success told.result) None (Some why.SetupScriptFailure)

@@ -6,6 +6,7 @@ ghost use Rattle.nextest_run_events_results.specs.Cancel.{graver_reason};
 ghost use Rattle.nextest_run_events_results.specs.Result.{is_success};
 ghost use Rattle.nextest_run_events_results.specs.declared.cancel_reason.CancelReason.TheVariants as why;
 ghost use Rattle.test_runner_core_runs.specs.Counters.{counters, status, summary};
+ghost use Rattle.test_runner_core_runs.specs.Finishing.{finished_at};
 ghost use Rattle.test_runner_core_runs.specs.Runs.{is_complete};
 ghost use Rattle.test_runner_core_runs.specs.State.{TestState, initial, is_finished, is_running};
 ghost use Rattle.test_runner_core_runs.specs.Step.{limited, stopped_by};
@@ -26,7 +27,7 @@ use nextest_run_events_results::{CancelReason, Record};
 use std::alloc::{AllocError, Global};
 use std::marker::Model;
 use test_runner_core_runs::{
-    Mark, RunTest, StepRefusal, end_refusal, exit_status, script_refusal, start_refusal,
+    Finished, Mark, RunTest, StepRefusal, end_refusal, exit_status, script_refusal, start_refusal,
     stop_refusal,
 };
 
@@ -111,9 +112,9 @@ impl Progress {
         Ok(())
     }
 
-    /// The attempt of the test at a place that runs ended. Takes no memory. An `Err` says why that can't be, and
-    /// leaves everything as it was.
-    pub fn attempt_finished(&mut self, test: usize, record: Record) -> Result<(), StepRefusal>
+    /// What the step finished: the attempt of the test at a place that runs ended. Takes no memory. An `Err` says why
+    /// that can't be, and leaves everything as it was.
+    pub fn attempt_finished(&mut self, test: usize, record: Record) -> Result<Finished, StepRefusal>
         ensures { Takes self.old (events.Ended test «record») result self.new }
     {
         let Some(mark) = self.tests.mark(test) else {
@@ -122,10 +123,11 @@ impl Progress {
         if let Some(refusal) = end_refusal(mark) {
             return Err(refusal);
         }
+        let was_stopped = self.is_stopped();
         let finished = self.end(test, record);
         let exceeded = self.limit_stop(finished);
         self.stop_for(exceeded);
-        Ok(())
+        Ok(self.finished(test, was_stopped))
     }
 
     // The attempt of the test at a place that runs ended: whether that finishes the test.
@@ -139,9 +141,28 @@ impl Progress {
         finished
     }
 
-    /// The script at a place ended. Takes no memory. An `Err` says why that can't be, and leaves everything as it
-    /// was.
-    pub fn script_finished(&mut self, script: usize, record: Record) -> Result<(), StepRefusal>
+    // What the step finished by which an attempt of the test at a place ended, in a run that was stopped before or not.
+    fn finished(&self, test: usize, was_stopped: bool) -> Finished
+        ensures ended { result.ended ≡ (if finished_at self.now.tests test then Some test else None) }
+        ensures stops { result.stops ≡ (not was_stopped && is_some self.now.reason) }
+    {
+        let ended = match self.tests.mark(test) {
+            Some(Mark::Finished(_)) => Some(test),
+            _ => None,
+        };
+        Finished {
+            ended,
+            stops: !was_stopped && self.is_stopped(),
+        }
+    }
+
+    /// What the step finished: the script at a place ended. Takes no memory. An `Err` says why that can't be, and leaves
+    /// everything as it was.
+    pub fn script_finished(
+        &mut self,
+        script: usize,
+        record: Record,
+    ) -> Result<Finished, StepRefusal>
         ensures { Takes self.old (events.ScriptEnded script «record») result self.new }
     {
         let (planned, ended) = (self.scripts.planned(), self.scripts.ended());
@@ -152,7 +173,10 @@ impl Progress {
         let failed = script_stop(&record);
         self.end_script(record);
         self.stop_for(failed);
-        Ok(())
+        Ok(Finished {
+            ended: None,
+            stops: failed.is_some(),
+        })
     }
 
     // The next script ended.
@@ -165,18 +189,20 @@ impl Progress {
         self.scripts.end(status);
     }
 
-    /// The run was told to stop. Takes no memory. An `Err` says why that can't be, and leaves everything as it was.
-    pub fn stop(&mut self, reason: CancelReason) -> Result<(), StepRefusal>
+    /// What the step finished: the run was told to stop. Takes no memory. An `Err` says why that can't be, and leaves
+    /// everything as it was.
+    pub fn stop(&mut self, reason: CancelReason) -> Result<Finished, StepRefusal>
         ensures { Takes self.old (events.Stopped reason) result self.new }
     {
         if let Some(refusal) = stop_refusal(reason) {
             return Err(refusal);
         }
+        let stops = !self.is_stopped();
         match self.stats.cancel_reason {
             Some(old) => self.stats.cancel_reason = Some(graver(old, reason)),
             None => self.stop_for(Some(reason)),
         }
-        Ok(())
+        Ok(Finished { ended: None, stops })
     }
 
     // The run is stopped by a reason, if there is one.

@@ -1,10 +1,12 @@
-use Rattle.std.proofs.Common.{◌≡◌, Ok, ap, sym, subst, ◌∙◌}
+use Rattle.std.proofs.Common.{◌≡◌, Bool, not, ◌&&◌, Ok, ap, sym, subst, ◌∙◌}
+use Rattle.std.specs.Prelude.{is_some}
 use Rattle.test_runner_core_runs.specs.State.{State}
 use Rattle.test_runner_core_runs.specs.Step.{attempt_ended, limited}
 use Rattle.test_runner_core_progress.specs.Parts.{IsRunningAt}
 use Rattle.test_runner_core_progress.specs.Progress.{EndsAttempt}
 use Rattle.test_runner_core_progress.specs.contracts.progress.Progress.{the_view}
-use Rattle.test_runner_core_progress.proofs.Taken.{running_at, end_leads, shown_test}
+use Rattle.test_runner_core_runs.specs.declared.event.Event.TheVariants as events
+use Rattle.test_runner_core_progress.proofs.Taken.{ended_is, running_at, end_leads, shown_test, takes_step}
 use Rattle.test_runner_core_progress.proofs.progress.Progress.attempt_finished.Goals as goal
 
 pub end-finished-requires : goal.end-finished-requires
@@ -21,7 +23,12 @@ returns c =
     running_at state c.args.test c.args.record
     (c.in_default-end_refusal.ensures state c.args.test c.args.record (shown_test state c.args.test c.in-Some.mark c.in-Some.ensures)) in
     let ends = subst (λ (s : State). EndsAttempt s c.args.test c.args.record c.end-finished.result c.end-finished.new.self) (sym c.self.view_is) c.end-finished.ensures in
-    subst (λ (s : State). attempt_ended s c.args.test c.args.record ≡ Ok c.stop_for.new.self) c.self.view_is
+    let new = c.stop_for.new.self in
+    let taken =
+    subst (λ (s : State). attempt_ended s c.args.test c.args.record ≡ Ok new) c.self.view_is
     (end_leads state c.args.test c.args.record c.end-finished.new.self.tests c.end-finished.result it ends.test ends.is_finished
     ∙ ap (λ (s : State). Ok (limited c.end-finished.result s)) (sym ends.rest)
-    ∙ ap (λ (s : State). Ok s) (c.limit_stop-exceeded.ensures ∙ sym c.stop_for.ensures))
+    ∙ ap (λ (s : State). Ok s) (c.limit_stop-exceeded.ensures ∙ sym c.stop_for.ensures)) in
+    takes_step c.args.self.now new (events.Ended c.args.test c.args.record) c.finished.result taken
+    (ended_is new c.args.test c.args.record c.finished.result.ended c.finished.ensures.ended)
+    (c.finished.ensures.stops ∙ ap (λ (b : Bool). not b && is_some new.reason) c.is_stopped-was_stopped.ensures)
