@@ -16,7 +16,7 @@ use std::alloc::{AllocError, Global};
 use std::marker::Model;
 use test_runner_core_plan::{Plan, PlanTest};
 use test_runner_core_progress::{Progress, StartFault};
-use test_runner_core_runs::{Mark, RunTest, StepRefusal};
+use test_runner_core_runs::{Finished, Mark, RunTest, StepRefusal};
 
 /// How far a test is, and what is planned of it.
 #[derive(Clone, Copy)]
@@ -89,13 +89,13 @@ impl<'a> Session<'a> {
         self.progress.start(place)
     }
 
-    /// The attempt of a test that runs ended. Takes no memory. An `Err` says why that can't be, and leaves everything as
-    /// it was.
+    /// What the step finished: the attempt of a test that runs ended. Takes no memory. An `Err` says why that can't be,
+    /// and leaves everything as it was.
     pub fn attempt_finished(
         &mut self,
         test: TestInstanceId<'_>,
         record: Record,
-    ) -> Result<(), StepRefusal>
+    ) -> Result<Finished, StepRefusal>
         ensures plan { self.new.plan ≡ self.old.plan }
         ensures step { Takes self.old.run (events.Ended (place_in self.old.plan test.entry.binary_id.now test.entry.test_name.now) «record») result self.new.run }
     {
@@ -103,8 +103,9 @@ impl<'a> Session<'a> {
         self.progress.attempt_finished(place, record)
     }
 
-    /// A script ended. Takes no memory. An `Err` says why that can't be, and leaves everything as it was.
-    pub fn script_finished(&mut self, id: &str, record: Record) -> Result<(), StepRefusal>
+    /// What the step finished: a script ended. Takes no memory. An `Err` says why that can't be, and leaves everything as
+    /// it was.
+    pub fn script_finished(&mut self, id: &str, record: Record) -> Result<Finished, StepRefusal>
         ensures plan { self.new.plan ≡ self.old.plan }
         ensures step { Takes self.old.run (events.ScriptEnded (script_place self.old.plan.scripts id.now) «record») result self.new.run }
     {
@@ -112,8 +113,9 @@ impl<'a> Session<'a> {
         self.progress.script_finished(place, record)
     }
 
-    /// The run was told to stop. Takes no memory. An `Err` says why that can't be, and leaves everything as it was.
-    pub fn stop(&mut self, reason: CancelReason) -> Result<(), StepRefusal>
+    /// What the step finished: the run was told to stop. Takes no memory. An `Err` says why that can't be, and leaves
+    /// everything as it was.
+    pub fn stop(&mut self, reason: CancelReason) -> Result<Finished, StepRefusal>
         ensures plan { self.new.plan ≡ self.old.plan }
         ensures step { Takes self.old.run (events.Stopped reason) result self.new.run }
     {
