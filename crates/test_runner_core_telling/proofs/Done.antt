@@ -1,15 +1,17 @@
--- Tests that a step finishes, told one after another.
-use Rattle.std.proofs.Common.{◌≡◌, ℕ, zero, suc, ◌+◌, ◌-◌, ◌≤◌, Bool, cond, not, ◌&&◌, List, [], ◌∷◌, ◌++◌, length, Option, refl, sym, ap, ◌∙◌, subst, arith, append_assoc, append-nil}
-use Rattle.std.specs.Prelude.{is_some}
+-- Tests that a step finished, told one after another.
+use Rattle.std.proofs.Common.{◌≡◌, ℕ, zero, suc, ◌+◌, ◌-◌, ◌≤◌, Bool, true, false, cond, List, [], ◌∷◌, ◌++◌, length, Option, refl, sym, ap, ◌∙◌, subst, inl, inr, arith, append_assoc, append-nil}
+use Rattle.std.specs.Option.{option_map_or}
+use Rattle.std.proofs.lemmas.Bool.{cases_lt}
+use Rattle.std.proofs.lemmas.Option.{slice_get_past}
 use Rattle.test_runner_core_plan.specs.declared.plan.Plan.{Plan}
-use Rattle.test_runner_core_runs.proofs.Finishing.{finishes_all, places_more}
-use Rattle.test_runner_core_runs.specs.Finishing.{ended_first, is_stopped_at, places_among, stopped_places, stops_run}
-use Rattle.test_runner_core_runs.specs.State.{State}
-use Rattle.test_runner_core_runs.specs.declared.event.Event.{Event}
-use Rattle.test_runner_core_runs.specs.declared.event.Event.TheVariants as events
+use Rattle.test_runner_core_runs.proofs.Finishing.{places_more}
+use Rattle.test_runner_core_runs.specs.Finishing.{is_stopped_at, is_stopped_mark, places_among, stopped_places}
+use Rattle.test_runner_core_runs.specs.State.{State, TestState}
 use Rattle.test_runner_core_telling.specs.Parts.{Part}
-use Rattle.test_runner_core_telling.specs.Steps.{Took, all_done, done_at, ended_place, over_at, step_parts}
+use Rattle.test_runner_core_telling.specs.Steps.{all_done, done, done_at}
 use Rattle.test_runner_core_telling.specs.Telling.{TellsAll, TellsFront}
+use Rattle.test_runner_core_telling.specs.declared.final_text.ShownTest.{ShownTest}
+use Rattle.test_runner_core_telling.proofs.Named.{no_test}
 use Rattle.test_runner_core_telling.proofs.Told.{all_then, front_more, front_then}
 
 pub done_append : (plan : Plan) (state : State) (places more : List ℕ) → all_done plan state (places ++ more) ≡ all_done plan state places ++ all_done plan state more
@@ -57,20 +59,44 @@ front_here plan state passes place count before now after waited mid within told
     (front_more (all_done plan state (places_among passes place) ++ all_done plan state (cond (passes place) (place ∷ []) [])) (all_done plan state begun.0) before after waited
     (front_then (all_done plan state (places_among passes place)) (all_done plan state (cond (passes place) (place ∷ []) [])) before now after waited mid told here))
 
--- what a step tells: first of the attempt that ended, then of those that a stop finishes
-first_over : (event : Event) (state : State) → ended_first event state ≡ over_at (ended_place event) state
-first_over (events.ScriptEnded script told) state = refl
-first_over (events.Started test) state = refl
-first_over (events.Ended test told) state = refl
-first_over (events.Stopped reason) state = refl
+-- places of which nothing is told, behind others
+none_behind : (plan : Plan) (state : State) (passes : ℕ → Bool) (few more : ℕ)
+    → ((place : ℕ) → few ≤ place → all_done plan state (cond (passes place) (place ∷ []) []) ≡ [])
+    → all_done plan state (places_among passes (more + few)) ≡ all_done plan state (places_among passes few)
+none_behind plan state passes few zero none =
+    let same : 0 + few ≡ few = omega arith in ap (λ (n : ℕ). all_done plan state (places_among passes n)) same
+none_behind plan state passes few (suc more) none =
+    let next : suc more + few ≡ (more + few) + 1 = omega arith in
+    let behind : few ≤ more + few = omega arith in
+    ap (λ (n : ℕ). all_done plan state (places_among passes n)) next
+    ∙ done_next plan state passes (more + few)
+    ∙ ap (λ (t : List Part). all_done plan state (places_among passes (more + few)) ++ t) (none (more + few) behind)
+    ∙ append-nil (all_done plan state (places_among passes (more + few)))
+    ∙ none_behind plan state passes few more none
 
-pub step_told : (plan : Plan) (event : Event) (old new : State) (ended : Option ℕ) (was_stopped : Bool) → Took plan event old new ended was_stopped
-    → step_parts plan event old new
-    ≡ all_done plan new (over_at ended new) ++ all_done plan new (cond (not was_stopped && is_some new.reason) (places_among (is_stopped_at new.tests) (length plan.tests)) [])
-step_told plan event old new ended was_stopped took =
-    ap (all_done plan new)
-    (finishes_all old new event took.reasons took.taken
-    ∙ ap (λ (first : List ℕ). first ++ cond (stops_run old new) (stopped_places new) []) (first_over event new ∙ ap (λ (o : Option ℕ). over_at o new) (sym took.place))
-    ∙ ap (λ (b : Bool). over_at ended new ++ cond (not b && is_some new.reason) (stopped_places new) []) (sym took.stopped)
-    ∙ ap (λ (n : ℕ). over_at ended new ++ cond (not was_stopped && is_some new.reason) (places_among (is_stopped_at new.tests) n) []) took.tests)
-    ∙ done_append plan new (over_at ended new) (cond (not was_stopped && is_some new.reason) (places_among (is_stopped_at new.tests) (length plan.tests)) [])
+-- nothing is told of a place that the plan doesn't have
+past_plan : (plan : Plan) (state : State) (place : ℕ) → length plan.tests ≤ place → (passes : Bool) → all_done plan state (cond passes (place ∷ []) []) ≡ []
+past_plan plan state place past true =
+    ap (λ (found : Option ShownTest). done found ++ []) (no_test plan plan.tests state.tests place (slice_get_past plan.tests place past))
+past_plan plan state place past false = refl
+
+-- no test that a run doesn't have is over under a reason
+past_run : (plan : Plan) (state : State) (place : ℕ) → length state.tests ≤ place → all_done plan state (cond (is_stopped_at state.tests place) (place ∷ []) []) ≡ []
+past_run plan state place past =
+    ap (λ (found : Option TestState). all_done plan state (cond (option_map_or (λ test. is_stopped_mark test.mark) found false) (place ∷ []) []))
+    (slice_get_past state.tests place past)
+
+-- so of the tests that are over under a reason as much is told by the places of the plan as by those of the run
+pub stopped_told : (plan : Plan) (state : State) → all_done plan state (places_among (is_stopped_at state.tests) (length plan.tests)) ≡ all_done plan state (stopped_places state)
+stopped_told plan state =
+    elim (cases_lt (length plan.tests) (length state.tests)) [
+      | inl less ↦
+          let size : (length state.tests - length plan.tests) + length plan.tests ≡ length state.tests = omega (arith, less) in
+          sym (none_behind plan state (is_stopped_at state.tests) (length plan.tests) (length state.tests - length plan.tests)
+          (λ place past. past_plan plan state place past (is_stopped_at state.tests place)))
+          ∙ ap (λ (n : ℕ). all_done plan state (places_among (is_stopped_at state.tests) n)) size
+      | inr most ↦
+          let size : (length plan.tests - length state.tests) + length state.tests ≡ length plan.tests = omega (arith, most) in
+          ap (λ (n : ℕ). all_done plan state (places_among (is_stopped_at state.tests) n)) (sym size)
+          ∙ none_behind plan state (is_stopped_at state.tests) (length state.tests) (length plan.tests - length state.tests) (past_run plan state)
+    ]

@@ -1,11 +1,10 @@
 -- What a run tells as it goes on: of each step the tests that it finishes.
-use Rattle.std.specs.Prelude.{◌≡◌, ℕ, Bool, length, is_some, if◌then◌else◌, List, [], ◌∷◌, ◌++◌, Option, None, Some, Result, Ok, Err, slice_get}
+use Rattle.std.specs.Prelude.{ℕ, List, [], ◌∷◌, ◌++◌, Option, None, Some, Result, Ok, Err, slice_get}
 use Rattle.test_runner_core_plan.specs.declared.plan.Plan.{Plan}
-use Rattle.test_runner_core_runs.specs.Finishing.{KeepsReasons, finished_at, finishing}
+use Rattle.test_runner_core_runs.specs.Finishing.{finishing}
 use Rattle.test_runner_core_runs.specs.State.{State}
 use Rattle.test_runner_core_runs.specs.Step.{step}
 use Rattle.test_runner_core_runs.specs.declared.event.Event.{Event}
-use Rattle.test_runner_core_runs.specs.declared.event.Event.TheVariants as events
 use Rattle.test_runner_core_runs.specs.declared.step_refusal.StepRefusal.{StepRefusal}
 use Rattle.test_runner_core_telling.specs.Final.{done_part, shown_tests}
 use Rattle.test_runner_core_telling.specs.Parts.{Part}
@@ -37,23 +36,3 @@ abbrev pub progress : Plan → Result State StepRefusal → List Event → List 
 progress plan (Err refusal) events = []
 progress plan (Ok state) [] = []
 progress plan (Ok state) (event ∷ more) = parts_after plan event state (step state event) ++ progress plan (step state event) more
-
--- the place of the attempt that ended
-abbrev pub ended_place : Event → Option ℕ
-ended_place (events.ScriptEnded script told) = None
-ended_place (events.Started test) = None
-ended_place (events.Ended test told) = Some test
-ended_place (events.Stopped reason) = None
-
--- a step of a run of a plan was taken: where an attempt ended, and whether the run was stopped before
-pub record Took (plan : Plan) (event : Event) (old new : State) (ended : Option ℕ) (was_stopped : Bool) : Type 0 where
-  pub reasons : KeepsReasons old
-  pub taken : step old event ≡ Ok new
-  pub tests : length new.tests ≡ length plan.tests
-  pub place : ended ≡ ended_place event
-  pub stopped : was_stopped ≡ is_some old.reason
-
--- the place of an attempt that ended, where its test is over
-abbrev pub over_at : Option ℕ → State → List ℕ
-over_at None state = []
-over_at (Some place) state = if finished_at state.tests place then place ∷ [] else []

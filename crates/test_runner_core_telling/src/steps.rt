@@ -1,46 +1,31 @@
 // Telling what the steps of a run finish.
-ghost use Rattle.std.specs.Prelude.{◌≡◌, ◌&&◌, ◌^◌, ◌<◌, not, is_some, [], ◌∷◌, length, slice_get, string_bytes, if◌then◌else◌};
-ghost use Rattle.std.specs.Option.{option_map};
-ghost use Rattle.test_runner_core_runs.specs.Finishing.{finished_at, is_stopped_at, places_among};
-ghost use Rattle.test_runner_core_runs.specs.State.{State};
-ghost use Rattle.test_runner_core_runs.specs.declared.event.Event.{Event};
-ghost use Rattle.test_runner_core_telling.specs.Steps.{Took, all_done, done_at, over_at, step_parts};
+ghost use Rattle.std.specs.Prelude.{◌≡◌, ◌^◌, ◌<◌, [], ◌∷◌, slice_get, string_bytes, if◌then◌else◌};
+ghost use Rattle.std.specs.Option.{option_map, option_map_or};
+ghost use Rattle.test_runner_core_runs.specs.Finishing.{finished_places, is_stopped_at, stopped_places};
+ghost use Rattle.test_runner_core_telling.specs.Steps.{all_done, done_at};
 ghost use Rattle.test_runner_core_telling.specs.Telling.{Tells, TellsWrite};
 
 use crate::fault::TellFault;
 use crate::final_text::told_at;
 use crate::telling::tell_done;
-use test_runner_core_runs::Mark;
+use test_runner_core_runs::{Finished, Mark};
 use test_runner_core_session::Session;
 use test_runner_core_streams::ReportWriter;
 
-/// Tells what the step that a run took last finishes, where an attempt ended at a place, if one did, and the run was
-/// stopped before the step or not: the test of that attempt, and then, in the plan's order, those that the stop finishes.
+/// Tells what the step that a run took last finished: the test of its attempt, and then, in the plan's order, those that
+/// its stop finished.
 pub fn tell_step<W: ReportWriter>(
     text: &mut String,
     report: &mut W,
     session: &Session<'_>,
-    ended: Option<usize>,
-    was_stopped: bool,
+    finished: Finished,
 ) -> Result<(), TellFault>
     requires writes_fit { W.failures report.old < 2 ^ 63 }
-    ensures tells { (event : Event) (old : State) → Took session.now.plan event old session.now.run ended was_stopped → Tells result (step_parts session.now.plan event old session.now.run) (W.taken report.old) (string_bytes text.old) (W.taken report.new) (string_bytes text.new) }
+    ensures tells { Tells result (all_done session.now.plan session.now.run (finished_places finished session.now.run)) (W.taken report.old) (string_bytes text.old) (W.taken report.new) (string_bytes text.new) }
     ensures failures { TellsWrite result (W.failures report.old) (W.failures report.new) (W.last_failed report.new) }
 {
-    tell_ended(text, report, session, ended)?;
-    tell_if_stopped(
-        text,
-        report,
-        session,
-        is_newly_stopped(session, was_stopped),
-    )
-}
-
-// Whether the run is stopped, and wasn't before.
-fn is_newly_stopped(session: &Session<'_>, was_stopped: bool) -> bool
-    ensures { result ≡ (not was_stopped && is_some session.now.run.reason) }
-{
-    !was_stopped && session.is_stopped()
+    tell_ended(text, report, session, finished.ended)?;
+    tell_if_stopped(text, report, session, finished.stops)
 }
 
 // Tells the tests that a stop finished, if there was one.
@@ -51,7 +36,7 @@ fn tell_if_stopped<W: ReportWriter>(
     stops: bool,
 ) -> Result<(), TellFault>
     requires writes_fit { W.failures report.old < 2 ^ 63 }
-    ensures tells { Tells result (all_done session.now.plan session.now.run (if stops then places_among (is_stopped_at session.now.run.tests) (length session.now.plan.tests) else [])) (W.taken report.old) (string_bytes text.old) (W.taken report.new) (string_bytes text.new) }
+    ensures tells { Tells result (all_done session.now.plan session.now.run (if stops then stopped_places session.now.run else [])) (W.taken report.old) (string_bytes text.old) (W.taken report.new) (string_bytes text.new) }
     ensures failures { TellsWrite result (W.failures report.old) (W.failures report.new) (W.last_failed report.new) }
 {
     if !stops {
@@ -60,7 +45,7 @@ fn tell_if_stopped<W: ReportWriter>(
     tell_stopped(text, report, session)
 }
 
-// Tells the test of an attempt that ended, where it is over.
+// Tells the test of an attempt that ended, where that finished it.
 fn tell_ended<W: ReportWriter>(
     text: &mut String,
     report: &mut W,
@@ -68,11 +53,11 @@ fn tell_ended<W: ReportWriter>(
     ended: Option<usize>,
 ) -> Result<(), TellFault>
     requires writes_fit { W.failures report.old < 2 ^ 63 }
-    ensures tells { Tells result (all_done session.now.plan session.now.run (over_at ended session.now.run)) (W.taken report.old) (string_bytes text.old) (W.taken report.new) (string_bytes text.new) }
+    ensures tells { Tells result (all_done session.now.plan session.now.run (option_map_or (λ place. place ∷ []) ended [])) (W.taken report.old) (string_bytes text.old) (W.taken report.new) (string_bytes text.new) }
     ensures failures { TellsWrite result (W.failures report.old) (W.failures report.new) (W.last_failed report.new) }
 {
     match ended {
-        Some(place) => tell_if(text, report, session, place, is_over(session, place)),
+        Some(place) => tell_at(text, report, session, place),
         None => Ok(()),
     }
 }
@@ -84,7 +69,7 @@ fn tell_stopped<W: ReportWriter>(
     session: &Session<'_>,
 ) -> Result<(), TellFault>
     requires writes_fit { W.failures report.old < 2 ^ 63 }
-    ensures tells { Tells result (all_done session.now.plan session.now.run (places_among (is_stopped_at session.now.run.tests) (length session.now.plan.tests))) (W.taken report.old) (string_bytes text.old) (W.taken report.new) (string_bytes text.new) }
+    ensures tells { Tells result (all_done session.now.plan session.now.run (stopped_places session.now.run)) (W.taken report.old) (string_bytes text.old) (W.taken report.new) (string_bytes text.new) }
     ensures failures { TellsWrite result (W.failures report.old) (W.failures report.new) (W.last_failed report.new) }
 {
     for place in 0..session.plan().tests.len() {
@@ -135,16 +120,6 @@ fn mark_at(session: &Session<'_>, place: usize) -> Option<Mark>
 {
     let fate = session.fate_at(place)?;
     Some(fate.mark)
-}
-
-// Whether the test at a place is over.
-fn is_over(session: &Session<'_>, place: usize) -> bool
-    ensures { result ≡ finished_at session.now.run.tests place }
-{
-    match mark_at(session, place) {
-        Some(Mark::Finished(_)) => true,
-        _ => false,
-    }
 }
 
 // Whether the test at a place is over under a reason.

@@ -1,9 +1,10 @@
-use Rattle.std.proofs.Common.{◌≡◌, ◌+◌, ◌≤◌, length, string_bytes, ap, ◌∙◌, subst, arith, ℕ, Bool, cond, [], ◌∷◌}
+use Rattle.std.proofs.Common.{◌≡◌, ◌+◌, ◌≤◌, length, string_bytes, ap, ◌∙◌, subst, arith, ℕ, Bool, cond, List, [], ◌∷◌}
 use Rattle.test_runner_core_plan.specs.declared.plan.Plan.{Plan}
 use Rattle.test_runner_core_runs.specs.Finishing.{is_stopped_at, places_among}
+use Rattle.test_runner_core_telling.specs.Parts.{Part}
 use Rattle.test_runner_core_telling.specs.Steps.{all_done}
 use Rattle.test_runner_core_telling.specs.Telling.{TellsAll, TellsFront}
-use Rattle.test_runner_core_telling.proofs.Done.{done_here, front_here}
+use Rattle.test_runner_core_telling.proofs.Done.{done_here, front_here, stopped_told}
 use Rattle.test_runner_core_telling.proofs.Told.{fails}
 use Rattle.test_runner_core_telling.proofs.steps.tell_stopped.Goals as goal
 
@@ -17,8 +18,9 @@ returns-in_err-tell_if-clause-tells g c =
     subst (λ (b : Bool). TellsFront (all_done session.plan session.run (cond b (c.loop-place.place ∷ []) [])) (taken c.loop-place.report) (string_bytes c.loop-place.text) (taken c.tell_if.new.report))
     c.is_stopped_at-stopped.ensures c.in_err-tell_if.ensures.tells in
     fails c.from_residual.result _ _ _ _ _ c.from_residual.ensures.0
+    (subst (λ (parts : List Part). TellsFront parts (taken c.args.report.now) (string_bytes c.args.text.now) (taken c.tell_if.new.report)) (stopped_told session.plan session.run)
     (front_here session.plan session.run (is_stopped_at session.run.tests) c.loop-place.place (length session.plan.tests) (taken c.args.report.now) (taken c.loop-place.report) (taken c.tell_if.new.report)
-    (string_bytes c.args.text.now) (string_bytes c.loop-place.text) within c.loop-place.invariant.told told)
+    (string_bytes c.args.text.now) (string_bytes c.loop-place.text) within c.loop-place.invariant.told told))
 
 pub loop-place-preserved : goal.loop-place-preserved
 loop-place-preserved g c =
@@ -40,5 +42,6 @@ returns-clause-tells g c =
     let count = c.len-place-end.ensures ∙ ap (λ (p : Plan). length p.tests) c.plan.ensures in
     let inside = c.loop-place.auto.place-end in
     let over : c.loop-place.place ≡ length session.plan.tests = omega (arith, count, inside, c.loop-place-test.false) in
-    subst (λ (n : ℕ). TellsAll (all_done session.plan session.run (places_among (is_stopped_at session.run.tests) n)) (taken c.args.report.now) (string_bytes c.args.text.now)
-    (taken c.loop-place.report) (string_bytes c.loop-place.text)) over c.loop-place.invariant.told
+    subst (λ (parts : List Part). TellsAll parts (taken c.args.report.now) (string_bytes c.args.text.now) (taken c.loop-place.report) (string_bytes c.loop-place.text))
+    (ap (λ (n : ℕ). all_done session.plan session.run (places_among (is_stopped_at session.run.tests) n)) over ∙ stopped_told session.plan session.run)
+    c.loop-place.invariant.told
