@@ -1,11 +1,14 @@
 -- How the names of features are read, one by one.
-use Rattle.std.proofs.Common.{◌≡◌, ℕ, ◌+◌, ◌<◌, length, get_or, drop, Bool, true, false, if◌then◌else◌, List, [], ◌∷◌, ◌++◌, None, Ok, Err, String, Global, string_bytes, decimal, refl, sym, ap, ◌∙◌}
-use Rattle.std.proofs.lemmas.List.{append_assoc, drop_more}
+use Rattle.std.proofs.Common.{◌≡◌, ℕ, ◌+◌, ◌<◌, length, get_or, drop, take, Bool, true, false, if◌then◌else◌, List, [], ◌∷◌, ◌++◌, None, Ok, Err, String, Global, string_bytes, decimal, refl, sym, ap, ◌∙◌}
+use Rattle.std.proofs.lemmas.List.{append_assoc, drop_more, take_more}
+use Rattle.std.proofs.lemmas.List.Elements.{filter-append}
+use Rattle.std.specs.Prelude.{is_none}
 use Rattle.toml.specs.Data.{Data, Items, item, Members, member, string, boolean, as_bool, as_str}
 use Rattle.toml.specs.View.{items_view, members_view, view}
 use Rattle.toml.specs.declared.value.Value.{Value}
 use Rattle.nextest_config_elements_reading.specs.Reading.{Reading}
 use Rattle.nextest_config_elements_versions.specs.Demand.{keys_in, names_in}
+use Rattle.nextest_config_elements_versions.specs.Features.{feature_of, unknown_in}
 
 -- names, and then those that are read
 abbrev pub joined : List (List ℕ) → Reading (List (List ℕ)) → Reading (List (List ℕ))
@@ -69,3 +72,13 @@ key_more names told added asked key given ahead more here is says adds =
 pub keys_refused : (name : List ℕ) (given : Data) (names : List (List ℕ)) (more : Members) → as_bool given ≡ None
     → joined names (keys_in (member name given more)) ≡ Err (name ∷ [])
 keys_refused name given names more none = rw none refl
+
+-- one more name, which may be no feature's
+pub unknown_more : (names : List (List ℕ)) (place : ℕ) (name told : List ℕ) (before after : List (List ℕ)) → place < length names
+    → name ≡ get_or names place name → told ≡ name → before ≡ unknown_in (take place names) → after ≡ before ++ unknown_in (told ∷ [])
+    → after ≡ unknown_in (take (place + 1) names)
+unknown_more names place name told before after within is says known adds =
+    let whole : take (place + 1) names ≡ take place names ++ told ∷ [] =
+    take_more names place name within ∙ ap (λ (it : List ℕ). take place names ++ it ∷ []) (sym is ∙ sym says) in
+    adds ∙ ap (λ (it : List (List ℕ)). it ++ unknown_in (told ∷ [])) known
+    ∙ sym (ap unknown_in whole ∙ filter-append (λ (it : List ℕ). is_none (feature_of it)) (take place names) (told ∷ []))

@@ -1,9 +1,10 @@
 // The features that sources ask for.
-ghost use Rattle.std.specs.Prelude.{◌≡◌, ◌++◌, IfOk};
+ghost use Rattle.std.specs.Prelude.{◌≡◌, [], ◌∷◌, ◌++◌, IfOk};
 ghost use Rattle.nextest_config_elements_versions.specs.Features.{unknown_in};
 ghost use Rattle.nextest_config_elements_versions.specs.Sources.{experimental_of, merged_features, no_experimental};
 
-use crate::feature::{ConfigExperimental, FeatureSet, known_in};
+use crate::feature::{ConfigExperimental, FeatureSet, UnknownFeature, known_in};
+use crate::features::push_text;
 use crate::origin::VersionOrigin;
 use nextest_text::{Listing, Text};
 use std::alloc::{AllocError, Global};
@@ -112,9 +113,17 @@ fn unknown_in(alloc: Global, names: &[Text]) -> Result<Listing<Text>, AllocError
 {
     let mut unknown = Listing::new(alloc);
     for name in names {
-        if ConfigExperimental::from_text(name.as_str()).is_err() {
-            unknown.push(name.clone()?)?;
-        }
+        push_unknown(alloc, &mut unknown, name.as_str())?;
     }
     Ok(unknown)
+}
+
+// Adds a name that is no feature's.
+fn push_unknown(alloc: Global, unknown: &mut Listing<Text>, name: &str) -> Result<(), AllocError>
+    ensures { IfOk result (λ _. unknown.new ≡ unknown.old ++ unknown_in (name.now ∷ [])) }
+{
+    match ConfigExperimental::from_text(name) {
+        Ok(_) => Ok(()),
+        Err(UnknownFeature) => push_text(alloc, unknown, name),
+    }
 }

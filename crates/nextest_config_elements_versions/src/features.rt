@@ -85,7 +85,11 @@ fn push_asked(
 }
 
 // Adds a text to a list.
-fn push_text(alloc: Global, texts: &mut Listing<Text>, text: &str) -> Result<(), AllocError>
+pub(crate) fn push_text(
+    alloc: Global,
+    texts: &mut Listing<Text>,
+    text: &str,
+) -> Result<(), AllocError>
     ensures { IfOk result (λ _. texts.new ≡ texts.old ++ text.now ∷ []) }
 {
     texts.push(Text::from_str(alloc, text)?)?;
