@@ -1,4 +1,4 @@
-use Rattle.std.proofs.Common.{◌≡◌, ◌++◌, ℕ, List, ap, ◌∙◌, refl, lit<, rules}
+use Rattle.std.proofs.Common.{◌≡◌, ◌++◌, ℕ, List, ap, ◌∙◌, lit<, rules}
 use Rattle.std.specs.Prelude.{string_bytes, encode_utf8}
 use Rattle.std.proofs.lemmas.Str.Pattern.{split_parts}
 use Rattle.nextest_filtering_texts.specs.declared.escapes.EscapeSpan.{EscapeSpan}
