@@ -3,9 +3,7 @@ use Rattle.std.specs.Prelude.{◌≡◌, ℕ, List, Option, None, Some, Result, 
 use Rattle.serde_json.specs.Data.{Data}
 use Rattle.nextest_json.specs.Documents.{whole}
 use Rattle.nextest_json.specs.declared.document.JsonDocument.{JsonDocument}
-use Rattle.nextest_json.specs.declared.fault.Fault.{Fault}
-use Rattle.nextest_json.specs.declared.fault.Fault.TheVariants as fault
-use Rattle.test_runner_core_inputs.specs.Reading.{dotted, read_inputs}
+use Rattle.test_runner_core_inputs.specs.Reading.{read_inputs}
 use Rattle.test_runner_core_inputs.specs.declared.inputs.Inputs.{Inputs}
 use Rattle.test_runner_core_inputs.specs.declared.inputs_error.InputsError.{InputsError}
 use Rattle.test_runner_core_inputs.specs.declared.inputs_error.InputsError.TheVariants as error
@@ -17,14 +15,6 @@ Parses (Ok document) given = given ≡ Some (whole document)
 Parses (Err (error.Refused refusal.Syntax)) given = given ≡ None
 Parses (Err (error.Refused (refusal.Field path))) given = ⊥
 Parses (Err error.OutOfMemory) given = ⊤
-
--- what was read is handed on, its path as a text; want of memory says nothing
-abbrev pub IsTold : Result Inputs Fault → Result Inputs InputsError → Type 0
-IsTold (Ok inputs) told = told ≡ Ok inputs
-IsTold (Err fault.OutOfMemory) told = told ≡ Err error.OutOfMemory
-IsTold (Err (fault.At path)) (Ok inputs) = ⊥
-IsTold (Err (fault.At path)) (Err (error.Refused refused)) = refused ≡ refusal.Field (dotted path)
-IsTold (Err (fault.At path)) (Err error.OutOfMemory) = ⊤
 
 -- a read gives what the bytes are as inputs; want of memory says nothing
 abbrev pub Reads : List ℕ → Result Inputs InputsError → Type 0

@@ -2,7 +2,7 @@
 ghost use Rattle.std.specs.Prelude.{◌≡◌, codes};
 ghost use Rattle.nextest_json.specs.Seen.{seen};
 ghost use Rattle.nextest_json.specs.Calls.{Gives};
-ghost use Rattle.test_runner_core_inputs.specs.Calls.{IsTold, Parses, Reads};
+ghost use Rattle.test_runner_core_inputs.specs.Calls.{Parses, Reads};
 ghost use Rattle.test_runner_core_inputs.specs.Given as given;
 ghost use Rattle.test_runner_core_inputs.specs.Reading as read;
 
@@ -169,20 +169,13 @@ impl Inputs {
     {
         let mut memory = JsonMemory::new(alloc);
         let document = document_of(alloc, bytes, &mut memory)?;
-        told(alloc, Inputs::from_value(alloc, &document.root()))
-    }
-}
-
-// What was read, with the path of a fault as a text.
-fn told(alloc: Global, read: Result<Inputs, Fault>) -> Result<Inputs, InputsError>
-    ensures { IsTold read result }
-{
-    match read {
-        Ok(inputs) => Ok(inputs),
-        Err(Fault::At(path)) => {
-            Err(InputsError::Refused(InputsRefusal::Field(path.dotted(alloc)?)))
+        match Inputs::from_value(alloc, &document.root()) {
+            Ok(inputs) => Ok(inputs),
+            Err(Fault::At(path)) => Err(InputsError::Refused(InputsRefusal::Field(path.dotted(
+                alloc,
+            )?))),
+            Err(Fault::OutOfMemory) => Err(InputsError::OutOfMemory),
         }
-        Err(Fault::OutOfMemory) => Err(InputsError::OutOfMemory),
     }
 }
 

@@ -65,35 +65,21 @@ impl Form<Inputs> for FactRecord {
 
     fn from_value(alloc: Global, value: &JsonValue<'_, '_>) -> Result<FactRecord, Fault> {
         if has_items(value, 2) {
-            plain_fact(alloc, value)
-        } else if has_items(value, 3) {
-            valued_fact(alloc, value)
-        } else {
-            Err(Fault::here(alloc))
+            return Ok(FactRecord {
+                name: element(alloc, value, 0)?,
+                value: None,
+                holds: element(alloc, value, 1)?,
+            });
         }
+        if !has_items(value, 3) {
+            return Err(Fault::here(alloc));
+        }
+        Ok(FactRecord {
+            name: element(alloc, value, 0)?,
+            value: Some(element(alloc, value, 1)?),
+            holds: element(alloc, value, 2)?,
+        })
     }
-}
-
-// A fact without a value.
-fn plain_fact(alloc: Global, fact: &JsonValue<'_, '_>) -> Result<FactRecord, Fault>
-    ensures { Gives result (read.plain_fact (seen fact.now)) }
-{
-    Ok(FactRecord {
-        name: element(alloc, fact, 0)?,
-        value: None,
-        holds: element(alloc, fact, 1)?,
-    })
-}
-
-// A fact about a value.
-fn valued_fact(alloc: Global, fact: &JsonValue<'_, '_>) -> Result<FactRecord, Fault>
-    ensures { Gives result (read.valued_fact (seen fact.now)) }
-{
-    Ok(FactRecord {
-        name: element(alloc, fact, 0)?,
-        value: Some(element(alloc, fact, 1)?),
-        holds: element(alloc, fact, 2)?,
-    })
 }
 
 impl Form<Inputs> for PlatformRecord {
