@@ -2,7 +2,7 @@ use Rattle.std.proofs.Common.{◌≡◌, ◌<◌, ◌++◌, [], ◌∷◌, ℕ, 
 use Rattle.std.specs.List.{All}
 use Rattle.nextest_config_resolution_inheritance.specs.Inheritance.{Name, Parents, IsChain, default, name_at, names_at}
 use Rattle.nextest_config_resolution_inheritance.specs.Inherits.{parents_in}
-use Rattle.nextest_config_resolution_inheritance.proofs.Climbing.{Climbing, all_inside, arrives, climbs, closer, is_default, is_other}
+use Rattle.nextest_config_resolution_inheritance.proofs.Climbing.{Climbing, all_inside, arrives, climbs, closer, is_default, is_other, sets_out}
 use Rattle.nextest_config_resolution_inheritance.proofs.Found.{length_all, named}
 use Rattle.nextest_config_resolution_inheritance.proofs.chain.chain_of.Goals as goal
 
@@ -58,3 +58,27 @@ returns-clause-within g c =
     let inside : All (λ p. p < length values) chain = λ k d short.
     omega (arith, all_inside all c.args.place c.loop-chain.chain.items c.loop-chain.here c.loop-chain.invariant k d short, length_all name_of parent_of values) in
     subst (λ (chain : List ℕ). All (λ p. p < length values) chain) (sym c.in_ok-push-2.ensures.items) inside
+
+pub place_of_next-here-requires-clause-rise : goal.place_of_next-here-requires-clause-rise
+place_of_next-here-requires-clause-rise g c = c.requires.rise
+
+pub place_of_next-here-requires-clause-has_default : goal.place_of_next-here-requires-clause-has_default
+place_of_next-here-requires-clause-has_default g c = c.requires.has_default
+
+pub place_of_next-here-requires-clause-known : goal.place_of_next-here-requires-clause-known
+place_of_next-here-requires-clause-known g c = c.requires.accepted.known
+
+pub place_of_next-here-requires-clause-here : goal.place_of_next-here-requires-clause-here
+place_of_next-here-requires-clause-here g c =
+    omega (arith, c.loop-chain.invariant.within, length_all g.P.Inherits.name_of g.P.Inherits.parent_of c.args.profiles.now)
+
+pub bounds-profiles-here : goal.bounds-profiles-here
+bounds-profiles-here g c =
+    omega (arith, c.loop-chain.invariant.within, length_all g.P.Inherits.name_of g.P.Inherits.parent_of c.args.profiles.now)
+
+pub loop-chain-init : goal.loop-chain-init
+loop-chain-init g c =
+    let all : Parents = parents_in g.P.Inherits.name_of g.P.Inherits.parent_of c.args.profiles.now in
+    let size = length_all g.P.Inherits.name_of g.P.Inherits.parent_of c.args.profiles.now in
+    subst (λ (chain : List ℕ). Climbing all c.args.place chain c.args.place) (sym c.new-chain.ensures.items)
+    (sets_out all c.args.place (omega (arith, c.requires.place, size)))
