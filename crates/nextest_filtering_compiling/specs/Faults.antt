@@ -9,6 +9,8 @@ use Rattle.nextest_filtering_trees.specs.declared.leaf.SourceSpan.{SourceSpan}
 use Rattle.nextest_filtering_compiling.specs.Bans.{place_of}
 use Rattle.nextest_filtering_compiling.specs.Context.{Context}
 use Rattle.nextest_filtering_compiling.specs.Packages.{IsNamed}
+use Rattle.nextest_filtering_compiling.specs.declared.faults.BinaryPart.{BinaryPart}
+use Rattle.nextest_filtering_compiling.specs.declared.faults.BinaryPart.TheVariants as parts
 use Rattle.nextest_filtering_filters.specs.declared.known_groups.KnownGroups.{KnownGroups}
 use Rattle.nextest_filtering_filters.specs.declared.known_groups.KnownGroups.TheVariants as groups
 
@@ -19,6 +21,11 @@ NoPackage cx m = (place : ℕ) → IsNamed cx.graph m place → ⊥
 -- binaries are known, and none has such an id, or name
 abbrev pub NoBinary : Context → (List ℕ × List ℕ → List ℕ) → Matcher → Type 0
 NoBinary cx part m = (cx.binaries ≢ []) × ((binary : List ℕ × List ℕ) → Contains cx.binaries binary → MatchesName m (part binary) → ⊥)
+
+-- the part of a binary that it is asked for by
+abbrev pub asked_of : BinaryPart → List ℕ × List ℕ → List ℕ
+asked_of parts.Id binary = binary.0
+asked_of parts.Name binary = binary.1
 
 -- the groups are known, and none has such a name; `@global` is always among them
 abbrev pub NoGroup : KnownGroups → Matcher → Type 0

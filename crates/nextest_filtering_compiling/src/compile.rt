@@ -9,7 +9,7 @@ ghost use Rattle.nextest_filtering_compiling.specs.Faults.{Have};
 ghost use Rattle.nextest_filtering_compiling.specs.Leaves.{behind};
 ghost use Rattle.nextest_filtering_filters.specs.declared.known_groups.KnownGroups as groups;
 
-use crate::faults::{lacks_group, lacks_id, lacks_name};
+use crate::faults::{BinaryPart, lacks_binary, lacks_group};
 use crate::packages::{Asks, named_places, packages_asked};
 use crate::parse_context::ParseContext;
 use nextest_filtering_arguments::ParseSingleError;
@@ -58,7 +58,7 @@ fn about_id(
 ) -> Result<Outcome, AllocError>
     ensures { (known : groups.KnownGroups) → IfOk result (IsOutcomeAt cx.now known span (matching binary_id (matcher_of matcher.now))) }
 {
-    if lacks_id(alloc, cx, matcher)? {
+    if lacks_binary(alloc, cx, BinaryPart::Id, matcher)? {
         return Ok(Outcome::Fault(ParseSingleError::NoBinaryIdMatch(span)));
     }
     Ok(Outcome::Leaf(FiltersetLeaf::BinaryId(matcher.clone()?, span)))
@@ -73,7 +73,7 @@ fn about_name(
 ) -> Result<Outcome, AllocError>
     ensures { (known : groups.KnownGroups) → IfOk result (IsOutcomeAt cx.now known span (matching binary_name (matcher_of matcher.now))) }
 {
-    if lacks_name(alloc, cx, matcher)? {
+    if lacks_binary(alloc, cx, BinaryPart::Name, matcher)? {
         return Ok(Outcome::Fault(ParseSingleError::NoBinaryNameMatch(span)));
     }
     Ok(Outcome::Leaf(FiltersetLeaf::Binary(matcher.clone()?, span)))

@@ -3,11 +3,12 @@ use Rattle.std.specs.List.{All}
 use Rattle.nextest_filtering_trees.specs.Matching.{comparison_of, text_of}
 use Rattle.nextest_filtering_trees.specs.Meaning.{MatchesName}
 use Rattle.nextest_filtering_trees.specs.Tree.{matcher_of}
-use Rattle.nextest_filtering_compiling.proofs.faults.lacks_name.Given as goal
+use Rattle.nextest_filtering_compiling.specs.Faults.{asked_of}
+use Rattle.nextest_filtering_compiling.proofs.faults.lacks_binary.Given as goal
 
-abbrev pub invariant-loop-name : goal.invariant-loop-name
-invariant-loop-name l = record {
+abbrev pub invariant-loop-binary : goal.invariant-loop-binary
+invariant-loop-binary l = record {
   comparison : comparison_of l.names ≡ (matcher_of l.matcher).comparison;
   text : text_of l.names ≡ (matcher_of l.matcher).text;
-  none : All (λ it. MatchesName (matcher_of l.matcher) it.1 → ⊥) (take l.name-index l.name-items);
+  none : All (λ it. MatchesName (matcher_of l.matcher) (asked_of l.part it) → ⊥) (take l.binary-index l.binary-items);
 }
