@@ -1,20 +1,19 @@
 -- The course of a run, one line further.
-use Rattle.std.proofs.Common.{◌≡◌, ℕ, List, [], ◌∷◌, ◌++◌, length, Result, Ok, refl, sym, ap, ◌∙◌, inl, inr, append_assoc, append-nil}
-use Rattle.std.proofs.lemmas.List.{length-map}
+use Rattle.std.proofs.Common.{◌≡◌, ℕ, List, [], ◌∷◌, ◌++◌, Result, Ok, refl, sym, ap, ◌∙◌, inl, inr, append_assoc, append-nil}
 use Rattle.test_runner_core_line_syntax.specs.Spelling.{Spells}
 use Rattle.test_runner_core_line_syntax.specs.declared.log_line.LogLine.{LogLine}
 use Rattle.test_runner_core_plan.specs.declared.plan.Plan.{Plan}
-use Rattle.test_runner_core_runs.proofs.Finishing.{keeps_reasons, run_count}
+use Rattle.test_runner_core_runs.proofs.Finishing.{keeps_reasons}
+use Rattle.test_runner_core_runs.specs.Finishing.{KeepsReasons}
 use Rattle.test_runner_core_runs.specs.Runs.{Run}
 use Rattle.test_runner_core_runs.specs.State.{State, initial}
 use Rattle.test_runner_core_runs.specs.Step.{step}
 use Rattle.test_runner_core_runs.specs.declared.event.Event.{Event}
 use Rattle.test_runner_core_runs.specs.declared.step_refusal.StepRefusal.{StepRefusal}
-use Rattle.test_runner_core_session.specs.Session.{SessionState, run_plan, run_test}
+use Rattle.test_runner_core_session.specs.Session.{run_plan}
 use Rattle.test_runner_core_telling.specs.Opening.{opening}
 use Rattle.test_runner_core_telling.specs.Parts.{Part}
 use Rattle.test_runner_core_telling.specs.Steps.{parts_after, progress, step_parts}
-use Rattle.test_runner_core.specs.Inside.{IsReached}
 use Rattle.test_runner_core.specs.Judging.{TellsEvents, event_of}
 use Rattle.test_runner_core.specs.Report.{SoFar}
 
@@ -75,10 +74,6 @@ so_far_more plan front last next parts bytes line so_far spells taken =
           ∙ ap (λ (t : List Part). opening plan ++ t) (sym (progress_more plan (initial (run_plan plan)) so_far.events last next (event_of plan line) so_far.leads.run taken));
     }
 
--- what holds of a session whose run went so far
-pub reached : (session : SessionState) (plan : Plan) (front : List (List ℕ)) (parts : List Part) → session.plan ≡ plan → SoFar plan front session.run parts → IsReached session
-reached session plan front parts same so_far =
-    record {
-      reasons = keeps_reasons (run_plan plan) so_far.events session.run so_far.leads.run;
-      tests = run_count (run_plan plan) so_far.events session.run so_far.leads.run ∙ length-map plan.tests run_test ∙ ap (λ (p : Plan). length p.tests) (sym same);
-    }
+-- in a run that went so far no test is over under a reason before there is one
+pub reached : (plan : Plan) (front : List (List ℕ)) (last : State) (parts : List Part) → SoFar plan front last parts → KeepsReasons last
+reached plan front last parts so_far = keeps_reasons (run_plan plan) so_far.events last so_far.leads.run

@@ -9,12 +9,12 @@ use Rattle.test_runner_core_log_reader.specs.Items.{Item, Line, whole_lines}
 use Rattle.test_runner_core_log_reader.specs.Limits.{log_reads}
 use Rattle.test_runner_core_log_reader.specs.declared.next.Next.{Next}
 use Rattle.test_runner_core_plan.specs.declared.plan.Plan.{Plan}
-use Rattle.test_runner_core_runs.specs.Finishing.{KeepsReasons}
+use Rattle.test_runner_core_progress.specs.Progress.{TakesStep}
 use Rattle.test_runner_core_runs.specs.State.{State}
 use Rattle.test_runner_core_runs.specs.Step.{step}
 use Rattle.test_runner_core_session.specs.Session.{SessionState}
 use Rattle.test_runner_core_telling.specs.Parts.{Part}
-use Rattle.test_runner_core_telling.specs.Steps.{ended_place, step_parts}
+use Rattle.test_runner_core_telling.specs.Steps.{step_parts}
 use Rattle.test_runner_core_telling.specs.Telling.{MovesOn, TellsAll, TellsFront}
 use Rattle.test_runner_core_telling.specs.declared.fault.TellFault.{TellFault}
 use Rattle.test_runner_core.specs.Judging.{Finds, Refuses, event_of}
@@ -27,15 +27,9 @@ use Rattle.test_runner_core.specs.declared.refused_line.LineRefusal.{LineRefusal
 use Rattle.test_runner_core.specs.declared.refused_line.LineRefusal.TheVariants as refused
 use Rattle.test_runner_core.specs.declared.refused_line.RefusedLine.{RefusedLine}
 
--- what holds of a session that took the steps of some events from its beginning on
-pub record IsReached (session : SessionState) : Type 0 where
-  pub reasons : KeepsReasons session.run
-  pub tests : length session.run.tests ≡ length session.plan.tests
-
 -- what the step of a line answers and leaves
 abbrev pub Steps : Step → SessionState → LogLine → SessionState → Type 0
-Steps (it.Taken ended) old line new =
-    (new.plan ≡ old.plan) × (step old.run (event_of old.plan line) ≡ Ok new.run) × (ended ≡ ended_place (event_of old.plan line))
+Steps (it.Taken finished) old line new = (new.plan ≡ old.plan) × TakesStep old.run (event_of old.plan line) finished new.run
 Steps (it.Refused refusal) old line new = (step old.run (event_of old.plan line) ≡ Err refusal) × (new ≡ old)
 
 -- what a line's event does, and what is told of it

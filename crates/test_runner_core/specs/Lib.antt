@@ -121,6 +121,7 @@ pub use Rattle.test_runner_core_planning.specs.declared.plan_fault.PlanFault
 pub use Rattle.test_runner_core_plan.specs.declared.plan_settings.PlanSettings
 pub use Rattle.test_runner_core_plan.specs.declared.plan.PlanTest
 pub use Rattle.test_runner_core_progress.specs.declared.start_fault.StartFault
+pub use Rattle.test_runner_core_runs.specs.declared.finished.Finished
 pub use Rattle.test_runner_core_runs.specs.declared.mark.Mark
 pub use Rattle.test_runner_core_runs.specs.declared.step_refusal.StepRefusal
 pub use Rattle.test_runner_core_session.specs.declared.session.Fate

@@ -1,17 +1,18 @@
 // What one line of a log does to a run.
 ghost use Rattle.std.specs.Prelude.{◌≡◌, ◌^◌, ◌<◌, IfOk, MatchResult, OnErr, string_bytes};
+ghost use Rattle.test_runner_core_runs.specs.Finishing.{KeepsReasons};
 ghost use Rattle.test_runner_core_telling.specs.Telling.{TellsWrite};
 ghost use Rattle.test_runner_core_line_syntax.specs.Lent.{line_meant, record_meant};
 ghost use Rattle.test_runner_core_line_syntax.specs.declared.log_line.LogLine.TheVariants as lines;
 ghost use Rattle.test_runner_core.specs.declared.judging_line.Step.TheVariants as it;
-ghost use Rattle.test_runner_core.specs.Inside.{IsReached, JudgesLine, Steps, StepsLine};
+ghost use Rattle.test_runner_core.specs.Inside.{JudgesLine, Steps, StepsLine};
 
 use crate::refused_line::LineRefusal;
 use nextest_run_events_results::TestInstanceId;
 use std::alloc::{AllocError, Global};
 use test_runner_core_line_syntax::{LentLine, LentRecord, SpellingError};
 use test_runner_core_progress::StartFault;
-use test_runner_core_runs::StepRefusal;
+use test_runner_core_runs::{Finished, StepRefusal};
 use test_runner_core_session::Session;
 use test_runner_core_streams::ReportWriter;
 use test_runner_core_telling::{TellFault, tell_step};
@@ -19,8 +20,8 @@ use test_runner_core_telling::{TellFault, tell_step};
 // What became of a line's event.
 #[derive(Clone, Copy)]
 pub(crate) enum Step {
-    // Its step is taken; the attempt of the test at this place ended, if one did.
-    Taken(Option<usize>),
+    // Its step is taken, and finished this.
+    Taken(Finished),
     // It is refused.
     Refused(StepRefusal),
 }
@@ -34,7 +35,7 @@ pub(crate) fn judge_line<W: ReportWriter>(
     report: &mut W,
 ) -> Result<Option<LineRefusal>, TellFault>
     requires writes_fit { W.failures report.old < 2 ^ 63 }
-    requires reached { IsReached session.old }
+    requires reached { KeepsReasons session.old.run }
     ensures judged { JudgesLine result session.old bytes.now session.new (W.taken report.old) (string_bytes text.old) (W.taken report.new) (string_bytes text.new) }
     ensures failures { TellsWrite result (W.failures report.old) (W.failures report.new) (W.last_failed report.new) }
 {
@@ -55,15 +56,14 @@ fn tell_line<W: ReportWriter>(
     report: &mut W,
 ) -> Result<Option<LineRefusal>, TellFault>
     requires writes_fit { W.failures report.old < 2 ^ 63 }
-    requires reached { IsReached session.old }
+    requires reached { KeepsReasons session.old.run }
     ensures judged { StepsLine result session.old (line_meant line.entry) session.new (W.taken report.old) (string_bytes text.old) (W.taken report.new) (string_bytes text.new) }
     ensures failures { TellsWrite result (W.failures report.old) (W.failures report.new) (W.last_failed report.new) }
 {
-    let was_stopped = session.is_stopped();
     match take_step(alloc, session, line)? {
         Step::Refused(refusal) => Ok(Some(LineRefusal::Step(refusal))),
-        Step::Taken(ended) => {
-            tell_step(text, report, session, ended, was_stopped)?;
+        Step::Taken(finished) => {
+            tell_step(text, report, session, finished)?;
             Ok(None)
         }
     }
@@ -86,16 +86,16 @@ fn take_step(
             name,
             record,
         } => end(alloc, session, binary, name, record),
-        LentLine::Stop { reason } => Ok(step_of(session.stop(reason), None)),
+        LentLine::Stop { reason } => Ok(step_of(session.stop(reason))),
     }
 }
 
 // What an answer of the session tells.
-fn step_of(answer: Result<(), StepRefusal>, ended: Option<usize>) -> Step
-    ensures { MatchResult answer (λ _. result ≡ it.Taken ended) (λ refusal. result ≡ it.Refused refusal) }
+fn step_of(answer: Result<Finished, StepRefusal>) -> Step
+    ensures { MatchResult answer (λ finished. result ≡ it.Taken finished) (λ refusal. result ≡ it.Refused refusal) }
 {
     match answer {
-        Ok(()) => Step::Taken(ended),
+        Ok(finished) => Step::Taken(finished),
         Err(refusal) => Step::Refused(refusal),
     }
 }
@@ -111,10 +111,10 @@ fn end_script(
     ensures kept { OnErr result (session.new ≡ session.old) }
 {
     let record = record.own(alloc)?;
-    Ok(step_of(session.script_finished(id, record), None))
+    Ok(step_of(session.script_finished(id, record)))
 }
 
-// An attempt starts.
+// An attempt starts, which finishes no test.
 fn start(session: &mut Session<'_>, binary: &str, name: &str) -> Result<Step, AllocError>
     ensures taken { IfOk result (λ it. Steps it session.old (lines.Start binary.now name.now) session.new) }
     ensures kept { OnErr result (session.new ≡ session.old) }
@@ -124,7 +124,10 @@ fn start(session: &mut Session<'_>, binary: &str, name: &str) -> Result<Step, Al
         test_name: name,
     };
     match session.start(test) {
-        Ok(()) => Ok(Step::Taken(None)),
+        Ok(()) => Ok(Step::Taken(Finished {
+            ended: None,
+            stops: false,
+        })),
         Err(StartFault::Refused(refusal)) => Ok(Step::Refused(refusal)),
         Err(StartFault::OutOfMemory) => Err(AllocError),
     }
@@ -146,6 +149,5 @@ fn end(
         binary_id: binary,
         test_name: name,
     };
-    let place = session.place(test);
-    Ok(step_of(session.attempt_finished(test, record), Some(place)))
+    Ok(step_of(session.attempt_finished(test, record)))
 }

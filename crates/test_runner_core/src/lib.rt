@@ -48,7 +48,7 @@ pub use test_runner_core_planning::{
     BuildPlan, LoadFault, LoadKind, PlanError, PlanFault, ProfileNotFound,
 };
 pub use test_runner_core_progress::StartFault;
-pub use test_runner_core_runs::{Mark, StepRefusal, exit_status};
+pub use test_runner_core_runs::{Finished, Mark, StepRefusal, exit_status};
 pub use test_runner_core_session::{Fate, Session};
 pub use test_runner_core_settings::owned_settings;
 pub use test_runner_core_streams::{

@@ -1,11 +1,12 @@
-// A run with scripts, which no log of the program has, taken step by step: which steps are refused, by which name first.
+// A run with scripts, which no log of the program has, taken step by step: what each finishes, and which steps are refused, by
+// which name first.
 use nextest_run_events_results::{CancelReason, ExecutionResultDescription, FailureDescription};
 use nextest_text::{Listing, Text};
 use std::alloc::{AllocError, Global};
 use std::test::Fail;
 use test_runner_core::{
-    BuildPlan, Inputs, Mark, Plan, Record, RecordOutput, Session, StartFault, StepRefusal,
-    TableLister, TestInstanceId,
+    BuildPlan, Finished, Inputs, Mark, Plan, Record, RecordOutput, Session, StartFault,
+    StepRefusal, TableLister, TestInstanceId,
 };
 
 // The inputs of the tests p a and q a.
@@ -53,16 +54,22 @@ fn test_a_of(binary: &str) -> TestInstanceId<'_> {
 // What a step came to.
 #[derive(Clone, Copy, PartialEq, Eq)]
 enum Told {
-    Taken,
+    Started,
+    Finished(Finished),
     Refused(StepRefusal),
     NoMemory,
 }
 
-fn told_of(answer: Result<(), StepRefusal>) -> Told {
+fn told_of(answer: Result<Finished, StepRefusal>) -> Told {
     match answer {
-        Ok(()) => Told::Taken,
+        Ok(finished) => Told::Finished(finished),
         Err(refusal) => Told::Refused(refusal),
     }
+}
+
+// What a step came to that finished the test at a place, if one, and stopped the run or not.
+fn step_finished(ended: Option<usize>, stops: bool) -> Told {
+    Told::Finished(Finished { ended, stops })
 }
 
 // A script of this id passes.
@@ -76,7 +83,7 @@ fn script_passes(alloc: Global, run: &mut Session<'_>, id: &str) -> Told {
 // The test a of a binary starts.
 fn starts(run: &mut Session<'_>, binary: &str) -> Told {
     match run.start(test_a_of(binary)) {
-        Ok(()) => Told::Taken,
+        Ok(()) => Told::Started,
         Err(StartFault::Refused(refusal)) => Told::Refused(refusal),
         Err(StartFault::OutOfMemory) => Told::NoMemory,
     }
@@ -121,20 +128,20 @@ fn a_run_with_scripts_goes_by_names(rt: HostRuntime) -> Result<(), Fail> {
         Told::Refused(StepRefusal::UnknownScript),
         Told::Refused(StepRefusal::OutOfOrder),
         Told::Refused(StepRefusal::ScriptsPending),
-        Told::Taken,
-        Told::Taken,
+        step_finished(None, false),
+        step_finished(None, false),
         Told::Refused(StepRefusal::UnknownTest),
-        Told::Taken,
+        Told::Started,
         Told::Refused(StepRefusal::Running),
-        Told::Taken,
+        step_finished(Some(1), true),
         Told::Refused(StepRefusal::Stopped),
         Told::Refused(StepRefusal::NotRunning),
         Told::Refused(StepRefusal::InnerReason),
     ];
     assert!(rt; told == due && run.is_complete() && run.status() == 100);
     let fates = (fate_of(&run, "p"), fate_of(&run, "q"), fate_of(&run, "r"));
-    let finished = Some((Mark::Finished(None), 1));
-    assert!(rt; fates == (Some((Mark::Waiting, 0)), finished, None));
+    let over = Some((Mark::Finished(None), 1));
+    assert!(rt; fates == (Some((Mark::Waiting, 0)), over, None));
     Ok(())
 }
 
@@ -149,7 +156,7 @@ fn a_stopped_run_takes_no_script(rt: HostRuntime) -> Result<(), Fail> {
         starts(&mut run, "p"),
     ];
     let due = [
-        Told::Taken,
+        step_finished(None, true),
         Told::Refused(StepRefusal::UnknownScript),
         Told::Refused(StepRefusal::Stopped),
         Told::Refused(StepRefusal::Stopped),

@@ -78,7 +78,7 @@ returns-in-End-clause-judged g c =
 pub judge_line-requires-clause-reached : goal.judge_line-requires-clause-reached
 judge_line-requires-clause-reached g c =
     let here = c.loop-fault.invariant.here in
-    reached c.loop-fault.session c.args.session.now.plan here.front here.parts here.planned here.so_far
+    reached c.args.session.now.plan here.front c.loop-fault.session.run here.parts here.so_far
 
 pub returns-in_err-refusal-clause-judged : goal.returns-in_err-refusal-clause-judged
 returns-in_err-refusal-clause-judged g c =

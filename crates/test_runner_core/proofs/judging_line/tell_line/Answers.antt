@@ -2,9 +2,8 @@ use Rattle.std.proofs.Common.{[], string_bytes, subst, inl}
 use Rattle.test_runner_core_line_syntax.specs.Lent.{line_meant}
 use Rattle.test_runner_core_telling.proofs.Told.{front_none}
 use Rattle.test_runner_core.specs.Inside.{Steps}
-use Rattle.test_runner_core.specs.Judging.{event_of}
 use Rattle.test_runner_core.specs.declared.judging_line.Step.{Step}
-use Rattle.test_runner_core.proofs.OneStep.{line_fails, step_fails, step_tells, took}
+use Rattle.test_runner_core.proofs.OneStep.{line_fails, step_fails, step_tells}
 use Rattle.test_runner_core.proofs.judging_line.tell_line.Goals as goal
 
 pub returns-in_err-refusal-clause-judged : goal.returns-in_err-refusal-clause-judged
@@ -19,8 +18,7 @@ returns-in_err-tell_step-in-Taken-clause-judged g c =
     let line = line_meant c.args.line in
     let taken = subst (λ (found : Step). Steps found old line new) c.in-Taken.is c.in_ok-refusal.ensures.taken in
     step_fails c.from_residual-in_err-tell_step-in-Taken.result old new new line _ (g.W.ReportWriter.taken c.args.report.now) (string_bytes c.args.text.now) _ _
-    c.from_residual-in_err-tell_step-in-Taken.ensures.0 taken
-    (c.in_err-tell_step-in-Taken.ensures.tells (event_of old.plan line) old.run (took old new line _ _ c.requires.reached taken c.is_stopped-was_stopped.ensures))
+    c.from_residual-in_err-tell_step-in-Taken.ensures.0 c.requires.reached taken c.in_err-tell_step-in-Taken.ensures.tells
 
 pub returns-in_ok-tell_step-in-Taken-clause-judged : goal.returns-in_ok-tell_step-in-Taken-clause-judged
 returns-in_ok-tell_step-in-Taken-clause-judged g c =
@@ -28,5 +26,4 @@ returns-in_ok-tell_step-in-Taken-clause-judged g c =
     let new = c.take_step.new.session in
     let line = line_meant c.args.line in
     let taken = subst (λ (found : Step). Steps found old line new) c.in-Taken.is c.in_ok-refusal.ensures.taken in
-    step_tells old new line _ (g.W.ReportWriter.taken c.args.report.now) (string_bytes c.args.text.now) _ _ taken
-    (c.in_ok-tell_step-in-Taken.ensures.tells (event_of old.plan line) old.run (took old new line _ _ c.requires.reached taken c.is_stopped-was_stopped.ensures))
+    step_tells old new line _ (g.W.ReportWriter.taken c.args.report.now) (string_bytes c.args.text.now) _ _ c.requires.reached taken c.in_ok-tell_step-in-Taken.ensures.tells
