@@ -6,9 +6,10 @@ use nextest_config_elements_counts::{
 use nextest_config_elements_identifiers::TestGroup;
 use nextest_config_elements_plain::{FlakyResult, TestOutputDisplay};
 use nextest_text::{Listing, Text};
+use std::alloc::AllocError;
 
 /// The settings of a selected test, as a plan keeps them: those of `TestSettings`, owned, but for a wrapper script, which no test has yet.
-#[derive(Clone, PartialEq, Eq)]
+#[derive(PartialEq, Eq)]
 pub struct PlanSettings {
     /// `priority`: before which tests it runs.
     pub priority: TestPriority,
@@ -38,6 +39,22 @@ pub struct PlanSettings {
     pub junit_report_skipped: ReportSkipPolicy,
     /// `junit.flaky-fail-status`: how it stands there where it fails since it is flaky.
     pub junit_flaky_fail_status: JunitFlakyFailStatus,
+}
+
+impl Clone for PlanSettings {
+    ghost use Rattle.std.specs.Prelude.{◌≡◌};
+
+    ghost is_clone = { λ original copy. copy ≡ original };
+
+    fn clone(&self) -> Result<PlanSettings, AllocError> {
+        let run_extra_args = self.run_extra_args.clone()?;
+        let test_group = self.test_group.clone()?;
+        Ok(PlanSettings {
+            run_extra_args,
+            test_group,
+            ..*self
+        })
+    }
 }
 
 // One call drops it, whoever holds it.
