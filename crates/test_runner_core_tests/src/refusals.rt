@@ -51,100 +51,104 @@ out of memory
 the report can't be written: full
 ";
 
-// Tells refusals, each on a line.
-fn push<T: Display>(alloc: Global, told: &mut String, refusals: &[T]) -> Result<(), AllocError> {
-    for refusal in refusals {
-        told.push_str(format!(in alloc; "{refusal}\n")?.as_str())?;
-    }
-    Ok(())
+// Tells a refusal on a line.
+fn push<T: Display + Drop>(alloc: Global, told: &mut String, refusal: T) -> Result<(), AllocError> {
+    told.push_str(format!(in alloc; "{refusal}\n")?.as_str())
 }
 
 fn push_of_inputs(alloc: Global, told: &mut String) -> Result<(), AllocError> {
     let path = Text::from_str(alloc, "workspace.links.0.1")?;
-    let of_inputs = [
-        InputsError::Refused(InputsRefusal::Syntax),
-        InputsError::Refused(InputsRefusal::Field(path)),
-        InputsError::OutOfMemory,
-    ];
-    push(alloc, told, &of_inputs)?;
-    let of_workspaces = [
-        WorkspaceError::Refused(WorkspaceFault::RepeatedPackage),
-        WorkspaceError::Refused(WorkspaceFault::UnknownLink),
-        WorkspaceError::Refused(WorkspaceFault::RepeatedBinary),
-        WorkspaceError::Refused(WorkspaceFault::UnknownPackage),
-        WorkspaceError::Refused(WorkspaceFault::BadId),
-        WorkspaceError::OutOfMemory,
-    ];
-    push(alloc, told, &of_workspaces)?;
-    let of_settings = [
-        SettingsError::Refused(SettingsFault::NotYet),
-        SettingsError::OutOfMemory,
-    ];
-    push(alloc, told, &of_settings)
-}
-
-fn push_of_lists(alloc: Global, told: &mut String) -> Result<(), AllocError> {
-    let of_lists = [
-        ListFault::Cause(Text::from_str(alloc, "gone")?),
-        ListFault::OutOfMemory,
-    ];
-    push(alloc, told, &of_lists)?;
-    let of_listing = [
-        ListingError::Refused(ListingFault::ListFault(Text::from_str(alloc, "gone")?)),
-        ListingError::Refused(ListingFault::EmptyTestName),
-        ListingError::Refused(ListingFault::BadTestName),
-        ListingError::Refused(ListingFault::RepeatedTest),
-        ListingError::OutOfMemory,
-    ];
-    push(alloc, told, &of_listing)
-}
-
-fn push_of_lines(alloc: Global, told: &mut String) -> Result<(), AllocError> {
-    let of_lines = [
-        LineFault::LineTooLong,
-        LineFault::LogTooLong,
-        LineFault::NoLineEnd,
-    ];
-    push(alloc, told, &of_lines)?;
-    let of_readings = [
-        ParseLineError::NotUtf8,
-        ParseLineError::BadLine,
-        ParseLineError::OutOfMemory,
-    ];
-    push(alloc, told, &of_readings)?;
+    push(alloc, told, InputsError::Refused(InputsRefusal::Syntax))?;
     push(
         alloc,
         told,
-        &[SpellingError::NotUtf8, SpellingError::BadLine],
-    )
+        InputsError::Refused(InputsRefusal::Field(path)),
+    )?;
+    push(alloc, told, InputsError::OutOfMemory)
+}
+
+fn push_of_workspaces(alloc: Global, told: &mut String) -> Result<(), AllocError> {
+    for fault in [
+        WorkspaceFault::RepeatedPackage,
+        WorkspaceFault::UnknownLink,
+        WorkspaceFault::RepeatedBinary,
+        WorkspaceFault::UnknownPackage,
+        WorkspaceFault::BadId,
+    ] {
+        push(alloc, told, WorkspaceError::Refused(fault))?;
+    }
+    push(alloc, told, WorkspaceError::OutOfMemory)?;
+    push(alloc, told, SettingsError::Refused(SettingsFault::NotYet))?;
+    push(alloc, told, SettingsError::OutOfMemory)
+}
+
+fn push_of_lists(alloc: Global, told: &mut String) -> Result<(), AllocError> {
+    push(
+        alloc,
+        told,
+        ListFault::Cause(Text::from_str(alloc, "gone")?),
+    )?;
+    push(alloc, told, ListFault::OutOfMemory)?;
+    let gone = ListingFault::ListFault(Text::from_str(alloc, "gone")?);
+    push(alloc, told, ListingError::Refused(gone))?;
+    push(
+        alloc,
+        told,
+        ListingError::Refused(ListingFault::EmptyTestName),
+    )?;
+    push(
+        alloc,
+        told,
+        ListingError::Refused(ListingFault::BadTestName),
+    )?;
+    push(
+        alloc,
+        told,
+        ListingError::Refused(ListingFault::RepeatedTest),
+    )?;
+    push(alloc, told, ListingError::OutOfMemory)
+}
+
+fn push_of_lines(alloc: Global, told: &mut String) -> Result<(), AllocError> {
+    push(alloc, told, LineFault::LineTooLong)?;
+    push(alloc, told, LineFault::LogTooLong)?;
+    push(alloc, told, LineFault::NoLineEnd)?;
+    push(alloc, told, ParseLineError::NotUtf8)?;
+    push(alloc, told, ParseLineError::BadLine)?;
+    push(alloc, told, ParseLineError::OutOfMemory)?;
+    push(alloc, told, SpellingError::NotUtf8)?;
+    push(alloc, told, SpellingError::BadLine)
 }
 
 fn push_of_runs(alloc: Global, told: &mut String) -> Result<(), AllocError> {
-    push(alloc, told, &[StepRefusal::ScriptsPending])?;
-    let of_starts = [
-        StartFault::Refused(StepRefusal::Finished),
-        StartFault::OutOfMemory,
-    ];
-    push(alloc, told, &of_starts)?;
-    let of_logs = [LogFault::Read(io::Error::other("gone")), LogFault::Memory];
-    push(alloc, told, &of_logs)?;
-    let of_judging = [
+    push(alloc, told, StepRefusal::ScriptsPending)?;
+    push(alloc, told, StartFault::Refused(StepRefusal::Finished))?;
+    push(alloc, told, StartFault::OutOfMemory)?;
+    push(alloc, told, LogFault::Read(io::Error::other("gone")))?;
+    push(alloc, told, LogFault::Memory)
+}
+
+fn push_of_judging(alloc: Global, told: &mut String) -> Result<(), AllocError> {
+    push(
+        alloc,
+        told,
         JudgeFault::from(LogFault::Read(io::Error::other("gone"))),
-        JudgeFault::from(LogFault::Memory),
-        JudgeFault::Write(io::Error::other("full")),
-    ];
-    push(alloc, told, &of_judging)
+    )?;
+    push(alloc, told, JudgeFault::from(LogFault::Memory))?;
+    push(alloc, told, JudgeFault::Write(io::Error::other("full")))
 }
 
 #[test]
 fn refusals_print(rt: HostRuntime) -> Result<(), Fail> {
     let mut of_inputs = String::new(rt.alloc());
     push_of_inputs(rt.alloc(), &mut of_inputs)?;
+    push_of_workspaces(rt.alloc(), &mut of_inputs)?;
     push_of_lists(rt.alloc(), &mut of_inputs)?;
     assert_eq!(rt; of_inputs.as_str(), OF_INPUTS);
     let mut of_logs = String::new(rt.alloc());
     push_of_lines(rt.alloc(), &mut of_logs)?;
     push_of_runs(rt.alloc(), &mut of_logs)?;
+    push_of_judging(rt.alloc(), &mut of_logs)?;
     assert_eq!(rt; of_logs.as_str(), OF_LOGS);
     Ok(())
 }
