@@ -1,5 +1,5 @@
 #!/usr/bin/env python3
-"""Writes the tables of configurations in the program `worked_layers`, and the numbers of their rows into what it has to print.
+"""Writes the tables of configurations in the program `worked_rows`, and the numbers of their rows into what it has to print.
 
     python3 scripts/config_rows.py
 

@@ -1,5 +1,5 @@
 #!/usr/bin/env python3
-"""Writes the tables of elements in the program `worked_layers`, and the numbers of their rows into what it has to print.
+"""Writes the tables of elements in the program `worked_rows`, and the numbers of their rows into what it has to print.
 
     python3 scripts/element_rows.py
 
@@ -23,7 +23,7 @@ import re
 import unicodedata
 from typing import Callable, NamedTuple
 
-CRATE = pathlib.Path(__file__).resolve().parent.parent / "crates/worked_layers"
+CRATE = pathlib.Path(__file__).resolve().parent.parent / "crates/worked_rows"
 BLANK = " \t\r\n"
 MOST_NANOS, MOST_COUNT, MOST_32 = 2**64 - 1, 2**63 - 1, 2**32 - 1
 

@@ -1,5 +1,5 @@
 #!/usr/bin/env python3
-"""Writes the tables `compiled` and `answers` of the program `worked_layers`: which filtersets a workspace accepts, and on which binaries
+"""Writes the tables `compiled` and `answers` of the program `worked_rows`: which filtersets a workspace accepts, and on which binaries
 and tests they hold.
 
     python3 scripts/filterset_rows.py
@@ -21,7 +21,7 @@ import random
 import re
 from typing import Callable, NamedTuple, Optional
 
-DATA = pathlib.Path(__file__).resolve().parent.parent / "crates/worked_layers/data"
+DATA = pathlib.Path(__file__).resolve().parent.parent / "crates/worked_rows/data"
 SEED, COMPILED, PLAIN, ANSWERS, QUESTIONS = 23, 150, 5, 850, 10
 
 COMMON = """# The workspaces (a binary: id, package's id, kind, name, platform):

@@ -1,5 +1,5 @@
 #!/usr/bin/env python3
-"""Writes the table `glob_matches` of the program `worked_layers`: globs, texts, and whether the one matches the other.
+"""Writes the table `glob_matches` of the program `worked_rows`: globs, texts, and whether the one matches the other.
 
     python3 scripts/glob_matches.py
 
@@ -11,7 +11,7 @@ import pathlib
 import random
 import re
 
-TABLE = pathlib.Path(__file__).resolve().parent.parent / "crates/worked_layers/data/glob_matches.txt"
+TABLE = pathlib.Path(__file__).resolve().parent.parent / "crates/worked_rows/data/glob_matches.txt"
 SEED, ROWS = 17, 240
 LETTERS = "abcdé-"
 BY_HAND = [

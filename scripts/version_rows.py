@@ -1,6 +1,6 @@
 #!/usr/bin/env python3
 """Writes the rows of the table `versions` of rows/, whole inputs and what the versions and features that their sources ask
-for come to, and of `verdicts` of worked_layers, lists of sources and the verdict on a version, reckoned here from the rules
+for come to, and of `verdicts` of worked_rows, lists of sources and the verdict on a version, reckoned here from the rules
 and by nothing of the project.
 
 Run it from the repository's root: `scripts/version_rows.py`. It writes the two files versions.txt and verdicts.txt, and prints
@@ -239,7 +239,7 @@ def main():
     for sources, current, override in lists():
         told = " | ".join(f"{it.kind} {it.path} {it.text}" for it in sources).replace("\n", "␊")
         verdicts.append(f"{current} {'override' if override else 'strict'} | {told} => {verdict(sources, current, override)}")
-    (ROOT / "crates/worked_layers/data/verdicts.txt").write_text("\n".join(verdicts) + "\n")
+    (ROOT / "crates/worked_rows/data/verdicts.txt").write_text("\n".join(verdicts) + "\n")
     print(len(verdicts) - 3, "verdicts")
     base = json.loads((ROOT / "crates/worked_rows/data/plan.json").read_text())
     lines = ["# Whole inputs, and what the versions and features that their sources ask for come to: the warnings of the plan, or the name", "# under which the inputs are refused. Written by scripts/version_rows.py.", ""]

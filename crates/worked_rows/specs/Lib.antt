@@ -1,0 +1,3 @@
+pub mod PlainFilters
+pub mod PlainSpecs
+pub mod Configs

@@ -1,5 +1,4 @@
 // A text of which a row changes parts.
-use anyhow::{Context, Result};
 use std::alloc::Global;
 
 const ARROW: &str = " => ";
@@ -16,9 +15,9 @@ impl Changed {
         Changed { text }
     }
 
-    /// The text with the changes of a row.
-    pub fn by(&self, alloc: Global, changes: &str) -> Result<String> {
-        let mut text = self.text.clone()?;
+    /// The text with the changes of a row; `None` where it doesn't have such a part, or there is no memory.
+    pub fn by(&self, alloc: Global, changes: &str) -> Option<String> {
+        let mut text = self.text.clone().ok()?;
         let mut part: Option<&str> = None;
         for piece in changes.split(ARROW) {
             match part {
@@ -29,11 +28,11 @@ impl Changed {
                 }
             }
         }
-        Ok(text)
+        Some(text)
     }
 }
 
-fn with_other(alloc: Global, text: &str, part: &str, other: &str) -> Result<String> {
-    let (before, behind) = text.split_once(part).context("no such part")?;
-    Ok(format!(in alloc; "{before}{other}{behind}")?)
+fn with_other(alloc: Global, text: &str, part: &str, other: &str) -> Option<String> {
+    let (before, behind) = text.split_once(part)?;
+    format!(in alloc; "{before}{other}{behind}").ok()
 }

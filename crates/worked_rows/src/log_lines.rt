@@ -1,37 +1,26 @@
 // Lines of a log, and the event that each is read as.
-use anyhow::{Result, anyhow};
 use std::alloc::Global;
 use test_runner_core_line_syntax::{LogLine, ParseLineError};
-use worked_tables::Table;
 
-/// Lines, each with its event, `no event`, or the name under which it is refused. An event's line is what it prints, or that is
-/// told behind it.
-#[derive(Drop)]
-pub struct LogLines;
-
-impl Table for LogLines {
-    fn name(&self) -> &'static str {
-        "log_lines"
-    }
-
-    fn answer(&self, alloc: Global, input: &str) -> Result<String> {
-        match LogLine::parse(alloc, input.as_bytes()) {
-            Ok(None) => Ok(String::from_str(alloc, "no event")?),
-            Ok(Some(event)) => shown(alloc, &event, input),
-            Err(ParseLineError::OutOfMemory) => Err(anyhow!("out of memory")),
-            Err(refusal) => Ok(format!(in alloc; "{refusal:?}")?),
-        }
+// A line: its event, `no event`, or the name under which it is refused. An event's line is what it prints, or that is told behind
+// it.
+pub(crate) fn log_lines(alloc: Global, line: &str) -> Option<String> {
+    match LogLine::parse(alloc, line.as_bytes()) {
+        Ok(None) => String::from_str(alloc, "no event").ok(),
+        Ok(Some(event)) => shown(alloc, &event, line),
+        Err(ParseLineError::OutOfMemory) => None,
+        Err(refusal) => format!(in alloc; "{refusal:?}").ok(),
     }
 }
 
-fn shown(alloc: Global, event: &LogLine, line: &str) -> Result<String> {
+fn shown(alloc: Global, event: &LogLine, line: &str) -> Option<String> {
     if !event.has_spelling() {
-        return Ok(format!(in alloc; "{event:?} without a spelling")?);
+        return format!(in alloc; "{event:?} without a spelling").ok();
     }
-    let printed = event.print(alloc)?;
+    let printed = event.print(alloc).ok()?;
     if printed.as_str() == line {
-        Ok(format!(in alloc; "{event:?}")?)
+        format!(in alloc; "{event:?}").ok()
     } else {
-        Ok(format!(in alloc; "{event:?} prints {printed}")?)
+        format!(in alloc; "{event:?} prints {printed}").ok()
     }
 }

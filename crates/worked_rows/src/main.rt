@@ -1,20 +1,48 @@
-//! The program `worked_rows`: it answers the input of each row of the tables that need a call of the core, and says which answers
-//! differ. What is seen on the built program itself stands in `rows/`.
+//! The program `worked_rows`: worked rows of the core's plans, inputs and lines, and of the layers below it, filtersets, run
+//! events, elements of configurations and configurations. It answers the input of each row of its tables, and says which
+//! answers differ. What is seen on the built program itself stands in `rows/`.
+//!
+//! A row of a table is a line `INPUT => ANSWER`, divided at the last ` => `. A line that is empty or begins with `#` is none.
+//! In both parts `␉`, `␊` and `␍` stand for a tab, a line feed and a carriage return. Where a line is too short, a row is a
+//! case of a folder, two files `CASE.in` and `CASE.out`.
 #![tactic(auto)]
 
+mod answering;
+mod asking;
+mod attempts;
 mod changes;
+mod compiled;
+mod configs;
+mod elements;
+mod ends;
+mod filter_texts;
+mod filter_trees;
 mod inputs;
 mod log_lines;
+mod orders;
+mod outputs;
+mod parts;
+mod plain_filter;
+mod plain_spec;
 mod plans;
+mod settings;
+mod signs;
+mod stress;
+mod summaries;
+mod table;
+mod values;
+mod verdicts;
+mod visibility;
+mod workspaces;
 
+use answering::layers_hold;
 use anyhow::Result;
 use changes::Changed;
-use inputs::WholeInputs;
-use log_lines::LogLines;
+use inputs::inputs_hold;
 use plans::Plans;
 use std::fs;
 use std::process::ExitCode;
-use worked_tables::{cases_hold, rows_hold};
+use table::rows_hold;
 
 fn main(rt: HostRuntime) -> Result<ExitCode> {
     let base = Changed::of(fs::read_to_string(&rt, "plan.json")?);
@@ -23,9 +51,9 @@ fn main(rt: HostRuntime) -> Result<ExitCode> {
         ("selected", None, false),
         ("profiles_plans", Some(&base), true),
     ];
-    let mut holds = cases_hold(&rt, &WholeInputs)? & rows_hold(&rt, &LogLines)?;
+    let mut hold = inputs_hold(&rt)?;
     for (name, base, has_settings) in plans {
-        holds &= rows_hold(
+        hold &= rows_hold(
             &rt,
             &Plans {
                 name,
@@ -34,7 +62,8 @@ fn main(rt: HostRuntime) -> Result<ExitCode> {
             },
         )?;
     }
-    Ok(if holds {
+    hold &= layers_hold(&rt)?;
+    Ok(if hold {
         ExitCode::SUCCESS
     } else {
         ExitCode::FAILURE

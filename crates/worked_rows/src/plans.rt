@@ -1,6 +1,6 @@
 // Inputs, and their plan.
 use crate::changes::Changed;
-use anyhow::{Result, anyhow};
+use crate::table::Table;
 use nextest_run_events_results::OwnedTestInstanceId;
 use nextest_text::Text;
 use std::alloc::Global;
@@ -8,7 +8,6 @@ use test_runner_core_inputs::Inputs;
 use test_runner_core_plan::{Plan, PlanSettings, PlanTest};
 use test_runner_core_planning::{BuildPlan, PlanError};
 use test_runner_core_workspace::TableLister;
-use worked_tables::Table;
 
 /// Inputs, each with what is shown of their plan, or the name under which they are refused.
 #[derive(Clone, Copy)]
@@ -27,100 +26,119 @@ impl Table for Plans<'_> {
         self.name
     }
 
-    fn answer(&self, alloc: Global, input: &str) -> Result<String> {
+    fn answer(&self, alloc: Global, input: &str) -> Option<String> {
         match self.base {
-            Some(base) => planned(alloc, base.by(alloc, input)?.as_str(), self.has_settings),
+            Some(base) => changed_inputs(alloc, base, input, self.has_settings),
             None => planned(alloc, input, self.has_settings),
         }
     }
 }
 
-fn planned(alloc: Global, text: &str, has_settings: bool) -> Result<String> {
-    let inputs = Inputs::from_json(alloc, text.as_bytes())?;
-    let mut lister = TableLister::new(alloc, &inputs.workspace)?;
-    let mut told = match Plan::build(alloc, &inputs, &mut lister) {
-        Ok(plan) => shown(alloc, &plan, has_settings)?,
-        Err(PlanError::Refused(fault)) => String::from_str(alloc, fault.name())?,
-        Err(PlanError::OutOfMemory) => return Err(anyhow!("out of memory")),
-    };
-    if !has_settings {
-        told.push_str("; asked")?;
-        push_each(&mut told, " ", lister.asked(), "")?;
-    }
-    Ok(told)
+fn changed_inputs(
+    alloc: Global,
+    base: &Changed,
+    changes: &str,
+    has_settings: bool,
+) -> Option<String> {
+    let text = base.by(alloc, changes)?;
+    planned(alloc, text.as_str(), has_settings)
 }
 
-fn shown(alloc: Global, plan: &Plan, has_settings: bool) -> Result<String> {
-    let mut told = String::from_str(alloc, "run")?;
-    push_tests(alloc, &mut told, plan.tests.as_slice(), has_settings)?;
+fn planned(alloc: Global, text: &str, has_settings: bool) -> Option<String> {
+    let inputs = Inputs::from_json(alloc, text.as_bytes()).ok()?;
+    plan_of(alloc, &inputs, has_settings)
+}
+
+fn plan_of(alloc: Global, inputs: &Inputs, has_settings: bool) -> Option<String> {
+    let mut lister = TableLister::new(alloc, &inputs.workspace).ok()?;
+    let told = match Plan::build(alloc, inputs, &mut lister) {
+        Ok(plan) => shown(alloc, &plan, has_settings),
+        Err(PlanError::Refused(fault)) => String::from_str(alloc, fault.name()).ok(),
+        Err(PlanError::OutOfMemory) => None,
+    };
+    if has_settings {
+        told
+    } else {
+        with_asked(told?, lister.asked())
+    }
+}
+
+fn with_asked(mut told: String, asked: &[Text]) -> Option<String> {
+    told.push_str("; asked").ok()?;
+    push_each(&mut told, " ", asked, "")?;
+    Some(told)
+}
+
+fn shown(alloc: Global, plan: &Plan, has_settings: bool) -> Option<String> {
+    let mut told = String::from_str(alloc, "run").ok()?;
+    for test in plan.tests.as_slice() {
+        push_test(alloc, &mut told, test, has_settings)?;
+    }
     if has_settings {
         push_settings(alloc, &mut told, plan)?;
     } else {
         push_selection(alloc, &mut told, plan)?;
     }
-    Ok(told)
+    Some(told)
 }
 
-fn push_tests(
-    alloc: Global,
-    told: &mut String,
-    tests: &[PlanTest],
-    has_settings: bool,
-) -> Result<()> {
-    for test in tests {
-        let instance = shown_instance(alloc, &test.instance)?;
-        let tries = format!(in alloc; " [{instance} x{}", test.tries)?;
-        told.push_str(tries.as_str())?;
-        if has_settings {
-            told.push_str(shown_settings(alloc, &test.settings)?.as_str())?;
-        }
-        told.push(']')?;
+fn push_test(alloc: Global, told: &mut String, test: &PlanTest, has_settings: bool) -> Option<()> {
+    push_instance(alloc, told, &test.instance)?;
+    told.push_str(format!(in alloc; " x{}", test.tries).ok()?.as_str())
+        .ok()?;
+    if has_settings {
+        told.push_str(shown_settings(alloc, &test.settings)?.as_str())
+            .ok()?;
     }
-    Ok(())
+    told.push(']').ok()
 }
 
-fn shown_instance(alloc: Global, test: &OwnedTestInstanceId) -> Result<String> {
-    Ok(format!(in alloc; "{} {}", test.binary_id, test.test_name)?)
+// A test behind an open bracket.
+fn push_instance(alloc: Global, told: &mut String, test: &OwnedTestInstanceId) -> Option<()> {
+    let instance = format!(in alloc; " [{} {}", test.binary_id, test.test_name).ok()?;
+    told.push_str(instance.as_str()).ok()
 }
 
-fn shown_settings(alloc: Global, settings: &PlanSettings) -> Result<String> {
-    Ok(format!(in alloc;
+fn shown_settings(alloc: Global, settings: &PlanSettings) -> Option<String> {
+    format!(in alloc;
         " {:?} {:?} {:?}",
         settings.flaky_result, settings.success_output, settings.failure_output
-    )?)
+    )
+    .ok()
 }
 
-fn push_settings(alloc: Global, told: &mut String, plan: &Plan) -> Result<()> {
+fn push_settings(alloc: Global, told: &mut String, plan: &Plan) -> Option<()> {
     let levels = plan.levels;
     let run = format!(in alloc;
         "; limit {:?}; levels {:?} {:?}; warnings",
         plan.limit, levels.status_level, levels.final_status_level
-    )?;
-    told.push_str(run.as_str())?;
+    )
+    .ok()?;
+    told.push_str(run.as_str()).ok()?;
     push_each(told, " [", plan.warnings.as_slice(), "]")
 }
 
-fn push_selection(alloc: Global, told: &mut String, plan: &Plan) -> Result<()> {
-    told.push_str("; skip")?;
-    push_skipped(alloc, told, plan.skipped.as_slice())?;
-    told.push_str(format!(in alloc; "; limit {:?}; listed", plan.limit)?.as_str())?;
+fn push_selection(alloc: Global, told: &mut String, plan: &Plan) -> Option<()> {
+    told.push_str("; skip").ok()?;
+    for test in plan.skipped.as_slice() {
+        push_instance(alloc, told, test)?;
+        told.push(']').ok()?;
+    }
+    told.push_str(
+        format!(in alloc; "; limit {:?}; listed", plan.limit)
+            .ok()?
+            .as_str(),
+    )
+    .ok()?;
     push_each(told, " ", plan.listed.as_slice(), "")
 }
 
-fn push_skipped(alloc: Global, told: &mut String, tests: &[OwnedTestInstanceId]) -> Result<()> {
-    for test in tests {
-        let instance = shown_instance(alloc, test)?;
-        told.push_str(format!(in alloc; " [{instance}]")?.as_str())?;
-    }
-    Ok(())
-}
-
 // Each of these texts, with what stands around it.
-fn push_each(told: &mut String, before: &str, texts: &[Text], behind: &str) -> Result<()> {
+fn push_each(told: &mut String, before: &str, texts: &[Text], behind: &str) -> Option<()> {
     for text in texts {
-        told.push_str(before)?;
-        told.push_str(text.as_str())?;
-        told.push_str(behind)?;
+        told.push_str(before).ok()?;
+        told.push_str(text.as_str()).ok()?;
+        told.push_str(behind).ok()?;
     }
-    Ok(())
+    Some(())
 }

@@ -75,16 +75,24 @@ p64 p64 lib p64 target";
 
 // A workspace by its name.
 pub(crate) fn workspace(alloc: Global, name: &str) -> Option<ParseContext> {
+    let binaries = ids_and_names(alloc, name)?;
     let cx = ParseContext::new(alloc, graph(alloc, name)?).ok()?;
+    Some(cx.with_binaries(binaries))
+}
+
+// The ids of its binaries, each with the binary's name.
+fn ids_and_names(alloc: Global, name: &str) -> Option<Vec<(Text, Text)>> {
     let mut binaries = Vec::new(alloc);
     for line in binary_lines(name).lines() {
-        let binary = binary_of(line)?;
-        let id = Text::from_str(alloc, binary.binary_id).ok()?;
-        binaries
-            .push((id, Text::from_str(alloc, binary.binary_name).ok()?))
-            .ok()?;
+        binaries.push(id_and_name(alloc, line)?).ok()?;
     }
-    Some(cx.with_binaries(binaries))
+    Some(binaries)
+}
+
+fn id_and_name(alloc: Global, line: &'static str) -> Option<(Text, Text)> {
+    let binary = binary_of(line)?;
+    let id = Text::from_str(alloc, binary.binary_id).ok()?;
+    Some((id, Text::from_str(alloc, binary.binary_name).ok()?))
 }
 
 // The binary of an id in the workspace of a name.

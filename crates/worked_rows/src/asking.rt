@@ -2,7 +2,7 @@
 ghost use Rattle.std.specs.Prelude.{◌≡◌, IfOk};
 ghost use Rattle.nextest_filtering_arguments.specs.declared.ban.FiltersetKind.TheVariants as purpose;
 ghost use Rattle.nextest_filtering_filters.specs.Query.{test_of};
-ghost use Rattle.worked_layers.specs.Configs.{AreRetriesOf};
+ghost use Rattle.worked_rows.specs.Configs.{AreRetriesOf};
 
 use crate::configs::{BAR, sources_of};
 use crate::parts::texts_of;

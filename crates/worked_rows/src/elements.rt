@@ -7,6 +7,7 @@ use nextest_config_elements::{
 };
 use nextest_text::{i32_of_decimal, u64_of_decimal};
 use std::alloc::Global;
+use toml::Value;
 
 // A type and a text: the number of that type that the text is in shortest decimal, if it is one.
 pub(crate) fn decimals(alloc: Global, input: &str) -> Option<String> {
@@ -91,13 +92,11 @@ pub(crate) fn exceeded(alloc: Global, input: &str) -> Option<String> {
 // it passes.
 pub(crate) fn flaky_messages(alloc: Global, input: &str) -> Option<String> {
     let (rule, attempt, total) = three(input)?;
-    let rule = rule_of(alloc, rule)?;
-    match rule
-        .fail_message(alloc, number(attempt)?, number(total)?)
-        .ok()?
-    {
-        Some(message) => Some(message),
-        None => String::from_str(alloc, "-").ok(),
+    let (rule, attempt, total) = (rule_of(alloc, rule)?, number(attempt)?, number(total)?);
+    match rule.fail_message(alloc, attempt, total) {
+        Ok(Some(message)) => Some(message),
+        Ok(None) => String::from_str(alloc, "-").ok(),
+        Err(_) => None,
     }
 }
 
@@ -125,19 +124,25 @@ pub(crate) fn threads(alloc: Global, input: &str) -> Option<String> {
     let (kind, setting, numbers) = three(input)?;
     let value = toml_value(alloc, setting)?;
     let number = match kind {
-        "test-threads" => deserialize_test_threads(alloc, &value, &[])
-            .ok()?
-            .compute(numbers.parse::<usize>().ok()?),
-        "threads-required" => {
-            let (tests, processors) = numbers.split_once(' ')?;
-            deserialize_threads_required(alloc, &value, &[])
-                .ok()?
-                .compute(
-                    tests.parse::<usize>().ok()?,
-                    processors.parse::<usize>().ok()?,
-                )
-        }
-        _ => return None,
+        "test-threads" => tests_at_a_time(alloc, &value, numbers),
+        "threads-required" => threads_of_a_test(alloc, &value, numbers),
+        _ => None,
     };
-    format!(in alloc; "{number}").ok()
+    format!(in alloc; "{}", number?).ok()
+}
+
+fn tests_at_a_time(alloc: Global, value: &Value, processors: &str) -> Option<usize> {
+    let processors = processors.parse::<usize>().ok()?;
+    let threads = deserialize_test_threads(alloc, value, &[]).ok()?;
+    Some(threads.compute(processors))
+}
+
+fn threads_of_a_test(alloc: Global, value: &Value, numbers: &str) -> Option<usize> {
+    let (tests, processors) = numbers.split_once(' ')?;
+    let (tests, processors) = (
+        tests.parse::<usize>().ok()?,
+        processors.parse::<usize>().ok()?,
+    );
+    let threads = deserialize_threads_required(alloc, value, &[]).ok()?;
+    Some(threads.compute(tests, processors))
 }

@@ -1,4 +1,5 @@
 // Whole filtersets: trees, faults, predicates.
+use crate::parts::push_part;
 use nextest_filtering::{
     FILTERSET_REFERENCE_MD, NameMatcher, NotOperator, OrOperator, ParseError, ParseSingleError,
     ParsedExpr, ParsedLeaf, SourceSpan, needs_deps, read,
@@ -96,12 +97,16 @@ fn fault_told(alloc: Global, fault: &ParseSingleError) -> Result<String, AllocEr
 // How many predicates of a text only a test answers, and these.
 pub(crate) fn leaves(alloc: Global, input: &str) -> Option<String> {
     let tree = ParsedExpr::parse(alloc, input).ok()?;
-    let leaves = tree.runtime_only_leaves(alloc).ok()?;
+    match tree.runtime_only_leaves(alloc) {
+        Ok(leaves) => leaves_told(alloc, leaves.as_slice()),
+        Err(_) => None,
+    }
+}
+
+fn leaves_told(alloc: Global, leaves: &[&ParsedLeaf]) -> Option<String> {
     let mut answer = format!(in alloc; "{}", leaves.len()).ok()?;
-    for leaf in leaves.iter() {
-        answer
-            .push_str(format!(in alloc; " {leaf}").ok()?.as_str())
-            .ok()?;
+    for leaf in leaves {
+        push_part(&mut answer, " ", format!(in alloc; "{leaf}").ok()?.as_str())?;
     }
     Some(answer)
 }
@@ -126,12 +131,18 @@ pub(crate) fn name_matches(alloc: Global, input: &str) -> Option<String> {
 pub(crate) fn page(alloc: Global, input: &str) -> Option<String> {
     let mut page = String::new(alloc);
     for text in input.split(' ') {
-        let printed = format!(in alloc; "{}", ParsedExpr::parse(alloc, text).ok()?).ok()?;
-        let (name, _) = printed.as_str().split_once('(')?;
-        page.push_str(name).ok()?;
-        page.push('\n').ok()?;
+        push_name(alloc, &mut page, text)?;
     }
     format!(in alloc; "the page {}", page.as_str() == FILTERSET_REFERENCE_MD).ok()
+}
+
+// Adds the name of a predicate, as it prints, on a line.
+fn push_name(alloc: Global, page: &mut String, text: &str) -> Option<()> {
+    let tree = ParsedExpr::parse(alloc, text).ok()?;
+    let printed = format!(in alloc; "{tree}").ok()?;
+    let (name, _) = printed.as_str().split_once('(')?;
+    page.push_str(name).ok()?;
+    page.push('\n').ok()
 }
 
 // A tree that prints as no text which is read as it.

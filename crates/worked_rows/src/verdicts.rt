@@ -12,20 +12,23 @@ use std::alloc::Global;
 // the first source is refused that is.
 pub(crate) fn verdicts(alloc: Global, input: &str) -> Option<String> {
     let (head, sources) = input.split_once(BAR)?;
-    let (current, flag) = head.split_once(' ')?;
-    let current = PlainVersion::parse(alloc, current).ok()?;
     let kinds = kinds_of(alloc, sources)?;
     let lent = lent_by(alloc, kinds.as_slice(), sources)?;
     match VersionOnlyConfig::from_sources(alloc, lent.as_slice()) {
-        Ok(config) => {
-            let versions = config.nextest_version();
-            let mut answer = verdict(alloc, versions, &current, flag == "override")?;
-            push_features(&mut answer, config.experimental())?;
-            Some(answer)
-        }
+        Ok(config) => demands_told(alloc, &config, head),
         Err(VersionOnlyError::Refused(fault)) => format!(in alloc; "{fault}").ok(),
         Err(VersionOnlyError::OutOfMemory) => None,
     }
+}
+
+// What a current version is by what the sources ask for, and the features that they ask for.
+fn demands_told(alloc: Global, config: &VersionOnlyConfig, head: &str) -> Option<String> {
+    let (current, flag) = head.split_once(' ')?;
+    let current = PlainVersion::parse(alloc, current).ok()?;
+    let versions = config.nextest_version();
+    let mut answer = verdict(alloc, versions, &current, flag == "override")?;
+    push_features(&mut answer, config.experimental())?;
+    Some(answer)
 }
 
 // The kinds of sources.

@@ -47,14 +47,20 @@ fn attempt_of(alloc: Global, words: &str) -> Option<ExecuteStatus<NoOutput>> {
 // success, and the counters of a run of this test alone.
 pub(crate) fn attempts(alloc: Global, input: &str) -> Option<String> {
     let (rule, ends) = input.split_once(": ")?;
+    let rule = rule_of(alloc, rule)?;
+    match ExecutionStatuses::from_parts(attempts_of(alloc, ends)?, rule) {
+        Ok(attempts) => attempts_told(alloc, &attempts),
+        Err(refusal) => format!(in alloc; "{refusal}").ok(),
+    }
+}
+
+// Attempts that ended in these words, with commas between them.
+fn attempts_of(alloc: Global, ends: &str) -> Option<Listing<ExecuteStatus<NoOutput>>> {
     let mut attempts = Listing::new(alloc);
     for words in ends.split_terminator(", ") {
         attempts.push(attempt_of(alloc, words)?).ok()?;
     }
-    match ExecutionStatuses::from_parts(attempts, rule_of(alloc, rule)?) {
-        Ok(attempts) => attempts_told(alloc, &attempts),
-        Err(refusal) => format!(in alloc; "{refusal}").ok(),
-    }
+    Some(attempts)
 }
 
 fn attempts_told(alloc: Global, attempts: &ExecutionStatuses<NoOutput>) -> Option<String> {

@@ -16,17 +16,19 @@ pub(crate) const BAR: &str = " | ";
 pub(crate) fn sources_of(alloc: Global, sources: &str) -> Option<Vec<ConfigSource>> {
     let mut found = Vec::new(alloc);
     for source in sources.split(BAR) {
-        let (kind, rest) = source.split_once(' ')?;
-        let (path, outcome) = rest.split_once(' ')?;
-        found
-            .push(ConfigSource {
-                kind: kind_of(alloc, kind)?,
-                path: Text::from_str(alloc, path).ok()?,
-                outcome: outcome_of(alloc, outcome)?,
-            })
-            .ok()?;
+        found.push(source_of(alloc, source)?).ok()?;
     }
     Some(found)
+}
+
+fn source_of(alloc: Global, source: &str) -> Option<ConfigSource> {
+    let (kind, rest) = source.split_once(' ')?;
+    let (path, outcome) = rest.split_once(' ')?;
+    Some(ConfigSource {
+        kind: kind_of(alloc, kind)?,
+        path: Text::from_str(alloc, path).ok()?,
+        outcome: outcome_of(alloc, outcome)?,
+    })
 }
 
 // Where a source comes from.
@@ -56,7 +58,12 @@ fn outcome_of(alloc: Global, outcome: &str) -> Option<ConfigSourceOutcome> {
 pub(crate) fn loads(alloc: Global, input: &str) -> Option<String> {
     let (head, sources) = input.split_once(BAR)?;
     let sources = sources_of(alloc, sources)?;
-    match load(alloc, &built_in(alloc).ok()?, sources.as_slice()) {
+    loaded(alloc, sources.as_slice(), head)
+}
+
+fn loaded(alloc: Global, sources: &[ConfigSource], head: &str) -> Option<String> {
+    let built_in = built_in(alloc).ok()?;
+    match load(alloc, &built_in, sources) {
         Ok(config) => settings_told(alloc, &config, head),
         Err(LoadError::Refused(fault)) => refused(alloc, &fault),
         Err(LoadError::OutOfMemory) => None,
@@ -82,16 +89,27 @@ fn settings_told(alloc: Global, config: &LoadedConfig, head: &str) -> Option<Str
     };
     let store_dir = config.store_dir.as_ref().map_or("", |dir| dir.as_str());
     let profile = EvaluatableProfile::new(name, "/work", store_dir, chain);
+    each_told(alloc, config, &profile, settings)
+}
+
+// Settings of a profile, with commas between their keys.
+fn each_told(
+    alloc: Global,
+    config: &LoadedConfig,
+    profile: &EvaluatableProfile<'_>,
+    settings: &str,
+) -> Option<String> {
     let mut answer = String::new(alloc);
     for key in settings.split(',') {
-        let value = setting(alloc, config, &profile, key)?;
-        push_part(
-            &mut answer,
-            "; ",
-            format!(in alloc; "{key} = {value}").ok()?.as_str(),
-        )?;
+        let value = setting(alloc, config, profile, key)?;
+        push_value(alloc, &mut answer, key, value.as_str())?;
     }
     Some(answer)
+}
+
+fn push_value(alloc: Global, answer: &mut String, key: &str, value: &str) -> Option<()> {
+    let told = format!(in alloc; "{key} = {value}").ok()?;
+    push_part(answer, "; ", told.as_str())
 }
 
 // What a profile and its parents set, one after another, and `default` last.
@@ -136,10 +154,15 @@ pub(crate) fn warnings(alloc: Global, input: &str) -> Option<String> {
     let (path, text) = input.split_once(' ')?;
     let file = toml::table_from_str(alloc, text).ok()?;
     let mut warnings = DefaultConfigWarnings::new(alloc);
-    tell_file(alloc, &mut warnings, path, &file).ok()?;
-    let answer = joined(alloc, "; ", warnings.lines())?;
-    if answer.is_empty() {
+    match tell_file(alloc, &mut warnings, path, &file) {
+        Ok(()) => lines_told(alloc, &warnings),
+        Err(_) => None,
+    }
+}
+
+fn lines_told(alloc: Global, warnings: &DefaultConfigWarnings) -> Option<String> {
+    if warnings.lines().is_empty() {
         return String::from_str(alloc, "-").ok();
     }
-    Some(answer)
+    joined(alloc, "; ", warnings.lines())
 }

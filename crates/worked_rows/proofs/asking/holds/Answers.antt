@@ -1,7 +1,7 @@
 use Rattle.std.proofs.Common.{rules, subst, Some}
 use Rattle.nextest_filtering_arguments.specs.declared.ban.FiltersetKind.TheVariants as purpose
 use Rattle.nextest_filtering_filters.specs.Query.{binary_of, test_of}
-use Rattle.worked_layers.proofs.asking.holds.Goals as goal
+use Rattle.worked_rows.proofs.asking.holds.Goals as goal
 
 pub returns-in-Some : goal.returns-in-Some
 returns-in-Some g c =

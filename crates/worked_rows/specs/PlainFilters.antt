@@ -6,8 +6,8 @@ use Rattle.nextest_config_resolution_filters.specs.Filters.{AreAlike, FiltersLaw
 use Rattle.nextest_filtering_arguments.specs.declared.ban.FiltersetKind.{FiltersetKind}
 use Rattle.nextest_filtering_filters.specs.declared.known_groups.KnownGroups.{KnownGroups}
 use Rattle.nextest_filtering_filters.specs.Query.{Binary, Test}
-use Rattle.worked_layers.specs.declared.plain_filter.PlainFilter.{PlainFilter}
-use Rattle.worked_layers.specs.declared.plain_filter.PlainFilter.TheVariants as plain
+use Rattle.worked_rows.specs.declared.plain_filter.PlainFilter.{PlainFilter}
+use Rattle.worked_rows.specs.declared.plain_filter.PlainFilter.TheVariants as plain
 
 -- the filter of a text; the empty text is none
 abbrev pub plain_of : List ℕ → Option PlainFilter

@@ -16,13 +16,18 @@ pub(crate) fn setting(
     match key {
         "profiles" => names(alloc, config),
         "parents" => debug(alloc, profile.chain().len().saturating_sub(1)),
-        "store-dir" => format!(in alloc; "{}", profile.store_dir(alloc).ok()?).ok(),
+        "store-dir" => store_dir(alloc, profile),
         "inherits" => may_be(alloc, profile.inherits()),
         "default-filter" => may_be(alloc, profile.default_filter()),
         "run-extra-args" => arguments(alloc, profile.run_extra_args()),
         "junit" => report(alloc, profile.junit()),
         _ => of_runs(alloc, profile, key),
     }
+}
+
+fn store_dir(alloc: Global, profile: &EvaluatableProfile<'_>) -> Option<String> {
+    let dir = profile.store_dir(alloc).ok()?;
+    format!(in alloc; "{dir}").ok()
 }
 
 // A setting of how runs go.

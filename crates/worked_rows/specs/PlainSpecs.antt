@@ -4,7 +4,7 @@ use Rattle.std.specs.List.{list_any}
 use Rattle.std.specs.Str.{bytes_eq}
 use Rattle.std.proofs.Common.{sym, ap, ◌∙◌}
 use Rattle.nextest_config_resolution_filters.specs.Specs.{SpecsLaws}
-use Rattle.worked_layers.specs.declared.plain_spec.PlainSpec.{PlainSpec}
+use Rattle.worked_rows.specs.declared.plain_spec.PlainSpec.{PlainSpec}
 
 -- the spec of a text; the empty text is none
 abbrev pub spec_of : List ℕ → Option PlainSpec

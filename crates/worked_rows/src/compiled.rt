@@ -50,11 +50,17 @@ fn known_groups(alloc: Global, words: &str) -> Result<KnownGroups, AllocError> {
     }
     let mut groups = Listing::new(alloc);
     for word in words.split(',') {
-        if word != "@global" {
-            groups.push(Text::from_str(alloc, word)?)?;
-        }
+        push_group(alloc, &mut groups, word)?;
     }
     Ok(KnownGroups::Known(groups))
+}
+
+// Adds a group that isn't known anyway.
+fn push_group(alloc: Global, groups: &mut Listing<Text>, word: &str) -> Result<(), AllocError> {
+    if word != "@global" {
+        groups.push(Text::from_str(alloc, word)?)?;
+    }
+    Ok(())
 }
 
 // The faults, each with its label, its place, and why a predicate may not stand.

@@ -2,7 +2,7 @@
 ghost use Rattle.std.specs.Prelude.{◌≡◌, Some};
 ghost use Rattle.std.specs.List.{list_any};
 ghost use Rattle.std.specs.Str.{bytes_eq};
-ghost use Rattle.worked_layers.specs.PlainSpecs.{plain_spec_laws, spec_of, spec_value};
+ghost use Rattle.worked_rows.specs.PlainSpecs.{plain_spec_laws, spec_of, spec_value};
 
 use nextest_config_resolution::{SpecError, Specs};
 use nextest_text::{Listing, Text};

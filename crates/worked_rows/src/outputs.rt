@@ -3,6 +3,7 @@ ghost use Rattle.std.specs.Prelude.{IfSome};
 ghost use Rattle.nextest_run_events.specs.Collected.{IsLoaded};
 
 use crate::ends::end_of;
+use crate::parts::push_part;
 use nextest_run_events::{
     AbortDescription, Boxed, ByteSubslice, ChildError, ChildErrorDescription, ChildExecutionOutput,
     ChildExecutionOutputDescription, ChildFdError, ChildOutput, ChildOutputDescription,
@@ -48,32 +49,42 @@ fn child_error_of(word: &str, chain: ErrorChain) -> Option<ChildError> {
 // An error's kind and what it came from: what its description says, with its source behind it.
 pub(crate) fn errors(alloc: Global, input: &str) -> Option<String> {
     let (word, words) = input.split_once(' ')?;
-    if let Some(error) = start_error_of(word, chain_of(alloc, words)?) {
-        let told = ChildStartErrorDescription::from_error(alloc, &error).ok()?;
-        return format!(in alloc; "{told}: {}", told.source()).ok();
+    match start_error_of(word, chain_of(alloc, words)?) {
+        Some(error) => start_error_told(alloc, &error),
+        None => child_error_told(alloc, &child_error_of(word, chain_of(alloc, words)?)?),
     }
-    let error = child_error_of(word, chain_of(alloc, words)?)?;
-    let told = ChildErrorDescription::from_error(alloc, &error).ok()?;
+}
+
+fn start_error_told(alloc: Global, error: &ChildStartError) -> Option<String> {
+    let told = ChildStartErrorDescription::from_error(alloc, error).ok()?;
+    format!(in alloc; "{told}: {}", told.source()).ok()
+}
+
+fn child_error_told(alloc: Global, error: &ChildError) -> Option<String> {
+    let told = ChildErrorDescription::from_error(alloc, error).ok()?;
     format!(in alloc; "{told}: {}", told.source()).ok()
 }
 
 // An error and its causes: how many there are, each with the nearest one behind it, and what is nearest to the error itself.
 pub(crate) fn causes(alloc: Global, input: &str) -> Option<String> {
-    let kept = SerializableError::new(alloc, &chain_of(alloc, input)?).ok()?;
+    let chain = chain_of(alloc, input)?;
+    causes_told(alloc, &SerializableError::new(alloc, &chain).ok()?)
+}
+
+fn causes_told(alloc: Global, kept: &SerializableError) -> Option<String> {
     let mut answer = format!(in alloc; "{kept} has {}", kept.causes().len()).ok()?;
     for source in kept.sources() {
         let nearest = source.source().map(|it| it.message());
-        answer
-            .push_str(format!(in alloc; "; {source} {nearest:?}").ok()?.as_str())
-            .ok()?;
+        let told = format!(in alloc; "{source} {nearest:?}").ok()?;
+        push_part(&mut answer, "; ", told.as_str())?;
     }
     let nearest = kept.source().map(|it| it.message());
     format!(in alloc; "{answer}; {nearest:?}").ok()
 }
 
 // Some bytes of a stream.
-fn stream(alloc: Global, text: &str) -> Option<ChildSingleOutput> {
-    let bytes = Vec::from_slice(alloc, text.as_bytes()).ok()?;
+fn stream(alloc: Global, bytes: &[u8]) -> Option<ChildSingleOutput> {
+    let bytes = Vec::from_slice(alloc, bytes).ok()?;
     Some(ChildSingleOutput::from(Listing::from(bytes)))
 }
 
@@ -86,7 +97,7 @@ fn left(
     let output = ChildExecutionOutput::Output {
         result: ended,
         output: ChildOutput::Split(ChildSplitOutput {
-            stdout: Some(stream(alloc, "ab")?),
+            stdout: Some(stream(alloc, b"ab")?),
             stderr: None,
         }),
         errors,
@@ -97,22 +108,33 @@ fn left(
 // An error's kind and what it came from: what a process left that had it, as it is described.
 pub(crate) fn described(alloc: Global, input: &str) -> Option<String> {
     let (word, words) = input.split_once(' ')?;
-    let told = match start_error_of(word, chain_of(alloc, words)?) {
+    let told = described_error(alloc, word, words)?;
+    format!(in alloc; "errors {}, {told:?}", told.has_errors()).ok()
+}
+
+fn described_error(
+    alloc: Global,
+    word: &str,
+    words: &str,
+) -> Option<ChildExecutionOutputDescription<LiveSpec>> {
+    match start_error_of(word, chain_of(alloc, words)?) {
         Some(error) => {
             let output = ChildExecutionOutput::StartError(error);
-            ChildExecutionOutputDescription::from_output(alloc, output).ok()?
+            ChildExecutionOutputDescription::from_output(alloc, output).ok()
         }
         None => {
-            let mut items = Listing::new(alloc);
-            items
-                .push(child_error_of(word, chain_of(alloc, words)?)?)
-                .ok()?;
-            let description = Text::from_str(alloc, "errors of the process").ok()?;
-            let errors = ErrorList { description, items };
-            left(alloc, Some(ExecutionResult::ExecFail), Some(errors))?
+            let errors = one_error(alloc, child_error_of(word, chain_of(alloc, words)?)?)?;
+            left(alloc, Some(ExecutionResult::ExecFail), Some(errors))
         }
-    };
-    format!(in alloc; "errors {}, {told:?}", told.has_errors()).ok()
+    }
+}
+
+// A list of one error.
+fn one_error(alloc: Global, error: ChildError) -> Option<ErrorList<ChildError>> {
+    let mut items = Listing::new(alloc);
+    items.push(error).ok()?;
+    let description = Text::from_str(alloc, "errors of the process").ok()?;
+    Some(ErrorList { description, items })
 }
 
 // How a process ended, or `-`, and whether a list of errors is there: whether something went wrong.
@@ -132,7 +154,7 @@ pub(crate) fn has_errors(alloc: Global, input: &str) -> Option<String> {
 // Where a stream was captured and what was written to it: the lengths of standard output and standard error.
 pub(crate) fn stream_lengths(alloc: Global, input: &str) -> Option<String> {
     let (captured, bytes) = input.split_once(' ')?;
-    let output = stream(alloc, bytes)?;
+    let output = stream(alloc, bytes.as_bytes())?;
     let told = match captured {
         "stdout" => ChildOutputDescription::from(ChildOutput::Split(ChildSplitOutput {
             stdout: Some(output),
@@ -151,31 +173,40 @@ pub(crate) fn stream_lengths(alloc: Global, input: &str) -> Option<String> {
 fn left_by_test(alloc: Global) -> Option<ChildExecutionOutputDescription<LiveSpec>>
     ensures { IfSome result (λ output. IsLoaded output) }
 {
-    let mut items = Listing::new(alloc);
-    items
-        .push(ChildErrorDescription::ReadStdout {
-            source: SerializableError::new(alloc, &chain_of(alloc, "closed")?).ok()?,
-        })
-        .ok()?;
     let result = ExecutionResultDescription::Fail {
         failure: FailureDescription::Abort {
             abort: AbortDescription::WindowsJobObject,
         },
         leaked: true,
     };
-    let errors = ErrorList {
-        description: Text::new(alloc),
-        items,
-    };
-    let stderr = Vec::from_slice(alloc, b"a\nError: \xff\n").ok()?;
+    let errors = Boxed::new(alloc, unread_output(alloc)?).ok()?;
+    let stderr = stream(alloc, b"a\nError: \xff\n")?;
     Some(ChildExecutionOutputDescription::Output {
         result: Some(Boxed::new(alloc, result).ok()?),
         output: ChildOutputDescription::Split {
             stdout: None,
-            stderr: Some(ChildSingleOutput::from(Listing::from(stderr))),
+            stderr: Some(stderr),
         },
-        errors: Some(Boxed::new(alloc, errors).ok()?),
+        errors: Some(errors),
     })
+}
+
+// That standard output wasn't read.
+fn unread_output(alloc: Global) -> Option<ErrorList<ChildErrorDescription>> {
+    let source = closed(alloc)?;
+    let mut items = Listing::new(alloc);
+    items
+        .push(ChildErrorDescription::ReadStdout { source })
+        .ok()?;
+    Some(ErrorList {
+        description: Text::new(alloc),
+        items,
+    })
+}
+
+// Why a stream wasn't read, or a process not started.
+fn closed(alloc: Global) -> Option<SerializableError> {
+    SerializableError::new(alloc, &chain_of(alloc, "closed")?).ok()
 }
 
 // All that went wrong: with such a test, and with a script that wasn't started.
@@ -183,13 +214,11 @@ pub(crate) fn unit_errors(alloc: Global, input: &str) -> Option<String> {
     if input == "test" {
         return all_told(alloc, UnitKind::Test, &left_by_test(alloc)?);
     }
-    let source = SerializableError::new(alloc, &chain_of(alloc, "closed")?).ok()?;
-    let error = ChildStartErrorDescription::Spawn { source };
-    all_told(
-        alloc,
-        UnitKind::Script,
-        &ChildExecutionOutputDescription::StartError(error),
-    )
+    let error = ChildStartErrorDescription::Spawn {
+        source: closed(alloc)?,
+    };
+    let output = ChildExecutionOutputDescription::StartError(error);
+    all_told(alloc, UnitKind::Script, &output)
 }
 
 fn all_told(
@@ -202,9 +231,11 @@ fn all_told(
     let list = UnitErrorDescription::new(kind, output).all_error_list()?;
     let mut answer = format!(in alloc; "{} ({})", list.description, list.items.len()).ok()?;
     for error in list.items {
-        answer
-            .push_str(format!(in alloc; "; {error}").ok()?.as_str())
-            .ok()?;
+        push_part(
+            &mut answer,
+            "; ",
+            format!(in alloc; "{error}").ok()?.as_str(),
+        )?;
     }
     Some(answer)
 }

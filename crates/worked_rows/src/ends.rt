@@ -84,36 +84,45 @@ pub(crate) fn signals(alloc: Global, input: &str) -> Option<String> {
 // A kind of value and JSON: the value that is read of it, behind the JSON that it is written as; or why nothing is read.
 pub(crate) fn json_forms(alloc: Global, input: &str) -> Option<String> {
     let (kind, text) = input.split_once(' ')?;
-    let value = Value::from_str(alloc, text).ok()?;
+    json_form(alloc, kind, &Value::from_str(alloc, text).ok()?)
+}
+
+fn json_form(alloc: Global, kind: &str, value: &Value) -> Option<String> {
     match kind {
-        "abort" => read_back::<AbortDescription>(alloc, &value),
-        "error" => read_back::<SerializableError>(alloc, &value),
-        "failure" => read_back::<FailureDescription>(alloc, &value),
-        "number" => read_back::<i32>(alloc, &value),
-        "result" => read_back::<ExecutionResultDescription>(alloc, &value),
+        "abort" => read_back::<AbortDescription>(alloc, value),
+        "error" => read_back::<SerializableError>(alloc, value),
+        "failure" => read_back::<FailureDescription>(alloc, value),
+        "number" => read_back::<i32>(alloc, value),
+        "result" => read_back::<ExecutionResultDescription>(alloc, value),
         _ => None,
     }
 }
 
 fn read_back<T: JsonForm + Debug>(alloc: Global, value: &Value) -> Option<String> {
     match T::from_json(alloc, value) {
-        Ok(form) => {
-            let written = form.to_json(alloc).ok()?.to_string(alloc).ok()?;
-            format!(in alloc; "{written} for {form:?}").ok()
-        }
+        Ok(form) => written_as(alloc, &form),
         Err(JsonError::OutOfMemory) => None,
         Err(error) => format!(in alloc; "{error}").ok(),
     }
 }
 
+fn written_as<T: JsonForm + Debug>(alloc: Global, form: &T) -> Option<String> {
+    let json = form.to_json(alloc).ok()?;
+    let written = json.to_string(alloc).ok()?;
+    format!(in alloc; "{written} for {form:?}").ok()
+}
+
 // A kind of value and JSON: what the value that is read of it prints.
 pub(crate) fn printed_forms(alloc: Global, input: &str) -> Option<String> {
     let (kind, text) = input.split_once(' ')?;
-    let value = Value::from_str(alloc, text).ok()?;
+    printed_as(alloc, kind, &Value::from_str(alloc, text).ok()?)
+}
+
+fn printed_as(alloc: Global, kind: &str, value: &Value) -> Option<String> {
     match kind {
-        "abort" => printed_form::<AbortDescription>(alloc, &value),
-        "error" => printed_form::<SerializableError>(alloc, &value),
-        "failure" => printed_form::<FailureDescription>(alloc, &value),
+        "abort" => printed_form::<AbortDescription>(alloc, value),
+        "error" => printed_form::<SerializableError>(alloc, value),
+        "failure" => printed_form::<FailureDescription>(alloc, value),
         _ => None,
     }
 }

@@ -1,12 +1,104 @@
-// Which function answers the rows of which table: few names at a time, since a function over many of them is dear to prove.
+// Which function answers the rows of which table of the layers below the core: few names at a time, since a function over many
+// of them is dear to prove.
+use crate::table::{Table, rows_hold};
 use crate::{
-    asking, attempts, compiled, configs, elements, ends, filter_texts, filter_trees, orders,
-    outputs, stress, summaries, values, verdicts, visibility,
+    asking, attempts, compiled, configs, elements, ends, filter_texts, filter_trees, log_lines,
+    orders, outputs, stress, summaries, values, verdicts, visibility,
 };
+use anyhow::Result;
 use std::alloc::Global;
+use std::rt::Files;
+
+// The tables, one name a line: lines of logs, filtersets, run events, elements of configurations, configurations.
+const TABLES: &str = "log_lines
+filtersets
+parsed
+trees
+leaves
+deps
+globs
+glob_matches
+name_matches
+texts
+escapes
+printed
+regexes
+arguments
+compiled
+answers
+page
+decimals
+tool_names
+json_forms
+printed_forms
+signals
+exits
+ends
+attempts
+scripts
+summaries
+outcomes
+errors
+run_modes
+slices
+visibility
+causes
+described
+has_errors
+unit_errors
+stream_lengths
+last_attempts
+displays
+orders
+shown_texts
+words
+stress_ends
+stress_remaining
+stress_names
+stress_totals
+durations
+identifiers
+tool_config_files
+test_groups
+limits
+exceeded
+flaky_messages
+priorities
+threads
+values
+verdicts
+loads
+warnings
+plain_filters
+filters
+plain_specs
+plain_configs";
+
+// The table of a name.
+#[derive(Drop)]
+struct Named(&'static str);
+
+impl Table for Named {
+    fn name(&self) -> &'static str {
+        self.0
+    }
+
+    fn answer(&self, alloc: Global, input: &str) -> Option<String> {
+        of_layers(self.0, alloc, input)
+    }
+}
+
+/// Whether each row of the layers below the core has the answer that is given to its input.
+pub(crate) fn layers_hold<R: Files + Print + AllocGlobal>(rt: &R) -> Result<bool> {
+    let mut hold = true;
+    for name in TABLES.lines() {
+        hold &= rows_hold(rt, &Named(name))?;
+    }
+    Ok(hold)
+}
 
 // The answer to an input of the table of a name; `None` where the input is none of it, or there is no memory.
-pub(crate) fn of_layers(name: &str, alloc: Global, input: &str) -> Option<String> {
+fn of_layers(name: &str, alloc: Global, input: &str) -> Option<String> {
     match name {
         "loads" => configs::loads(alloc, input),
         "warnings" => configs::warnings(alloc, input),
@@ -14,7 +106,7 @@ pub(crate) fn of_layers(name: &str, alloc: Global, input: &str) -> Option<String
         "filters" => asking::filters(alloc, input),
         "plain_specs" => asking::plain_specs(alloc, input),
         "plain_configs" => asking::plain_configs(alloc, input),
-        "values" => values::values(alloc, input),
+        "log_lines" => log_lines::log_lines(alloc, input),
         _ => of_filter_trees(name, alloc, input),
     }
 }
@@ -105,6 +197,7 @@ fn of_names(name: &str, alloc: Global, input: &str) -> Option<String> {
         "test_groups" => elements::test_groups(alloc, input),
         "run_modes" => elements::run_modes(alloc, input),
         "verdicts" => verdicts::verdicts(alloc, input),
+        "values" => values::values(alloc, input),
         _ => of_numbers(name, alloc, input),
     }
 }

@@ -1,6 +1,6 @@
 // Filters without a language.
 ghost use Rattle.std.specs.Prelude.{◌≡◌, true, false, Some};
-ghost use Rattle.worked_layers.specs.PlainFilters.{binary_value, is_named, plain_filter_laws, plain_of, test_value};
+ghost use Rattle.worked_rows.specs.PlainFilters.{binary_value, is_named, plain_filter_laws, plain_of, test_value};
 
 use nextest_config_resolution::{FilterError, Filters};
 use nextest_filtering::{BinaryQuery, FiltersetKind, KnownGroups, TestQuery};

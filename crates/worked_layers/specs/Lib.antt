@@ -1,3 +1,0 @@
-pub mod PlainFilters
-pub mod PlainSpecs
-pub mod Configs

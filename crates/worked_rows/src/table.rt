@@ -1,0 +1,68 @@
+// A table, and whether its rows hold.
+use crate::signs::{read_signs, written_in_signs};
+use anyhow::{Context, Result};
+use std::alloc::Global;
+use std::fs;
+use std::rt::Files;
+
+const ARROW: &str = " => ";
+
+/// What answers the inputs of a table.
+pub trait Table {
+    /// The table's name. Its rows stand in the file `NAME.txt` of the folder that the program runs in.
+    fn name(&self) -> &'static str;
+
+    /// The answer to an input, as a row has it; `None` where the input is none of the table, or there is no memory.
+    fn answer(&self, alloc: Global, input: &str) -> Option<String>;
+}
+
+/// Whether each row of a table has the answer that is given to its input. Prints each row that has not, with that answer, and
+/// then how many rows hold. A file that can't be read, a row without an answer, and want of memory end it.
+pub fn rows_hold<R: Files + Print + AllocGlobal, T: Table>(rt: &R, table: &T) -> Result<bool> {
+    let file = format!(in rt.alloc(); "{}.txt", table.name())?;
+    let text = fs::read_to_string(rt, file.as_str())?;
+    lines_hold(rt, table, text.as_str())
+}
+
+fn lines_hold<R: Print + AllocGlobal, T: Table>(rt: &R, table: &T, text: &str) -> Result<bool> {
+    let mut held: u64 = 0;
+    let mut hold = true;
+    for line in text.lines() {
+        if line.is_empty() || line.starts_with('#') {
+            continue;
+        }
+        let holds = row_holds(rt, table, line)?;
+        held = held.saturating_add(u64::from(holds));
+        hold &= holds;
+    }
+    println!(rt; "{}: {held} rows hold", table.name())?;
+    Ok(hold)
+}
+
+// Whether a row has the answer that is given to its input. Prints it if not.
+fn row_holds<R: Print + AllocGlobal, T: Table>(rt: &R, table: &T, line: &str) -> Result<bool> {
+    let differing = other_answer(rt.alloc(), table, line).context(format_args!(
+        "no answer to a row of {}: {line}",
+        table.name()
+    ))?;
+    let Some(answer) = differing else {
+        return Ok(true);
+    };
+    println!(rt; "{}: {line}\n    but the answer is: {answer}", table.name())?;
+    Ok(false)
+}
+
+// The answer that is given to the input of a row, where the row has another one.
+fn other_answer<T: Table>(alloc: Global, table: &T, line: &str) -> Option<Option<String>> {
+    let (input, answer) = line.rsplit_once(ARROW)?;
+    let given = given_answer(alloc, table, input)?;
+    if given == read_signs(alloc, answer).ok()? {
+        return Some(None);
+    }
+    Some(Some(written_in_signs(alloc, given.as_str()).ok()?))
+}
+
+fn given_answer<T: Table>(alloc: Global, table: &T, input: &str) -> Option<String> {
+    let input = read_signs(alloc, input).ok()?;
+    table.answer(alloc, input.as_str())
+}
