@@ -1,8 +1,8 @@
 #!/usr/bin/env python3
 """Runs the gate, and prints what it took by crate and kind, read from the process table as it goes, in units and in seconds.
 
-Run it from the repository's root: `bench/gate.py`, or `bench/gate.py COMMAND ..` for another command of `rt` (as
-`rt must-fail nextest_text`). What the command prints goes to bench/gate.log. The exit status is the command's. The kinds:
+Run it from the repository's root: `bench/gate.py`, which runs `make test`, or `bench/gate.py COMMAND ..` for another command of
+`rt` (as `rt must-fail nextest_text`). What the command prints goes to bench/gate.log. The exit status is the command's. The kinds:
 proof (the crate, from nothing), tests (the crate once more with its tests), edits (its wrong bodies), build (what LLVM and
 Rattle's own compiler make of a proved program or of tests). A process that lives less than the time between two looks may be
 missed; the sum of all, by the system's own count, stands in the last line.
@@ -167,7 +167,7 @@ def main():
     before = time_proof("before")
     began, used_before = mark(), used()
     with open(LOG, "wb") as log:
-        running = subprocess.Popen(sys.argv[1:] or ["rt", "ci"], cwd=ROOT, stdout=log, stderr=subprocess.STDOUT)
+        running = subprocess.Popen(sys.argv[1:] or ["make", "test"], cwd=ROOT, stdout=log, stderr=subprocess.STDOUT)
         seconds, works = watch(running)
     ended, spent = mark(), used() - used_before
     tell_others("meanwhile", began, ended)
