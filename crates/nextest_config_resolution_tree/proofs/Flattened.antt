@@ -1,12 +1,12 @@
 -- The ends of a table, member by member.
-use Rattle.std.proofs.Common.{◌≡◌, ℕ, List, [], ◌∷◌, ◌++◌, length, map, refl, sym, ap, ◌∙◌, append_assoc, append-nil, String, Global, string_bytes, Less}
+use Rattle.std.proofs.Common.{◌≡◌, ℕ, List, [], ◌∷◌, ◌++◌, length, map, refl, sym, ap, ◌∙◌, append_assoc, append-nil, String, Global, string_bytes, Less, arith, Result, Ok, Err, IfOk}
 use Rattle.std.specs.Bool.{⊤}
 use Rattle.std.proofs.lemmas.List.{map-append}
 use Rattle.std.specs.List.{AllByRecursion}
 use Rattle.std.specs.List.Sorted.{IsStrictlySortedBy}
 use Rattle.std.specs.Map.{keys_of}
 use Rattle.std.specs.String.{string_cmp}
-use Rattle.toml.specs.Data.{table}
+use Rattle.toml.specs.Data.{table, no_members}
 use Rattle.toml.specs.View.{view, members_view}
 use Rattle.toml.specs.declared.value.Value.{Value}
 use Rattle.nextest_config_elements_reading.specs.Reading.{Path}
@@ -19,6 +19,15 @@ Pair = String Global × Value
 pub table_ends : (pairs : List Pair) → (length pairs ≡ 0 → ⊥) → ends (table (members_view pairs)) ≡ members_ends (members_view pairs)
 table_ends [] some = absurd (some refl)
 table_ends (pair ∷ pairs) some = refl
+
+pub empty_ends : (path : Path) (pairs : List Pair) → length pairs ≡ 0 → map (along path) (ends (table (members_view pairs))) ≡ (path, table no_members) ∷ []
+empty_ends path [] none = ap (λ way. (way, table no_members) ∷ []) (append-nil path)
+empty_ends path (pair ∷ pairs) none = absurd (omega arith)
+
+pub empty_sorted : {T E : Type 0} (result : Result T E) (pairs : List Pair) → length pairs ≡ 0 → IfOk result (λ _. AreSorted (members_view pairs))
+empty_sorted (Ok done) [] none = tt
+empty_sorted (Ok done) (pair ∷ pairs) none = absurd (omega arith)
+empty_sorted (Err fault) pairs none = tt
 
 -- an end below a path and a further key
 pub along_behind : (path : Path) (key : List ℕ) (all : List End) → map (along path) (map (behind key) all) ≡ map (along (path ++ key ∷ [])) all

@@ -3,9 +3,10 @@ use Rattle.std.proofs.lemmas.Bool.{false≢true}
 use Rattle.std.specs.List.Sorted.{IsStrictlySortedBy}
 use Rattle.std.specs.Map.{keys_of}
 use Rattle.std.specs.String.{string_cmp}
+use Rattle.toml.proofs.Views.{view-Table}
 use Rattle.nextest_config_elements_reading.specs.Paths.{texts}
 use Rattle.nextest_config_resolution_tree.specs.Entries.{end_of}
-use Rattle.nextest_config_resolution_tree.proofs.Flattened.{Pair, table_ends, added, sorted_push, members_sorted}
+use Rattle.nextest_config_resolution_tree.proofs.Flattened.{Pair, table_ends, empty_ends, empty_sorted, added, sorted_push, members_sorted}
 use Rattle.nextest_config_resolution_tree.proofs.flattening.+ends.Goals as goal
 
 pub push_members-loop-key-preserved : goal.push_members-loop-key-preserved
@@ -31,3 +32,23 @@ pub push_table-returns-clause-ends : goal.push_table-returns-clause-ends
 push_table-returns-clause-ends t c =
     let some : length c.args.members.now.entries ≡ 0 → ⊥ = λ none. false≢true (sym c.if-is_empty.false ∙ c.is_empty.ensures.1 none) in
     rw (table_ends c.args.members.now.entries some) (rw (c.as_slice.ensures.value) at c.push_members.ensures.ends)
+
+pub push_members-returns-clause-ends : goal.push_members-returns-clause-ends
+push_members-returns-clause-ends t c =
+    let done = c.loop-key.invariant.0 in
+    let all : c.args.members.now.entries ≡ done = c.loop-key.invariant.1 ∙ ap (λ pairs. done ++ pairs) c.in-None.ensures.steps.0 ∙ append-nil done in
+    rw all c.loop-key.invariant.2
+
+pub push_value-returns-in-Table : goal.push_value-returns-in-Table
+push_value-returns-in-Table t c = record {
+  ends = rw (c.in-Table.is, view-Table, ← c.in_ok-path.ensures) c.push_table.ensures.ends;
+  sorted = rw (c.in-Table.is, view-Table) c.push_table.ensures.sorted;
+}
+
+pub push_table-returns-then-is_empty : goal.push_table-returns-then-is_empty
+push_table-returns-then-is_empty t c =
+    let none : length c.args.members.now.entries ≡ 0 = c.is_empty.ensures.0 c.if-is_empty.true in
+    record {
+      ends = rw (empty_ends (texts c.args.path.items) c.args.members.now.entries none) c.push_entry.ensures;
+      sorted = empty_sorted c.push_entry.result c.args.members.now.entries none;
+    }
