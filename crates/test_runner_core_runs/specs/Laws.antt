@@ -10,6 +10,7 @@ use Rattle.test_runner_core_runs.specs.State.{State, initial}
 use Rattle.test_runner_core_runs.specs.Step.{step}
 use Rattle.test_runner_core_runs.specs.Counters.{status}
 use Rattle.test_runner_core_runs.specs.Ends.{EndedWhole, final_state}
+use Rattle.test_runner_core_runs.specs.Finishing.{KeepsReasons}
 use Rattle.test_runner_core_runs.specs.Runs.{Run, Agrees, IsNoStop, IsNoMilder, is_complete, is_no_stop, most_events}
 use Rattle.test_runner_core_runs.specs.declared.event.Event.{Event}
 use Rattle.test_runner_core_runs.specs.declared.event.Event.TheVariants.{ScriptEnded, Started}
@@ -107,3 +108,7 @@ ReachesAnEnd =
     → IsPlan plan → Run (initial plan) events last → Agrees assigned (initial plan) events
     → (more : List Event) × (end : State) × AllByRecursion IsNoStop more × (is_complete end ≡ true)
     × Run (initial plan) (events ++ more) end × Agrees assigned (initial plan) (events ++ more)
+
+-- in a run from its beginning no test is over under a reason before a reason stands
+abbrev pub HasReasonsFirst : Type 0
+HasReasonsFirst = (plan : RunPlan) (events : List Event) (last : State) → Run (initial plan) events last → KeepsReasons last

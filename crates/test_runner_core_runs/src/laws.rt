@@ -1,5 +1,5 @@
 // What holds of all runs. Each law is the contract of a function without parameters.
-ghost use Rattle.test_runner_core_runs.specs.Laws.{EndsWithDueStatus, EndsNoMilder, HasFourExactlyWhereDue, RefusesScripts, RefusesStarts, KeepsAReason, SucceedsWhole, EndsInOneState, ReachesTheOneState, StopsWhereDue, HasNext, HasAtMost, ReachesAnEnd};
+ghost use Rattle.test_runner_core_runs.specs.Laws.{EndsWithDueStatus, EndsNoMilder, HasFourExactlyWhereDue, RefusesScripts, RefusesStarts, KeepsAReason, SucceedsWhole, EndsInOneState, ReachesTheOneState, StopsWhereDue, HasNext, HasAtMost, ReachesAnEnd, HasReasonsFirst};
 ghost use Rattle.test_runner_core_runs.specs.WorkedRows.{WorkedRows};
 
 /// Any complete run that agrees with an assignment and holds no stop event ends with that assignment's due status,
@@ -48,6 +48,12 @@ pub fn no_dead_end()
     ensures next { HasNext }
     ensures at_most { HasAtMost }
     ensures end { ReachesAnEnd }
+{}
+
+/// In a run from its beginning no test is over under a reason before a reason stands. That is the premise under which what a
+/// step answers (`Finished`) says which tests it finishes: so it does in each run.
+pub fn reasons_first()
+    ensures { HasReasonsFirst }
 {}
 
 /// Worked rows, whose ends were found by hand: the definitions of step, counters, summary and status give them.
