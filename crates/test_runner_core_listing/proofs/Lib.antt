@@ -2,3 +2,4 @@ pub mod OneByOne
 pub mod Walk
 pub mod Told
 pub mod Answering
+pub mod Added
