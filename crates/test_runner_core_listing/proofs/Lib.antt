@@ -3,3 +3,4 @@ pub mod Walk
 pub mod Told
 pub mod Answering
 pub mod Added
+pub mod Listed
