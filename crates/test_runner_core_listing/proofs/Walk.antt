@@ -1,9 +1,11 @@
 -- Binaries, one after another.
-use Rattle.std.proofs.Common.{◌≡◌, ◌<◌, ℕ, Bool, true, false, cond, length, get_or, drop, drop-cons, add-one, ◌+◌, ◌∷◌, ◌++◌, [], List, Result, Ok, Err, ap, sym, ◌∙◌, append_assoc}
+use Rattle.std.proofs.Common.{◌≡◌, ◌<◌, ℕ, Bool, true, false, cond, length, get_or, drop, drop-cons, add-one, ◌+◌, ◌∷◌, ◌++◌, [], List, Result, Ok, Err, ap, sym, ◌∙◌, subst, append_assoc}
+use Rattle.std.proofs.lemmas.List.{append-nil}
+use Rattle.nextest_run_events_results.specs.declared.instance.OwnedTestInstanceId.{OwnedTestInstanceId}
 use Rattle.test_runner_core_workspace.specs.Lister.{Answer}
 use Rattle.test_runner_core_workspace.specs.declared.record.Binary.{Binary}
 use Rattle.test_runner_core_listing.specs.Answers.{Answers}
-use Rattle.test_runner_core_listing.specs.Listing.{◌>>=◌, Found, accepted, asked_of, asked_after, ids_of, listing, Adds, Asks, AsksFor}
+use Rattle.test_runner_core_listing.specs.Listing.{◌>>=◌, Found, accepted, asked_of, asked_after, ids_of, listing, selected_in, skipped_in, Adds, Asks, AsksFor}
 use Rattle.test_runner_core_listing.specs.declared.selection.Selection.{Selection}
 use Rattle.test_runner_core_listing.specs.declared.listing_error.ListingError.{ListingError}
 use Rattle.test_runner_core_listing.specs.declared.listing_error.ListingError.TheVariants as errors
@@ -67,3 +69,42 @@ asks_refused answer chosen all false binary rest found new initial asked new_ask
 pub rest_of : (binaries : List Binary) (i : ℕ) (binary : Binary) → i < length binaries → binary ≡ get_or binaries i binary → drop i binaries ≡ binary ∷ drop (i + 1) binaries
 rest_of binaries i binary within is =
     drop-cons binaries i binary within ∙ ap (λ (n : ℕ). get_or binaries i binary ∷ drop n binaries) (sym (add-one i)) ∙ ap (λ (b : Binary). b ∷ drop (i + 1) binaries) (sym is)
+
+-- more was found, and then comes the same
+found_more : (found new : Selection) (tests skipped : List OwnedTestInstanceId) (read : Result Found ListingFault) → new.tests ≡ found.tests ++ tests → new.skipped ≡ found.skipped ++ skipped
+    → behind new read ≡ behind found (read >>= λ (rest : Found). Ok (record { tests = tests ++ rest.tests; skipped = skipped ++ rest.skipped }))
+found_more found new tests skipped (Err refusal) t s = λ i. Err refusal
+found_more found new tests skipped (Ok rest) t s =
+    let one : new.tests ++ rest.tests ≡ found.tests ++ (tests ++ rest.tests) = ap (λ (some : List OwnedTestInstanceId). some ++ rest.tests) t ∙ append_assoc found.tests tests rest.tests in
+    let other : new.skipped ++ rest.skipped ≡ found.skipped ++ (skipped ++ rest.skipped) =
+    ap (λ (some : List OwnedTestInstanceId). some ++ rest.skipped) s ∙ append_assoc found.skipped skipped rest.skipped in
+    λ i. Ok (record { tests = one i; skipped = other i })
+
+-- the walk goes on past one that isn't refused
+pub one_walked : (answer : Binary → Answer) (chosen : Answers) (all : List Binary) (told : Bool) (binary : Binary) (rest : List Binary) (found new : Selection) (initial asked new_asked : List (List ℕ)) (answered : Answer) (done : Unit {0})
+    → Walked answer chosen all (cond told (binary ∷ rest) rest) found initial asked → answered ≡ answer binary
+    → Adds {T = Unit {0}} told (Ok done) (accepted answered) chosen binary found new → new_asked ≡ asked ++ ids_of (cond told (binary ∷ []) [])
+    → Walked answer chosen all rest new initial new_asked
+one_walked answer chosen all false binary rest found new initial asked new_asked answered done walked same adds asks =
+    subst (λ (it : Selection). Walked answer chosen all rest it initial new_asked) (sym adds)
+    (subst (λ (it : List (List ℕ)). Walked answer chosen all rest found initial it) (sym (asks ∙ append-nil asked)) walked)
+one_walked answer chosen all true binary rest found new initial asked new_asked answered done walked same adds asks =
+    let names = adds.0 in
+    let one = binary.id ∷ [] in
+    let ids = asked_of answer rest in
+    let ok : accepted (answer binary) ≡ Ok names = ap accepted (sym same) ∙ adds.1 in
+    let listed : new.listed ≡ found.listed ++ one = adds.2 in
+    record {
+      given =
+          found_more found new (selected_in chosen binary names) (skipped_in chosen binary names) (listing answer chosen rest) adds.3 adds.4
+          ∙ ap (λ (read : Result (List (List ℕ)) ListingFault).
+          behind found (read >>= λ (some : List (List ℕ)). listing answer chosen rest >>= λ (more : Found). Ok (record { tests = selected_in chosen binary some ++ more.tests; skipped = skipped_in chosen binary some ++ more.skipped }))) (sym ok)
+          ∙ walked.given;
+      listed = ap (λ (some : List (List ℕ)). some ++ ids_of rest) listed ∙ append_assoc found.listed one (ids_of rest) ∙ walked.listed;
+      so_far = asks ∙ ap (λ (some : List (List ℕ)). some ++ one) walked.so_far ∙ append_assoc initial found.listed one ∙ ap (λ (some : List (List ℕ)). initial ++ some) (sym listed);
+      ahead =
+          walked.ahead
+          ∙ ap (λ (read : Result (List (List ℕ)) ListingFault). found.listed ++ binary.id ∷ asked_after read ids) ok
+          ∙ sym (append_assoc found.listed one ids)
+          ∙ ap (λ (some : List (List ℕ)). some ++ ids) (sym listed);
+    }
