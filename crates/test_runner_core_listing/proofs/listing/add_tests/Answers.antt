@@ -1,4 +1,4 @@
-use Rattle.std.proofs.Common.{◌≡◌, ℕ, List, true, false, not, ap, sym, ◌∙◌}
+use Rattle.std.proofs.Common.{◌≡◌, ℕ, List, true, false, not, ap, sym, ◌∙◌, rules}
 use Rattle.test_runner_core_listing.proofs.Added.{said, one_added, none_added}
 use Rattle.test_runner_core_listing.proofs.listing.add_tests.Goals as goal
 
@@ -9,7 +9,7 @@ loop-name-preserved-in_ok-push c =
     let binary = c.args.binary.now in
     let name = c.in-Some.name in
     let same = c.in_ok-selected.ensures.same ∙ before.same in
-    let taken : selected ≡ true = cc in
+    let taken : selected ≡ true = search rules in
     record {
       same = same;
       listed = before.listed;
@@ -30,7 +30,7 @@ loop-name-preserved c =
     let binary = c.args.binary.now in
     let name = c.in-Some.name in
     let same = c.in_ok-selected.ensures.same ∙ before.same in
-    let left : selected ≡ false = cc in
+    let left : selected ≡ false = search rules in
     record {
       same = same;
       listed = before.listed;
