@@ -21,7 +21,6 @@ use Rattle.test_runner_core_inputs.specs.declared.source_word.SourceWord.TheVari
 use Rattle.test_runner_core_inputs.specs.declared.platform.FactRecord.{FactRecord}
 use Rattle.test_runner_core_inputs.specs.declared.platform.PlatformRecord.{PlatformRecord}
 use Rattle.test_runner_core_inputs.specs.declared.inputs.Inputs.{Inputs}
-use Rattle.test_runner_core_inputs.specs.declared.inputs.FirstInputs.{FirstInputs}
 use Rattle.test_runner_core_inputs.specs.declared.inputs_error.InputsRefusal.{InputsRefusal}
 use Rattle.test_runner_core_inputs.specs.declared.inputs_error.InputsRefusal.TheVariants as errors
 pub use Rattle.nextest_json.specs.Reading.{Path, Reading, ◌>>=◌, under, leaf, text, required, some, optional, defaulted, element, each, list, object}
@@ -169,30 +168,6 @@ inputs_parts given = do
     profile = profile;
     mode = mode;
     host = host;
-    target = target;
-    filterset = filterset;
-    ignore_default_filter = ignore_default_filter;
-    override_version_check = override_version_check;
-    processors = processors;
-    root = root;
-  })
-
--- what stands behind the host, where all up to it is read
-abbrev pub inputs_behind : FirstInputs → Data → Reading Inputs
-inputs_behind first given = do
-  target ← optional (codes "target") platform_of given
-  filterset ← optional (codes "filterset") text given
-  ignore_default_filter ← defaulted (codes "ignore_default_filter") (leaf value.truth) false given
-  override_version_check ← defaulted (codes "override_version_check") (leaf value.truth) false given
-  processors ← defaulted (codes "processors") (leaf value.positive) 1 given
-  root ← defaulted (codes "root") text [] given
-  Ok (record {
-    workspace = first.workspace;
-    sources = first.sources;
-    current_version = first.current_version;
-    profile = first.profile;
-    mode = first.mode;
-    host = first.host;
     target = target;
     filterset = filterset;
     ignore_default_filter = ignore_default_filter;

@@ -78,73 +78,19 @@ impl Form<Inputs> for Inputs {
         if !value.is_object() {
             return Err(Fault::here(alloc).below(Step::Name("workspace")));
         }
-        let first = FirstInputs {
+        Ok(Inputs {
             workspace: required(alloc, value, "workspace")?,
             sources: required(alloc, value, "sources")?,
             current_version: required(alloc, value, "current_version")?,
             profile: profile_of(alloc, value)?,
             mode: defaulted(alloc, value, "mode", NextestRunMode::Test)?,
             host: defaulted(alloc, value, "host", PlatformRecord::empty(alloc))?,
-        };
-        first.with_more(alloc, value)
-    }
-}
-
-// The inputs up to the host, which stand first in the written order.
-struct FirstInputs {
-    workspace: WorkspaceRecord,
-    sources: Listing<ConfigSource>,
-    current_version: PlainVersion,
-    profile: Text,
-    mode: NextestRunMode,
-    host: PlatformRecord,
-}
-
-impl Drop for FirstInputs {
-    fn drop(self) {
-        let Self {
-            workspace: _,
-            sources: _,
-            current_version: _,
-            profile: _,
-            mode: _,
-            host: _,
-        } = self;
-    }
-}
-
-impl FirstInputs {
-    // The inputs whose first ones these are; those that stand behind them are read.
-    fn with_more(self, alloc: Global, value: &JsonValue<'_, '_>) -> Result<Inputs, Fault>
-        ensures { Gives result (read.inputs_behind self (seen value.now)) }
-    {
-        let target = optional(alloc, value, "target")?;
-        let filterset = optional(alloc, value, "filterset")?;
-        let ignore_default_filter = defaulted(alloc, value, "ignore_default_filter", false)?;
-        let override_version_check = defaulted(alloc, value, "override_version_check", false)?;
-        let processors = defaulted(alloc, value, "processors", Positive::one())?.get();
-        let root = defaulted(alloc, value, "root", Text::new(alloc))?;
-        let Self {
-            workspace,
-            sources,
-            current_version,
-            profile,
-            mode,
-            host,
-        } = self;
-        Ok(Inputs {
-            workspace,
-            sources,
-            current_version,
-            profile,
-            mode,
-            host,
-            target,
-            filterset,
-            ignore_default_filter,
-            override_version_check,
-            processors,
-            root,
+            target: optional(alloc, value, "target")?,
+            filterset: optional(alloc, value, "filterset")?,
+            ignore_default_filter: defaulted(alloc, value, "ignore_default_filter", false)?,
+            override_version_check: defaulted(alloc, value, "override_version_check", false)?,
+            processors: defaulted(alloc, value, "processors", Positive::one())?.get(),
+            root: defaulted(alloc, value, "root", Text::new(alloc))?,
         })
     }
 }
