@@ -15,7 +15,7 @@ pub(crate) fn steps(
     count: usize,
     links: &[(usize, usize)],
 ) -> Result<Vec<(usize, usize)>, AllocError> {
-    let ends = ends_of(alloc, count, links, false)?;
+    let ends = ends_of(alloc, count, links, Direction::Along)?;
     let against = searched_against(alloc, count, links, ends.as_slice())?;
     steps_of(alloc, ends.as_slice(), &against)
 }
@@ -29,7 +29,7 @@ fn searched_against(
 ) -> Result<Search, AllocError> {
     let places = all_places(alloc, count)?;
     let along = search_lists(alloc, ends, places.as_slice())?;
-    let starts = ends_of(alloc, count, links, true)?;
+    let starts = ends_of(alloc, count, links, Direction::Against)?;
     search_lists(alloc, starts.as_slice(), along.left.as_slice())
 }
 
@@ -68,19 +68,25 @@ fn empty_lists(alloc: Global, count: usize) -> Result<Vec<Vec<usize>>, AllocErro
     Ok(lists)
 }
 
-// For each place the ends of the links from it, or against them the starts of the links to it.
+// How links are followed.
+#[derive(Clone, Copy)]
+enum Direction {
+    Along,
+    Against,
+}
+
+// For each place those that one link leads to from it in this direction.
 fn ends_of(
     alloc: Global,
     count: usize,
     links: &[(usize, usize)],
-    is_against: bool,
+    direction: Direction,
 ) -> Result<Vec<Vec<usize>>, AllocError> {
     let mut lists = empty_lists(alloc, count)?;
     for (from, to) in links {
-        let (place, end) = if is_against {
-            (*to, *from)
-        } else {
-            (*from, *to)
+        let (place, end) = match direction {
+            Direction::Along => (*from, *to),
+            Direction::Against => (*to, *from),
         };
         if let Some(list) = lists.get_mut(place) {
             list.push(end)?;
