@@ -3,6 +3,7 @@ use Rattle.std.proofs.Common.{◌≡◌, ◌≢◌, ◌↔◌, ◌⊎◌, ℕ, �
 use Rattle.std.specs.Prelude.{encode_utf8}
 use Rattle.std.specs.Fmt.{digits}
 use Rattle.std.specs.List.{flat_map}
+use Rattle.std.specs.Option.{option_map_or}
 use Rattle.std.proofs.lemmas.Bool.{eqb-true, eqb-false, or_cases, or_parts, or_from, and_from, not_from_false, ltb-true, ltb-false, lt-ltb, cases_lt, leb-true, cond_both, agree_below_at, false≢true, cond-false, ne_eqb}
 use Rattle.std.proofs.lemmas.Fmt.{digits_is_IsNumeral}
 use Rattle.std.proofs.lemmas.List.{append-nil, append_assoc}
@@ -73,15 +74,29 @@ plain_from byte other =
     let parts = or_parts (eqb byte 92 || eqb byte 47) (is_end byte) other in
     and_from _ _ (not_from_false _ (or_parts (eqb byte 92) (eqb byte 47) parts.0).0) (not_from_false _ parts.1)
 
+-- what holds of each way in which a byte prints holds of what it prints as
+each_way : (byte : ℕ) (P : List ℕ → Type 0)
+    → (((eqb byte 92 || eqb byte 47) || is_end byte) ≡ true → P (92 ∷ byte ∷ []))
+    → (eqb byte 10 ≡ true → P (92 ∷ 110 ∷ [])) → (eqb byte 13 ≡ true → P (92 ∷ 114 ∷ [])) → (eqb byte 9 ≡ true → P (92 ∷ 116 ∷ []))
+    → ((ltb byte 32 || eqb byte 127) ≡ true → P (by_number byte))
+    → (((eqb byte 92 || eqb byte 47) || is_end byte) ≡ false → eqb byte 10 ≡ false → eqb byte 13 ≡ false → eqb byte 9 ≡ false → P (byte ∷ []))
+    → P (printed byte)
+each_way byte P special feed return tab control plain =
+    let L : Option ℕ → Type 0 = λ letter. P (option_map_or (λ l. 92 ∷ l ∷ []) letter (if ltb byte 32 || eqb byte 127 then by_number byte else byte ∷ [])) in
+    cond_both ((eqb byte 92 || eqb byte 47) || is_end byte) (Some byte) _ L special (λ other.
+    cond_both (eqb byte 10) (Some 110) _ L feed (λ no_feed.
+    cond_both (eqb byte 13) (Some 114) _ L return (λ no_return.
+    cond_both (eqb byte 9) (Some 116) None L tab (λ no_tab.
+    cond_both (ltb byte 32 || eqb byte 127) (by_number byte) (byte ∷ []) P control (λ _. plain other no_feed no_return no_tab)))))
+
 printed_text : (byte : ℕ) → IsText (printed byte) (byte ∷ [])
-printed_text byte =
-    let P : List ℕ → Type 0 = λ shown. IsText shown (byte ∷ []) in
-    cond_both ((eqb byte 92 || eqb byte 47) || is_end byte) _ _ P (λ yes. text_piece (Escaped byte byte) (special byte yes).0) (λ other.
-    cond_both (eqb byte 10) _ _ P (λ yes. letter_text byte 10 110 yes refl) (λ _.
-    cond_both (eqb byte 13) _ _ P (λ yes. letter_text byte 13 114 yes refl) (λ _.
-    cond_both (eqb byte 9) _ _ P (λ yes. letter_text byte 9 116 yes refl) (λ _.
-    cond_both (ltb byte 32 || eqb byte 127) _ _ P (λ yes. number_text byte (control_small byte yes)) (λ _.
-    text_piece (Plain byte) (plain_from byte other))))))
+printed_text byte = each_way byte (λ shown. IsText shown (byte ∷ []))
+    (λ yes. text_piece (Escaped byte byte) (special byte yes).0)
+    (λ yes. letter_text byte 10 110 yes refl)
+    (λ yes. letter_text byte 13 114 yes refl)
+    (λ yes. letter_text byte 9 116 yes refl)
+    (λ yes. number_text byte (control_small byte yes))
+    (λ other feed return tab. text_piece (Plain byte) (plain_from byte other))
 
 space_text : (byte : ℕ) → eqb byte 32 ≡ true → IsText (by_number 32) (byte ∷ [])
 space_text byte same = subst (λ (b : ℕ). IsText (by_number 32) (b ∷ [])) (sym (eqb-true byte 32 same)) (number_text 32 (lit< tt))
@@ -112,29 +127,27 @@ plain_no_blank byte space feed return tab =
     or_from _ _ (or_from _ _ (or_from _ _ space tab) feed) return
 
 printed_front : (byte : ℕ) → eqb byte 32 ≡ false → Front byte (printed byte)
-printed_front byte space =
-    let P : List ℕ → Type 0 = λ shown. Front byte shown in
-    cond_both ((eqb byte 92 || eqb byte 47) || is_end byte) _ _ P (λ yes. inl (byte ∷ [], refl)) (λ other.
-    cond_both (eqb byte 10) _ _ P (λ yes. inl (110 ∷ [], refl)) (λ feed.
-    cond_both (eqb byte 13) _ _ P (λ yes. inl (114 ∷ [], refl)) (λ return.
-    cond_both (eqb byte 9) _ _ P (λ yes. inl (116 ∷ [], refl)) (λ tab.
-    cond_both (ltb byte 32 || eqb byte 127) _ _ P (λ yes. inl (117 ∷ 123 ∷ digits 16 false byte ++ 125 ∷ [], refl)) (λ _.
-    inr (
+printed_front byte space = each_way byte (Front byte)
+    (λ yes. inl (byte ∷ [], refl))
+    (λ yes. inl (110 ∷ [], refl))
+    (λ yes. inl (114 ∷ [], refl))
+    (λ yes. inl (116 ∷ [], refl))
+    (λ yes. inl (117 ∷ 123 ∷ digits 16 false byte ++ 125 ∷ [], refl))
+    (λ other feed return tab. inr (
       [],
       refl,
       plain_no_blank byte space feed return tab,
       eqb-false byte 47 (or_parts (eqb byte 92) (eqb byte 47) (or_parts (eqb byte 92 || eqb byte 47) (is_end byte) other).0).1,
-    ))))))
+    ))
 
 printed_back : (byte : ℕ) → eqb byte 32 ≡ false → Back (printed byte)
-printed_back byte space =
-    let P : List ℕ → Type 0 = Back in
-    cond_both ((eqb byte 92 || eqb byte 47) || is_end byte) _ _ P (λ yes. (92 ∷ [], byte, refl, (special byte yes).1)) (λ other.
-    cond_both (eqb byte 10) _ _ P (λ yes. (92 ∷ [], 110, refl, refl)) (λ feed.
-    cond_both (eqb byte 13) _ _ P (λ yes. (92 ∷ [], 114, refl, refl)) (λ return.
-    cond_both (eqb byte 9) _ _ P (λ yes. (92 ∷ [], 116, refl, refl)) (λ tab.
-    cond_both (ltb byte 32 || eqb byte 127) _ _ P (λ yes. (92 ∷ 117 ∷ 123 ∷ digits 16 false byte, 125, refl, refl)) (λ _.
-    ([], byte, refl, plain_no_blank byte space feed return tab))))))
+printed_back byte space = each_way byte Back
+    (λ yes. (92 ∷ [], byte, refl, (special byte yes).1))
+    (λ yes. (92 ∷ [], 110, refl, refl))
+    (λ yes. (92 ∷ [], 114, refl, refl))
+    (λ yes. (92 ∷ [], 116, refl, refl))
+    (λ yes. (92 ∷ 117 ∷ 123 ∷ digits 16 false byte, 125, refl, refl))
+    (λ other feed return tab. ([], byte, refl, plain_no_blank byte space feed return tab))
 
 front-append : (byte : ℕ) (shown more : List ℕ) → Front byte shown → Front byte (shown ++ more)
 front-append byte shown more (inl (rest, is)) = inl (rest ++ more, ap (λ (x : List ℕ). x ++ more) is)
@@ -255,28 +268,16 @@ not_closed rest none = behind_bare rest none ∙ sym (append-nil (flat_map print
 -- ---- characters inside a text
 
 printed_high : (byte : ℕ) → 128 ≤ byte → printed byte ≡ byte ∷ []
-printed_high byte high =
-    let P : List ℕ → Type 0 = λ shown. shown ≡ byte ∷ [] in
-    cond_both ((eqb byte 92 || eqb byte 47) || is_end byte) _ _ P (λ yes. absurd (low_special yes)) (λ _.
-    cond_both (eqb byte 10) _ _ P (at 10 (lit< tt)) (λ _.
-    cond_both (eqb byte 13) _ _ P (at 13 (lit< tt)) (λ _.
-    cond_both (eqb byte 9) _ _ P (at 9 (lit< tt)) (λ _.
-    cond_both (ltb byte 32 || eqb byte 127) _ _ P (λ yes. let small = control_small byte yes in absurd (omega arith)) (λ _. refl))))) where
-      at : {shown : List ℕ} (n : ℕ) → n < 128 → eqb byte n ≡ true → shown ≡ byte ∷ []
-      at n small same = let is = eqb-true byte n same in absurd (omega arith)
-
-      low_special : ((eqb byte 92 || eqb byte 47) || is_end byte) ≡ true → ⊥
-      low_special is =
-          elim (or_cases (eqb byte 92 || eqb byte 47) (is_end byte) is) [
-            | inl first ↦ elim (or_cases (eqb byte 92) (eqb byte 47) first) [
-              | inl same ↦ let is_n = eqb-true byte 92 same in absurd (omega arith)
-              | inr same ↦ let is_n = eqb-true byte 47 same in absurd (omega arith)
-            ]
-            | inr second ↦ elim (or_cases (eqb byte 41) (eqb byte 44) second) [
-              | inl same ↦ let is_n = eqb-true byte 41 same in absurd (omega arith)
-              | inr same ↦ let is_n = eqb-true byte 44 same in absurd (omega arith)
-            ]
-          ]
+printed_high byte high = each_way byte (λ shown. shown ≡ byte ∷ [])
+    (λ yes. let small = special_small byte yes in absurd (omega (arith, high, small)))
+    (at 10 (lit< tt))
+    (at 13 (lit< tt))
+    (at 9 (lit< tt))
+    (λ yes. let small = control_small byte yes in absurd (omega (arith, high, small)))
+    (λ other feed return tab. refl)
+  where
+    at : {shown : List ℕ} (n : ℕ) → n < 128 → eqb byte n ≡ true → shown ≡ byte ∷ []
+    at n small same = let is = eqb-true byte n same in absurd (omega arith)
 
 all_high : (bytes : List ℕ) → ((i : ℕ) → i < length bytes → 128 ≤ get_or bytes i 0) → flat_map printed bytes ≡ bytes
 all_high [] high = refl
@@ -318,44 +319,32 @@ letter_small character letter =
       other : (n shown : ℕ) → character ≡ n → n < 128 → shown < 128 → Some letter ≡ Some shown → (character < 128) × (letter < 128)
       other n shown at low small is = let same : letter ≡ shown = cc is in (omega (arith, at, low), omega (arith, same, small))
 
-by_letter : (a b c d : Bool) (character letter : ℕ) (rest : List ℕ)
-    → Some letter ≡ (if a then Some character else if b then Some 110 else if c then Some 114 else if d then Some 116 else None)
-    → (if a then 92 ∷ character ∷ [] else if b then 92 ∷ 110 ∷ [] else if c then 92 ∷ 114 ∷ [] else if d then 92 ∷ 116 ∷ [] else rest) ≡ 92 ∷ letter ∷ []
-by_letter true b c d character letter rest is = cc is
-by_letter false true c d character letter rest is = cc is
-by_letter false false true d character letter rest is = cc is
-by_letter false false false true character letter rest is = cc is
-by_letter false false false false character letter rest is = cc is
+-- a character below 128 prints by its letter, or else in this way
+abbrev by_letter : ℕ → Option ℕ → List ℕ
+by_letter character found =
+    option_map_or (λ letter. 92 ∷ letter ∷ []) found (if ltb character 32 || eqb character 127 then by_number character else character ∷ [])
 
-no_letter : (a b c d : Bool) (character : ℕ) (rest : List ℕ)
-    → None ≡ (if a then Some character else if b then Some 110 else if c then Some 114 else if d then Some 116 else None)
-    → (if a then 92 ∷ character ∷ [] else if b then 92 ∷ 110 ∷ [] else if c then 92 ∷ 114 ∷ [] else if d then 92 ∷ 116 ∷ [] else rest) ≡ rest
-no_letter true b c d character rest is = cc is
-no_letter false true c d character rest is = cc is
-no_letter false false true d character rest is = cc is
-no_letter false false false true character rest is = cc is
-no_letter false false false false character rest is = refl
+low_printed : (character : ℕ) (found : Option ℕ) → character < 128 → found ≡ letter_of character → printed_character character ≡ by_letter character found
+low_printed character found small is =
+    ap (λ (low : Bool). if low then printed character else encode_utf8 character) (lt-ltb character 128 small) ∙ ap (by_letter character) (sym is)
 
 pub printed_letter : (character letter : ℕ) → Some letter ≡ letter_of character → 92 ∷ encode_utf8 letter ≡ printed_character character
 printed_letter character letter is =
     let small = letter_small character letter is in
-    ap (λ (shown : List ℕ). 92 ∷ shown) (encode_ascii letter small.1) ∙ sym (
-    ap (λ (low : Bool). if low then printed character else encode_utf8 character) (lt-ltb character 128 small.0)
-    ∙ by_letter _ _ _ _ character letter _ is)
+    ap (λ (shown : List ℕ). 92 ∷ shown) (encode_ascii letter small.1) ∙ sym (low_printed character (Some letter) small.0 is)
 
 pub printed_control : (character : ℕ) → None ≡ letter_of character → (ltb character 32 || eqb character 127) ≡ true
     → by_number character ≡ printed_character character
 printed_control character none control = sym (
-    ap (λ (low : Bool). if low then printed character else encode_utf8 character) (lt-ltb character 128 (control_small character control))
-    ∙ no_letter _ _ _ _ character _ none
-    ∙ ap (λ (low : Bool). if low then by_number character else character ∷ []) control)
+    low_printed character None (control_small character control) none
+    ∙ ap (λ (controls : Bool). if controls then by_number character else character ∷ []) control)
 
 pub printed_plain : (character : ℕ) → None ≡ letter_of character → (ltb character 32 || eqb character 127) ≡ false
     → encode_utf8 character ≡ printed_character character
 printed_plain character none other =
     cond_both (ltb character 128) (printed character) (encode_utf8 character) (λ (shown : List ℕ). encode_utf8 character ≡ shown)
     (λ yes. encode_ascii character (ltb-true character 128 yes) ∙ sym (
-    no_letter _ _ _ _ character _ none ∙ ap (λ (low : Bool). if low then by_number character else character ∷ []) other))
+    ap (by_letter character) (sym none) ∙ ap (λ (controls : Bool). if controls then by_number character else character ∷ []) other))
     (λ _. refl)
 
 -- nothing is left to print

@@ -2,30 +2,26 @@
 use Rattle.std.specs.Prelude.{ℕ, ◌==◌, ◌||◌, false, List, [], ◌∷◌, ◌++◌, Option, Some, None, if◌then◌else◌, nat_lt, encode_utf8}
 use Rattle.std.specs.Fmt.{digits}
 use Rattle.std.specs.List.{flat_map}
+use Rattle.std.specs.Option.{option_map_or}
 use Rattle.nextest_filtering_texts.specs.Text.{is_end}
 
 -- `\u{h}`, h the number's hexadecimal digits
 abbrev pub by_number : ℕ → List ℕ
 by_number byte = 92 ∷ 117 ∷ 123 ∷ digits 16 false byte ++ 125 ∷ []
 
--- a byte inside a text
+-- the letter behind a `\` that a byte prints as, where it prints so
+abbrev pub letter_of : ℕ → Option ℕ
+letter_of byte =
+    if byte == 92 || byte == 47 || is_end byte then Some byte
+    else if byte == 10 then Some 110
+    else if byte == 13 then Some 114
+    else if byte == 9 then Some 116
+    else None
+
+-- a byte inside a text: with a `\` and a letter, or by its number where it controls, or as it is
 abbrev pub printed : ℕ → List ℕ
 printed byte =
-    if byte == 92 || byte == 47 || is_end byte then 92 ∷ byte ∷ []
-    else if byte == 10 then 92 ∷ 110 ∷ []
-    else if byte == 13 then 92 ∷ 114 ∷ []
-    else if byte == 9 then 92 ∷ 116 ∷ []
-    else if nat_lt byte 32 || byte == 127 then by_number byte
-    else byte ∷ []
-
--- the letter behind a `\` that a character prints as, where it prints so
-abbrev pub letter_of : ℕ → Option ℕ
-letter_of character =
-    if character == 92 || character == 47 || is_end character then Some character
-    else if character == 10 then Some 110
-    else if character == 13 then Some 114
-    else if character == 9 then Some 116
-    else None
+    option_map_or (λ letter. 92 ∷ letter ∷ []) (letter_of byte) (if nat_lt byte 32 || byte == 127 then by_number byte else byte ∷ [])
 
 -- a character inside a text
 abbrev pub printed_character : ℕ → List ℕ

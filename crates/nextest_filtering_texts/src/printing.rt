@@ -40,7 +40,7 @@ fn letter_of(character: char) -> Option<char>
     }
 }
 
-/// Whether a character is one that controls, below U+0080.
+/// Whether a character is a control character of ASCII.
 fn is_control(character: char) -> bool
     ensures { result ≡ (nat_lt character 32 || character == 127) }
 {
