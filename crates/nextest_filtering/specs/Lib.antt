@@ -25,6 +25,7 @@ pub use Rattle.nextest_filtering_compiling.specs.Faults as CompileFaults
 pub use Rattle.nextest_filtering_compiling.specs.Laws as CompileLaws
 pub use Rattle.nextest_filtering_compiling.specs.Leaves
 pub use Rattle.nextest_filtering_compiling.specs.Packages
+pub use Rattle.nextest_filtering_compiling.specs.Trees as TreeMeaning
 pub use Rattle.nextest_filtering_filters.specs.Asking
 pub use Rattle.nextest_filtering_filters.specs.Filter
 pub use Rattle.nextest_filtering_filters.specs.Laws as FilterLaws

@@ -26,7 +26,7 @@ pub use nextest_filtering_trees::{
 
 /// The laws of the language over its definitions.
 pub mod laws {
-    pub use nextest_filtering_compiling::laws::one_meaning;
+    pub use nextest_filtering_compiling::laws::{kept_meaning, one_meaning};
     pub use nextest_filtering_filters::laws::{one_answer, same_without_groups, sure_of_tests};
     pub use nextest_filtering_globs::laws::one_reading as one_glob_reading;
     pub use nextest_filtering_syntax::laws::{one_tree, printed_reads_back, reads_back_exactly};

@@ -4,4 +4,5 @@ pub mod Asked
 pub mod Kept
 pub mod Placed
 pub mod Whole
+pub mod Trees
 mod Results

@@ -227,7 +227,7 @@ first_not : (a b : Bool) → (not a && not b) ≡ true → a ≡ false
 first_not true b is = sym is
 first_not false b is = refl
 
-no_default : (it : Filterset) → can_be_default it ≡ true → AllLeaves (λ leaf. is_default leaf ≡ false) (filter_of it.compiled)
+pub no_default : (it : Filterset) → can_be_default it ≡ true → AllLeaves (λ leaf. is_default leaf ≡ false) (filter_of it.compiled)
 no_default it serves =
     all_at (λ leaf. is_default leaf ≡ false) (leaf_at it.compiled.leaves)
     (λ place. none_at is_default refl it.compiled.leaves place (first_not (asked_in about.Default it) (asked_in about.Group it) serves)) (formula_of it.compiled.steps)

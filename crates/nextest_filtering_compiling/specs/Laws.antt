@@ -7,6 +7,7 @@ use Rattle.nextest_filtering_filters.specs.Formula.{Formula}
 use Rattle.nextest_filtering_graph.specs.Graph.{Graph}
 use Rattle.nextest_filtering_trees.specs.Tree.{Matcher, Tree}
 use Rattle.nextest_filtering_compiling.specs.Compiling.{IsCompiled}
+use Rattle.nextest_filtering_compiling.specs.Trees.{TreeCanBeOn, TreeIsOn}
 
 -- however a tree is compiled, the filter is the same on every binary and on every test
 abbrev pub OneMeaning : Type 0
@@ -14,3 +15,10 @@ OneMeaning =
     (graph : Graph) (tree : Tree) (a b default : Formula FiltersetLeaf) → IsCompiled graph tree a → IsCompiled graph tree b
     → ((binary : Binary) (value : Bool) → CanBeOn a default binary value ↔ CanBeOn b default binary value)
     × ((test : Test) (member : Matcher → Bool) (value : Bool) → IsOn a default test (λ m. member m ≡ true) value ↔ IsOn b default test (λ m. member m ≡ true) value)
+
+-- a compiled tree, with a compiled default filter, is on every binary and on every test what the trees are
+abbrev pub KeepsMeaning : {G : Type 0} → (G → Test → Matcher → Type 0) → Type 0
+KeepsMeaning {G} Member =
+    (groups : G) (graph : Graph) (tree default : Tree) (filter default_filter : Formula FiltersetLeaf) → IsCompiled graph tree filter → IsCompiled graph default default_filter
+    → ((binary : Binary) (value : Bool) → TreeCanBeOn graph tree default binary value ↔ CanBeOn filter default_filter binary value)
+    × ((test : Test) (value : Bool) → TreeIsOn graph tree default test (Member groups test) value ↔ IsOn filter default_filter test (Member groups test) value)

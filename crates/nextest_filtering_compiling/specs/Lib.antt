@@ -7,6 +7,7 @@ pub mod Faults
 pub mod Asking
 pub mod Outcomes
 pub mod Accepting
+pub mod Trees
 pub mod Laws
 pub mod Meaning
 pub mod Filtersets
