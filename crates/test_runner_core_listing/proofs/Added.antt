@@ -1,25 +1,29 @@
 -- The tests of a binary, with one more name.
 use Rattle.std.proofs.Common.{◌≡◌, ℕ, ◌∷◌, ◌++◌, [], List, Bool, true, false, cond, ap, sym, ◌∙◌, subst}
-use Rattle.std.specs.List.{filter}
+use Rattle.std.specs.List.{All, filter}
 use Rattle.std.proofs.lemmas.List.{append_assoc, append-nil, map-append}
 use Rattle.std.proofs.lemmas.List.Elements.{filter-append}
 use Rattle.nextest_filtering_filters.specs.Asking.{Asking}
+use Rattle.nextest_filtering_filters.specs.Meaning.{Tells}
+use Rattle.nextest_filtering_filters.specs.Query as query
+use Rattle.nextest_filtering_filters.proofs.Parts.{tells_one}
+use Rattle.nextest_filtering_trees.specs.Tree.{Matcher}
 use Rattle.nextest_run_events_results.specs.declared.instance.OwnedTestInstanceId.{OwnedTestInstanceId}
 use Rattle.test_runner_core_workspace.specs.declared.record.Binary.{Binary}
-use Rattle.test_runner_core_listing.specs.Answers.{Answers, AnswerAs, seen}
+use Rattle.test_runner_core_listing.specs.Answers.{Answers, AnswerOn, HoldsOn}
 use Rattle.test_runner_core_listing.specs.Listing.{tests_of}
 
 -- the test as which a name stands
 abbrev test_of : Binary → List ℕ → OwnedTestInstanceId
 test_of binary name = record { binary_id = binary.id; test_name = name }
 
--- what an evaluator that stayed as it was says of a name
-pub said : (now initial : Asking) (binary : Binary) (chosen : Answers) (text name : List ℕ) (selected : Bool)
-    → now ≡ initial → initial.binary ≡ seen binary → AnswerAs initial.filter initial.default chosen → text ≡ name
-    → ((of : Binary) (by : Answers) → now.binary ≡ seen of → AnswerAs now.filter now.default by → selected ≡ by.selects of text)
-    → selected ≡ chosen.selects binary name
-said now initial binary chosen text name selected same is are at says =
-    says binary chosen (ap (λ (it : Asking). it.binary) same ∙ is) (subst (λ (it : Asking). AnswerAs it.filter it.default chosen) (sym same) are) ∙ ap (chosen.selects binary) at
+-- what filters that stayed as they were say of a name
+pub said : (Member : query.Test → Matcher → Type 0) (now initial : List Asking) (binary : Binary) (chosen : Answers) (text name : List ℕ) (selected : Bool)
+    → now ≡ initial → AnswerOn initial binary Member chosen → text ≡ name → Tells (All (HoldsOn text Member) now) selected → selected ≡ chosen.selects binary name
+said Member now initial binary chosen text name selected same are at says =
+    tells_one (All (HoldsOn name Member) initial) selected (chosen.selects binary name)
+    (subst (λ (it : List ℕ). Tells (All (HoldsOn it Member) initial) selected) at (subst (λ (it : List Asking). Tells (All (HoldsOn text Member) it) selected) same says))
+    (are.selects name)
 
 tests_more : (on : List ℕ → Bool) (binary : Binary) (names : List (List ℕ)) (name : List ℕ)
     → tests_of binary (filter on (names ++ name ∷ [])) ≡ tests_of binary (filter on names) ++ tests_of binary (cond (on name) (name ∷ []) [])

@@ -1,29 +1,24 @@
 -- One binary, by whether it is listed.
 use Rattle.std.proofs.Common.{◌≡◌, ℕ, ◌∷◌, ◌++◌, [], List, Bool, true, false, Result, Ok, cond, ap, sym, ◌∙◌, subst}
+use Rattle.std.specs.List.{All}
 use Rattle.std.proofs.lemmas.List.{append-nil}
 use Rattle.nextest_filtering_filters.specs.Asking.{Asking}
-use Rattle.nextest_filtering_filters.specs.Filter.{Compiled}
+use Rattle.nextest_filtering_filters.specs.Meaning.{Tells}
 use Rattle.nextest_filtering_filters.specs.Query as query
+use Rattle.nextest_filtering_filters.proofs.Parts.{tells_one}
+use Rattle.nextest_filtering_trees.specs.Tree.{Matcher}
 use Rattle.test_runner_core_workspace.specs.Lister.{Answer}
 use Rattle.test_runner_core_workspace.specs.declared.record.Binary.{Binary}
-use Rattle.test_runner_core_listing.specs.Answers.{Answers, AnswerAs, seen}
+use Rattle.test_runner_core_listing.specs.Answers.{Answers, AnswerOn, CanHold}
 use Rattle.test_runner_core_listing.specs.Listing.{Adds, AddsListed, Asks, ids_of}
 use Rattle.test_runner_core_listing.specs.declared.listing_error.ListingError.{ListingError}
 use Rattle.test_runner_core_listing.specs.declared.listing_fault.ListingFault.{ListingFault}
 use Rattle.test_runner_core_listing.specs.declared.selection.Selection.{Selection}
 
--- answers of filters are those of filters that are the same
-pub answers_of : (filter default to_filter to_default : Compiled) (chosen : Answers) → to_filter ≡ filter → to_default ≡ default → AnswerAs filter default chosen → AnswerAs to_filter to_default chosen
-answers_of filter default to_filter to_default chosen f d are =
-    subst (λ (it : Compiled). AnswerAs it to_default chosen) (sym f) (subst (λ (it : Compiled). AnswerAs filter it chosen) (sym d) are)
-
--- what an evaluator of filters says of its binary
-pub listed_as : (it : Asking) (filter default : Compiled) (asked : query.Binary) (binary : Binary) (chosen : Answers) (value : Bool)
-    → it.filter ≡ filter → it.default ≡ default → it.binary ≡ asked → asked ≡ seen binary → AnswerAs filter default chosen
-    → ((of : Binary) (by : Answers) → it.binary ≡ seen of → AnswerAs it.filter it.default by → value ≡ by.lists of)
+-- what filters say of their binary
+pub listed_as : (Member : query.Test → Matcher → Type 0) (asked : List Asking) (binary : Binary) (chosen : Answers) (value : Bool) → Tells (All CanHold asked) value → AnswerOn asked binary Member chosen
     → value ≡ chosen.lists binary
-listed_as it filter default asked binary chosen value f d is sees are says =
-    says binary chosen (is ∙ sees) (answers_of filter default it.filter it.default chosen f d are)
+listed_as Member asked binary chosen value says are = tells_one (All CanHold asked) value (chosen.lists binary) says are.lists
 
 -- a listed one adds what it gives
 pub adds_listed : (told : Bool) (result given : Result (Unit {0}) ListingError) (answered : Result (List (List ℕ)) ListingFault) (chosen : Answers) (binary : Binary) (old new after : Selection)

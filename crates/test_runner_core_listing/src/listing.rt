@@ -1,6 +1,7 @@
 // Which tests are selected.
-ghost use Rattle.std.specs.Prelude.{◌≡◌, ◌∷◌, [], ◌++◌, IfOk, OnOk};
+ghost use Rattle.std.specs.Prelude.{◌≡◌, ◌∷◌, [], ◌++◌, All, map, IfOk, OnOk};
 ghost use Rattle.std.specs.List.Sorted.{IsSorted, IsPermutation};
+ghost use Rattle.nextest_filtering_filters.specs.Meaning.{Tells};
 ghost use Rattle.test_runner_core_listing.specs.Answers as answers;
 ghost use Rattle.test_runner_core_listing.specs.Listing as words;
 ghost use Rattle.test_runner_core_plan.specs.Order.{instance_cmp};
@@ -9,9 +10,9 @@ ghost use Rattle.test_runner_core_workspace.specs.declared.record.Binary.{Binary
 use crate::listing_error::ListingError;
 use crate::listing_fault::ListingFault;
 use crate::names::refusal;
-use crate::query::{AllGlobal, query_of};
+use crate::query::query_of;
 use crate::selection::Selection;
-use nextest_filtering_filters::{BinaryEvaluator, CompiledExpr, EvalContext};
+use nextest_filtering_filters::{BinaryEvaluator, CompiledExpr, EvalContext, GroupLookup};
 use nextest_run_events_results::OwnedTestInstanceId;
 use nextest_text::{Listing, Text};
 use std::alloc::{AllocError, Global};
@@ -40,43 +41,88 @@ fn names_of<L: Lister>(
     }
 }
 
-// Whether a binary is listed.
-fn is_listed(evaluator: &mut BinaryEvaluator<'_>) -> Result<bool, AllocError>
-    ensures value { (binary : Binary) (chosen : answers.Answers) → evaluator.old.binary ≡ answers.seen binary → answers.AnswerAs evaluator.old.filter evaluator.old.default chosen → IfOk result (λ value. value ≡ chosen.lists binary) }
+// Filters on a binary, each with what it takes to ask it of the binary's tests.
+fn evaluators_of<'f>(
+    alloc: Global,
+    filters: &[&'f CompiledExpr],
+    ecx: &EvalContext<'f>,
+    binary: &'f Binary,
+) -> Result<Vec<BinaryEvaluator<'f>>, AllocError>
+    ensures { IfOk result (λ it. it.items ≡ map (answers.asking_of ecx.now (answers.seen binary.now)) (answers.lent filters.now)) }
+{
+    let query = query_of(binary);
+    let mut evaluators = Vec::new(alloc);
+    for filter in filters {
+        evaluators.push(BinaryEvaluator::new(alloc, filter, ecx, &query)?)?;
+    }
+    Ok(evaluators)
+}
+
+// Whether a filter can hold on its binary.
+fn can_hold(evaluator: &mut BinaryEvaluator<'_>) -> Result<bool, AllocError>
+    ensures value { IfOk result (Tells (answers.CanHold evaluator.old)) }
     ensures same { evaluator.new ≡ evaluator.old }
 {
     let value = evaluator.matches_binary()?;
     Ok(value != Some(false))
 }
 
-// Whether a test is selected.
-fn is_selected(
+// Whether a binary is listed.
+fn is_listed(evaluators: &mut [BinaryEvaluator<'_>]) -> Result<bool, AllocError>
+    ensures value { IfOk result (Tells (All answers.CanHold evaluators.old)) }
+    ensures same { evaluators.new ≡ evaluators.old }
+{
+    for evaluator in evaluators.iter_mut() {
+        if !can_hold(evaluator)? {
+            return Ok(false);
+        }
+    }
+    Ok(true)
+}
+
+// Whether a filter holds on a test of its binary.
+fn holds_on<G: GroupLookup>(
     evaluator: &mut BinaryEvaluator<'_>,
     name: &str,
-    groups: &AllGlobal,
+    groups: &G,
 ) -> Result<bool, AllocError>
-    ensures value { (binary : Binary) (chosen : answers.Answers) → evaluator.old.binary ≡ answers.seen binary → answers.AnswerAs evaluator.old.filter evaluator.old.default chosen → IfOk result (λ value. value ≡ chosen.selects binary name.now) }
+    ensures value { IfOk result (Tells (answers.HoldsOn name.now (G.member groups.now) evaluator.old)) }
     ensures same { evaluator.new ≡ evaluator.old }
 {
     evaluator.matches_test_with_groups(name, groups)
 }
 
-// Adds the tests of a binary: those on which the filter holds to the selected ones, and the others to those left out.
-fn add_tests(
-    alloc: Global,
+// Whether a test is selected.
+fn is_selected<G: GroupLookup>(
+    evaluators: &mut [BinaryEvaluator<'_>],
+    name: &str,
+    groups: &G,
+) -> Result<bool, AllocError>
+    ensures value { IfOk result (Tells (All (answers.HoldsOn name.now (G.member groups.now)) evaluators.old)) }
+    ensures same { evaluators.new ≡ evaluators.old }
+{
+    for evaluator in evaluators.iter_mut() {
+        if !holds_on(evaluator, name, groups)? {
+            return Ok(false);
+        }
+    }
+    Ok(true)
+}
+
+// Adds the tests of a binary: those on which all filters hold to the selected ones, and the others to those left out.
+fn add_tests<G: GroupLookup>(
     binary: &Binary,
     names: Listing<Text>,
-    evaluator: &mut BinaryEvaluator<'_>,
+    evaluators: &mut [BinaryEvaluator<'_>],
+    groups: &G,
     found: &mut Selection,
 ) -> Result<(), AllocError>
-    requires { evaluator.old.binary ≡ answers.seen binary.now }
     ensures listed { OnOk result (found.new.listed ≡ found.old.listed) }
-    ensures tests { (chosen : answers.Answers) → answers.AnswerAs evaluator.old.filter evaluator.old.default chosen → OnOk result (found.new.tests ≡ found.old.tests ++ words.selected_in chosen binary.now names) }
-    ensures skipped { (chosen : answers.Answers) → answers.AnswerAs evaluator.old.filter evaluator.old.default chosen → OnOk result (found.new.skipped ≡ found.old.skipped ++ words.skipped_in chosen binary.now names) }
+    ensures tests { (chosen : answers.Answers) → answers.AnswerOn evaluators.old binary.now (G.member groups.now) chosen → OnOk result (found.new.tests ≡ found.old.tests ++ words.selected_in chosen binary.now names) }
+    ensures skipped { (chosen : answers.Answers) → answers.AnswerOn evaluators.old binary.now (G.member groups.now) chosen → OnOk result (found.new.skipped ≡ found.old.skipped ++ words.skipped_in chosen binary.now names) }
 {
-    let groups = AllGlobal { alloc };
     for name in Vec::from(names) {
-        let selected = is_selected(evaluator, name.as_str(), &groups)?;
+        let selected = is_selected(evaluators, name.as_str(), groups)?;
         let test = OwnedTestInstanceId {
             binary_id: binary.id.clone()?,
             test_name: name,
@@ -91,55 +137,80 @@ fn add_tests(
 }
 
 // Adds what a listed binary gives.
-fn list_one<L: Lister>(
+fn list_one<L: Lister, G: GroupLookup>(
     alloc: Global,
     binary: &Binary,
-    evaluator: &mut BinaryEvaluator<'_>,
+    evaluators: &mut [BinaryEvaluator<'_>],
+    groups: &G,
     lister: &mut L,
     found: &mut Selection,
 ) -> Result<(), ListingError>
-    requires { evaluator.old.binary ≡ answers.seen binary.now }
-    ensures adds { (chosen : answers.Answers) → answers.AnswerAs evaluator.old.filter evaluator.old.default chosen → words.AddsListed result (words.accepted (L.answer lister.old binary.now)) chosen binary.now found.old found.new }
+    ensures adds { (chosen : answers.Answers) → answers.AnswerOn evaluators.old binary.now (G.member groups.now) chosen → words.AddsListed result (words.accepted (L.answer lister.old binary.now)) chosen binary.now found.old found.new }
     ensures stays { (other : Binary) → L.answer lister.new other ≡ L.answer lister.old other }
     ensures asks { words.Asks result (L.asked lister.old) (binary.now.id ∷ []) (L.asked lister.new) }
 {
     let names = names_of(alloc, binary, lister)?;
     found.listed.push(binary.id.clone()?)?;
-    add_tests(alloc, binary, names, evaluator, found)?;
+    add_tests(binary, names, evaluators, groups, found)?;
     Ok(())
 }
 
-// Adds what one binary gives, where it is listed.
-fn list_if<'f, L: Lister>(
+// Adds what one binary gives, where its filters list it.
+fn list_by<L: Lister, G: GroupLookup>(
     alloc: Global,
-    binary: &'f Binary,
-    filter: &'f CompiledExpr,
-    ecx: &EvalContext<'f>,
+    binary: &Binary,
+    evaluators: &mut [BinaryEvaluator<'_>],
+    groups: &G,
     lister: &mut L,
     found: &mut Selection,
 ) -> Result<(), ListingError>
-    ensures adds { (chosen : answers.Answers) → answers.AnswerAs filter.now ecx.now chosen → words.Adds (chosen.lists binary.now) result (words.accepted (L.answer lister.old binary.now)) chosen binary.now found.old found.new }
+    ensures adds { (chosen : answers.Answers) → answers.AnswerOn evaluators.old binary.now (G.member groups.now) chosen → words.Adds (chosen.lists binary.now) result (words.accepted (L.answer lister.old binary.now)) chosen binary.now found.old found.new }
     ensures stays { (other : Binary) → L.answer lister.new other ≡ L.answer lister.old other }
-    ensures asks { (chosen : answers.Answers) → answers.AnswerAs filter.now ecx.now chosen → words.Asks result (L.asked lister.old) (words.ids_of (words.listed_of chosen (binary.now ∷ []))) (L.asked lister.new) }
+    ensures asks { (chosen : answers.Answers) → answers.AnswerOn evaluators.old binary.now (G.member groups.now) chosen → words.Asks result (L.asked lister.old) (words.ids_of (words.listed_of chosen (binary.now ∷ []))) (L.asked lister.new) }
 {
-    let mut evaluator = BinaryEvaluator::new(alloc, filter, ecx, &query_of(binary))?;
-    if is_listed(&mut evaluator)? {
-        list_one(alloc, binary, &mut evaluator, lister, found)?;
+    if is_listed(evaluators)? {
+        list_one(alloc, binary, evaluators, groups, lister, found)?;
     }
     Ok(())
 }
 
+// Adds what one binary gives, where it is listed.
+fn list_if<'f, L: Lister, G: GroupLookup>(
+    alloc: Global,
+    binary: &'f Binary,
+    filters: &[&'f CompiledExpr],
+    ecx: &EvalContext<'f>,
+    groups: &G,
+    lister: &mut L,
+    found: &mut Selection,
+) -> Result<(), ListingError>
+    ensures adds { (chosen : answers.Answers) → answers.AnswerAs (answers.lent filters.now) ecx.now (G.member groups.now) chosen → words.Adds (chosen.lists binary.now) result (words.accepted (L.answer lister.old binary.now)) chosen binary.now found.old found.new }
+    ensures stays { (other : Binary) → L.answer lister.new other ≡ L.answer lister.old other }
+    ensures asks { (chosen : answers.Answers) → answers.AnswerAs (answers.lent filters.now) ecx.now (G.member groups.now) chosen → words.Asks result (L.asked lister.old) (words.ids_of (words.listed_of chosen (binary.now ∷ []))) (L.asked lister.new) }
+{
+    let mut evaluators = evaluators_of(alloc, filters, ecx, binary)?;
+    list_by(
+        alloc,
+        binary,
+        evaluators.as_mut_slice(),
+        groups,
+        lister,
+        found,
+    )
+}
+
 // What the listed ones among binaries give one after another.
-fn list_each<L: Lister>(
+fn list_each<L: Lister, G: GroupLookup>(
     alloc: Global,
     binaries: &[Binary],
-    filter: &CompiledExpr,
+    filters: &[&CompiledExpr],
     ecx: &EvalContext<'_>,
+    groups: &G,
     lister: &mut L,
 ) -> Result<Selection, ListingError>
-    ensures lists { (chosen : answers.Answers) → answers.AnswerAs filter.now ecx.now chosen → words.Lists result (words.listing (L.answer lister.old) chosen (words.listed_of chosen binaries.now)) (words.listed_of chosen binaries.now) }
+    ensures lists { (chosen : answers.Answers) → answers.AnswerAs (answers.lent filters.now) ecx.now (G.member groups.now) chosen → words.Lists result (words.listing (L.answer lister.old) chosen (words.listed_of chosen binaries.now)) (words.listed_of chosen binaries.now) }
     ensures stays { (other : Binary) → L.answer lister.new other ≡ L.answer lister.old other }
-    ensures asks { (chosen : answers.Answers) → answers.AnswerAs filter.now ecx.now chosen → words.Asks result (L.asked lister.old) (words.asked_of (L.answer lister.old) (words.listed_of chosen binaries.now)) (L.asked lister.new) }
+    ensures asks { (chosen : answers.Answers) → answers.AnswerAs (answers.lent filters.now) ecx.now (G.member groups.now) chosen → words.Asks result (L.asked lister.old) (words.asked_of (L.answer lister.old) (words.listed_of chosen binaries.now)) (L.asked lister.new) }
 {
     let mut found = Selection {
         listed: Listing::new(alloc),
@@ -147,32 +218,34 @@ fn list_each<L: Lister>(
         skipped: Listing::new(alloc),
     };
     for binary in binaries {
-        list_if(alloc, binary, &*filter, &*ecx, lister, &mut found)?;
+        list_if(alloc, binary, &*filters, &*ecx, groups, lister, &mut found)?;
     }
     Ok(found)
 }
 
-/// The tests of the binaries on which the filter holds, rising by binary id and then by name. A binary is listed where the
-/// filter can hold on some of its tests, whatever these are; the listed ones alone are asked, each once, in their order,
-/// up to the first whose answer is refused. Every test is in the group `@global`. An `Err` says
-/// why: the binary can't list its tests, or a name is empty, has a tab or a line end in it, or stands twice, each
-/// name being looked at whole before the next; or that there was no memory, which says nothing of the binaries.
-pub fn select<L: Lister>(
+/// The tests of the binaries on which all filters in force hold, rising by binary id and then by name. A binary is listed where
+/// each of the filters can hold on some of its tests, whatever these are; the listed ones alone are asked, each once, in their
+/// order, up to the first whose answer is refused. Where there is no filter, every binary is listed and every test selected. The
+/// groups of tests are those that the look-up knows. An `Err` says why: the binary can't list its tests, or a name is empty, has
+/// a tab or a line end in it, or stands twice, each name being looked at whole before the next; or that there was no memory,
+/// which says nothing of the binaries.
+pub fn select<L: Lister, G: GroupLookup>(
     alloc: Global,
     binaries: &[Binary],
-    filter: &CompiledExpr,
+    filters: &[&CompiledExpr],
     ecx: &EvalContext<'_>,
+    groups: &G,
     lister: &mut L,
 ) -> Result<Selection, ListingError>
-    ensures selects { (chosen : answers.Answers) → answers.AnswerAs filter.now ecx.now chosen → words.Gives result (words.listing (L.answer lister.old) chosen (words.listed_of chosen binaries.now)) (words.listed_of chosen binaries.now) }
+    ensures selects { (chosen : answers.Answers) → answers.AnswerAs (answers.lent filters.now) ecx.now (G.member groups.now) chosen → words.Gives result (words.listing (L.answer lister.old) chosen (words.listed_of chosen binaries.now)) (words.listed_of chosen binaries.now) }
     ensures stays { (other : Binary) → L.answer lister.new other ≡ L.answer lister.old other }
-    ensures asks { (chosen : answers.Answers) → answers.AnswerAs filter.now ecx.now chosen → words.Asks result (L.asked lister.old) (words.asked_of (L.answer lister.old) (words.listed_of chosen binaries.now)) (L.asked lister.new) }
+    ensures asks { (chosen : answers.Answers) → answers.AnswerAs (answers.lent filters.now) ecx.now (G.member groups.now) chosen → words.Asks result (L.asked lister.old) (words.asked_of (L.answer lister.old) (words.listed_of chosen binaries.now)) (L.asked lister.new) }
 {
     let Selection {
         listed,
         tests,
         skipped,
-    } = list_each(alloc, binaries, filter, ecx, lister)?;
+    } = list_each(alloc, binaries, filters, ecx, groups, lister)?;
     Ok(Selection {
         listed,
         tests: sorted(tests),

@@ -1,11 +1,10 @@
-// Binaries and tests, as filters look at them.
+// Binaries, as filters look at them.
 ghost use Rattle.std.specs.Prelude.{◌≡◌};
 ghost use Rattle.nextest_filtering_filters.specs.Query.{binary_of};
 ghost use Rattle.test_runner_core_listing.specs.Answers as words;
 
-use nextest_filtering_filters::{BinaryQuery, GroupLookup, TestQuery};
-use nextest_filtering_trees::{BuildPlatform as FilteringPlatform, NameMatcher};
-use std::alloc::{AllocError, Global};
+use nextest_filtering_filters::BinaryQuery;
+use nextest_filtering_trees::BuildPlatform as FilteringPlatform;
 use test_runner_core_workspace::{Binary, BinaryKind, BuildPlatform};
 
 // The name of a kind.
@@ -42,26 +41,5 @@ pub(crate) fn query_of(binary: &Binary) -> BinaryQuery<'_>
         kind: kind_name(binary.kind),
         binary_name: binary.name.as_str(),
         platform: platform_of(binary.platform),
-    }
-}
-
-// Says of every test that its group is `@global`.
-pub(crate) struct AllGlobal {
-    pub(crate) alloc: Global,
-}
-
-impl Drop for AllGlobal {
-    fn drop(self) {
-        let Self { alloc: _ } = self;
-    }
-}
-
-impl GroupLookup for AllGlobal {
-    ghost use Rattle.test_runner_core_listing.specs.Answers.{IsOfGroup};
-
-    ghost member = { λ groups test matcher. IsOfGroup matcher };
-
-    fn is_member_test(&self, _: &TestQuery<'_>, matcher: &NameMatcher) -> Result<bool, AllocError> {
-        matcher.is_match(self.alloc, "@global")
     }
 }

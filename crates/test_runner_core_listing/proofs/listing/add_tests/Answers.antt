@@ -3,7 +3,10 @@ use Rattle.test_runner_core_listing.proofs.Added.{said, one_added, none_added}
 use Rattle.test_runner_core_listing.proofs.listing.add_tests.Goals as goal
 
 pub loop-name-preserved-in_ok-push : goal.loop-name-preserved-in_ok-push
-loop-name-preserved-in_ok-push c =
+loop-name-preserved-in_ok-push g c =
+    let Member = g.G.GroupLookup.member c.args.groups.now in
+    let asked = c.loop-name.evaluators in
+    let initial = c.args.evaluators.now in
     let selected = c.in_ok-selected.selected in
     let before = c.loop-name.invariant in
     let binary = c.args.binary.now in
@@ -14,17 +17,20 @@ loop-name-preserved-in_ok-push c =
       same = same;
       listed = before.listed;
       tests = λ chosen are.
-          let told = said c.loop-name.evaluator c.args.evaluator.now binary chosen c.as_str.result.now name selected before.same c.requires are c.as_str.ensures c.in_ok-selected.ensures.value in
+          let told = said Member asked initial binary chosen c.as_str.result.now name selected before.same are c.as_str.ensures c.in_ok-selected.ensures.value in
           one_added (chosen.selects binary) binary c.loop-name.yielded name c.in_ok-clone.field-0 c.args.found.now.tests c.loop-name.found.tests _ (sym told ∙ taken)
           c.in_ok-clone.ensures.cases (before.tests chosen are) c.in_ok-push.ensures.ok;
       skipped = λ chosen are.
-          let told = said c.loop-name.evaluator c.args.evaluator.now binary chosen c.as_str.result.now name selected before.same c.requires are c.as_str.ensures c.in_ok-selected.ensures.value in
+          let told = said Member asked initial binary chosen c.as_str.result.now name selected before.same are c.as_str.ensures c.in_ok-selected.ensures.value in
           none_added (λ (it : List ℕ). not (chosen.selects binary it)) binary c.loop-name.yielded name c.args.found.now.skipped c.loop-name.found.skipped (ap not (sym told ∙ taken))
           (before.skipped chosen are);
     }
 
 pub loop-name-preserved : goal.loop-name-preserved
-loop-name-preserved c =
+loop-name-preserved g c =
+    let Member = g.G.GroupLookup.member c.args.groups.now in
+    let asked = c.loop-name.evaluators in
+    let initial = c.args.evaluators.now in
     let selected = c.in_ok-selected.selected in
     let before = c.loop-name.invariant in
     let binary = c.args.binary.now in
@@ -35,10 +41,10 @@ loop-name-preserved c =
       same = same;
       listed = before.listed;
       tests = λ chosen are.
-          let told = said c.loop-name.evaluator c.args.evaluator.now binary chosen c.as_str.result.now name selected before.same c.requires are c.as_str.ensures c.in_ok-selected.ensures.value in
+          let told = said Member asked initial binary chosen c.as_str.result.now name selected before.same are c.as_str.ensures c.in_ok-selected.ensures.value in
           none_added (chosen.selects binary) binary c.loop-name.yielded name c.args.found.now.tests c.loop-name.found.tests (sym told ∙ left) (before.tests chosen are);
       skipped = λ chosen are.
-          let told = said c.loop-name.evaluator c.args.evaluator.now binary chosen c.as_str.result.now name selected before.same c.requires are c.as_str.ensures c.in_ok-selected.ensures.value in
+          let told = said Member asked initial binary chosen c.as_str.result.now name selected before.same are c.as_str.ensures c.in_ok-selected.ensures.value in
           one_added (λ (it : List ℕ). not (chosen.selects binary it)) binary c.loop-name.yielded name c.in_ok-clone.field-0 c.args.found.now.skipped c.loop-name.found.skipped _ (ap not (sym told ∙ left))
           c.in_ok-clone.ensures.cases (before.skipped chosen are) c.in_ok-push-2.ensures.ok;
     }

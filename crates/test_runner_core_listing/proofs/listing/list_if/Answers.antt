@@ -1,71 +1,18 @@
-use Rattle.std.proofs.Common.{Err, Ok, ap, refl, sym, ◌∙◌}
-use Rattle.std.proofs.lemmas.Result.{err_from_is_err_and}
-use Rattle.nextest_filtering_filters.specs.Asking.{Asking}
-use Rattle.nextest_filtering_filters.specs.Query.{binary_of}
-use Rattle.test_runner_core_listing.specs.Listing.{accepted}
-use Rattle.test_runner_core_listing.proofs.Listed.{adds_listed, adds_none, answer_now, answers_of, asks_listed, asks_none, listed_as}
-use Rattle.test_runner_core_listing.proofs.listing.list_if.Goals.{then-branch+in_ok-list_one, else-branch}
+use Rattle.std.proofs.Common.{◌∙◌}
+use Rattle.test_runner_core_listing.specs.Answers.{lent}
+use Rattle.test_runner_core_listing.proofs.Asked.{answer_on}
 use Rattle.test_runner_core_listing.proofs.listing.list_if.Goals as goal
 
 pub returns : goal.returns
 returns g c =
-    let binary = c.args.binary.now in
-    let lister = c.args.lister.now in
-    let found = c.args.found.now in
-    let filter = c.args.filter.now in
+    let Member = g.G.GroupLookup.member c.args.groups.now in
+    let filters = lent c.args.filters.now in
     let default = c.args.ecx.now in
-    let value = c.in_ok-is_listed.field-0 in
-    let of = c.in_ok-evaluator.ensures in
-    let now = c.is_listed.new.evaluator in
-    let same = c.in_ok-is_listed.ensures.same in
-    let says = c.in_ok-is_listed.ensures.value in
-    let answered = accepted (g.L.Lister.answer lister binary) in
-    elim c.if-branch.branch [
-      | then-branch+in_ok-list_one w ↦ record {
-        adds = λ chosen are.
-            let told = listed_as c.in_ok-evaluator.evaluator filter default (binary_of c.query_of.result) binary chosen value of.filter of.default of.binary c.query_of.ensures are says in
-            let one = w.in_ok-list_one.ensures.adds chosen (answers_of filter default now.filter now.default chosen (ap (λ (it : Asking). it.filter) same ∙ of.filter) (ap (λ (it : Asking). it.default) same ∙ of.default) are) in
-            adds_listed (chosen.lists binary) _ _ answered chosen binary found w.list_one.new.found c.if-branch.found (sym told ∙ w.if-branch.true) refl w.found-is one;
-        stays = λ other. answer_now g.L.Lister.answer lister w.list_one.new.lister c.if-branch.lister other w.lister-is (w.in_ok-list_one.ensures.stays other);
-        asks = λ chosen are.
-            let told = listed_as c.in_ok-evaluator.evaluator filter default (binary_of c.query_of.result) binary chosen value of.filter of.default of.binary c.query_of.ensures are says in
-            asks_listed g.L.Lister.asked (chosen.lists binary) (Ok tt) (Ok tt) binary lister w.list_one.new.lister c.if-branch.lister (sym told ∙ w.if-branch.true) refl w.lister-is w.in_ok-list_one.ensures.asks;
-      }
-      | else-branch w ↦ record {
-        adds = λ chosen are.
-            let told = listed_as c.in_ok-evaluator.evaluator filter default (binary_of c.query_of.result) binary chosen value of.filter of.default of.binary c.query_of.ensures are says in
-            adds_none (chosen.lists binary) tt answered chosen binary found c.if-branch.found (sym told ∙ w.if-branch.false) w.found-is;
-        stays = λ other. ap (λ it. g.L.Lister.answer it other) w.lister-is;
-        asks = λ chosen are.
-            let told = listed_as c.in_ok-evaluator.evaluator filter default (binary_of c.query_of.result) binary chosen value of.filter of.default of.binary c.query_of.ensures are says in
-            asks_none g.L.Lister.asked (chosen.lists binary) binary lister c.if-branch.lister (sym told ∙ w.if-branch.false) w.lister-is;
-      }
-    ]
-
-pub returns-in_err-list_one : goal.returns-in_err-list_one
-returns-in_err-list_one g c =
     let binary = c.args.binary.now in
-    let lister = c.args.lister.now in
-    let found = c.args.found.now in
-    let filter = c.args.filter.now in
-    let default = c.args.ecx.now in
-    let value = c.in_ok-is_listed.field-0 in
-    let of = c.in_ok-evaluator.ensures in
-    let now = c.is_listed.new.evaluator in
-    let same = c.in_ok-is_listed.ensures.same in
-    let says = c.in_ok-is_listed.ensures.value in
-    let answered = accepted (g.L.Lister.answer lister binary) in
-    let p = err_from_is_err_and c.from_residual-in_err-list_one.result c.from_residual-in_err-list_one.ensures.1 in
-    let result = p.1 ∙ ap Err p.2 in
-    let error = c.in_err-list_one.field-0.0 in
+    let asked = c.as_mut_slice.result.now in
+    let is = c.as_mut_slice.ensures.value ∙ c.in_ok-evaluators.ensures in
     record {
-      adds = λ chosen are.
-          let told = listed_as c.in_ok-evaluator.evaluator filter default (binary_of c.query_of.result) binary chosen value of.filter of.default of.binary c.query_of.ensures are says in
-          let one = c.in_err-list_one.ensures.adds chosen (answers_of filter default now.filter now.default chosen (ap (λ (it : Asking). it.filter) same ∙ of.filter) (ap (λ (it : Asking). it.default) same ∙ of.default) are) in
-          adds_listed (chosen.lists binary) c.from_residual-in_err-list_one.result (Err error) answered chosen binary found c.list_one.new.found c.list_one.new.found (sym told ∙ c.if-branch.true) result refl one;
-      stays = c.in_err-list_one.ensures.stays;
-      asks = λ chosen are.
-          let told = listed_as c.in_ok-evaluator.evaluator filter default (binary_of c.query_of.result) binary chosen value of.filter of.default of.binary c.query_of.ensures are says in
-          asks_listed g.L.Lister.asked (chosen.lists binary) c.from_residual-in_err-list_one.result (Err error) binary lister c.list_one.new.lister c.list_one.new.lister (sym told ∙ c.if-branch.true) result refl
-          c.in_err-list_one.ensures.asks;
+      adds = λ chosen are. c.list_by.ensures.adds chosen (answer_on filters default Member chosen binary asked is are);
+      stays = c.list_by.ensures.stays;
+      asks = λ chosen are. c.list_by.ensures.asks chosen (answer_on filters default Member chosen binary asked is are);
     }
