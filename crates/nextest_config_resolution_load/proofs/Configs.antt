@@ -14,8 +14,9 @@ use Rattle.nextest_config_resolution_inheritance.specs.Refusals.{IsFirstFault, I
 use Rattle.nextest_config_resolution_inheritance.specs.declared.inheritance_error.InheritanceError.{InheritanceError}
 use Rattle.nextest_config_resolution_inheritance.specs.declared.inheritance_error.InheritanceError.TheVariants as inheritance
 use Rattle.nextest_config_resolution_inheritance.specs.declared.inheritance_fault.InheritanceFault.{InheritanceFault}
-use Rattle.nextest_config_resolution_load.specs.Load.{config_in, members_of, named, parents_of, raised, seen}
-use Rattle.nextest_config_resolution_load.specs.Reading.{GivesSeen}
+use Rattle.nextest_config_resolution_load.specs.Checks.{config_in, members_of, parents_of, raised}
+use Rattle.nextest_config_resolution_load.specs.Load.{named}
+use Rattle.nextest_config_resolution_load.specs.Reading.{GivesSeen, values_of}
 use Rattle.nextest_config_resolution_load.specs.declared.loaded_config.NamedProfile.{NamedProfile}
 use Rattle.nextest_config_resolution_tree.specs.Nesting.{OfSorted}
 use Rattle.nextest_config_resolution_tree.specs.Tree.{merge, AreSorted}
@@ -24,11 +25,11 @@ use Rattle.nextest_config_resolution_values.specs.File.{FileConfig, Named, profi
 use Rattle.nextest_config_resolution_load.proofs.Profiles.{profiles_rise}
 use Rattle.nextest_config_resolution_load.proofs.Tops.{only_some}
 
-pub profiles_refused : (top : Members) (told : ValueError) → GivesSeen (map named) (Err told) (profiles_at top) → GivesSeen seen (Err told) (config_in top)
+pub profiles_refused : (top : Members) (told : ValueError) → GivesSeen (map named) (Err told) (profiles_at top) → GivesSeen values_of (Err told) (config_in top)
 profiles_refused top (value_error.Refused bad) e = rw e refl
 profiles_refused top value_error.OutOfMemory e = tt
 
-pub store_refused : (top : Members) (all : List Named) (told : ValueError) → profiles_at top ≡ Ok all → GivesSeen {A = Option (List ℕ)} (λ it. it) (Err told) (store_dir_at top) → GivesSeen seen (Err told) (config_in top)
+pub store_refused : (top : Members) (all : List Named) (told : ValueError) → profiles_at top ≡ Ok all → GivesSeen {A = Option (List ℕ)} (λ it. it) (Err told) (store_dir_at top) → GivesSeen values_of (Err told) (config_in top)
 store_refused top all (value_error.Refused bad) e f = rw (e, f) refl
 store_refused top all value_error.OutOfMemory e f = tt
 

@@ -1,7 +1,11 @@
+pub mod Completed
 pub mod Configs
+pub mod Defaults
+pub mod Kept
 pub mod LaterFiles
 pub mod Loads
 pub mod Profiles
+pub mod SomeLoad
 pub mod Sources
 pub mod Told
 pub mod Tops

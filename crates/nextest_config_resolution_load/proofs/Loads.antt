@@ -1,19 +1,16 @@
--- What files come to, and that sources are loaded to one configuration.
-use Rattle.std.proofs.Common.{◌≡◌, List, [], ◌∷◌, ◌++◌, map, Ok, Err, sym, ap, ◌∙◌, subst, append_assoc, inl, inr}
+-- What files come to, and that sources are loaded to one list of values, or refused for one reason.
+use Rattle.std.proofs.Common.{◌≡◌, ℕ, List, [], ◌∷◌, ◌++◌, map, Ok, Err, sym, ap, ◌∙◌, subst, append_assoc}
 use Rattle.std.specs.Prelude.{reverse}
-use Rattle.std.proofs.lemmas.Bool.{true≢false}
 use Rattle.std.proofs.lemmas.List.{reverse-append}
-use Rattle.std.specs.Result.{is_ok}
 use Rattle.toml.specs.Data.{Data, table, Members}
-use Rattle.nextest_config_resolution_inheritance.proofs.Faults.{no_fault}
-use Rattle.nextest_config_resolution_inheritance.specs.Inheritance.{IsAccepted}
+use Rattle.nextest_config_elements_reading.specs.Reading.{Reading}
 use Rattle.nextest_config_resolution_tree.proofs.Standings.{merged_by_over}
 use Rattle.nextest_config_resolution_tree.specs.Merged.{IsMerged, merged}
 use Rattle.nextest_config_resolution_values.specs.File.{FileConfig}
-use Rattle.nextest_config_resolution_load.specs.Laws.{MergedFiles, NoFault, OneLoad}
-use Rattle.nextest_config_resolution_load.specs.Load.{InheritsBadly, Loading, parents_of, raised, seen}
-use Rattle.nextest_config_resolution_load.specs.declared.load_fault.LoadFault.{LoadFault}
-use Rattle.nextest_config_resolution_load.specs.declared.load_fault.LoadFault.TheVariants as fault
+use Rattle.nextest_config_resolution_load.specs.Checks.{checks_of, raised}
+use Rattle.nextest_config_resolution_load.specs.Laws.{MergedFiles, NoFault, OneLoad, OneReason}
+use Rattle.nextest_config_resolution_load.specs.Load.{reason_of, seen}
+use Rattle.nextest_config_resolution_load.proofs.Kept.{none_breaks, one_first}
 
 -- files over others that are merged already
 merged_behind : (files : List Members) (file : Data) (below : List Data) → IsMerged (reverse (map table files) ++ file ∷ below) (raised (merged file below) files)
@@ -27,23 +24,18 @@ merged_behind (next ∷ files) file below =
 pub merged_files : MergedFiles
 merged_files built_in files = merged_behind files (table built_in) []
 
--- what loading gives
-abbrev config_or : FileConfig → Loading FileConfig → FileConfig
+-- what a reading gives
+abbrev config_or : FileConfig → Reading FileConfig → FileConfig
 config_or otherwise (Ok config) = config
-config_or otherwise (Err refusal) = otherwise
+config_or otherwise (Err keys) = otherwise
 
-pub one_load : OneLoad
-one_load built_in sources one other (a, _, _) (b, _, _) = ap (config_or (seen one)) (sym a ∙ b)
+pub one_load : {F : Type 0} (Is : List ℕ → F → Type 0) (IsTooDeep : List ℕ → Type 0) → OneLoad Is IsTooDeep
+one_load Is IsTooDeep built_in sources one other a b = ap (config_or (seen one)) (sym a.values ∙ b.values)
 
-accepted_inherits : (config : FileConfig) (told : LoadFault) → IsAccepted (parents_of config.profiles) → InheritsBadly told config → ⊥
-accepted_inherits config (fault.Inheritance told) accepted first = no_fault (parents_of config.profiles) told accepted first
-accepted_inherits config (fault.Unread path cause) accepted first = first
-accepted_inherits config (fault.Toml path message) accepted first = first
-accepted_inherits config (fault.BadValue path value) accepted first = first
-accepted_inherits config (fault.BadMergedValue value) accepted first = first
+pub none_refused : {F : Type 0} (Is : List ℕ → F → Type 0) (IsTooDeep : List ℕ → Type 0) → NoFault Is IsTooDeep
+none_refused Is IsTooDeep none_too_deep built_in sources config fault loaded refused =
+    none_breaks Is IsTooDeep none_too_deep (checks_of built_in sources) (reason_of fault) loaded.kept refused
 
-pub none_refused : NoFault
-none_refused built_in sources config told (a, _, _) (inl (refusal, b, is)) = true≢false (ap is_ok (sym a ∙ b))
-none_refused built_in sources config told (a, accepted, _) (inr (other, b, badly)) =
-    let same : seen config ≡ other = ap (config_or (seen config)) (sym a ∙ b) in
-    accepted_inherits other told (subst (λ (it : FileConfig). IsAccepted (parents_of it.profiles)) same accepted) badly
+pub one_reason : {F : Type 0} (Is : List ℕ → F → Type 0) (IsTooDeep : List ℕ → Type 0) → OneReason Is IsTooDeep
+one_reason Is IsTooDeep none_too_deep built_in sources one other a b =
+    one_first Is IsTooDeep none_too_deep (checks_of built_in sources) (reason_of one) (reason_of other) a b

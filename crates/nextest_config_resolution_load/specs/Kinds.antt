@@ -13,3 +13,4 @@ kind_of (fault.BadMergedValue value) = kind.BadValue
 kind_of (fault.Inheritance (inheritance.InheritsInDefault profile)) = kind.InheritsInDefault
 kind_of (fault.Inheritance (inheritance.UnknownParent profile parent)) = kind.UnknownParent
 kind_of (fault.Inheritance (inheritance.Cycle profile)) = kind.Cycle
+kind_of (fault.BadFilter profile filter) = kind.BadFilter

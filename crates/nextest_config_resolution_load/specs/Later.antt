@@ -10,7 +10,7 @@ later_keys = codes "script" ∷ codes "scripts" ∷ codes "test-groups" ∷ []
 
 -- keys of a profile's table
 abbrev pub later_profile_keys : List (List ℕ)
-later_profile_keys = codes "default-filter" ∷ codes "overrides" ∷ codes "scripts" ∷ []
+later_profile_keys = codes "overrides" ∷ codes "scripts" ∷ []
 
 -- a table that has something at one of some keys
 abbrev pub has_one_of : List (List ℕ) → Data → Bool

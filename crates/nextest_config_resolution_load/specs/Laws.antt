@@ -1,9 +1,10 @@
 -- What the laws say.
-use Rattle.std.specs.Prelude.{◌≡◌, List, [], ◌∷◌, ◌++◌, map, reverse, Ok, Err}
+use Rattle.std.specs.Prelude.{◌≡◌, ◌⊎◌, ℕ, List, [], ◌∷◌, ◌++◌, map, reverse, Ok, Err}
 use Rattle.toml.specs.Data.{table, Members}
 use Rattle.nextest_config_resolution_sources.specs.declared.source.ConfigSource.{ConfigSource}
 use Rattle.nextest_config_resolution_tree.specs.Merged.{IsMerged}
-use Rattle.nextest_config_resolution_load.specs.Load.{IsLoaded, raised, seen}
+use Rattle.nextest_config_resolution_load.specs.Checks.{raised}
+use Rattle.nextest_config_resolution_load.specs.Load.{IsLoaded, reason_of, seen}
 use Rattle.nextest_config_resolution_load.specs.declared.load_error.LoadError.TheVariants.{Refused}
 use Rattle.nextest_config_resolution_load.specs.declared.load_fault.LoadFault.{LoadFault}
 use Rattle.nextest_config_resolution_load.specs.declared.loaded_config.LoadedConfig.{LoadedConfig}
@@ -12,12 +13,22 @@ use Rattle.nextest_config_resolution_load.specs.declared.loaded_config.LoadedCon
 abbrev pub MergedFiles : Type 0
 MergedFiles = (built_in : Members) (files : List Members) → IsMerged (reverse (map table files) ++ table built_in ∷ []) (raised (table built_in) files)
 
--- what sources are loaded to is one configuration
-abbrev pub OneLoad : Type 0
-OneLoad = (built_in : Members) (sources : List ConfigSource) (one other : LoadedConfig)
-    → IsLoaded built_in sources (Ok one) → IsLoaded built_in sources (Ok other) → seen one ≡ seen other
+-- what sources are loaded to has one list of values
+abbrev pub OneLoad : {F : Type 0} → (List ℕ → F → Type 0) → (List ℕ → Type 0) → Type 0
+OneLoad {F} Is IsTooDeep = (built_in : Members) (sources : List ConfigSource) (one other : LoadedConfig F)
+    → IsLoaded Is IsTooDeep built_in sources (Ok one) → IsLoaded Is IsTooDeep built_in sources (Ok other) → seen one ≡ seen other
 
--- sources that are loaded have no fault
-abbrev pub NoFault : Type 0
-NoFault = (built_in : Members) (sources : List ConfigSource) (config : LoadedConfig) (fault : LoadFault)
-    → IsLoaded built_in sources (Ok config) → ¬ IsLoaded built_in sources (Err (Refused fault))
+-- where no text is too deep for the reader of filters, sources that are loaded aren't refused
+abbrev pub NoFault : {F : Type 0} → (List ℕ → F → Type 0) → (List ℕ → Type 0) → Type 0
+NoFault {F} Is IsTooDeep = ((text : List ℕ) → ¬ IsTooDeep text) → (built_in : Members) (sources : List ConfigSource) (config : LoadedConfig F) (fault : LoadFault)
+    → IsLoaded Is IsTooDeep built_in sources (Ok config) → ¬ IsLoaded Is IsTooDeep built_in sources (Err (Refused fault))
+
+-- and are refused for one reason
+abbrev pub OneReason : {F : Type 0} → (List ℕ → F → Type 0) → (List ℕ → Type 0) → Type 0
+OneReason {F} Is IsTooDeep = ((text : List ℕ) → ¬ IsTooDeep text) → (built_in : Members) (sources : List ConfigSource) (one other : LoadFault)
+    → IsLoaded Is IsTooDeep built_in sources (Err (Refused one)) → IsLoaded Is IsTooDeep built_in sources (Err (Refused other)) → reason_of one ≡ reason_of other
+
+-- It can't be that sources are neither loaded nor refused. No law decides whether a text is a filter, so it is said in this form.
+abbrev pub SomeLoad : {F : Type 0} → (List ℕ → F → Type 0) → (List ℕ → Type 0) → Type 0
+SomeLoad {F} Is IsTooDeep = (built_in : Members) (sources : List ConfigSource)
+    → ¬ ¬ (((it : LoadedConfig F) × IsLoaded Is IsTooDeep built_in sources (Ok it)) ⊎ ((told : LoadFault) × IsLoaded Is IsTooDeep built_in sources (Err (Refused told))))

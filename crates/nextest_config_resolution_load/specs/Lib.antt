@@ -1,4 +1,7 @@
+pub mod Checks
+pub mod Defaults
 pub mod Files
+pub mod Filters
 pub mod Kinds
 pub mod Later
 pub mod Laws

@@ -6,7 +6,7 @@ use Rattle.nextest_config_resolution_sources.specs.Counting.{counted}
 use Rattle.nextest_config_resolution_sources.specs.declared.source.ConfigSource.{ConfigSource}
 use Rattle.nextest_config_resolution_warnings.specs.Telling.{HasTold, Keeps, Tells, TellsFront, warnings_of}
 use Rattle.nextest_config_resolution_warnings.specs.declared.config_warning.ConfigWarning.{ConfigWarning}
-use Rattle.nextest_config_resolution_load.specs.Load.{Loading, file_of}
+use Rattle.nextest_config_resolution_load.specs.Checks.{file_of}
 use Rattle.nextest_config_resolution_load.specs.declared.load_error.LoadError.{LoadError}
 use Rattle.nextest_config_resolution_load.specs.declared.load_error.LoadError.TheVariants as error
 
@@ -15,13 +15,9 @@ abbrev pub told_at : List ℕ → Option Members → List ConfigWarning
 told_at path None = []
 told_at path (Some file) = warnings_of path file
 
-abbrev pub if_read : List ℕ → Loading (Option Members) → List ConfigWarning
-if_read path (Ok file) = told_at path file
-if_read path (Err refusal) = []
-
 -- what is told of the file of a source, under the path of the source
 abbrev pub told_of : ConfigSource → List ConfigWarning
-told_of source = if_read source.path (file_of source)
+told_of source = told_at source.path (file_of source)
 
 -- what is told of sources: of each that counts, the lowest first
 abbrev pub warnings_in : List ConfigSource → List ConfigWarning

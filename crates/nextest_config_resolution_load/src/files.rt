@@ -1,10 +1,13 @@
 // The files of sources.
-ghost use Rattle.std.specs.Prelude.{◌≡◌, ◌++◌, map, option_map, IfOk};
+ghost use Rattle.std.specs.Prelude.{◌≡◌, ◌++◌, None, Some, filter_map, map, option_map, option_to_list, IfOk};
 ghost use Rattle.std.specs.List.{flat_map};
+ghost use Rattle.toml.specs.Parse.{parse_document};
 ghost use Rattle.toml.specs.View.{table_view};
+ghost use Rattle.nextest_config_resolution_load.specs.Checks.{document_checks, file_of, missing_checks, source_checks, value_checks};
+ghost use Rattle.nextest_config_resolution_load.specs.Checks as words;
 ghost use Rattle.nextest_config_resolution_load.specs.Files.{members_in, told_in};
 ghost use Rattle.nextest_config_resolution_load.specs.Telling.{told_at, told_of};
-ghost use Rattle.nextest_config_resolution_load.specs.Load.{GivesAs, file_of, files_of, if_missing, if_values, listed, text_at};
+ghost use Rattle.nextest_config_resolution_load.specs.Refusing.{ReadsAs};
 ghost use Rattle.nextest_config_resolution_values.specs.File.{file_in};
 
 use crate::load_error::LoadError;
@@ -23,12 +26,16 @@ pub(crate) fn read_files<'s>(
     alloc: Global,
     sources: &[&'s ConfigSource],
 ) -> Result<Vec<PlacedFile<'s>>, LoadError>
-    ensures files { GivesAs (λ it. map members_in it.items) result (files_of (map (λ it. it.now) sources.now)) }
+    ensures files { let all = map (λ it. it.now) sources.now in
+        ReadsAs (λ it. map members_in it.items) (flat_map source_checks all) (filter_map file_of all) result }
     ensures told { IfOk result (λ it. flat_map told_in it.items ≡ flat_map told_of (map (λ it. it.now) sources.now)) }
 {
     let mut files = Vec::new(alloc);
     for source in sources {
-        push_file(&mut files, source.path.as_str(), read_file(alloc, source)?)?;
+        match read_file(alloc, source) {
+            Ok(file) => push_file(&mut files, source.path.as_str(), file)?,
+            Err(error) => return Err(error),
+        }
     }
     Ok(files)
 }
@@ -39,7 +46,7 @@ fn push_file<'s>(
     path: &'s str,
     file: Option<Table>,
 ) -> Result<(), AllocError>
-    ensures files { IfOk result (λ _. map members_in files.new.items ≡ map members_in files.old.items ++ listed (option_map table_view file)) }
+    ensures files { IfOk result (λ _. map members_in files.new.items ≡ map members_in files.old.items ++ option_to_list (option_map table_view file)) }
     ensures told { IfOk result (λ _. flat_map told_in files.new.items ≡ flat_map told_in files.old.items ++ told_at path.now (option_map table_view file)) }
 {
     match file {
@@ -50,7 +57,7 @@ fn push_file<'s>(
 
 // The file of a source, if there is one.
 fn read_file(alloc: Global, source: &ConfigSource) -> Result<Option<Table>, LoadError>
-    ensures { GivesAs (option_map table_view) result (file_of source.now) }
+    ensures { ReadsAs (option_map table_view) (source_checks source.now) (file_of source.now) result }
 {
     let path = source.path.as_str();
     match &source.outcome {
@@ -66,7 +73,7 @@ fn read_missing(
     path: &str,
     kind: &ConfigSourceKind,
 ) -> Result<Option<Table>, LoadError>
-    ensures { GivesAs (option_map table_view) result (if_missing path.now kind.now) }
+    ensures { ReadsAs (option_map table_view) (missing_checks path.now kind.now) None result }
 {
     match kind {
         ConfigSourceKind::DiscoveredRepository => Ok(None),
@@ -78,7 +85,8 @@ fn read_missing(
 
 // The file of a text.
 fn read_text(alloc: Global, path: &str, text: &str) -> Result<Table, LoadError>
-    ensures { GivesAs table_view result (text_at path.now text.now) }
+    ensures { let given = parse_document text.now in
+        ReadsAs (λ it. Some (table_view it)) (document_checks path.now given) given result }
 {
     match toml::table_from_str(alloc, text) {
         Ok(table) => with_values(alloc, path, table),
@@ -92,7 +100,8 @@ fn read_text(alloc: Global, path: &str, text: &str) -> Result<Table, LoadError>
 
 // A file whose values are all such as their keys can have.
 fn with_values(alloc: Global, path: &str, file: Table) -> Result<Table, LoadError>
-    ensures { GivesAs table_view result (if_values path.now (table_view file) (file_in (table_view file))) }
+    ensures { let given = table_view file in
+        ReadsAs (λ it. Some (table_view it)) (value_checks (words.bad_value path.now) (file_in given)) (Some given) result }
 {
     match check_file(alloc, &file) {
         Ok(()) => Ok(file),

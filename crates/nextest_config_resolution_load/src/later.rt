@@ -14,7 +14,7 @@ use toml::{Table, Value};
 const LATER_KEYS: &[&str] = &["script", "scripts", "test-groups"];
 
 // Such keys of a profile's table.
-const LATER_PROFILE_KEYS: &[&str] = &["default-filter", "overrides", "scripts"];
+const LATER_PROFILE_KEYS: &[&str] = &["overrides", "scripts"];
 
 // Whether one of some files sets such a key.
 pub(crate) fn set_later_keys(files: &[PlacedFile]) -> bool

@@ -28,6 +28,9 @@ pub enum LoadKind {
     /// The parents of a profile come to no end.
     #[error("Cycle")]
     Cycle,
+    /// The default filter of a profile is no filter.
+    #[error("BadFilter")]
+    BadFilter,
 }
 
 /// Why a configuration is refused.
@@ -66,6 +69,14 @@ pub enum LoadFault {
     /// Profiles don't inherit as they may.
     #[error(transparent)]
     Inheritance(InheritanceFault),
+    /// The default filter of a profile is no filter, or too deep for the reader of filters.
+    #[error("in profile `{profile}`, `default-filter` is no filter here: `{filter}`")]
+    BadFilter {
+        /// The name of the profile.
+        profile: Text,
+        /// What it sets.
+        filter: Text,
+    },
 }
 
 // One call drops it, whoever holds it.
@@ -80,6 +91,10 @@ impl Drop for LoadFault {
             LoadFault::BadValue { path: _, value: _ } => {}
             LoadFault::BadMergedValue { value: _ } => {}
             LoadFault::Inheritance(_) => {}
+            LoadFault::BadFilter {
+                profile: _,
+                filter: _,
+            } => {}
         }
     }
 }
@@ -100,6 +115,7 @@ impl LoadFault {
                 LoadKind::UnknownParent
             }
             LoadFault::Inheritance(InheritanceFault::Cycle { .. }) => LoadKind::Cycle,
+            LoadFault::BadFilter { .. } => LoadKind::BadFilter,
         }
     }
 }

@@ -36,23 +36,34 @@ impl Inherits for NamedProfile {
 }
 
 /// What the files of a configuration come to, each over the lower ones.
-pub struct LoadedConfig {
+pub struct LoadedConfig<Filter> {
     /// The profiles, by the bytes of their names.
     pub profiles: Listing<NamedProfile>,
+    /// The default filter of each profile as it was read, where it sets one, in the order of `profiles`.
+    pub default_filters: Listing<Option<Filter>>,
     /// The directory of the store, if one is set.
     pub store_dir: Option<Text>,
     /// Whether a file that counts sets a key that isn't read yet: `script`, `scripts` or `test-groups`, or, in a profile,
-    /// `default-filter`, `overrides` or `scripts`.
+    /// `overrides` or `scripts`.
     pub sets_later_keys: bool,
 }
 
 // One call drops it, whoever holds it.
-impl Drop for LoadedConfig {
+impl<Filter: Drop> Drop for LoadedConfig<Filter> {
     fn drop(self) {
         let Self {
             profiles: _,
+            default_filters: _,
             store_dir: _,
             sets_later_keys: _,
         } = self;
     }
+}
+
+// What the files of a configuration come to, before its default filters are read.
+#[derive(Drop)]
+pub(crate) struct ReadConfig {
+    pub(crate) profiles: Listing<NamedProfile>,
+    pub(crate) store_dir: Option<Text>,
+    pub(crate) sets_later_keys: bool,
 }

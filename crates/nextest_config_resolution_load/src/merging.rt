@@ -4,7 +4,7 @@ ghost use Rattle.toml.specs.Data.{table};
 ghost use Rattle.toml.specs.View.{table_view};
 ghost use Rattle.nextest_config_resolution_tree.specs.Whole.{IsTree};
 ghost use Rattle.nextest_config_resolution_load.specs.Files.{members_in};
-ghost use Rattle.nextest_config_resolution_load.specs.Load.{raised};
+ghost use Rattle.nextest_config_resolution_load.specs.Checks.{raised};
 
 use crate::placed_file::PlacedFile;
 use nextest_config_resolution_tree::MergedTree;

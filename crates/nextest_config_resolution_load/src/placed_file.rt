@@ -1,5 +1,5 @@
 // A file at its path.
-use crate::loaded_config::LoadedConfig;
+use crate::loaded_config::ReadConfig;
 use toml::Table;
 
 // A file that is there, at the path of its source.
@@ -17,6 +17,6 @@ impl<'s> Drop for PlacedFile<'s> {
 
 // What sources come to, and the files that are there.
 pub(crate) struct ReadSources<'s> {
-    pub(crate) config: LoadedConfig,
+    pub(crate) config: ReadConfig,
     pub(crate) files: Vec<PlacedFile<'s>>,
 }

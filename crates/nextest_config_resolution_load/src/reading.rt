@@ -7,10 +7,11 @@ ghost use Rattle.nextest_config_resolution_tree.specs.Tree.{get_path, keys, keys
 ghost use Rattle.nextest_config_resolution_tree.specs.Whole.{IsTree};
 ghost use Rattle.nextest_config_resolution_values.specs.File.{profiles_at, profiles_in, profiles_of, store_dir_at};
 ghost use Rattle.nextest_config_resolution_values.specs.Paths.{profile_path};
-ghost use Rattle.nextest_config_resolution_load.specs.Load.{config_in, named, seen};
-ghost use Rattle.nextest_config_resolution_load.specs.Reading.{GivesSeen, profile_at};
+ghost use Rattle.nextest_config_resolution_load.specs.Checks.{config_in};
+ghost use Rattle.nextest_config_resolution_load.specs.Load.{named};
+ghost use Rattle.nextest_config_resolution_load.specs.Reading.{GivesSeen, profile_at, values_of};
 
-use crate::loaded_config::{LoadedConfig, NamedProfile};
+use crate::loaded_config::{NamedProfile, ReadConfig};
 use nextest_config_elements_reading::{ValueError, refused};
 use nextest_config_resolution_tree::MergedTree;
 use nextest_config_resolution_values::{deserialize_profile_value, deserialize_store_dir};
@@ -23,16 +24,16 @@ pub(crate) fn read_config(
     alloc: Global,
     tree: &MergedTree<'_>,
     sets_later_keys: bool,
-) -> Result<LoadedConfig, ValueError>
+) -> Result<ReadConfig, ValueError>
     ensures later { IfOk result (λ it. it.sets_later_keys ≡ sets_later_keys) }
-    ensures read { (top : Members) → IsTree tree.now (table top) → GivesSeen seen result (config_in top) }
+    ensures read { (top : Members) → IsTree tree.now (table top) → GivesSeen values_of result (config_in top) }
 {
     let profiles = match read_profiles(alloc, tree) {
         Ok(profiles) => profiles,
         Err(error) => return Err(error),
     };
     match read_store_dir(alloc, tree) {
-        Ok(store_dir) => Ok(LoadedConfig {
+        Ok(store_dir) => Ok(ReadConfig {
             profiles,
             store_dir,
             sets_later_keys,

@@ -1,7 +1,6 @@
 // How a configuration is refused.
-ghost use Rattle.nextest_config_resolution_load.specs.Load.{GivesAs};
 ghost use Rattle.nextest_config_resolution_load.specs.Refusing.{IsRefused};
-ghost use Rattle.nextest_config_resolution_load.specs.Load as words;
+ghost use Rattle.nextest_config_resolution_load.specs.Checks as words;
 
 use crate::load_error::LoadError;
 use crate::load_fault::LoadFault;
@@ -36,5 +35,18 @@ pub(crate) fn bad_value(alloc: Global, path: &str, value: BadValue) -> LoadError
     match Text::from_str(alloc, path) {
         Ok(path) => LoadError::Refused(LoadFault::BadValue { path, value }),
         Err(AllocError) => LoadError::OutOfMemory,
+    }
+}
+
+// Refuses what a profile sets as its default filter.
+pub(crate) fn bad_filter(alloc: Global, profile: &str, filter: &str) -> LoadError
+    ensures { IsRefused (words.bad_filter profile.now) result }
+{
+    match (
+        Text::from_str(alloc, profile),
+        Text::from_str(alloc, filter),
+    ) {
+        (Ok(profile), Ok(filter)) => LoadError::Refused(LoadFault::BadFilter { profile, filter }),
+        _ => LoadError::OutOfMemory,
     }
 }

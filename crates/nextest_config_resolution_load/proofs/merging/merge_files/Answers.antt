@@ -4,7 +4,7 @@ use Rattle.std.proofs.lemmas.List.{drop_more}
 use Rattle.toml.specs.Data.{table}
 use Rattle.nextest_config_resolution_tree.specs.Tree.{over}
 use Rattle.nextest_config_resolution_load.specs.Files.{members_in}
-use Rattle.nextest_config_resolution_load.specs.Load.{raised}
+use Rattle.nextest_config_resolution_load.specs.Checks.{raised}
 use Rattle.nextest_config_resolution_load.proofs.merging.merge_files.Goals as goal
 
 pub loop-file-preserved : goal.loop-file-preserved

@@ -3,7 +3,7 @@ use Rattle.toml.specs.Data.{Data, table}
 use Rattle.toml.specs.View.{table_view}
 use Rattle.nextest_config_resolution_tree.specs.Whole.{IsTree}
 use Rattle.nextest_config_resolution_load.specs.Files.{members_in}
-use Rattle.nextest_config_resolution_load.specs.Load.{raised}
+use Rattle.nextest_config_resolution_load.specs.Checks.{raised}
 use Rattle.nextest_config_resolution_load.proofs.merging.merge_files.Given as goal
 
 abbrev pub invariant-loop-file : goal.invariant-loop-file
