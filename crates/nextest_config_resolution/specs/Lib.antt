@@ -2,6 +2,8 @@
 -- sources, and what they come to
 pub use Rattle.nextest_config_resolution_sources.specs.Counting
 pub use Rattle.nextest_config_resolution_sources.specs.Kinds as SourceKinds
+pub use Rattle.nextest_config_resolution_load.specs.Checks as LoadChecks
+pub use Rattle.nextest_config_resolution_load.specs.Filters as DefaultReading
 pub use Rattle.nextest_config_resolution_load.specs.Kinds
 pub use Rattle.nextest_config_resolution_load.specs.Later
 pub use Rattle.nextest_config_resolution_load.specs.Load
@@ -9,6 +11,7 @@ pub use Rattle.nextest_config_resolution_load.specs.Laws as LoadLaws
 pub use Rattle.nextest_config_resolution_load.specs.Telling as LoadTelling
 -- whole configurations, and their profiles
 pub use Rattle.nextest_config_resolution_profiles.specs.Config
+pub use Rattle.nextest_config_resolution_profiles.specs.Default as DefaultFilters
 pub use Rattle.nextest_config_resolution_profiles.specs.Kept
 pub use Rattle.nextest_config_resolution_profiles.specs.Laws as ProfileLaws
 pub use Rattle.nextest_config_resolution_profiles.specs.Selection

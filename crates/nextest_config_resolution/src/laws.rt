@@ -3,9 +3,9 @@
 pub use nextest_config_resolution_inheritance::laws::{
     no_end, no_fault, one_chain, one_fault, one_verdict,
 };
-pub use nextest_config_resolution_load::laws::{merged_files, one_load};
+pub use nextest_config_resolution_load::laws::{merged_files, one_load, some_load};
 pub use nextest_config_resolution_profiles::laws::{
-    accepted as built_in_is_accepted, kept_profile, no_fallback, one_profile,
+    accepted as built_in_is_accepted, default_is_read, kept_profile, no_fallback, one_profile,
     read_as as built_in_is_read_as, same_chain, some_profile, written_as as built_in_is_written_as,
 };
 pub use nextest_config_resolution_settings::laws::{one_setting, same_settings};

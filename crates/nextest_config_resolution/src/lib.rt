@@ -12,11 +12,12 @@ pub use nextest_config_resolution_inheritance::{
     InheritanceError, InheritanceFault, Inherits, chain_of, check_inheritance,
 };
 pub use nextest_config_resolution_load::{
-    LoadError, LoadFault, LoadKind, LoadedConfig, NamedProfile, load, load_with_warnings,
+    LoadError, LoadFault, LoadKind, LoadedConfig, NamedProfile, ReadFilters, load,
+    load_with_warnings,
 };
 pub use nextest_config_resolution_profiles::{
-    BuildPlatforms, DEFAULT_CONFIG, EarlyProfile, NextestConfig, ProfileError, ProfileNotFound,
-    built_in,
+    BuildPlatforms, CompiledDefaultFilter, CompiledDefaultFilterSection, DEFAULT_CONFIG,
+    DefaultFilters, EarlyProfile, NextestConfig, ProfileError, ProfileNotFound, built_in,
 };
 pub use nextest_config_resolution_settings::{
     EvaluatableProfile, ListSettings, NoRule, ScriptCommand, ScriptCommandEnvMap,

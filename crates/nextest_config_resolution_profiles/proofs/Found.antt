@@ -8,7 +8,7 @@ use Rattle.std.specs.Option.{unwrap_or}
 use Rattle.std.specs.Str.{bytes_eq}
 use Rattle.nextest_config_resolution_inheritance.specs.Inheritance.{Name, Parents, Profile, default, names, next, profile_at}
 use Rattle.nextest_config_resolution_inheritance.proofs.Found.{length_names, name_in}
-use Rattle.nextest_config_resolution_load.specs.Load.{parents_of}
+use Rattle.nextest_config_resolution_load.specs.Checks.{parents_of}
 use Rattle.nextest_config_resolution_profiles.specs.Config.{values_of}
 use Rattle.nextest_config_resolution_values.specs.File.{Named}
 use Rattle.nextest_config_resolution_values.specs.declared.profile_config.ProfileConfig.{ProfileConfig}

@@ -1,18 +1,19 @@
 -- A profile that is built in stays, since no file that is accepted has anything but tables in its place.
-use Rattle.std.proofs.Common.{◌≡◌, ℕ, suc, List, [], ◌∷◌, ◌++◌, codes, Option, None, Some, Ok, Err, refl, sym, ap, ◌∙◌, subst, Ordering, Less, Equal, Greater, arith, false, is_some}
+use Rattle.std.proofs.Common.{◌≡◌, ℕ, suc, List, [], ◌∷◌, ◌++◌, codes, Option, None, Some, Ok, Err, refl, sym, ap, ◌∙◌, subst, Ordering, Less, Equal, Greater, arith, Bool, true, false, is_some}
 use Rattle.std.proofs.lemmas.Bool.{false≢true}
-use Rattle.std.specs.List.{Contains, AllByRecursion}
+use Rattle.std.specs.List.{Contains, AllByRecursion, cons_option, filter_map, flat_map}
 use Rattle.std.specs.Ordering.{match_ordering}
 use Rattle.std.specs.Result.{is_ok}
 use Rattle.toml.specs.Data.{Data, string, integer, float, boolean, datetime, array, table, Members, no_members, member, get_member}
 use Rattle.toml.specs.Parse.{parse_document}
 use Rattle.nextest_config_elements_identifiers.specs.declared.source_kind.ConfigSourceKind.{ConfigSourceKind}
-use Rattle.nextest_config_elements_identifiers.specs.declared.source_kind.ConfigSourceKind.TheVariants as kinds
-use Rattle.nextest_config_elements_reading.specs.Reading.{Reading, under}
+use Rattle.nextest_config_elements_reading.specs.Reading.{Path, Reading, under}
 use Rattle.nextest_config_elements_versions.specs.Demand.{experimental_in, nextest_version_in}
 use Rattle.nextest_config_elements_versions.specs.declared.asked_versions.AskedVersions.{AskedVersions}
 use Rattle.nextest_config_resolution_inheritance.specs.Inheritance.{names}
-use Rattle.nextest_config_resolution_load.specs.Load.{Loading, config_in, config_of, file_of, files_of, if_config, if_missing, if_toml, if_values, listed, members_of, outcome_at, parents_of, raised, some, text_at}
+use Rattle.nextest_config_resolution_load.specs.Checks.{Check, Refusal, bad_value, config_in, document_checks, document_of, file_of, members_of, merged_in, outcome_checks, parents_of, raised, source_checks, value_checks}
+use Rattle.nextest_config_resolution_load.specs.Load.{seen}
+use Rattle.nextest_config_resolution_load.proofs.Kept.{kept_sources}
 use Rattle.nextest_config_resolution_load.proofs.Configs.{profiles_of_config, same_names}
 use Rattle.nextest_config_resolution_load.proofs.Profiles.{names_read, under_ok}
 use Rattle.nextest_config_resolution_profiles.specs.Kept.{HasProfile, KeptProfile}
@@ -63,62 +64,37 @@ file_table file config e = by_parts (experimental_in file) refl (nextest_version
       let is : file_in file ≡ Err path = rw f refl in
       absurd (false≢true (ap is_ok (sym is ∙ e)))
 
-abbrev members_or : Members → Loading Members → Members
-members_or otherwise (Ok file) = file
-members_or otherwise (Err refusal) = otherwise
+abbrev is_empty : List Check → Bool
+is_empty [] = true
+is_empty (check ∷ checks) = false
 
-abbrev file_or : Option Members → Loading (Option Members) → Option Members
-file_or otherwise (Ok file) = file
-file_or otherwise (Err refusal) = otherwise
+nil_parts : (first more : List Check) → first ++ more ≡ [] → (first ≡ []) × (more ≡ [])
+nil_parts [] more e = (refl, e)
+nil_parts (check ∷ first) more e = absurd (false≢true (ap is_empty e))
 
-abbrev files_or : List Members → Loading (List Members) → List Members
-files_or otherwise (Ok files) = files
-files_or otherwise (Err refusal) = otherwise
+-- what is read without a fault
+read_ok : (refusal : Path → Refusal) (reading : Reading FileConfig) → value_checks refusal reading ≡ [] → (config : FileConfig) × (reading ≡ Ok config)
+read_ok refusal (Ok config) e = (config, refl)
+read_ok refusal (Err keys) e = absurd (false≢true (ap is_empty e))
 
-abbrev config_or : FileConfig → Loading FileConfig → FileConfig
-config_or otherwise (Ok config) = config
-config_or otherwise (Err refusal) = otherwise
+document_has : (path : List ℕ) (found : Option Members) → document_checks path found ≡ [] → AllByRecursion HasTable (cons_option found [])
+document_has path None e = tt
+document_has path (Some file) e = let it = read_ok (bad_value path) (file_in file) e in (file_table file it.0 it.1, tt)
 
-values_have : (path : List ℕ) (file : Members) (reading : Reading FileConfig) (given : Members) → file_in file ≡ reading → if_values path file reading ≡ Ok given → HasTable given
-values_have path file (Ok config) given f e = subst HasTable (ap (members_or file) e) (file_table file config f)
-values_have path file (Err at) given f e = absurd (false≢true (ap is_ok e))
+outcome_has : (path : List ℕ) (kind : ConfigSourceKind) (outcome : ConfigSourceOutcome) → outcome_checks path kind outcome ≡ [] → AllByRecursion HasTable (cons_option (document_of outcome) [])
+outcome_has path kind (outcome.Text text) e = document_has path (parse_document text) e
+outcome_has path kind outcome.NotFound e = tt
+outcome_has path kind (outcome.Failed cause) e = tt
 
-toml_has : (path : List ℕ) (found : Option Members) (given : Members) → if_toml path found ≡ Ok given → HasTable given
-toml_has path None given e = absurd (false≢true (ap is_ok e))
-toml_has path (Some members) given e = values_have path members (file_in members) given refl e
-
-some_has : (loading : Loading Members) (file : Option Members) → ((given : Members) → loading ≡ Ok given → HasTable given) → some loading ≡ Ok file → AllByRecursion HasTable (listed file)
-some_has (Ok members) file has e = subst (λ it. AllByRecursion HasTable (listed it)) (ap (file_or None) e) (has members refl, tt)
-some_has (Err refusal) file has e = absurd (false≢true (ap is_ok e))
-
-missing_has : (path : List ℕ) (kind : ConfigSourceKind) (file : Option Members) → if_missing path kind ≡ Ok file → AllByRecursion HasTable (listed file)
-missing_has path (kinds.Tool name) file e = absurd (false≢true (ap is_ok e))
-missing_has path kinds.ExplicitRepository file e = absurd (false≢true (ap is_ok e))
-missing_has path kinds.DiscoveredRepository file e = subst (λ it. AllByRecursion HasTable (listed it)) (ap (file_or None) e) tt
-
-outcome_has : (path : List ℕ) (kind : ConfigSourceKind) (outcome : ConfigSourceOutcome) (file : Option Members) → outcome_at path kind outcome ≡ Ok file → AllByRecursion HasTable (listed file)
-outcome_has path kind (outcome.Text text) file e = some_has (text_at path text) file (toml_has path (parse_document text)) e
-outcome_has path kind outcome.NotFound file e = missing_has path kind file e
-outcome_has path kind (outcome.Failed cause) file e = absurd (false≢true (ap is_ok e))
-
-one_more : (file : Option Members) (files : List Members) → AllByRecursion HasTable (listed file) → AllByRecursion HasTable files → AllByRecursion HasTable (listed file ++ files)
+one_more : (file : Option Members) (files : List Members) → AllByRecursion HasTable (cons_option file []) → AllByRecursion HasTable files → AllByRecursion HasTable (cons_option file files)
 one_more None files here more = more
 one_more (Some file) files here more = (here.0, more)
 
-files_have : (sources : List ConfigSource) (files : List Members) → files_of sources ≡ Ok files → AllByRecursion HasTable files
-files_have [] files e = subst (AllByRecursion HasTable) (ap (files_or []) e) tt
-files_have (source ∷ more) files e = by_parts (file_of source) refl (files_of more) refl (files_have more) where
-  by_parts : (first : Loading (Option Members)) → file_of source ≡ first → (second : Loading (List Members)) → files_of more ≡ second
-      → ((rest : List Members) → files_of more ≡ Ok rest → AllByRecursion HasTable rest) → AllByRecursion HasTable files
-  by_parts (Ok file) f (Ok rest) g deeper =
-      let is : files_of (source ∷ more) ≡ Ok (listed file ++ rest) = rw (f, g) refl in
-      subst (AllByRecursion HasTable) (ap (files_or []) (sym is ∙ e)) (one_more file rest (outcome_has source.path source.kind source.outcome file f) (deeper rest g))
-  by_parts (Ok file) f (Err refusal) g deeper =
-      let is : files_of (source ∷ more) ≡ Err refusal = rw (f, g) refl in
-      absurd (false≢true (ap is_ok (sym is ∙ e)))
-  by_parts (Err refusal) f second g deeper =
-      let is : files_of (source ∷ more) ≡ Err refusal = rw f refl in
-      absurd (false≢true (ap is_ok (sym is ∙ e)))
+files_have : (sources : List ConfigSource) → flat_map source_checks sources ≡ [] → AllByRecursion HasTable (filter_map file_of sources)
+files_have [] e = tt
+files_have (source ∷ more) e =
+    let parts = nil_parts (source_checks source) (flat_map source_checks more) e in
+    one_more (file_of source) (filter_map file_of more) (outcome_has source.path source.kind source.outcome parts.0) (files_have more parts.1)
 
 -- ---- one file over what is below it
 
@@ -166,18 +142,7 @@ read_has name top config it e =
     let there : profiles_in it.profiles ≡ Ok config.profiles = sym (ap profiles_of it.listed) ∙ read in
     subst (λ all. Contains all name) (sym (names_read it.profiles config.profiles there) ∙ sym (same_names config.profiles)) (key_there name it.profiles it.given it.there)
 
-pub kept_profile : KeptProfile
-kept_profile built_in sources config name has e = by_files (files_of (counted sources)) refl where
-  by_reading : (top : Members) (reading : Reading FileConfig) → config_in top ≡ reading → if_config reading ≡ Ok config → HasProfile name top
-      → Contains (names (parents_of config.profiles)) name
-  by_reading top (Ok read) f g there = read_has name top config there (f ∙ ap Ok (ap (config_or config) g))
-  by_reading top (Err path) f g there = absurd (false≢true (ap is_ok g))
-
-  by_files : (loading : Loading (List Members)) → files_of (counted sources) ≡ loading → Contains (names (parents_of config.profiles)) name
-  by_files (Ok files) f =
-      let top = members_of (raised (table built_in) files) in
-      let is : config_of built_in sources ≡ if_config (config_in top) = rw f refl in
-      by_reading top (config_in top) refl (sym is ∙ e) (raised_has name files built_in (files_have (counted sources) files f) has)
-  by_files (Err refusal) f =
-      let is : config_of built_in sources ≡ Err refusal = rw f refl in
-      absurd (false≢true (ap is_ok (sym is ∙ e)))
+pub kept_profile : {F : Type 0} (Is : List ℕ → F → Type 0) (IsTooDeep : List ℕ → Type 0) → KeptProfile Is IsTooDeep
+kept_profile Is IsTooDeep built_in sources config name has loaded =
+    read_has name (merged_in built_in sources) (seen config)
+    (raised_has name (filter_map file_of (counted sources)) built_in (files_have (counted sources) (kept_sources Is built_in sources loaded.kept)) has) loaded.values

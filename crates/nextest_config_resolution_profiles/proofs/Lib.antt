@@ -1,4 +1,6 @@
+pub mod Chained
 pub mod Ending
+pub mod Filtered
 pub mod Inheriting
 pub mod Putting
 pub mod Found

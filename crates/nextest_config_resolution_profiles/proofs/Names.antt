@@ -1,11 +1,14 @@
 -- The names of profiles at their places.
-use Rattle.std.proofs.Common.{◌≡◌, ◌≢◌, ℕ, ◌<◌, ◌≤◌, ◌+◌, List, [], ◌∷◌, ◌++◌, length, get_or, map, take, Bor, None, Some, Ok, refl, ap, sym, ◌∙◌, subst, arith, ◌⊎◌, inl, inr}
+use Rattle.std.proofs.Common.{◌≡◌, ◌≢◌, ℕ, ◌<◌, ◌≤◌, ◌+◌, List, [], ◌∷◌, ◌++◌, length, get_or, map, take, Bor, Option, None, Some, Ok, option_map, refl, ap, sym, ◌∙◌, subst, arith, ◌⊎◌, inl, inr}
 use Rattle.std.proofs.lemmas.Bool.{cases_lt}
-use Rattle.std.specs.List.{Contains}
+use Rattle.std.specs.List.{Contains, slice_get}
+use Rattle.std.proofs.lemmas.Option.{slice_get-map, slice_get_read}
 use Rattle.std.proofs.lemmas.List.{get_or-map, length-map, map_push, take_more}
 use Rattle.std.proofs.lemmas.List.Elements.{All-nil, All-push}
 use Rattle.nextest_config_resolution_inheritance.specs.Inheritance.{Name, Profile, Parents, IsChain, Rise, default, names, name_at, names_at}
-use Rattle.nextest_config_resolution_load.specs.Load.{IsLoaded, named, parents_of, seen}
+use Rattle.nextest_config_resolution_load.specs.Checks.{parents_of}
+use Rattle.nextest_config_resolution_load.specs.Load.{IsLoaded, named, seen}
+use Rattle.nextest_config_resolution_load.proofs.Kept.{kept_inherits}
 use Rattle.nextest_config_resolution_load.specs.declared.loaded_config.NamedProfile.{NamedProfile}
 use Rattle.nextest_config_resolution_load.proofs.Configs.{same_names, same_parents}
 use Rattle.nextest_config_resolution_values.specs.File.{Named}
@@ -15,11 +18,13 @@ use Rattle.nextest_config_resolution_profiles.specs.BuiltIn.{built_in_members, d
 use Rattle.nextest_config_resolution_load.specs.declared.loaded_config.LoadedConfig.{LoadedConfig}
 use Rattle.nextest_config_resolution_settings.specs.Nearest.{lent}
 use Rattle.nextest_config_resolution_sources.specs.declared.source.ConfigSource.{ConfigSource}
-use Rattle.nextest_config_resolution_profiles.specs.Chains.{AreAt}
-use Rattle.nextest_config_resolution_profiles.specs.Config.{IsChainOf, values_of}
+use Rattle.nextest_config_resolution_profiles.specs.Chains.{AreAt, IsChained}
+use Rattle.nextest_config_resolution_profiles.specs.Config.{HasDefaultFilter, IsChainOf, values_of}
+use Rattle.nextest_config_resolution_profiles.specs.declared.chains.Chained.{Chained}
 use Rattle.nextest_config_resolution_profiles.specs.Kept.{HasProfile}
 use Rattle.nextest_config_resolution_profiles.specs.Whole.{IsSound}
 use Rattle.nextest_config_resolution_profiles.proofs.Kept.{kept_profile}
+use Rattle.nextest_config_resolution_profiles.proofs.Filtered.{all_filtered}
 use Rattle.nextest_config_resolution_profiles.proofs.Values.{values_in}
 
 abbrev pub all_of : List NamedProfile → Parents
@@ -54,7 +59,7 @@ none_has all name place past apart (k, within, is) =
 
 -- the values at no places, and at one more
 pub none_at : (profiles : List Named) → AreAt profiles [] []
-none_at profiles = record { chain = []; each = All-nil (Contains profiles); placed = refl; valued = refl }
+none_at profiles = record { chain = []; each = All-nil (Contains profiles); placed = refl; valued = refl; stand = refl }
 
 pub one_at : (all : List NamedProfile) (places : List ℕ) (values : List ProfileConfig) (place : ℕ) (it : NamedProfile) → place < length all → it ≡ get_or all place it
     → AreAt (map named all) places values → AreAt (map named all) (places ++ place ∷ []) (values ++ it.config ∷ [])
@@ -67,6 +72,14 @@ one_at all places values place it within is so_far = record {
       ∙ ap (λ (n : Name). names_at (all_of all) places ++ n ∷ []) (sym (name_is all place it within ∙ ap (λ (p : NamedProfile). p.name) (sym is)))
       ∙ sym (map_push (name_at (all_of all)) places place);
   valued = ap (λ (vs : List ProfileConfig). vs ++ it.config ∷ []) so_far.valued ∙ sym (map_push (λ (p : Named). p.1) so_far.chain (named it));
+  stand =
+      let at : ℕ → Option ProfileConfig = λ k. option_map (λ (p : Named). p.1) (slice_get (map named all) k) in
+      let here : at place ≡ Some it.config =
+      ap (option_map (λ (p : Named). p.1)) (slice_get-map named all place ∙ ap (option_map named) (slice_get_read all (length all) place it refl within is)) in
+      map_push Some values it.config
+      ∙ ap (λ (vs : List (Option ProfileConfig)). vs ++ Some it.config ∷ []) so_far.stand
+      ∙ ap (λ (v : Option ProfileConfig). map at places ++ v ∷ []) (sym here)
+      ∙ sym (map_push at places place);
 }
 
 -- the same of lent values, by a place in the list of places
@@ -95,13 +108,22 @@ chained all place places given values rise same chain at = record {
       ∙ ap (map Some) (sym at.valued);
 }
 
+-- with its default filter
+pub is_chained : {F : Type 0} (all : List NamedProfile) (filters : List (Option F)) (place : ℕ) (places given : List ℕ) (it : Chained F) → Rise (all_of all) → given ≡ places
+    → IsChain (map (λ it. (it.name, it.config.inherits)) all) (name_at (map (λ it. (it.name, it.config.inherits)) all) place) (names_at (map (λ it. (it.name, it.config.inherits)) all) places)
+    → AreAt (map named all) given (lent it.values.items) → HasDefaultFilter all filters (names_at (all_of all) places) (lent it.values.items) it.default_filter
+    → IsChained all filters (name_at (all_of all) place) it
+unfolding chained
+is_chained all filters place places given it rise same chain at filtered = record { chained = chained all place places given (lent it.values.items) rise same chain at; filtered = filtered }
+
 -- a configuration that is loaded over what is built in is sound
-pub sound : (members : Members) (sources : List ConfigSource) (it : LoadedConfig) → members ≡ built_in_members → IsLoaded members sources (Ok it)
-    → Rise (parents_of (seen it).profiles) → IsSound it
-sound members sources it same loaded rises = record {
-  accepted = loaded.1;
+pub sound : {F : Type 0} (Is : List ℕ → F → Type 0) (IsTooDeep : List ℕ → Type 0) (members : Members) (sources : List ConfigSource) (it : LoadedConfig F)
+    → members ≡ built_in_members → IsLoaded Is IsTooDeep members sources (Ok it) → Rise (parents_of (seen it).profiles) → IsSound it
+sound Is IsTooDeep members sources it same loaded rises = record {
+  accepted = kept_inherits Is members sources (seen it) loaded.kept loaded.values;
   rises = rises;
-  has_default = kept_profile members sources (seen it) default (subst (HasProfile default) (sym same) built_in_has) loaded.0;
+  has_default = kept_profile Is IsTooDeep members sources it default (subst (HasProfile default) (sym same) built_in_has) loaded;
+  filtered = all_filtered Is it.profiles it.default_filters loaded.filters;
 }
   where
     built_in_has : HasProfile default built_in_members

@@ -3,7 +3,7 @@ use Rattle.std.proofs.Common.{◌≡◌, suc, List, [], ◌∷◌, map, Option, 
 use Rattle.std.specs.List.{All}
 use Rattle.nextest_config_resolution_inheritance.specs.Inheritance.{Name, IsChain, next}
 use Rattle.nextest_config_resolution_inheritance.specs.Inheritance.IsChain.{ends, goes_on}
-use Rattle.nextest_config_resolution_load.specs.Load.{parents_of}
+use Rattle.nextest_config_resolution_load.specs.Checks.{parents_of}
 use Rattle.nextest_config_resolution_profiles.specs.Config.{values_of}
 use Rattle.nextest_config_resolution_profiles.specs.Laws.{SameChain}
 use Rattle.nextest_config_resolution_profiles.proofs.Found.{next_by, next_of}

@@ -1,5 +1,5 @@
 -- A name has a chain in a configuration, or none of its profiles has the name.
-use Rattle.std.proofs.Common.{◌≡◌, List, [], ◌∷◌, Bool, true, false, cond, Option, None, Some, Ok, option_and_then, find, refl, sym, ap, ◌∙◌, subst, ◌⊎◌, inl, inr, arith, is_some}
+use Rattle.std.proofs.Common.{◌≡◌, ℕ, List, [], ◌∷◌, Bool, true, false, cond, Option, None, Some, Ok, option_and_then, find, refl, sym, ap, ◌∙◌, subst, ◌⊎◌, inl, inr, arith, is_some}
 use Rattle.std.proofs.lemmas.Bool.{false≢true}
 use Rattle.std.proofs.lemmas.List.Elements.{All-cons, All-nil, All-tail}
 use Rattle.std.specs.List.{All, Contains}
@@ -10,7 +10,10 @@ use Rattle.nextest_config_resolution_profiles.specs.BuiltIn.{built_in_members, d
 use Rattle.nextest_config_resolution_inheritance.specs.Inheritance.{Name, Parents, Profile, IsAccepted, IsChain, IsOneOf, KnowsParent, default, names, next}
 use Rattle.nextest_config_resolution_inheritance.specs.Inheritance.IsChain.{ends, goes_on}
 use Rattle.nextest_config_resolution_inheritance.proofs.Chains.{one_chain}
-use Rattle.nextest_config_resolution_load.specs.Load.{config_of, parents_of, seen}
+use Rattle.nextest_config_resolution_load.specs.Checks.{parents_of}
+use Rattle.nextest_config_resolution_load.specs.Load.{IsLoaded, seen}
+use Rattle.nextest_config_resolution_load.specs.declared.loaded_config.LoadedConfig.{LoadedConfig}
+use Rattle.nextest_config_resolution_load.proofs.Kept.{kept_inherits}
 use Rattle.nextest_config_resolution_profiles.specs.Config.{IsChainOf, names_of, profiles_of, values_of}
 use Rattle.nextest_config_resolution_profiles.specs.Kept.{HasProfile}
 use Rattle.nextest_config_resolution_profiles.specs.Laws.{SomeChain}
@@ -18,7 +21,7 @@ use Rattle.nextest_config_resolution_profiles.proofs.Kept.{kept_profile}
 use Rattle.nextest_config_resolution_profiles.proofs.Found.{name_there, profile_there, value_there, values_there}
 use Rattle.nextest_config_resolution_profiles.proofs.Names.{names_are}
 use Rattle.nextest_config_resolution_sources.specs.declared.source.ConfigSource.{ConfigSource}
-use Rattle.nextest_config_resolution_values.specs.File.{FileConfig, Named}
+use Rattle.nextest_config_resolution_values.specs.File.{Named}
 use Rattle.nextest_config_resolution_values.specs.declared.profile_config.ProfileConfig.{ProfileConfig}
 
 -- ---- the names of a chain
@@ -63,16 +66,20 @@ built_in_has : HasProfile default built_in_members
 built_in_has = record { profiles = profiles_members; given = table default_members; listed = refl; there = refl }
 
 -- `default` is a profile of every configuration
-pub default_there : (sources : List ConfigSource) (config : FileConfig) → config_of built_in_members sources ≡ Ok config → Contains (names (parents_of config.profiles)) default
-default_there sources config e = kept_profile built_in_members sources config default built_in_has e
+pub default_there : {F : Type 0} (Is : List ℕ → F → Type 0) (IsTooDeep : List ℕ → Type 0) (sources : List ConfigSource) (config : LoadedConfig F)
+    → IsLoaded Is IsTooDeep built_in_members sources (Ok config) → Contains (names (parents_of (seen config).profiles)) default
+default_there Is IsTooDeep sources config loaded = kept_profile Is IsTooDeep built_in_members sources config default built_in_has loaded
 
-pub some_chain : SomeChain
-some_chain root sources config name loaded = by_value (values_of (profiles_of config) name) refl
+pub some_chain : {F : Type 0} (Is : List ℕ → F → Type 0) (IsTooDeep : List ℕ → Type 0) → SomeChain Is IsTooDeep
+some_chain {F} Is IsTooDeep root sources config name loaded = by_value (values_of (profiles_of config) name) refl
   where
+    accepted : IsAccepted (parents_of (profiles_of config))
+    accepted = kept_inherits Is built_in_members sources (seen config.loaded) loaded.1.kept loaded.1.values
+
     by_value : (found : Option ProfileConfig) → values_of (profiles_of config) name ≡ found
         → ((values : List ProfileConfig) × IsChainOf (profiles_of config) name values) ⊎ ¬ Contains (names_of config) name
     by_value (Some value) e =
-        inl (chain_there (profiles_of config) name loaded.1.1 (default_there sources (seen config.loaded) loaded.1.0) (name_there name (profiles_of config) value e))
+        inl (chain_there (profiles_of config) name accepted (default_there Is IsTooDeep sources config.loaded loaded.1) (name_there name (profiles_of config) value e))
     by_value None e = inr (λ has.
         let there = subst (λ (all : List Name). Contains all name) (sym (names_are config.loaded.profiles)) has in
         false≢true (ap is_some (sym e ∙ (value_there name (profiles_of config) there).1)))

@@ -6,7 +6,7 @@ use Rattle.std.specs.List.{All, Contains}
 use Rattle.std.specs.Str.{bytes_eq}
 use Rattle.nextest_config_resolution_inheritance.proofs.Found.{one_place}
 use Rattle.nextest_config_resolution_inheritance.specs.Inheritance.{Profile, Rise, name_at}
-use Rattle.nextest_config_resolution_load.specs.Load.{parents_of}
+use Rattle.nextest_config_resolution_load.specs.Checks.{parents_of}
 use Rattle.nextest_config_resolution_values.specs.File.{Named}
 use Rattle.nextest_config_resolution_profiles.specs.Config.{values_of}
 

@@ -1,9 +1,14 @@
 -- The values of profiles by their places.
-use Rattle.std.specs.Prelude.{◌≡◌, ℕ, List, All, Contains, map}
-use Rattle.nextest_config_resolution_inheritance.specs.Inheritance.{names_at}
-use Rattle.nextest_config_resolution_load.specs.Load.{parents_of}
+use Rattle.std.specs.Prelude.{◌≡◌, ℕ, List, Option, All, Contains, Some, map, option_map, slice_get}
+use Rattle.nextest_config_resolution_inheritance.specs.Inheritance.{Name, names_at}
+use Rattle.nextest_config_resolution_load.specs.Checks.{parents_of}
+use Rattle.nextest_config_resolution_load.specs.Load.{named}
+use Rattle.nextest_config_resolution_load.specs.declared.loaded_config.NamedProfile.{NamedProfile}
+use Rattle.nextest_config_resolution_settings.specs.Nearest.{lent}
 use Rattle.nextest_config_resolution_values.specs.File.{Named}
 use Rattle.nextest_config_resolution_values.specs.declared.profile_config.ProfileConfig.{ProfileConfig}
+use Rattle.nextest_config_resolution_profiles.specs.Config.{HasDefaultFilter, IsChainOf}
+use Rattle.nextest_config_resolution_profiles.specs.declared.chains.Chained.{Chained}
 
 -- the values of the profiles at some places
 pub record AreAt (profiles : List Named) (places : List ℕ) (values : List ProfileConfig) : Type 0 where
@@ -11,3 +16,9 @@ pub record AreAt (profiles : List Named) (places : List ℕ) (values : List Prof
   pub each : All (Contains profiles) chain
   pub placed : map (λ profile. profile.0) chain ≡ names_at (parents_of profiles) places
   pub valued : values ≡ map (λ profile. profile.1) chain
+  pub stand : map Some values ≡ map (λ place. option_map (λ profile. profile.1) (slice_get profiles place)) places
+
+-- the chain of the profile of a name, and its default filter
+pub record IsChained {F : Type 0} (profiles : List NamedProfile) (filters : List (Option F)) (name : Name) (it : Chained F) : Type 0 where
+  pub chained : IsChainOf (map named profiles) name (lent it.values.items)
+  pub filtered : HasDefaultFilter profiles filters chained.names (lent it.values.items) it.default_filter

@@ -1,14 +1,19 @@
 // Profiles by their names, and their chains.
 ghost use Rattle.std.specs.Prelude.{◌≡◌, ◌≢◌, ◌<◌, All, Contains, IfNone, IfOk, IfSome, length, map};
 ghost use Rattle.std.specs.Bool.{OnFalse, OnTrue};
-ghost use Rattle.nextest_config_resolution_inheritance.specs.Inheritance.{IsAccepted, Rise, default, name_at, names};
-ghost use Rattle.nextest_config_resolution_load.specs.Load.{named, parents_of};
-ghost use Rattle.nextest_config_resolution_profiles.specs.Chains.{AreAt};
-ghost use Rattle.nextest_config_resolution_profiles.specs.Config.{IsChainOf};
+ghost use Rattle.nextest_config_resolution_inheritance.specs.Inheritance.{IsAccepted, Rise, default, name_at, names, names_at};
+ghost use Rattle.nextest_config_resolution_load.specs.Checks.{parents_of};
+ghost use Rattle.nextest_config_resolution_load.specs.Load.{named};
+ghost use Rattle.nextest_config_resolution_profiles.specs.Chains.{AreAt, IsChained};
+ghost use Rattle.nextest_config_resolution_profiles.specs.Config.{HasDefaultFilter};
+ghost use Rattle.nextest_config_resolution_profiles.specs.Whole.{AreFiltered};
 ghost use Rattle.nextest_config_resolution_settings.specs.Nearest.{lent};
 
+use crate::default_filter::{CompiledDefaultFilter, CompiledDefaultFilterSection};
 use nextest_config_resolution_inheritance::chain_of;
 use nextest_config_resolution_load::NamedProfile;
+use nextest_config_resolution_settings::keys::DefaultFilterKey;
+use nextest_config_resolution_settings::nearest;
 use nextest_config_resolution_values::ProfileConfig;
 use nextest_text::{Listing, Text};
 use std::alloc::{AllocError, Global};
@@ -49,21 +54,59 @@ pub(crate) fn all_names(
     Ok(all)
 }
 
-// The values of the chain of the profile at a place.
-pub(crate) fn chain_at<'c>(
+// The values of the chain of a profile, its own first, and its default filter.
+#[derive(Drop)]
+pub(crate) struct Chained<'c, F> {
+    pub(crate) values: Vec<&'c ProfileConfig>,
+    pub(crate) default_filter: Option<CompiledDefaultFilter<'c, F>>,
+}
+
+// The chain of the profile at a place, where these are the default filters of all profiles.
+pub(crate) fn chain_at<'c, F>(
     alloc: Global,
     profiles: &'c [NamedProfile],
+    filters: &'c [Option<F>],
     place: usize,
-) -> Result<Vec<&'c ProfileConfig>, AllocError>
+) -> Result<Chained<'c, F>, AllocError>
     requires accepted { IsAccepted (parents_of (map named profiles.now)) }
     requires rise { Rise (parents_of (map named profiles.now)) }
     requires has_default { Contains (names (parents_of (map named profiles.now))) default }
+    requires filtered { AreFiltered profiles.now filters.now }
     requires place { place < length profiles.now }
-    ensures { IfOk result (λ chain. IsChainOf (map named profiles.now) (name_at (parents_of (map named profiles.now)) place) (lent chain.items)) }
+    ensures { IfOk result (IsChained profiles.now filters.now (name_at (parents_of (map named profiles.now)) place)) }
 {
     let places = chain_of(alloc, profiles, place)?;
     let values = values_at(alloc, profiles, places.as_slice())?;
-    Ok(values)
+    let default_filter = default_filter_of(profiles, filters, places.as_slice(), values.as_slice());
+    Ok(Chained {
+        values,
+        default_filter,
+    })
+}
+
+// The default filter of a chain: that of the nearest profile that sets one.
+fn default_filter_of<'c, F>(
+    profiles: &'c [NamedProfile],
+    filters: &'c [Option<F>],
+    places: &[usize],
+    values: &[&'c ProfileConfig],
+) -> Option<CompiledDefaultFilter<'c, F>>
+    requires within { All (λ place. place < length profiles.now) places.now }
+    requires at { AreAt (map named profiles.now) places.now (lent values.now) }
+    requires filtered { AreFiltered profiles.now filters.now }
+    ensures { HasDefaultFilter profiles.now filters.now (names_at (parents_of (map named profiles.now)) places.now) (lent values.now) result }
+{
+    let (near, _) = nearest::<DefaultFilterKey, ProfileConfig>(values)?;
+    let place = places[near];
+    let profile = profiles[place].name.as_str();
+    match &filters[place] {
+        Some(filter) => Some(CompiledDefaultFilter {
+            filter,
+            profile,
+            section: CompiledDefaultFilterSection::Profile,
+        }),
+        None => unreachable!(),
+    }
 }
 
 // The values of the profiles at some places.

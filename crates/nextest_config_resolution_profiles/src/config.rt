@@ -1,5 +1,6 @@
 // A whole configuration.
-use crate::chains::{all_names, chain_at, place_of};
+use crate::chains::{Chained, all_names, chain_at, place_of};
+use crate::default_filters::DefaultFilters;
 use crate::early_profile::EarlyProfile;
 use crate::profile_error::{ProfileError, ProfileNotFound};
 use crate::selection::select_kinds;
@@ -14,11 +15,11 @@ use std::alloc::Global;
 use std::marker::{Model, PhantomData};
 
 /// A whole configuration: what its sources come to, each over the lower ones and over what is built in. Tests are told apart by
-/// filters `F`, and builds by specs `S`; none of either is read yet.
+/// filters `F`, and builds by specs `S`, of which none is read yet.
 pub struct NextestConfig<F: Filters, S: Specs> {
     root: Text,
-    loaded: LoadedConfig,
-    by: PhantomData<(F, S)>,
+    loaded: LoadedConfig<F>,
+    by: PhantomData<S>,
 }
 
 // One call drops it, whoever holds it.
@@ -35,17 +36,17 @@ impl<F: Filters, S: Specs> Drop for NextestConfig<F, S> {
 impl<F: Filters, S: Specs> Model for NextestConfig<F, S> {
     ghost use Rattle.nextest_config_resolution_profiles.specs.Whole.{IsSound, Whole};
 
-    ghost Value = { Whole };
+    ghost Value = { Whole F };
 
     ghost view = { λ it. record { root = it.root; loaded = it.loaded } };
 
-    // The profiles inherit as they may, their names rise, and `default` is among them.
+    // The profiles inherit as they may, their names rise, `default` is among them, and their default filters are read.
     ghost invariant = { λ it. IsSound it.loaded };
 }
 
 impl<F: Filters, S: Specs> NextestConfig<F, S> {
     ghost use Rattle.nextest_config_resolution_load.specs.Telling.{TellsAs, warnings_in};
-    ghost use Rattle.nextest_config_resolution_profiles.specs.Config.{IsConfig, IsProfile, store_of};
+    ghost use Rattle.nextest_config_resolution_profiles.specs.Config.{IsConfig, IsDefaultIn, IsProfile, store_of};
     ghost use Rattle.nextest_config_resolution_profiles.specs.Selection.{selected_by};
     ghost use Rattle.std.specs.Prelude.{◌≡◌};
 
@@ -54,17 +55,18 @@ impl<F: Filters, S: Specs> NextestConfig<F, S> {
     ///
     /// # Errors
     ///
-    /// `Refused` tells of the first rule that is broken, as `load` says. Want of memory says nothing of the sources.
+    /// `Refused` tells of the first rule that is broken, as `load` says; the last is that each default filter is a filter of
+    /// `cx`, in which no group is known. Want of memory says nothing of the sources.
     pub fn from_sources(
         alloc: Global,
         root: &str,
-        _cx: &F::Cx,
+        cx: &F::Cx,
         sources: &[ConfigSource],
     ) -> Result<NextestConfig<F, S>, LoadError>
-        ensures { IsConfig root.now sources.now result }
+        ensures { IsConfig (IsDefaultIn F.is_parsed cx.now) F.is_too_deep root.now sources.now result }
     {
         let lowest = built_in(alloc)?;
-        match load(alloc, &lowest, sources) {
+        match load::<DefaultFilters<F>>(alloc, &lowest, cx, sources) {
             Ok(loaded) => Ok(NextestConfig {
                 root: Text::from_str(alloc, root)?,
                 loaded,
@@ -83,16 +85,16 @@ impl<F: Filters, S: Specs> NextestConfig<F, S> {
     pub fn from_sources_with_warnings<W: ConfigWarnings>(
         alloc: Global,
         root: &str,
-        _cx: &F::Cx,
+        cx: &F::Cx,
         sources: &[ConfigSource],
         warnings: &mut W,
     ) -> Result<NextestConfig<F, S>, LoadError>
-        ensures config { IsConfig root.now sources.now result }
+        ensures config { IsConfig (IsDefaultIn F.is_parsed cx.now) F.is_too_deep root.now sources.now result }
         ensures told { TellsAs W.has_told warnings.old warnings.new (warnings_in sources.now) result }
     {
         let lowest = built_in(alloc)?;
         let root = Text::from_str(alloc, root)?;
-        match load_with_warnings(alloc, &lowest, sources, warnings) {
+        match load_with_warnings::<DefaultFilters<F>, W>(alloc, &lowest, cx, sources, warnings) {
             Ok(loaded) => Ok(NextestConfig {
                 root,
                 loaded,
@@ -117,7 +119,7 @@ impl<F: Filters, S: Specs> NextestConfig<F, S> {
         mut sources: Vec<ConfigSource>,
         warnings: &mut W,
     ) -> Result<NextestConfig<F, S>, LoadError>
-        ensures config { IsConfig root.now (selected_by selection.now sources.items) result }
+        ensures config { IsConfig (IsDefaultIn F.is_parsed cx.now) F.is_too_deep root.now (selected_by selection.now sources.items) result }
         ensures told { TellsAs W.has_told warnings.old warnings.new (warnings_in (selected_by selection.now sources.items)) result }
     {
         select_kinds(selection, sources.as_mut_slice());
@@ -137,7 +139,7 @@ impl<F: Filters, S: Specs> NextestConfig<F, S> {
         sources: Vec<ConfigSource>,
         warnings: &mut W,
     ) -> Result<NextestConfig<F, S>, LoadError>
-        ensures config { IsConfig paths.now.workspace_root (selected_by selection.now sources.items) result }
+        ensures config { IsConfig (IsDefaultIn F.is_parsed cx.now) F.is_too_deep paths.now.workspace_root (selected_by selection.now sources.items) result }
         ensures told { TellsAs W.has_told warnings.old warnings.new (warnings_in (selected_by selection.now sources.items)) result }
     {
         let root = paths.workspace_root.as_str();
@@ -162,12 +164,17 @@ impl<F: Filters, S: Specs> NextestConfig<F, S> {
         let profiles = self.loaded.profiles.as_slice();
         match place_of(profiles, name) {
             Some(place) => {
-                let chain = chain_at(alloc, profiles, place)?;
+                let filters = self.loaded.default_filters.as_slice();
+                let Chained {
+                    values,
+                    default_filter,
+                } = chain_at(alloc, profiles, filters, place)?;
                 Ok(EarlyProfile {
                     name: profiles[place].name.as_str(),
                     root: self.root.as_str(),
                     store: self.store(),
-                    chain,
+                    chain: values,
+                    default_filter,
                     by: PhantomData,
                 })
             }

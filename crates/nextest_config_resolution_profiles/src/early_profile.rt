@@ -1,11 +1,12 @@
 // A profile before anything is known of the platforms.
 ghost use Rattle.std.specs.Prelude.{◌≡◌, IfOk};
 ghost use Rattle.std.specs.Bool.{OnFalse, OnTrue};
-ghost use Rattle.nextest_config_resolution_profiles.specs.Config.{SetsJunit, chain_of, dir_of, name_of, root_of};
+ghost use Rattle.nextest_config_resolution_profiles.specs.Config.{SetsJunit, chain_of, default_of, dir_of, name_of, root_of};
 ghost use Rattle.nextest_config_resolution_settings.specs.Keys as key;
 ghost use Rattle.nextest_config_resolution_settings.specs.Nearest.{SetsNone};
 ghost use Rattle.nextest_config_resolution_settings.specs.Profile as profile;
 
+use crate::default_filter::CompiledDefaultFilter;
 use nextest_config_resolution_filters::{Filters, Specs};
 use nextest_config_resolution_settings::keys::JunitPathKey;
 use nextest_config_resolution_settings::{EvaluatableProfile, nearest};
@@ -22,7 +23,8 @@ pub struct EarlyProfile<'c, F, S> {
     pub(crate) store: &'c str,
     // Its own values first, then those of its parents one after another, and those of `default` last.
     pub(crate) chain: Vec<&'c ProfileConfig>,
-    pub(crate) by: PhantomData<(F, S)>,
+    pub(crate) default_filter: Option<CompiledDefaultFilter<'c, F>>,
+    pub(crate) by: PhantomData<S>,
 }
 
 /// What is known of the platform that is built on, and of the one that is built for where it is another.
@@ -40,6 +42,21 @@ impl<'c, F: Filters, S: Specs> EarlyProfile<'c, F, S> {
         ensures { result.now ≡ name_of self.now }
     {
         self.name
+    }
+
+    /// The filter of the tests that are run where none is asked for: that of the nearest profile of the chain which sets one.
+    /// `None` where none does.
+    pub fn default_filter(&self) -> Option<CompiledDefaultFilter<'c, F>>
+        ensures { result ≡ default_of self.now }
+    {
+        match &self.default_filter {
+            Some(it) => Some(CompiledDefaultFilter {
+                filter: it.filter,
+                profile: it.profile,
+                section: it.section,
+            }),
+            None => None,
+        }
     }
 
     /// The directory of its files: DIR/PROFILE where the store's directory begins at the root, or there is no workspace; and
@@ -77,6 +94,7 @@ impl<'c, F: Filters, S: Specs> EarlyProfile<'c, F, S> {
             root,
             store,
             chain,
+            default_filter: _,
             by: _,
         } = self;
         EvaluatableProfile::new(name, root, store, chain)

@@ -1,13 +1,15 @@
 //! What holds of whole configurations. Each law is the contract of a function that does nothing.
+ghost use Rattle.nextest_config_resolution_profiles.specs.Config.{IsDefaultIn};
 ghost use Rattle.nextest_config_resolution_profiles.specs.Kept.{KeptProfile};
-ghost use Rattle.nextest_config_resolution_profiles.specs.Laws.{OneProfile, SameChain, SomeChain, SomeConfig};
+ghost use Rattle.nextest_config_resolution_profiles.specs.Laws.{DefaultIsRead, OneProfile, SameChain, SomeChain, SomeConfig};
 ghost use Rattle.nextest_config_resolution_profiles.specs.BuiltInLaws.{Accepted, NoFallback, ReadAs, WrittenAs};
 
 use crate::default_config::DEFAULT_CONFIG;
+use nextest_config_resolution_filters::Filters;
 
 /// A profile of what is built in is one of every configuration that is loaded over it.
-pub fn kept_profile()
-    ensures { KeptProfile }
+pub fn kept_profile<F: Filters>()
+    ensures { (cx : F.Cx) → KeptProfile (IsDefaultIn F.is_parsed cx) F.is_too_deep }
 {}
 
 /// The chain of a profile has one list of values.
@@ -15,10 +17,16 @@ pub fn one_profile()
     ensures { OneProfile }
 {}
 
-/// Sources come to a configuration, or a rule is broken; and in a configuration a name has a chain, or no profile has that name.
-pub fn some_profile()
-    ensures config { SomeConfig }
-    ensures chain { SomeChain }
+/// It can't be that sources neither come to a configuration nor break a rule; and in a configuration a name has a chain, or no
+/// profile has that name.
+pub fn some_profile<F: Filters>()
+    ensures config { (cx : F.Cx) → SomeConfig (IsDefaultIn F.is_parsed cx) F.is_too_deep }
+    ensures chain { (cx : F.Cx) → SomeChain (IsDefaultIn F.is_parsed cx) F.is_too_deep }
+{}
+
+/// The default filter that a profile of a configuration tells is the one that its text is in the workspace.
+pub fn default_is_read<F: Filters>()
+    ensures { (cx : F.Cx) → DefaultIsRead (IsDefaultIn F.is_parsed cx) F.is_too_deep }
 {}
 
 /// The chain of a profile hangs on the profiles in it alone: others that have the same values under their names have the same one.

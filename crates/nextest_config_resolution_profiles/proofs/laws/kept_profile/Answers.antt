@@ -1,5 +1,6 @@
+use Rattle.nextest_config_resolution_profiles.specs.Config.{IsDefaultIn}
 use Rattle.nextest_config_resolution_profiles.proofs.Kept.{kept_profile}
 use Rattle.nextest_config_resolution_profiles.proofs.laws.kept_profile.Goals as goal
 
 pub returns : goal.returns
-returns c = kept_profile
+returns g c = λ cx. kept_profile (IsDefaultIn g.F.Filters.is_parsed cx) g.F.Filters.is_too_deep
