@@ -1,3 +1,4 @@
+pub mod Chosen
 pub mod Passing
 mod Shown
 pub mod Isolated

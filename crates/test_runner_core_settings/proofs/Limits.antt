@@ -14,7 +14,7 @@ use Rattle.nextest_config_elements_reading.specs.Reading.{Path, Reading, ◌>>=�
 use Rattle.nextest_config_elements_readers.specs.Limits.{fail_fast_in, limit, limit_in, stopped_at, switch_in, switched}
 use Rattle.nextest_config_elements_readers.specs.Values.{above_none, truth}
 use Rattle.nextest_config_elements_readers.specs.Words.{terminate_mode}
-use Rattle.nextest_config_resolution_load.specs.Load.{Loading, and_then, config_in, config_of, files_of, if_config, members_of, raised}
+use Rattle.nextest_config_resolution_load.specs.Checks.{config_in, merged_in}
 use Rattle.nextest_config_resolution_profiles.specs.Config.{values_of}
 use Rattle.nextest_config_resolution_settings.specs.Fallbacks as fallback
 use Rattle.nextest_config_resolution_settings.specs.Keys as key
@@ -23,8 +23,6 @@ use Rattle.nextest_config_resolution_settings.specs.Profile.{OfProfiles}
 use Rattle.nextest_config_resolution_settings.specs.declared.layers.NoRule.{NoRule}
 use Rattle.nextest_config_resolution_settings.specs.declared.source.SettingSource.{SettingSource}
 use Rattle.nextest_config_resolution_settings.specs.declared.source.SettingSource.TheVariants as source
-use Rattle.nextest_config_resolution_sources.specs.Counting.{counted}
-use Rattle.nextest_config_resolution_sources.specs.declared.source.ConfigSource.{ConfigSource}
 use Rattle.nextest_config_resolution_values.specs.Accepted.{MayBe, Reads}
 use Rattle.nextest_config_resolution_values.specs.File.{FileConfig, Named, profiles_at, profiles_in, profiles_of, store_dir_at}
 use Rattle.nextest_config_resolution_values.specs.Profile.{profile_in, profile_of}
@@ -166,17 +164,6 @@ tree_has top =
     (under_holds (codes "profile") (profiles_of (get_member (codes "profile") top)) HaveLimits (found_have (get_member (codes "profile") top)))
     (λ profiles have. next_holds (store_dir_at top) _ (λ dir. ⊤) AreLimited (anything (store_dir_at top)) (λ dir _. have))
 
-loaded_has : (built_in : Members) (sources : List ConfigSource) → Holds (config_of built_in sources) AreLimited
-loaded_has built_in sources = by_files (files_of (counted sources))
-  where
-    by_reading : (reading : Reading FileConfig) → Holds reading AreLimited → Holds (if_config reading) AreLimited
-    by_reading (Ok config) here = here
-    by_reading (Err path) here = tt
-
-    by_files : (loading : Loading (List Members)) → Holds (and_then loading (λ files. if_config (config_in (members_of (raised (table built_in) files))))) AreLimited
-    by_files (Ok files) = by_reading (config_in (members_of (raised (table built_in) files))) (tree_has (members_of (raised (table built_in) files)))
-    by_files (Err refusal) = tt
-
 -- ---- a chain
 
 found_has : (test : Named → Bool) (profiles : List Named) → HaveLimits profiles → HoldsIfSome (option_map (λ (named : Named). named.1) (find test profiles)) HasLimit
@@ -215,7 +202,6 @@ has_limit chain limit have value = by_source value.from value.is
     by_source source.Default (none, unset, is) = subst IsOneAtLeast (sym is) (omega arith)
 
 pub sets_limit : SetsLimit
-sets_limit inputs it by =
-    let loaded = by.reads.loaded.1.0 in
-    let have = subst (λ (given : Loading FileConfig). Holds given AreLimited) loaded (loaded_has _ inputs.sources) in
+sets_limit cx inputs it by =
+    let have = subst (λ (given : Reading FileConfig). Holds given AreLimited) by.reads.loaded.1.values (tree_has (merged_in _ inputs.sources)) in
     has_limit by.chain it.max_fail (chain_has _ by.chained.names by.chain have by.chained.valued) by.settings.max_fail

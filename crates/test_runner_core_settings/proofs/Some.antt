@@ -1,25 +1,40 @@
 -- Inputs set something, or there is a reason why they set nothing.
 use Rattle.std.specs.List.{Contains}
-use Rattle.std.proofs.Common.{◌≡◌, ◌⊎◌, inl, inr, Bool, true, false, List, Result, Ok, Err, refl}
+use Rattle.std.proofs.Common.{◌≡◌, ◌⊎◌, inl, inr, ℕ, Bool, true, false, List, [], Option, None, Some, Result, Ok, Err, refl}
+use Rattle.std.proofs.lemmas.Option.{none-some}
 use Rattle.nextest_config_elements_plain.specs.declared.run_mode.NextestRunMode.{NextestRunMode}
 use Rattle.nextest_config_resolution_load.specs.declared.load_error.LoadError.TheVariants as load
 use Rattle.nextest_config_resolution_load.specs.declared.load_fault.LoadFault.{LoadFault}
-use Rattle.nextest_config_resolution_profiles.specs.Config.{IsChainOf, IsConfig, names_of, profiles_of}
+use Rattle.nextest_config_resolution_profiles.specs.Config.{IsChainOf, names_of, profiles_of}
 use Rattle.nextest_config_resolution_profiles.specs.Whole.{Whole}
 use Rattle.nextest_config_resolution_profiles.proofs.SomeChain.{some_chain}
 use Rattle.nextest_config_resolution_profiles.proofs.SomeConfig.{some_config}
 use Rattle.nextest_config_resolution_settings.specs.Fallbacks as fallback
 use Rattle.nextest_config_resolution_settings.specs.Keys as key
+use Rattle.nextest_config_resolution_settings.specs.Nearest.{IsSetting}
+use Rattle.nextest_config_resolution_settings.specs.Profile.{MaySet}
+use Rattle.nextest_config_resolution_settings.specs.declared.layers.NoRule.{NoRule}
+use Rattle.nextest_config_resolution_settings.specs.declared.source.SettingSource.{SettingSource}
+use Rattle.nextest_config_resolution_settings.specs.declared.source.SettingSource.TheVariants as source
 use Rattle.nextest_config_resolution_settings.specs.TestSettings.{keeps_none}
 use Rattle.nextest_config_resolution_settings.proofs.Some as settings
 use Rattle.nextest_config_resolution_values.specs.declared.profile_config.ProfileConfig.{ProfileConfig}
-use Rattle.test_runner_core_inputs.specs.declared.inputs.Inputs.{Inputs}
+use Rattle.nextest_filtering_compiling.specs.declared.filterset.Filterset.{Filterset}
 use Rattle.test_runner_core_settings.specs.Laws.{SomeSettings}
 use Rattle.test_runner_core_settings.specs.Settings.{AreRunSettings, owned_of}
-use Rattle.test_runner_core_settings.specs.Sets.{Reads, Sets}
+use Rattle.test_runner_core_settings.specs.Sets.{IsDefault, IsTooDeep, Loads, Reads, Sets}
 use Rattle.test_runner_core_settings.specs.declared.configured.RunSettings.{RunSettings}
 use Rattle.test_runner_core_settings.specs.declared.settings_fault.SettingsFault.{SettingsFault}
 use Rattle.test_runner_core_settings.specs.declared.settings_fault.SettingsFault.TheVariants as fault
+
+-- the text of the default filter
+some_text : (chain : List ProfileConfig) → (text : Option (List ℕ)) × MaySet key.default_filter chain text
+some_text chain = let it = settings.some_tracked keeps_none key.default_filter chain [] in by_source it.0.0 it.1.from it.1.is
+  where
+    by_source : (value : List ℕ) (from : SettingSource) → IsSetting {R = NoRule} (λ _. None) key.default_filter [] chain [] value from → (text : Option (List ℕ)) × MaySet key.default_filter chain text
+    by_source value (source.Override place) is = absurd (none-some _ is.sets)
+    by_source value (source.Profile place) (none, is) = (Some value, (place, is))
+    by_source value source.Default (none, unset, is) = (None, unset)
 
 -- what a chain sets for a run
 some_run : (mode : NextestRunMode) (chain : List ProfileConfig) → (it : RunSettings) × AreRunSettings mode chain it
@@ -27,10 +42,12 @@ some_run mode chain =
     let test = settings.some_settings keeps_none mode chain in
     let limit = settings.some_value key.fail_fast chain fallback.fail_fast in
     let level = settings.some_value key.status_level chain fallback.status_level in
-    let final_level = settings.some_value key.final_status_level chain fallback.final_status_level in (
-      record { test = owned_of test.0; max_fail = limit.0; levels = record { status_level = level.0; final_status_level = final_level.0 } },
+    let final_level = settings.some_value key.final_status_level chain fallback.final_status_level in
+    let filter = some_text chain in (
+      record { test = owned_of test.0; default_filter = filter.0; max_fail = limit.0; levels = record { status_level = level.0; final_status_level = final_level.0 } },
       record {
         test = record { lent = test.0; each = test.1; owned = refl };
+        default_filter = filter.1;
         max_fail = limit.1;
         status_level = level.1;
         final_status_level = final_level.1;
@@ -38,21 +55,21 @@ some_run mode chain =
     )
 
 pub some_settings : SomeSettings
-some_settings inputs = by_config (some_config inputs.root inputs.sources)
+some_settings cx inputs never = some_config (IsDefault cx) IsTooDeep inputs.root inputs.sources (λ some. never (by_config some))
   where
-    by_chain : (config : Whole) → Reads inputs config → ((values : List ProfileConfig) × IsChainOf (profiles_of config) inputs.profile values) ⊎ ¬ Contains (names_of config) inputs.profile
-        → (given : Result RunSettings SettingsFault) × Sets inputs given
+    by_chain : (config : Whole Filterset) → Reads cx inputs config → ((values : List ProfileConfig) × IsChainOf (profiles_of config) inputs.profile values) ⊎ ¬ Contains (names_of config) inputs.profile
+        → (given : Result RunSettings SettingsFault) × Sets cx inputs given
     by_chain config reads (inl (values, chained)) =
         let it = some_run inputs.mode values in (Ok it.0, record { config = config; reads = reads; chain = values; chained = chained; settings = it.1 })
     by_chain config reads (inr none) =
         (Err (fault.ProfileNotFound (record { name = inputs.profile; known = names_of config })), record { config = config; reads = reads; name = refl; known = refl; none = none })
 
-    by_later : (config : Whole) (later : Bool) → IsConfig inputs.root inputs.sources (Ok config) → config.loaded.sets_later_keys ≡ later
-        → (given : Result RunSettings SettingsFault) × Sets inputs given
+    by_later : (config : Whole Filterset) (later : Bool) → Loads cx inputs (Ok config) → config.loaded.sets_later_keys ≡ later
+        → (given : Result RunSettings SettingsFault) × Sets cx inputs given
     by_later config true loaded e = (Err fault.NotYet, record { config = config; loaded = loaded; later = e })
-    by_later config false loaded e = by_chain config (record { loaded = loaded; later = e }) (some_chain inputs.root inputs.sources config inputs.profile loaded)
+    by_later config false loaded e = by_chain config (record { loaded = loaded; later = e }) (some_chain (IsDefault cx) IsTooDeep inputs.root inputs.sources config inputs.profile loaded)
 
-    by_config : ((config : Whole) × IsConfig inputs.root inputs.sources (Ok config)) ⊎ ((told : LoadFault) × IsConfig inputs.root inputs.sources (Err (load.Refused told)))
-        → (given : Result RunSettings SettingsFault) × Sets inputs given
+    by_config : ((config : Whole Filterset) × Loads cx inputs (Ok config)) ⊎ ((told : LoadFault) × Loads cx inputs (Err (load.Refused told)))
+        → (given : Result RunSettings SettingsFault) × Sets cx inputs given
     by_config (inl (config, loaded)) = by_later config config.loaded.sets_later_keys loaded refl
     by_config (inr (told, refused)) = (Err (fault.Load told), refused)

@@ -1,18 +1,17 @@
 -- What calls of this crate give; want of memory says nothing.
-use Rattle.std.specs.Prelude.{◌≡◌, ℕ, List, Result, Ok, Err, ⊤, Contains}
-use Rattle.nextest_config_elements_plain.specs.declared.run_mode.NextestRunMode.{NextestRunMode}
+use Rattle.std.specs.Prelude.{◌≡◌, Option, option_map, Result, Ok, Err, ⊤}
+use Rattle.nextest_config_resolution_load.specs.Load.{IsReadAs}
 use Rattle.nextest_config_resolution_load.specs.declared.load_error.LoadError.{LoadError}
 use Rattle.nextest_config_resolution_load.specs.declared.load_error.LoadError.TheVariants as load
-use Rattle.nextest_config_resolution_profiles.specs.Config.{IsChainOf, names_of, profiles_of}
-use Rattle.nextest_config_resolution_profiles.specs.Whole.{Whole}
+use Rattle.nextest_config_resolution_profiles.specs.declared.default_filter.CompiledDefaultFilter.{CompiledDefaultFilter}
 use Rattle.nextest_config_resolution_profiles.specs.declared.profile_error.ProfileError.{ProfileError}
 use Rattle.nextest_config_resolution_profiles.specs.declared.profile_error.ProfileError.TheVariants as profile
-use Rattle.nextest_config_resolution_values.specs.declared.profile_config.ProfileConfig.{ProfileConfig}
+use Rattle.nextest_filtering_compiling.specs.Context.{Context}
+use Rattle.nextest_filtering_compiling.specs.declared.filterset.Filterset.{Filterset}
 use Rattle.test_runner_core_inputs.specs.declared.inputs.Inputs.{Inputs}
-use Rattle.test_runner_core_settings.specs.Settings.{AreRunSettings}
-use Rattle.test_runner_core_settings.specs.Sets.{Sets, key_warnings}
+use Rattle.test_runner_core_settings.specs.Sets.{IsDefault, Reads, Sets, key_warnings}
+use Rattle.test_runner_core_settings.specs.declared.configured.ChosenRun.{ChosenRun}
 use Rattle.test_runner_core_settings.specs.declared.configured.ConfiguredRun.{ConfiguredRun}
-use Rattle.test_runner_core_settings.specs.declared.configured.RunSettings.{RunSettings}
 use Rattle.test_runner_core_settings.specs.declared.settings_error.SettingsError.{SettingsError}
 use Rattle.test_runner_core_settings.specs.declared.settings_error.SettingsError.TheVariants as error
 use Rattle.test_runner_core_settings.specs.declared.settings_fault.SettingsFault.TheVariants as fault
@@ -26,16 +25,18 @@ abbrev pub error_of_profile : ProfileError → SettingsError
 error_of_profile (profile.NotFound told) = error.Refused (fault.ProfileNotFound told)
 error_of_profile profile.OutOfMemory = error.OutOfMemory
 
--- a call gives what inputs set, with what is told of their files, or refuses them
-abbrev pub Configures : Inputs → Result ConfiguredRun SettingsError → Type 0
-Configures inputs (Ok it) = Sets inputs (Ok it.settings) × (it.warnings ≡ key_warnings inputs)
-Configures inputs (Err (error.Refused refusal)) = Sets inputs (Err refusal)
-Configures inputs (Err error.OutOfMemory) = ⊤
+-- a call gives the configuration of inputs, with what is told of their files, or refuses it
+abbrev pub Configures : Context → Inputs → Result ConfiguredRun SettingsError → Type 0
+Configures cx inputs (Ok it) = Reads cx inputs it.config × (it.warnings ≡ key_warnings inputs)
+Configures cx inputs (Err (error.Refused refusal)) = Sets cx inputs (Err refusal)
+Configures cx inputs (Err error.OutOfMemory) = ⊤
 
--- what the profile of a name sets in a configuration, or that there is none
-abbrev pub SetsOf : Whole → List ℕ → NextestRunMode → Result RunSettings SettingsError → Type 0
-SetsOf config name mode (Ok it) = (chain : List ProfileConfig) × IsChainOf (profiles_of config) name chain × AreRunSettings mode chain it
-SetsOf config name mode (Err (error.Refused (fault.ProfileNotFound told))) =
-    (told.name ≡ name) × (told.known ≡ names_of config) × ¬ Contains (names_of config) name
-SetsOf config name mode (Err (error.Refused other)) = ⊥
-SetsOf config name mode (Err error.OutOfMemory) = ⊤
+-- the filter that a profile lends
+abbrev pub filter_in : Option (CompiledDefaultFilter Filterset) → Option Filterset
+filter_in found = option_map (λ it. it.filter.now) found
+
+-- a call gives what the chosen profile sets, and its default filter as it was read, or refuses the inputs
+abbrev pub Chooses : Context → Inputs → Result ChosenRun SettingsError → Type 0
+Chooses cx inputs (Ok it) = Sets cx inputs (Ok it.settings) × IsReadAs (IsDefault cx) it.settings.default_filter (filter_in it.default_filter)
+Chooses cx inputs (Err (error.Refused refusal)) = Sets cx inputs (Err refusal)
+Chooses cx inputs (Err error.OutOfMemory) = ⊤

@@ -4,9 +4,11 @@ use Rattle.nextest_config_elements_plain.specs.declared.max_fail.MaxFail.{MaxFai
 use Rattle.nextest_config_elements_plain.specs.declared.max_fail.MaxFail.TheVariants as limits
 use Rattle.nextest_config_resolution_inheritance.specs.Inheritance.{IsChain, Name}
 use Rattle.nextest_config_resolution_load.specs.Kinds.{kind_of}
-use Rattle.nextest_config_resolution_load.specs.Load.{parents_of}
+use Rattle.nextest_config_resolution_load.specs.Checks.{parents_of}
 use Rattle.nextest_config_resolution_profiles.specs.Config.{profiles_of, values_of}
 use Rattle.nextest_config_resolution_profiles.specs.Whole.{Whole}
+use Rattle.nextest_filtering_compiling.specs.Context.{Context}
+use Rattle.nextest_filtering_compiling.specs.declared.filterset.Filterset.{Filterset}
 use Rattle.test_runner_core_inputs.specs.declared.inputs.Inputs.{Inputs}
 use Rattle.test_runner_core_settings.specs.Sets.{Reads, Sets}
 use Rattle.test_runner_core_settings.specs.declared.configured.RunSettings.{RunSettings}
@@ -26,28 +28,28 @@ AreSame one other = ⊥
 
 -- inputs set one thing, or are refused for one reason
 abbrev pub OneSettings : Type 0
-OneSettings = (inputs : Inputs) (one other : Result RunSettings SettingsFault) → Sets inputs one → Sets inputs other → AreSame one other
+OneSettings = (cx : Context) (inputs : Inputs) (one other : Result RunSettings SettingsFault) → Sets cx inputs one → Sets cx inputs other → AreSame one other
 
--- inputs set something, or there is a reason why they set nothing
+-- It can't be that inputs set nothing and there is no reason for it. No law decides whether a text is a filterset, so it is said in this form.
 abbrev pub SomeSettings : Type 0
-SomeSettings = (inputs : Inputs) → (given : Result RunSettings SettingsFault) × Sets inputs given
+SomeSettings = (cx : Context) (inputs : Inputs) → ¬ ¬ ((given : Result RunSettings SettingsFault) × Sets cx inputs given)
 
 -- The same profile is chosen in two inputs, for the same mode, and the configurations of both say the same in each profile of its chain:
 -- in itself, in its parents and in `default`. Other profiles may be others.
-pub record AgreeOnChain (inputs other : Inputs) : Type 0 where
+pub record AgreeOnChain (cx : Context) (inputs other : Inputs) : Type 0 where
   pub profile : other.profile ≡ inputs.profile
   pub mode : other.mode ≡ inputs.mode
-  pub config : Whole
-  pub reads : Reads inputs config
-  pub second : Whole
-  pub reads_second : Reads other second
+  pub config : Whole Filterset
+  pub reads : Reads cx inputs config
+  pub second : Whole Filterset
+  pub reads_second : Reads cx other second
   pub names : List Name
   pub chain : IsChain (parents_of (profiles_of config)) inputs.profile names
   pub each : All (λ name. values_of (profiles_of second) name ≡ values_of (profiles_of config) name) names
 
 -- profiles outside of the chosen one's chain change nothing of what is set
 abbrev pub Isolated : Type 0
-Isolated = (inputs other : Inputs) (one second : RunSettings) → AgreeOnChain inputs other → Sets inputs (Ok one) → Sets other (Ok second) → one ≡ second
+Isolated = (cx : Context) (inputs other : Inputs) (one second : RunSettings) → AgreeOnChain cx inputs other → Sets cx inputs (Ok one) → Sets cx other (Ok second) → one ≡ second
 
 -- a limit is one at least
 abbrev pub IsOneAtLeast : MaxFail → Type 0
@@ -55,4 +57,4 @@ IsOneAtLeast (limits.Count max_fail terminate) = 0 < max_fail
 IsOneAtLeast limits.All = ⊤
 
 abbrev pub SetsLimit : Type 0
-SetsLimit = (inputs : Inputs) (it : RunSettings) → Sets inputs (Ok it) → IsOneAtLeast it.max_fail
+SetsLimit = (cx : Context) (inputs : Inputs) (it : RunSettings) → Sets cx inputs (Ok it) → IsOneAtLeast it.max_fail

@@ -1,7 +1,10 @@
 // What the configuration of inputs sets for their run.
 ghost use Rattle.std.specs.Prelude.{◌≡◌, IfOk};
+ghost use Rattle.std.specs.Option.{option_copied};
 ghost use Rattle.nextest_config_resolution_settings.specs.Profile.{chain_of};
-ghost use Rattle.test_runner_core_settings.specs.Calls.{Configures, SetsOf};
+ghost use Rattle.nextest_filtering_compiling.specs.Context.{Context};
+ghost use Rattle.test_runner_core_settings.specs.Calls.{Chooses, Configures};
+ghost use Rattle.test_runner_core_settings.specs.Sets.{Reads};
 ghost use Rattle.test_runner_core_settings.specs.Settings.{AreRunSettings};
 
 use crate::no_specs::NoSpecs;
@@ -9,7 +12,7 @@ use crate::owned::settings_of_tests;
 use crate::settings_error::SettingsError;
 use crate::settings_fault::SettingsFault;
 use nextest_config_elements_plain::{MaxFail, NextestRunMode};
-use nextest_config_resolution_profiles::{BuildPlatforms, NextestConfig};
+use nextest_config_resolution_profiles::{BuildPlatforms, CompiledDefaultFilter, NextestConfig};
 use nextest_config_resolution_settings::EvaluatableProfile;
 use nextest_config_resolution_warnings::DefaultConfigWarnings;
 use nextest_filtering_compiling::{Filterset, ParseContext};
@@ -19,13 +22,15 @@ use std::alloc::{AllocError, Global};
 use test_runner_core_inputs::Inputs;
 use test_runner_core_plan::PlanSettings;
 
-// A configuration of runs: tests are told apart by filtersets, and no platform spec is read yet.
-type RunConfig = NextestConfig<Filterset, NoSpecs>;
+/// A configuration of runs: tests are told apart by filtersets, and no platform spec is read yet.
+pub type RunConfig = NextestConfig<Filterset, NoSpecs>;
 
 /// What a profile sets for a run.
 pub struct RunSettings {
     /// The settings of each test.
     pub test: PlanSettings,
+    /// The text of the default filter; `None` where no profile sets one.
+    pub default_filter: Option<Text>,
     /// How many failing tests stop the run.
     pub max_fail: MaxFail,
     /// Which statuses are shown.
@@ -37,34 +42,44 @@ impl Drop for RunSettings {
     fn drop(self) {
         let Self {
             test: _,
+            default_filter: _,
             max_fail: _,
             levels: _,
         } = self;
     }
 }
 
-/// What inputs set for their run, and what is told of their configuration.
+/// The configuration of inputs, and what is told of it.
 #[derive(Drop)]
 pub struct ConfiguredRun {
-    /// What the chosen profile sets.
-    pub settings: RunSettings,
+    /// What their sources come to.
+    pub config: RunConfig,
     /// The warnings of keys and profiles that no configuration knows, as reports tell them.
     pub warnings: Listing<Text>,
 }
 
-/// What the sources of inputs, those that count, each over the lower ones and over what is built in, set for the run of the
-/// chosen profile. `cx` is the workspace of the inputs to filtersets.
+/// What the chosen profile of a configuration sets for a run, and its default filter.
+#[derive(Drop)]
+pub struct ChosenRun<'c> {
+    /// What the profile sets.
+    pub settings: RunSettings,
+    /// Its default filter, where one is set.
+    pub default_filter: Option<CompiledDefaultFilter<'c, Filterset>>,
+}
+
+/// What the sources of inputs come to, those that count, each over the lower ones and over what is built in. `cx` is the
+/// workspace of the inputs to filtersets.
 ///
 /// # Errors
 ///
-/// `Refused` tells, in this order, of the first rule of the load that is broken, as `load` says; that a file sets a key that isn't
-/// read yet; that no profile has the chosen name. Want of memory says nothing of the inputs.
-pub fn run_settings(
+/// `Refused` tells, in this order, of the first rule of the load that is broken, as `load` says; or that a file sets a key that
+/// isn't read yet. Want of memory says nothing of the inputs.
+pub fn configure(
     alloc: Global,
     cx: &ParseContext,
     inputs: &Inputs,
 ) -> Result<ConfiguredRun, SettingsError>
-    ensures { Configures inputs.now result }
+    ensures { Configures cx.now inputs.now result }
 {
     let mut warnings = DefaultConfigWarnings::new(alloc);
     let sources = inputs.sources.as_slice();
@@ -73,28 +88,35 @@ pub fn run_settings(
     if config.sets_later_keys() {
         return Err(SettingsError::Refused(SettingsFault::NotYet));
     }
-    let settings = settings_of(alloc, &config, inputs.profile.as_str(), inputs.mode)?;
     Ok(ConfiguredRun {
-        settings,
+        config,
         warnings: warnings.into_lines(),
     })
 }
 
-// What the profile of a name sets.
-fn settings_of(
+/// What the chosen profile sets in the configuration of inputs, and its default filter, lent.
+///
+/// # Errors
+///
+/// `Refused` tells that no profile has the chosen name. Want of memory says nothing of the inputs.
+pub fn run_settings<'c>(
     alloc: Global,
-    config: &RunConfig,
-    name: &str,
-    mode: NextestRunMode,
-) -> Result<RunSettings, SettingsError>
-    ensures { SetsOf config.now name.now mode result }
+    config: &'c RunConfig,
+    inputs: &Inputs,
+) -> Result<ChosenRun<'c>, SettingsError>
+    ensures { (cx : Context) → Reads cx inputs.now config.now → Chooses cx inputs.now result }
 {
-    let early = config.profile(alloc, name)?;
+    let early = config.profile(alloc, inputs.profile.as_str())?;
+    let default_filter = early.default_filter();
     let platforms = BuildPlatforms {
         host: &(),
         target: None,
     };
-    Ok(evaluated(alloc, &early.apply_build_platforms(&platforms), mode)?)
+    let profile = early.apply_build_platforms(&platforms);
+    Ok(ChosenRun {
+        settings: evaluated(alloc, &profile, inputs.mode)?,
+        default_filter,
+    })
 }
 
 // What a profile sets.
@@ -107,10 +129,21 @@ fn evaluated(
 {
     Ok(RunSettings {
         test: settings_of_tests(alloc, profile, mode)?,
+        default_filter: owned_text(alloc, profile.default_filter())?,
         max_fail: profile.max_fail(),
         levels: StatusLevels {
             status_level: profile.status_level(),
             final_status_level: profile.final_status_level(),
         },
     })
+}
+
+// A text that may be there, owned.
+fn owned_text(alloc: Global, text: Option<&str>) -> Result<Option<Text>, AllocError>
+    ensures { IfOk result (λ it. it ≡ option_copied text.entry) }
+{
+    match text {
+        Some(text) => Ok(Some(Text::from_str(alloc, text)?)),
+        None => Ok(None),
+    }
 }

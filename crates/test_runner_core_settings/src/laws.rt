@@ -1,7 +1,7 @@
 //! What holds of what inputs set. Each law is the contract of a function that does nothing.
 ghost use Rattle.test_runner_core_settings.specs.Laws.{Isolated, OneSettings, SetsLimit, SomeSettings};
 
-/// Inputs set one thing, or are refused for one reason.
+/// Inputs set one thing, or are refused for one reason; and it can't be that neither is so.
 pub fn one_settings()
     ensures some { SomeSettings }
     ensures one { OneSettings }

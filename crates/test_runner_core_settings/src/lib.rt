@@ -14,7 +14,8 @@ mod shown_path;
 mod sources;
 mod warning;
 
-pub use configured::{ConfiguredRun, RunSettings, run_settings};
+pub use configured::{ChosenRun, ConfiguredRun, RunConfig, RunSettings, configure, run_settings};
+pub use no_specs::NoSpecs;
 pub use owned::owned_settings;
 pub use pass::{VersionPass, version_pass};
 pub use pass_error::{VersionPassError, VersionPassFault};

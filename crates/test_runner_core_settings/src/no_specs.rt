@@ -4,9 +4,9 @@ ghost use Rattle.std.specs.Prelude.{None};
 use nextest_config_resolution_filters::{SpecError, Specs};
 use std::alloc::Global;
 
-// A spec that no text is: none is read yet. Whether it holds isn't known.
+/// A spec that no text is: none is read yet. Whether it holds isn't known.
 #[derive(Drop)]
-pub(crate) struct NoSpecs;
+pub struct NoSpecs;
 
 impl Specs for NoSpecs {
     type Facts = ();
