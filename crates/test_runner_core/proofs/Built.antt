@@ -5,6 +5,7 @@ use Rattle.nextest_config_elements_plain.specs.declared.max_fail.MaxFail.{MaxFai
 use Rattle.nextest_config_elements_plain.specs.declared.max_fail.MaxFail.TheVariants as limits
 use Rattle.nextest_run_events_results.specs.declared.instance.OwnedTestInstanceId.{OwnedTestInstanceId}
 use Rattle.test_runner_core_inputs.specs.declared.inputs.Inputs.{Inputs}
+use Rattle.test_runner_core_planning.specs.Filtering.{context_of}
 use Rattle.test_runner_core_planning.specs.Plan.{IsPlanOf, Planned, Plans, plan_test}
 use Rattle.test_runner_core_plan.specs.declared.plan.Plan.{Plan}
 use Rattle.test_runner_core_plan.specs.declared.plan.PlanTest.{PlanTest}
@@ -38,5 +39,5 @@ built_is_plan answer inputs it plan planned built = record {
       (each_has_a_try it.settings built.selection.tests);
   limit =
       subst (λ (limit : MaxFail). IsLimit limit) (sym built.limit)
-      (is_limit it.settings.max_fail (sets_limit inputs it.settings (settled_sets inputs it.settings (parts_of answer inputs it planned).settings)));
+      (is_limit it.settings.max_fail (sets_limit (context_of inputs.workspace) inputs it.settings (settled_sets inputs it.settings (parts_of answer inputs it planned).settings)));
 }

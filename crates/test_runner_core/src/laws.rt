@@ -3,7 +3,9 @@
 ghost use Rattle.test_runner_core.specs.Laws.{BuiltIsPlan, EndsNoMilder, EndsWithDueStatus, EndsWithOneText, HasOneReport, IsolatesReports, StopsWhereDue, SucceedsWhole, ToldFirst, WrittenFirst};
 ghost use Rattle.test_runner_core_planning.specs.Laws.{IsolatesPlans};
 
-pub use test_runner_core_planning::laws::{listed, selected, selected_once, some_settings};
+pub use test_runner_core_planning::laws::{
+    listed, not_planned_and_refused, one_plan, selected, selected_once, some_settings,
+};
 pub use test_runner_core_runs::laws::{after_a_reason, no_dead_end, reasons_first};
 
 /// Whatever the lister answers, inputs and a log have one report at most: one text and one exit status.

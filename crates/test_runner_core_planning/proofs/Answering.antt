@@ -1,34 +1,219 @@
--- What a filter in force answers, however its filterset is compiled.
-use Rattle.std.proofs.Common.{true, [], ◌∷◌, refl}
+-- What the filters in force answer, by their trees and as they are compiled.
+use Rattle.std.proofs.Common.{◌≡◌, ℕ, List, [], ◌∷◌, ◌++◌, map, Bool, true, false, Option, None, Some, Ok, refl, sym, ap, ◌∙◌, subst}
+use Rattle.std.specs.List.{All, AllZip, cons_option}
+use Rattle.std.specs.Prelude.{codes}
+use Rattle.std.proofs.lemmas.List.Elements.{All-nil, All-cons, All-head, All-tail}
+use Rattle.nextest_filtering_compiling.proofs.Trees.{can_be_as_compiled, is_on_as_compiled}
 use Rattle.nextest_filtering_compiling.specs.Compiling.{IsCompiled}
-use Rattle.nextest_filtering_compiling.specs.Meaning.{same_on_binary, same_on_test}
-use Rattle.nextest_filtering_filters.specs.Deciding.{AreReadable}
-use Rattle.nextest_filtering_filters.specs.Filter.{Compiled, filter_of}
+use Rattle.nextest_filtering_compiling.specs.FiltersetLaws.{default_serves, no_default}
+use Rattle.nextest_filtering_compiling.specs.Meaning.{readable}
+use Rattle.nextest_filtering_compiling.specs.declared.filterset.Filterset.{Filterset}
+use Rattle.nextest_filtering_filters.specs.Deciding.{AllLeaves, AreReadable, IsReadable}
+use Rattle.nextest_filtering_filters.specs.Filter.{Compiled, filter_of, is_default}
+use Rattle.nextest_filtering_filters.specs.Formula.{Formula}
+use Rattle.nextest_filtering_filters.specs.Meaning.{CanBeOn, IsOn, Tells}
+use Rattle.nextest_filtering_filters.specs.Query as query
+use Rattle.nextest_filtering_filters.specs.declared.known_groups.KnownGroups.TheVariants as groups
 use Rattle.nextest_filtering_filters.specs.declared.leaf.FiltersetLeaf.{FiltersetLeaf}
 use Rattle.nextest_filtering_filters.specs.declared.leaf.FiltersetLeaf.TheVariants as predicate
-use Rattle.nextest_filtering_filters.specs.Formula.{Formula}
 use Rattle.nextest_filtering_filters.specs.declared.step.Step.TheVariants as step
-use Rattle.nextest_filtering_graph.specs.Graph.{Graph}
-use Rattle.nextest_filtering_trees.specs.Tree.{Tree}
-use Rattle.test_runner_core_listing.specs.Answers.{Answers, AreAnswers, IsOfGroup, seen, seen_test}
+use Rattle.nextest_filtering_filters.proofs.Deciding.{decided_name}
+use Rattle.nextest_filtering_syntax.specs.Parsed.{tree_of}
+use Rattle.nextest_filtering_trees.specs.Tree.{Matcher, Tree, everything, set}
+use Rattle.nextest_filtering_compiling.specs.Trees.{TreeCanBeOn, TreeIsOn}
+use Rattle.test_runner_core_inputs.specs.declared.inputs.Inputs.{Inputs}
+use Rattle.test_runner_core_listing.specs.Answers.{AnswerAs, Answers, seen, seen_test}
 use Rattle.test_runner_core_listing.proofs.Answering.{has_answers}
-use Rattle.test_runner_core_planning.specs.Filtering.{everything}
+use Rattle.test_runner_core_settings.specs.Sets.{IsDefault}
+use Rattle.test_runner_core_workspace.specs.declared.record.WorkspaceRecord.{WorkspaceRecord}
+use Rattle.test_runner_core_planning.specs.Filtering.{AreAnswersOf, AreInForce, AreOfFilterset, InForce, IsChosen, IsDefaultTree, IsOfGroup, context_of, graph_of, unless_ignored}
+use Rattle.test_runner_core_planning.specs.Inside.{IsFilteredBy, in_force}
+
+-- ---- lists side by side
+
+zip_each : {A B : Type 0} (R S : A → B → Type 0) (xs : List A) (ys : List B) → ((x : A) (y : B) → R x y → S x y) → AllZip R xs ys → AllZip S xs ys
+zip_each R S [] [] each all = tt
+zip_each R S [] (y ∷ ys) each all = absurd all
+zip_each R S (x ∷ xs) [] each all = absurd all
+zip_each R S (x ∷ xs) (y ∷ ys) each all = (each x y all.0, zip_each R S xs ys each all.1)
+
+zip_append : {A B : Type 0} (R : A → B → Type 0) (xs : List A) (ys : List B) (more : List A) (others : List B) → AllZip R xs ys → AllZip R more others → AllZip R (xs ++ more) (ys ++ others)
+zip_append R [] [] more others all rest = rest
+zip_append R [] (y ∷ ys) more others all rest = absurd all
+zip_append R (x ∷ xs) [] more others all rest = absurd all
+zip_append R (x ∷ xs) (y ∷ ys) more others all rest = (all.0, zip_append R xs ys more others all.1 rest)
+
+all_there : {A B : Type 0} (P : A → Type 0) (Q : B → Type 0) (xs : List A) (ys : List B) → AllZip (λ x y. P x → Q y) xs ys → All P xs → All Q ys
+all_there P Q [] [] each all = All-nil Q
+all_there P Q [] (y ∷ ys) each all = absurd each
+all_there P Q (x ∷ xs) [] each all = absurd each
+all_there P Q (x ∷ xs) (y ∷ ys) each all = All-cons Q y ys (each.0 (All-head P x xs all)) (all_there P Q xs ys each.1 (All-tail P x xs all))
+
+all_back : {A B : Type 0} (P : A → Type 0) (Q : B → Type 0) (xs : List A) (ys : List B) → AllZip (λ x y. Q y → P x) xs ys → All Q ys → All P xs
+all_back P Q [] [] each all = All-nil P
+all_back P Q [] (y ∷ ys) each all = absurd each
+all_back P Q (x ∷ xs) [] each all = absurd each
+all_back P Q (x ∷ xs) (y ∷ ys) each all = All-cons P x xs (each.0 (All-head Q y ys all)) (all_back P Q xs ys each.1 (All-tail Q y ys all))
+
+tells_as : (So Other : Type 0) (value : Bool) → (So → Other) → (Other → So) → Tells So value → Tells Other value
+tells_as So Other value there back tells = ((λ e. there (tells.0 e)), (λ other. tells.1 (back other)))
+
+-- ---- trees, and what they are compiled to
+
+pub record AreCompiledTo (workspace : WorkspaceRecord) (it : InForce) (filters : List Compiled) (beside : Compiled) : Type 0 where
+  pub each : AllZip (IsCompiled (graph_of workspace)) it.filters (map filter_of filters)
+  pub default : IsCompiled (graph_of workspace) it.default (filter_of beside)
+
+-- what they answer is what their trees do
+answers_to : (workspace : WorkspaceRecord) (it : InForce) (filters : List Compiled) (default : Compiled) (answers : Answers) → AreCompiledTo workspace it filters default
+    → AnswerAs filters default IsOfGroup answers → AreAnswersOf workspace it answers
+answers_to workspace it filters default answers compiled are =
+    let graph = graph_of workspace in
+    let d = filter_of default in
+    let formulas = map filter_of filters in
+    let Made = IsCompiled graph in record {
+      lists = λ binary.
+          let On : Tree → Type 0 = λ tree. TreeCanBeOn graph tree it.default (seen binary) true in
+          let Can : Formula FiltersetLeaf → Type 0 = λ f. CanBeOn f d (seen binary) true in
+          tells_as (All Can formulas) (All On it.filters) (answers.lists binary)
+          (all_back On Can it.filters formulas (zip_each Made (λ tree f. Can f → On tree) it.filters formulas (λ tree f made. (can_be_as_compiled graph tree it.default f d made compiled.default (seen binary) true).0) compiled.each))
+          (all_there On Can it.filters formulas (zip_each Made (λ tree f. On tree → Can f) it.filters formulas (λ tree f made. (can_be_as_compiled graph tree it.default f d made compiled.default (seen binary) true).1) compiled.each))
+          (are.lists binary);
+      selects = λ binary name.
+          let test = seen_test binary name in
+          let On : Tree → Type 0 = λ tree. TreeIsOn graph tree it.default test (IsOfGroup test) true in
+          let Is : Formula FiltersetLeaf → Type 0 = λ f. IsOn f d test (IsOfGroup test) true in
+          tells_as (All Is formulas) (All On it.filters) (answers.selects binary name)
+          (all_back On Is it.filters formulas (zip_each Made (λ tree f. Is f → On tree) it.filters formulas (λ tree f made. (is_on_as_compiled graph tree it.default f d made compiled.default test (IsOfGroup test) true).0) compiled.each))
+          (all_there On Is it.filters formulas (zip_each Made (λ tree f. On tree → Is f) it.filters formulas (λ tree f made. (is_on_as_compiled graph tree it.default f d made compiled.default test (IsOfGroup test) true).1) compiled.each))
+          (are.selects binary name);
+    }
+
+-- and the other way
+pub answers_from : (workspace : WorkspaceRecord) (it : InForce) (filters : List Compiled) (default : Compiled) (answers : Answers) → AreCompiledTo workspace it filters default
+    → AreAnswersOf workspace it answers → AnswerAs filters default IsOfGroup answers
+answers_from workspace it filters default answers compiled are =
+    let graph = graph_of workspace in
+    let d = filter_of default in
+    let formulas = map filter_of filters in
+    let Made = IsCompiled graph in record {
+      lists = λ binary.
+          let On : Tree → Type 0 = λ tree. TreeCanBeOn graph tree it.default (seen binary) true in
+          let Can : Formula FiltersetLeaf → Type 0 = λ f. CanBeOn f d (seen binary) true in
+          tells_as (All On it.filters) (All Can formulas) (answers.lists binary)
+          (all_there On Can it.filters formulas (zip_each Made (λ tree f. On tree → Can f) it.filters formulas (λ tree f made. (can_be_as_compiled graph tree it.default f d made compiled.default (seen binary) true).1) compiled.each))
+          (all_back On Can it.filters formulas (zip_each Made (λ tree f. Can f → On tree) it.filters formulas (λ tree f made. (can_be_as_compiled graph tree it.default f d made compiled.default (seen binary) true).0) compiled.each))
+          (are.lists binary);
+      selects = λ binary name.
+          let test = seen_test binary name in
+          let On : Tree → Type 0 = λ tree. TreeIsOn graph tree it.default test (IsOfGroup test) true in
+          let Is : Formula FiltersetLeaf → Type 0 = λ f. IsOn f d test (IsOfGroup test) true in
+          tells_as (All On it.filters) (All Is formulas) (answers.selects binary name)
+          (all_there On Is it.filters formulas (zip_each Made (λ tree f. On tree → Is f) it.filters formulas (λ tree f made. (is_on_as_compiled graph tree it.default f d made compiled.default test (IsOfGroup test) true).1) compiled.each))
+          (all_back On Is it.filters formulas (zip_each Made (λ tree f. Is f → On tree) it.filters formulas (λ tree f made. (is_on_as_compiled graph tree it.default f d made compiled.default test (IsOfGroup test) true).0) compiled.each))
+          (are.selects binary name);
+    }
+
+-- ---- the filters in force of inputs
+
+-- those of inputs, as they are compiled, of which each question is decided
+pub record HasForce (inputs : Inputs) (text : Option (List ℕ)) (filterset : Option Compiled) (default : Compiled) : Type 0 where
+  pub force : InForce
+  pub of_inputs : AreInForce inputs text force
+  pub compiled : AreCompiledTo inputs.workspace force (in_force filterset inputs.ignore_default_filter default) default
+  pub readable : All (λ filter. AreReadable (filter_of filter)) (in_force filterset inputs.ignore_default_filter default)
+  pub default_readable : AreReadable (filter_of default)
+  pub no_default : AllLeaves (λ it. is_default it ≡ false) (filter_of default)
+
+-- the filterset
+record OfFilterset (workspace : WorkspaceRecord) (text : Option (List ℕ)) (found : Option Compiled) : Type 0 where
+  chosen : List Tree
+  are : AreOfFilterset workspace text chosen
+  each : AllZip (IsCompiled (graph_of workspace)) chosen (map filter_of (cons_option found []))
+  readable : All (λ filter. AreReadable (filter_of filter)) (cons_option found [])
+
+of_filterset : (workspace : WorkspaceRecord) (text : Option (List ℕ)) (found : Option Compiled) → IsFilteredBy workspace text found → OfFilterset workspace text found
+of_filterset workspace None None is = record { chosen = []; are = refl; each = tt; readable = All-nil (λ filter. AreReadable (filter_of filter)) }
+of_filterset workspace None (Some filter) is = absurd is
+of_filterset workspace (Some text) None is = absurd is
+of_filterset workspace (Some text) (Some filter) (tree, taken, made) = record {
+  chosen = tree ∷ [];
+  are = (tree, taken, refl);
+  each = (made, tt);
+  readable = All-cons (λ f. AreReadable (filter_of f)) filter [] (readable text tree taken.0 (graph_of workspace) (filter_of filter) made) (All-nil (λ f. AreReadable (filter_of f)));
+}
+
+zip_unless : (workspace : WorkspaceRecord) (ignored : Bool) (tree : Tree) (default : Compiled) → IsCompiled (graph_of workspace) tree (filter_of default)
+    → AllZip (IsCompiled (graph_of workspace)) (unless_ignored ignored tree) (map filter_of (unless_ignored ignored default))
+zip_unless workspace true tree default made = tt
+zip_unless workspace false tree default made = (made, tt)
+
+all_unless : (ignored : Bool) (default : Compiled) → AreReadable (filter_of default) → All (λ filter. AreReadable (filter_of filter)) (unless_ignored ignored default)
+all_unless true default reads = All-nil (λ filter. AreReadable (filter_of filter))
+all_unless false default reads = All-cons (λ filter. AreReadable (filter_of filter)) default [] reads (All-nil (λ filter. AreReadable (filter_of filter)))
+
+-- a list behind one that may be there
+behind : (found : Option Compiled) (rest : List Compiled) → cons_option found [] ++ rest ≡ cons_option found rest
+behind None rest = refl
+behind (Some filter) rest = refl
+
+mapped_append : (xs ys : List Compiled) → map filter_of xs ++ map filter_of ys ≡ map filter_of (xs ++ ys)
+mapped_append [] ys = refl
+mapped_append (x ∷ xs) ys = ap (λ more. filter_of x ∷ more) (mapped_append xs ys)
+
+all_append : (P : Compiled → Type 0) (xs ys : List Compiled) → All P xs → All P ys → All P (xs ++ ys)
+all_append P [] ys one other = other
+all_append P (x ∷ xs) ys one other = All-cons P x (xs ++ ys) (All-head P x xs one) (all_append P xs ys (All-tail P x xs one) other)
+
+force_with : (inputs : Inputs) (text : Option (List ℕ)) (filterset : Option Compiled) (tree : Tree) (default : Compiled) → IsFilteredBy inputs.workspace inputs.filterset filterset
+    → IsDefaultTree inputs.workspace text tree → IsCompiled (graph_of inputs.workspace) tree (filter_of default) → AreReadable (filter_of default)
+    → AllLeaves (λ it. is_default it ≡ false) (filter_of default) → HasForce inputs text filterset default
+force_with inputs text filterset tree default filtered is made reads none =
+    let ignored = inputs.ignore_default_filter in
+    let Made = IsCompiled (graph_of inputs.workspace) in
+    let Reads : Compiled → Type 0 = λ filter. AreReadable (filter_of filter) in
+    let of = of_filterset inputs.workspace inputs.filterset filterset filtered in
+    let first = cons_option filterset [] in
+    let last = unless_ignored ignored default in
+    let trees = of.chosen ++ unless_ignored ignored tree in
+    let zipped = zip_append Made of.chosen (map filter_of first) (unless_ignored ignored tree) (map filter_of last) of.each (zip_unless inputs.workspace ignored tree default made) in
+    let same : map filter_of first ++ map filter_of last ≡ map filter_of (in_force filterset ignored default) = mapped_append first last ∙ ap (map filter_of) (behind filterset last) in
+    record {
+      force = record { filters = trees; default = tree };
+      of_inputs = record { default = is; chosen = of.chosen; filterset = of.are; all = refl };
+      compiled = record { each = subst (λ (formulas : List (Formula FiltersetLeaf)). AllZip Made trees formulas) same zipped; default = made };
+      readable = subst (λ (filters : List Compiled). All Reads filters) (behind filterset last) (all_append Reads first last of.readable (all_unless ignored default reads));
+      default_readable = reads;
+      no_default = none;
+    }
 
 -- everything, as it is compiled
-abbrev all : Compiled
+abbrev pub all : Compiled
 all = record { steps = step.Leaf 0 ∷ []; leaves = predicate.All ∷ [] }
 
-pub answers_of : (filter : Compiled) → AreReadable (filter_of filter) → (answers : Answers) × AreAnswers (filter_of filter) everything answers
-answers_of filter readable = has_answers filter all readable tt refl
+-- where no default filter is set
+pub force_of_all : (inputs : Inputs) (filterset : Option Compiled) (default : Compiled) → filter_of default ≡ filter_of all → IsFilteredBy inputs.workspace inputs.filterset filterset
+    → HasForce inputs None filterset default
+force_of_all inputs filterset default same filtered =
+    force_with inputs None filterset (set everything) default filtered refl
+    (subst (λ (f : Formula FiltersetLeaf). IsCompiled (graph_of inputs.workspace) (set everything) f) (sym same) (predicate.All, refl, refl))
+    (subst AreReadable (sym same) tt) (subst (AllLeaves (λ it. is_default it ≡ false)) (sym same) refl)
 
--- a tree answers the same, however it is compiled
-pub answers_same : (graph : Graph) (tree : Tree) (filter other default : Formula FiltersetLeaf) (answers : Answers) → IsCompiled graph tree filter → IsCompiled graph tree other
-    → AreAnswers filter default answers → AreAnswers other default answers
-answers_same graph tree filter other default answers one another are = record {
-  lists = λ binary.
-      let there = are.lists binary in (
-        (λ is. same_on_binary graph tree filter other default one another (seen binary) true (there.0 is)),
-        (λ can. there.1 (same_on_binary graph tree other filter default another one (seen binary) true can)),
-      );
-  selects = λ binary name. same_on_test graph tree filter other default one another (seen_test binary name) IsOfGroup (answers.selects binary name) (are.selects binary name);
-}
+-- where one is set, and read
+pub force_of_read : (inputs : Inputs) (text : List ℕ) (filterset : Option Compiled) (it : Filterset) → IsFilteredBy inputs.workspace inputs.filterset filterset
+    → IsDefault (context_of inputs.workspace) text it → HasForce inputs (Some text) filterset it.compiled
+force_of_read inputs text filterset it filtered is =
+    let tree = tree_of it.parsed in
+    force_with inputs (Some text) filterset tree it.compiled filtered is.1 is.3 (readable text tree is.1.0 (graph_of inputs.workspace) (filter_of it.compiled) is.3)
+    (no_default it (default_serves (context_of inputs.workspace) groups.Unavailable text it is))
+
+-- whether the group of a test is matched can be decided
+decided_group : (test : query.Test) (m : Matcher) → IsReadable m → (b : Bool) × Tells (IsOfGroup test m) b
+decided_group test m reads = decided_name m (codes "@global") reads
+
+-- they answer something
+pub some_chosen : (inputs : Inputs) (text : Option (List ℕ)) (filterset : Option Compiled) (default : Compiled) → HasForce inputs text filterset default → (answers : Answers) × IsChosen inputs text (Ok answers)
+some_chosen inputs text filterset default has =
+    let filters = in_force filterset inputs.ignore_default_filter default in
+    let made = has_answers IsOfGroup filters default decided_group has.readable has.default_readable has.no_default in
+    (made.0, (has.force, has.of_inputs, answers_to inputs.workspace has.force filters default made.0 has.compiled made.1))

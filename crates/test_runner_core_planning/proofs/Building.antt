@@ -3,16 +3,14 @@ use Rattle.std.proofs.Common.{◌≡◌, inl, inr, Option, None, ◌<◌, ◌^�
 use Rattle.std.proofs.lemmas.Bool.{eqb-false, le-leb}
 use Rattle.std.proofs.lemmas.List.{append-nil}
 use Rattle.std.proofs.lemmas.List.Sorted.{length_permutation}
-use Rattle.nextest_filtering_filters.specs.declared.leaf.FiltersetLeaf.{FiltersetLeaf}
-use Rattle.nextest_filtering_filters.specs.Formula.{Formula}
 use Rattle.nextest_run_events_results.specs.declared.instance.OwnedTestInstanceId.{OwnedTestInstanceId}
 use Rattle.test_runner_core_inputs.specs.declared.inputs.Inputs.{Inputs}
-use Rattle.test_runner_core_listing.specs.Answers.{Answers, AreAnswers}
+use Rattle.test_runner_core_listing.specs.Answers.{Answers}
 use Rattle.test_runner_core_listing.specs.Listing.{AsksFor, Found, Selects, asked_of, listing}
 use Rattle.test_runner_core_listing.specs.declared.selection.Selection.{Selection}
 use Rattle.test_runner_core_listing.specs.declared.listing_fault.ListingFault.{ListingFault}
 use Rattle.nextest_config_elements_counts.specs.Retries.{count_of}
-use Rattle.test_runner_core_settings.specs.Calls.{Configures}
+use Rattle.test_runner_core_settings.specs.Calls.{Chooses, Configures}
 use Rattle.test_runner_core_settings.specs.Sets.{Sets, key_warnings}
 use Rattle.test_runner_core_settings.specs.declared.configured.RunSettings.{RunSettings}
 use Rattle.test_runner_core_settings.specs.declared.settings_error.SettingsError.{SettingsError}
@@ -26,16 +24,16 @@ use Rattle.test_runner_core_workspace.specs.Workspace.{refusal_of}
 use Rattle.test_runner_core_workspace.specs.declared.record.Binary.{Binary}
 use Rattle.test_runner_core_workspace.specs.declared.record.WorkspaceRecord.{WorkspaceRecord}
 use Rattle.test_runner_core_workspace.specs.declared.workspace_fault.WorkspaceFault.{WorkspaceFault}
-use Rattle.test_runner_core_planning.specs.Filtering.{IsChosen, IsInForce, everything}
-use Rattle.test_runner_core_planning.specs.Inside.{AreSettled, IsWanted}
-use Rattle.test_runner_core_planning.specs.Plan.{◌>>=◌, AsksBehind, AsksWith, lacks_memory, Builds, Plans, Selected, Settles, SettlesBehind, asked_by, found_by, has_too_many, listed_in, passed_by, passed_of, plan_test, settled_by, warnings_in, warnings_of, with_settings, workspace_of}
+use Rattle.test_runner_core_planning.specs.Filtering.{IsChosen, context_of}
+use Rattle.test_runner_core_planning.specs.Inside.{AreSettled, GivesFilterset, IsWanted}
+use Rattle.test_runner_core_planning.specs.Plan.{◌>>=◌, AsksBehind, AsksWith, asks_for_more, lacks_memory, Builds, Plans, Selected, Settles, SettlesBehind, asked_by, found_by, has_too_many, listed_in, passed_by, passed_of, plan_test, settled_by, warnings_in, warnings_of, with_settings, workspace_of}
 use Rattle.test_runner_core_planning.specs.Refusals.{error_of_settings, of_settings}
 use Rattle.test_runner_core_plan.specs.declared.plan.Plan.{Plan}
 use Rattle.test_runner_core_planning.specs.declared.plan_error.PlanError.{PlanError}
 use Rattle.test_runner_core_planning.specs.declared.plan_error.PlanError.TheVariants as errors
 use Rattle.test_runner_core_planning.specs.declared.plan_fault.PlanFault.{PlanFault}
 use Rattle.test_runner_core_planning.specs.declared.plan_fault.PlanFault.TheVariants as refused
-use Rattle.test_runner_core_planning.proofs.Once.{Same, answers_are, chosen_once, never_both, settled_once}
+use Rattle.test_runner_core_planning.proofs.Once.{Same, chosen_once, settled_once}
 
 -- ---- settings
 
@@ -45,8 +43,13 @@ settles_refused inputs refusal e = subst (λ (passed : Result VersionPass PlanFa
 
 -- and others, by what they set
 pub settles_set : (inputs : Inputs) (passed : VersionPass) (set : Result RunSettings SettingsFault) (given : Result RunSettings PlanFault)
-    → passed_of inputs ≡ Ok passed → Sets inputs set → settled_by inputs set ≡ given → Settles inputs given
+    → passed_of inputs ≡ Ok passed → Sets (context_of inputs.workspace) inputs set → settled_by inputs set ≡ given → Settles inputs given
 settles_set inputs passed set given e is settled = subst (λ (it : Result VersionPass PlanFault). SettlesBehind inputs it given) (sym e) (set, is, settled)
+
+-- where they ask for nothing that isn't read yet
+pub settled : (inputs : Inputs) (passed : VersionPass) (settings : RunSettings) → passed_of inputs ≡ Ok passed → Sets (context_of inputs.workspace) inputs (Ok settings) → asks_for_more inputs ≡ false
+    → Settles inputs (Ok settings)
+settled inputs passed settings e is less = settles_set inputs passed (Ok settings) (Ok settings) e is (ap (λ (more : Bool). cond more (Err refused.NotYet) (Ok settings)) less)
 
 -- the version pass, behind a workspace that isn't refused
 pub passed_ok : (inputs : Inputs) (passed : VersionPass) → refusal_of inputs.workspace ≡ None → pass_of inputs ≡ Ok passed → passed_of inputs ≡ Ok passed
@@ -54,10 +57,21 @@ passed_ok inputs passed e f =
     ap (λ (refusal : Option WorkspaceFault). workspace_of inputs.workspace refusal >>= λ (workspace : WorkspaceRecord). passed_by (pass_of inputs)) e ∙ ap passed_by f
 
 -- a configuration that is refused
-pub settles_error : (inputs : Inputs) (passed : VersionPass) (error : SettingsError) → passed_of inputs ≡ Ok passed → Configures inputs (Err error)
+pub settles_error : (inputs : Inputs) (passed : VersionPass) (error : SettingsError) → passed_of inputs ≡ Ok passed → Configures (context_of inputs.workspace) inputs (Err error)
     → AreSettled inputs (Err (error_of_settings error))
 settles_error inputs passed (settings_errors.Refused refusal) e is = settles_set inputs passed (Err refusal) (Err (of_settings refusal)) e is refl
 settles_error inputs passed settings_errors.OutOfMemory e is = tt
+
+-- a profile that isn't there
+pub wants_error : (inputs : Inputs) (passed : VersionPass) (error : SettingsError) → passed_of inputs ≡ Ok passed → Chooses (context_of inputs.workspace) inputs (Err error)
+    → IsWanted inputs (Err (error_of_settings error))
+wants_error inputs passed (settings_errors.Refused refusal) e is = inl (settles_set inputs passed (Err refusal) (Err (of_settings refusal)) e is refl)
+wants_error inputs passed settings_errors.OutOfMemory e is = tt
+
+-- a filterset that is refused
+pub refuses_filterset : (inputs : Inputs) (settings : RunSettings) (error : PlanError) → Settles inputs (Ok settings) → GivesFilterset inputs.workspace inputs.filterset (Err error) → IsWanted inputs (Err error)
+refuses_filterset inputs settings (errors.Refused refusal) known is = inr (settings, known, is)
+refuses_filterset inputs settings errors.OutOfMemory known is = tt
 
 -- all warnings
 pub all_warnings : (inputs : Inputs) (passed : VersionPass) (more : List (List ℕ)) → pass_of inputs ≡ Ok passed → more ≡ key_warnings inputs
@@ -72,6 +86,11 @@ refused_before answer inputs (errors.Refused refusal) (inl known) = (Err refusal
 refused_before answer inputs (errors.Refused refusal) (inr (settings, known, is)) = (Ok settings, known, (Err refusal, is, refl))
 refused_before answer inputs errors.OutOfMemory wanted = tt
 
+-- a configuration that is refused is such a refusal
+pub wants_settled : (inputs : Inputs) (error : PlanError) → AreSettled inputs (Err error) → IsWanted inputs (Err error)
+wants_settled inputs (errors.Refused refusal) is = inl is
+wants_settled inputs errors.OutOfMemory is = tt
+
 -- nobody is asked
 pub asks_nothing : (answer : Binary → Answer) (inputs : Inputs) (error : PlanError) (old : List (List ℕ)) → IsWanted inputs (Err error)
     → AsksWith answer inputs (lacks_memory {A = Plan} (Err error)) old old
@@ -85,7 +104,8 @@ asks_nothing answer inputs (errors.Refused refusal) old (inr (settings, known, i
     by_given : (given : Result RunSettings PlanFault) → Same (Ok settings) given → AsksBehind answer inputs given false old old
     by_given (Ok other) same = λ chosen also.
         sym (append-nil old)
-        ∙ ap (λ (c : Result Answers PlanFault). old ++ asked_by answer inputs c) (chosen_once inputs.workspace inputs.filterset (Err refusal) chosen is also)
+        ∙ ap (λ (c : Result Answers PlanFault). old ++ asked_by answer inputs c)
+        (chosen_once inputs settings.default_filter (Err refusal) chosen is (subst (λ (s : RunSettings). IsChosen inputs s.default_filter chosen) (sym same) also))
     by_given (Err other) same = absurd same
 asks_nothing answer inputs errors.OutOfMemory old wanted = λ given is. by_given given
   where
@@ -95,19 +115,19 @@ asks_nothing answer inputs errors.OutOfMemory old wanted = λ given is. by_given
 
 -- ---- inputs whose binaries are asked
 
--- whatever is chosen, it is what the filter in force answers
-pub asks_with : (answer : Binary → Answer) (inputs : Inputs) (settings : RunSettings) (filter : Formula FiltersetLeaf) (lacks : Bool) (old new : List (List ℕ))
-    → Settles inputs (Ok settings) → IsInForce inputs.workspace inputs.filterset filter
-    → ((answers : Answers) → AreAnswers filter everything answers → AsksFor lacks old (asked_of answer (listed_in inputs answers)) new)
+-- whatever is chosen, it is what is asked for
+pub asks_with : (answer : Binary → Answer) (inputs : Inputs) (settings : RunSettings) (made : Answers) (lacks : Bool) (old new : List (List ℕ))
+    → Settles inputs (Ok settings) → IsChosen inputs settings.default_filter (Ok made)
+    → ((answers : Answers) → IsChosen inputs settings.default_filter (Ok answers) → AsksFor lacks old (asked_of answer (listed_in inputs answers)) new)
     → AsksWith answer inputs lacks old new
-asks_with answer inputs settings filter lacks old new known in_force asks = λ given is. by_given given (settled_once inputs (Ok settings) given known is)
+asks_with answer inputs settings made lacks old new known is asks = λ given also. by_given given (settled_once inputs (Ok settings) given known also)
   where
-    by_chosen : (chosen : Result Answers PlanFault) → IsChosen inputs.workspace inputs.filterset chosen → AsksFor lacks old (asked_by answer inputs chosen) new
-    by_chosen (Ok answers) is = asks answers (answers_are inputs.workspace inputs.filterset filter answers in_force is)
-    by_chosen (Err refusal) is = absurd (never_both inputs.workspace inputs.filterset filter in_force is.1)
+    by_chosen : (chosen : Result Answers PlanFault) → IsChosen inputs settings.default_filter chosen → AsksFor lacks old (asked_by answer inputs chosen) new
+    by_chosen (Ok answers) chosen = asks answers chosen
+    by_chosen (Err refusal) chosen = absurd (let e = chosen_once inputs settings.default_filter (Ok made) (Err refusal) is chosen in cc)
 
     by_given : (given : Result RunSettings PlanFault) → Same (Ok settings) given → AsksBehind answer inputs given lacks old new
-    by_given (Ok other) same = by_chosen
+    by_given (Ok other) same = subst (λ (s : RunSettings). AsksBehind answer inputs (Ok s) lacks old new) same by_chosen
     by_given (Err other) same = absurd same
 
 -- all were asked, and then memory was wanting
@@ -115,36 +135,36 @@ pub asks_lacking : (old ids new : List (List ℕ)) → AsksFor false old ids new
 asks_lacking old ids new asks = (ids, ([], (asks, sym (append-nil ids))))
 
 -- a listing that is refused
-pub refused_listing : (answer : Binary → Answer) (inputs : Inputs) (settings : RunSettings) (filter : Formula FiltersetLeaf) (answers : Answers) (error : PlanError)
-    → Settles inputs (Ok settings) → IsInForce inputs.workspace inputs.filterset filter → AreAnswers filter everything answers
+pub refused_listing : (answer : Binary → Answer) (inputs : Inputs) (settings : RunSettings) (answers : Answers) (error : PlanError)
+    → Settles inputs (Ok settings) → IsChosen inputs settings.default_filter (Ok answers)
     → Selected (Err error) (listing answer answers (listed_in inputs answers)) (listed_in inputs answers) → Builds answer inputs (Err error)
-refused_listing answer inputs settings filter answers (errors.Refused refusal) known in_force are (fault, listed, is) = (
+refused_listing answer inputs settings answers (errors.Refused refusal) known chosen (fault, listed, is) = (
   Ok settings,
   known,
   (
     Ok answers,
-    (filter, in_force, are),
+    chosen,
     ap (λ (given : Result Found ListingFault). found_by given >>= λ found. cond (has_too_many settings found.tests) (Err refused.RetriesTooMany) (Ok (record { settings = settings; answers = answers; found = found }))) listed
         ∙ ap (λ (r : PlanFault). Err r) (sym is),
   ),
 )
-refused_listing answer inputs settings filter answers errors.OutOfMemory known in_force are selected = tt
+refused_listing answer inputs settings answers errors.OutOfMemory known chosen selected = tt
 
 -- the sorted tests are as many as the listed ones
 as_many : (settings : RunSettings) (listed : List Binary) (found : Found) (selection : Selection) → Selects listed found selection → has_too_many settings found.tests ≡ has_too_many settings selection.tests
 as_many settings listed found selection s = ap (λ (n : ℕ). count_of settings.test.retries == 4294967295 && nat_lt 0 n) (sym (length_permutation found.tests selection.tests s.tests))
 
 -- what is planned once all tests are listed: nothing where they have too many retries
-pub plans_found : (answer : Binary → Answer) (inputs : Inputs) (settings : RunSettings) (filter : Formula FiltersetLeaf) (answers : Answers) (found : Found) (selection : Selection) (many : Bool)
-    → Settles inputs (Ok settings) → IsInForce inputs.workspace inputs.filterset filter → AreAnswers filter everything answers
+pub plans_found : (answer : Binary → Answer) (inputs : Inputs) (settings : RunSettings) (answers : Answers) (found : Found) (selection : Selection) (many : Bool)
+    → Settles inputs (Ok settings) → IsChosen inputs settings.default_filter (Ok answers)
     → listing answer answers (listed_in inputs answers) ≡ Ok found → Selects (listed_in inputs answers) found selection → has_too_many settings selection.tests ≡ many
     → Plans answer inputs (cond many (Err refused.RetriesTooMany) (Ok (record { settings = settings; answers = answers; found = found })))
-plans_found answer inputs settings filter answers found selection many known in_force are listed selects is = (
+plans_found answer inputs settings answers found selection many known chosen listed selects is = (
   Ok settings,
   known,
   (
     Ok answers,
-    (filter, in_force, are),
+    chosen,
     ap (λ (given : Result Found ListingFault). found_by given >>= λ found. cond (has_too_many settings found.tests) (Err refused.RetriesTooMany) (Ok (record { settings = settings; answers = answers; found = found }))) listed
         ∙ ap (λ (b : Bool). cond b (Err refused.RetriesTooMany) (Ok (record { settings = settings; answers = answers; found = found }))) (as_many settings (listed_in inputs answers) found selection selects ∙ is),
   ),

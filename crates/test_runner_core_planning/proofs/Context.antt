@@ -1,13 +1,12 @@
--- The graph of a workspace: a checked one has it, and it is one.
+-- The graph of a workspace: a checked one has it, and it is this one.
 use Rattle.std.proofs.Common.{◌≡◌, ℕ, ◌+◌, Bool, true, false, not, ◌||◌, List, [], ◌∷◌, map, Option, None, Some, Err, cond, refl, sym, ap, ◌∙◌}
-use Rattle.std.specs.List.{list_all, list_any, position_from}
+use Rattle.std.specs.List.{cons_option, filter_map, list_all, list_any, position_from}
 use Rattle.std.specs.Prelude.{is_none, if◌then◌else◌}
 use Rattle.std.specs.Str.{bytes_eq}
 use Rattle.std.proofs.lemmas.Bool.{and_parts}
-use Rattle.nextest_filtering_compiling.specs.Context.{Context}
 use Rattle.nextest_filtering_graph.specs.Graph.{Graph, both, ids, place_of, placed}
 use Rattle.nextest_filtering_graph.specs.Graph as making
-use Rattle.nextest_filtering_graph.specs.Making.{Makes, has_unknown}
+use Rattle.nextest_filtering_graph.specs.Making.{IsGraphOf, Makes, has_unknown}
 use Rattle.nextest_filtering_graph.specs.declared.graph_error.GraphError.TheVariants as error
 use Rattle.nextest_filtering_graph.specs.declared.graph_fault.GraphFault.{GraphFault}
 use Rattle.nextest_filtering_graph.specs.declared.graph_fault.GraphFault.TheVariants as bad
@@ -17,7 +16,7 @@ use Rattle.test_runner_core_workspace.specs.declared.record.Package.{Package}
 use Rattle.test_runner_core_workspace.specs.declared.record.WorkspaceRecord.{WorkspaceRecord}
 use Rattle.test_runner_core_workspace.specs.declared.workspace_fault.WorkspaceFault.{WorkspaceFault}
 use Rattle.test_runner_core_workspace.specs.declared.workspace_fault.WorkspaceFault.TheVariants as refused
-use Rattle.test_runner_core_planning.specs.Filtering.{IsContextOf, pairs_of_links, pairs_of_packages}
+use Rattle.test_runner_core_planning.specs.Filtering.{graph_of, pairs_of_links, pairs_of_packages}
 
 -- ---- a checked workspace
 
@@ -89,22 +88,20 @@ never_refused workspace bad.UnknownLink e makes =
     ∙ none_unknown (package_ids workspace) workspace.links (sound workspace e).known in
     absurd (let f : true ≡ false = sym makes.1 ∙ known in cc)
 
--- ---- one context
+-- ---- the context
 
-same_somes : {A : Type 0} (xs ys : List A) → map Some xs ≡ map Some ys → xs ≡ ys
-same_somes [] [] e = refl
-same_somes [] (y ∷ ys) e = absurd (let f = e in cc)
-same_somes (x ∷ xs) [] e = absurd (let f = e in cc)
-same_somes (x ∷ xs) (y ∷ ys) e =
-    let first : x ≡ y = cc in
-    let more : map Some xs ≡ map Some ys = cc in
-    λ i. first i ∷ same_somes xs ys more i
+-- all of some that are there are those that are
+kept_all : {A B : Type 0} (f : A → Option B) (xs : List A) (ys : List B) → map Some ys ≡ map f xs → ys ≡ filter_map f xs
+kept_all f [] [] e = refl
+kept_all f [] (y ∷ ys) e = absurd (let g = e in cc)
+kept_all f (x ∷ xs) [] e = absurd (let g = e in cc)
+kept_all f (x ∷ xs) (y ∷ ys) e =
+    let first : Some y ≡ f x = let g = e in cc in
+    let more : map Some ys ≡ map f xs = let g = e in cc in
+    ap (λ rest. y ∷ rest) (kept_all f xs ys more) ∙ ap (λ found. cons_option found (filter_map f xs)) first
 
-pub context_once : (workspace : WorkspaceRecord) (a b : Context) → IsContextOf workspace a → IsContextOf workspace b → a ≡ b
-context_once workspace a b first second = λ i. record {
-  graph = record {
-    packages = (first.graph.packages_are ∙ sym second.graph.packages_are) i;
-    links = same_somes a.graph.links b.graph.links (first.graph.links_are ∙ sym second.graph.links_are) i;
-  };
-  binaries = (first.binaries ∙ sym second.binaries) i;
-}
+-- the graph of a workspace's packages and links is its graph
+pub same_graph : (workspace : WorkspaceRecord) (graph : Graph) → IsGraphOf (pairs_of_packages workspace.packages) (pairs_of_links workspace.links) graph → graph ≡ graph_of workspace
+same_graph workspace graph is =
+    let links = kept_all (placed (ids (pairs_of_packages workspace.packages))) (pairs_of_links workspace.links) graph.links is.links_are in
+    λ i. record { packages = is.packages_are i; links = links i }

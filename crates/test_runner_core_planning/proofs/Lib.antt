@@ -8,3 +8,5 @@ pub mod Selected
 pub mod NoneTwice
 pub mod Listed
 pub mod Isolated
+pub mod Surely
+pub mod Choosing

@@ -1,4 +1,4 @@
--- A plan lists exactly the binaries on which its filter can hold.
+-- A plan lists exactly the binaries on which each of its filters can hold.
 use Rattle.std.proofs.Common.{◌≡◌, ◌⊎◌, inl, inr, ℕ, List, [], ◌∷◌, Bool, true, false, sym, ap, ◌∙◌, subst}
 use Rattle.std.specs.Cmp.Lexicographic.{nat_list_eq_equiv}
 use Rattle.std.specs.List.{Contains, filter}
@@ -9,9 +9,8 @@ use Rattle.test_runner_core_planning.specs.Plan.{listed_in}
 use Rattle.test_runner_core_workspace.specs.Workspace.{has_repeat, is_among}
 use Rattle.test_runner_core_workspace.specs.declared.record.Binary.{Binary}
 use Rattle.test_runner_core_planning.specs.Laws.{ListsExactly}
-use Rattle.test_runner_core_planning.proofs.Once.{answers_are, parts_of}
 use Rattle.test_runner_core_planning.proofs.NoneTwice.{planned_apart}
-use Rattle.test_runner_core_planning.proofs.Selected.{filter_has, has_cases, has_of_filter, has_of_map, map_has, none_has}
+use Rattle.test_runner_core_planning.proofs.Selected.{filter_has, has_cases, has_of_filter, has_of_map, map_has, none_has, plan_answers}
 
 -- an id that isn't among those of binaries is that of none of them
 id_of_none : (id : List ℕ) (binary : Binary) (binaries : List Binary) → is_among (ids_of binaries) id ≡ false → Contains binaries binary → id ≡ binary.id → ⊥
@@ -44,9 +43,8 @@ passes_by_id passes binaries binary apart among has =
     ap passes (sym (same_binary binaries made.of binary apart it.among among made.made)) ∙ it.passes
 
 pub lists_exactly : ListsExactly
-lists_exactly answer inputs plan filter (it, planned, built) in_force binary among =
-    let parts = parts_of answer inputs it planned in
-    let are = answers_are inputs.workspace inputs.filterset filter it.answers in_force parts.chosen in
+lists_exactly answer inputs plan settings force (it, planned, built) settles is binary among =
+    let are = plan_answers answer inputs it settings force planned settles is in
     let tells = are.lists binary in (
       λ has.
           tells.0 (passes_by_id it.answers.lists inputs.workspace.binaries binary (planned_apart answer inputs it planned) among

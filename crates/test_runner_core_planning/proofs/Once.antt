@@ -1,18 +1,12 @@
 -- What is planned of inputs is one.
-use Rattle.std.proofs.Common.{◌≡◌, ℕ, List, Bool, true, false, Option, None, Some, Result, Ok, Err, refl, sym, ap, ◌∙◌, subst}
+use Rattle.std.proofs.Common.{◌≡◌, ℕ, List, [], ◌∷◌, ◌++◌, Bool, true, false, Option, None, Some, Result, Ok, Err, refl, sym, ap, ◌∙◌, subst}
 use Rattle.std.specs.Prelude.{if◌then◌else◌}
-use Rattle.nextest_filtering_compiling.specs.Compiling.{IsCompiled}
-use Rattle.nextest_filtering_compiling.specs.Context.{Context}
-use Rattle.nextest_filtering_compiling.specs.Meaning.{readable}
-use Rattle.nextest_filtering_filters.specs.Deciding.{AreReadable}
-use Rattle.nextest_filtering_filters.specs.declared.leaf.FiltersetLeaf.{FiltersetLeaf}
-use Rattle.nextest_filtering_filters.specs.Formula.{Formula}
+use Rattle.nextest_filtering_filters.proofs.Parts.{tells_one}
 use Rattle.nextest_filtering_syntax.proofs.Trees.{one_tree}
 use Rattle.nextest_filtering_trees.specs.Tree.{Tree}
 use Rattle.test_runner_core_inputs.specs.declared.inputs.Inputs.{Inputs}
-use Rattle.test_runner_core_listing.specs.Answers.{Answers, AreAnswers}
+use Rattle.test_runner_core_listing.specs.Answers.{Answers}
 use Rattle.test_runner_core_listing.specs.Listing.{Found, listing}
-use Rattle.test_runner_core_listing.proofs.Answering.{answers_once}
 use Rattle.test_runner_core_listing.specs.declared.listing_fault.ListingFault.{ListingFault}
 use Rattle.test_runner_core_settings.proofs.Once.{one_settings}
 use Rattle.test_runner_core_settings.specs.Laws.{AreSame, HaveOneReason}
@@ -27,54 +21,61 @@ use Rattle.test_runner_core_workspace.specs.declared.workspace_fault.WorkspaceFa
 use Rattle.test_runner_core_workspace.specs.Lister.{Answer}
 use Rattle.test_runner_core_workspace.specs.declared.record.Binary.{Binary}
 use Rattle.test_runner_core_workspace.specs.declared.record.WorkspaceRecord.{WorkspaceRecord}
-use Rattle.test_runner_core_planning.specs.Filtering.{IsChosen, IsFiltersetOf, IsInForce, IsRefused, IsTaken, everything}
+use Rattle.test_runner_core_planning.specs.Filtering.{AllCanHold, AllHold, AreAnswersOf, AreInForce, AreOfFilterset, InForce, IsChosen, IsDefaultTree, IsRefused, context_of, unless_ignored}
 use Rattle.test_runner_core_planning.specs.Plan.{◌>>=◌, Planned, Plans, PlansWith, Settles, SettlesBehind, asks_for_more, found_by, has_too_many, listed_in, passed_by, passed_of, planned_by, settled_by, workspace_of}
 use Rattle.test_runner_core_planning.specs.Refusals.{of_settings}
 use Rattle.test_runner_core_planning.specs.Texts.{name_of, name_of_load, status_of}
 use Rattle.test_runner_core_planning.specs.declared.plan_fault.PlanFault.{PlanFault}
 use Rattle.test_runner_core_planning.specs.declared.plan_fault.PlanFault.TheVariants as refused
-use Rattle.test_runner_core_planning.proofs.Answering.{answers_same}
-use Rattle.test_runner_core_planning.proofs.Context.{context_once}
 
--- ---- the filter in force
+-- ---- the filters in force
 
--- two filters of one filterset answer the same
-filterset_once : (workspace : WorkspaceRecord) (text : List ℕ) (filter other : Formula FiltersetLeaf) (answers : Answers) → IsFiltersetOf workspace text filter → IsFiltersetOf workspace text other
-    → AreAnswers filter everything answers → AreAnswers other everything answers
-filterset_once workspace text filter other answers one another =
-    let cx : another.cx ≡ one.cx = context_once workspace another.cx one.cx another.context one.context in
-    let tree : another.tree ≡ one.tree = one_tree text another.tree one.tree another.taken.0 one.taken.0 in
-    let compiled : IsCompiled one.cx.graph one.tree other =
-    subst (λ (t : Tree). IsCompiled one.cx.graph t other) tree (subst (λ (c : Context). IsCompiled c.graph another.tree other) cx another.compiled) in
-    answers_same one.cx.graph one.tree filter other everything answers one.compiled compiled
+-- a text is one default filter
+default_once : (workspace : WorkspaceRecord) (text : Option (List ℕ)) (one other : Tree) → IsDefaultTree workspace text one → IsDefaultTree workspace text other → one ≡ other
+default_once workspace None one other a b = a ∙ sym b
+default_once workspace (Some text) one other a b = one_tree text one other a.0 b.0
 
-in_force_once : (workspace : WorkspaceRecord) (filterset : Option (List ℕ)) (filter other : Formula FiltersetLeaf) (answers : Answers) → IsInForce workspace filterset filter → IsInForce workspace filterset other
-    → AreAnswers filter everything answers → AreAnswers other everything answers
-in_force_once workspace None filter other answers one another are = subst (λ (f : Formula FiltersetLeaf). AreAnswers f everything answers) (one ∙ sym another) are
-in_force_once workspace (Some text) filter other answers one another are = filterset_once workspace text filter other answers one another are
+-- and one filterset
+of_filterset_once : (workspace : WorkspaceRecord) (text : Option (List ℕ)) (one other : List Tree) → AreOfFilterset workspace text one → AreOfFilterset workspace text other → one ≡ other
+of_filterset_once workspace None one other a b = a ∙ sym b
+of_filterset_once workspace (Some text) one other (tree, taken, is) (second, also, same) =
+    is ∙ ap (λ (t : Tree). t ∷ []) (one_tree text tree second taken.0 also.0) ∙ sym same
 
--- what is chosen is what each filter in force answers
-pub answers_are : (workspace : WorkspaceRecord) (filterset : Option (List ℕ)) (filter : Formula FiltersetLeaf) (answers : Answers) → IsInForce workspace filterset filter
-    → IsChosen workspace filterset (Ok answers) → AreAnswers filter everything answers
-answers_are workspace filterset filter answers in_force (other, also, are) = in_force_once workspace filterset other filter answers also in_force are
+-- so the filters in force are one list
+pub in_force_once : (inputs : Inputs) (text : Option (List ℕ)) (one other : InForce) → AreInForce inputs text one → AreInForce inputs text other → one ≡ other
+in_force_once inputs text one other a b =
+    let default : one.default ≡ other.default = default_once inputs.workspace text one.default other.default a.default b.default in
+    let chosen : a.chosen ≡ b.chosen = of_filterset_once inputs.workspace inputs.filterset a.chosen b.chosen a.filterset b.filterset in
+    let filters : one.filters ≡ other.filters =
+    a.all
+    ∙ ap (λ (trees : List Tree). trees ++ unless_ignored inputs.ignore_default_filter one.default) chosen
+    ∙ ap (λ (tree : Tree). b.chosen ++ unless_ignored inputs.ignore_default_filter tree) default
+    ∙ sym b.all in
+    λ i. record { filters = filters i; default = default i }
+
+-- what is chosen is what the filters in force answer
+pub answers_are : (inputs : Inputs) (text : Option (List ℕ)) (force : InForce) (answers : Answers) → AreInForce inputs text force → IsChosen inputs text (Ok answers) → AreAnswersOf inputs.workspace force answers
+answers_are inputs text force answers is (other, also, are) =
+    subst (λ (it : InForce). AreAnswersOf inputs.workspace it answers) (in_force_once inputs text other force also is) are
 
 -- a filterset isn't both accepted and refused
-pub never_both : (workspace : WorkspaceRecord) (filterset : Option (List ℕ)) (filter : Formula FiltersetLeaf) → IsInForce workspace filterset filter → IsRefused workspace filterset → ⊥
-never_both workspace None filter in_force never = never
-never_both workspace (Some text) filter one none =
-    none.never one.tree (subst (λ (c : Context). IsTaken c text one.tree) (context_once workspace one.cx none.cx one.context none.context) one.taken)
+never_both : (workspace : WorkspaceRecord) (filterset : Option (List ℕ)) (trees : List Tree) → AreOfFilterset workspace filterset trees → IsRefused workspace filterset → ⊥
+never_both workspace None trees are never = never
+never_both workspace (Some text) trees (tree, taken, is) never = never tree taken
 
-pub chosen_once : (workspace : WorkspaceRecord) (filterset : Option (List ℕ)) (a b : Result Answers PlanFault) → IsChosen workspace filterset a → IsChosen workspace filterset b → a ≡ b
-chosen_once workspace filterset (Ok a) (Ok b) (filter, in_force, are) second =
-    ap (λ (answers : Answers). Ok answers) (answers_once filter everything a b are (answers_are workspace filterset filter b in_force second))
-chosen_once workspace filterset (Ok a) (Err b) (filter, in_force, are) second = absurd (never_both workspace filterset filter in_force second.1)
-chosen_once workspace filterset (Err a) (Ok b) first (filter, in_force, are) = absurd (never_both workspace filterset filter in_force first.1)
-chosen_once workspace filterset (Err a) (Err b) first second = ap (λ (refusal : PlanFault). Err refusal) (first.0 ∙ sym second.0)
+-- filters in force answer one thing
+answers_once : (workspace : WorkspaceRecord) (force : InForce) (a b : Answers) → AreAnswersOf workspace force a → AreAnswersOf workspace force b → a ≡ b
+answers_once workspace force a b first second = λ i. record {
+  lists = λ binary. tells_one (AllCanHold workspace force binary) (a.lists binary) (b.lists binary) (first.lists binary) (second.lists binary) i;
+  selects = λ binary name. tells_one (AllHold workspace force binary name) (a.selects binary name) (b.selects binary name) (first.selects binary name) (second.selects binary name) i;
+}
 
--- the matchers of a filter in force can be decided
-pub in_force_readable : (workspace : WorkspaceRecord) (filterset : Option (List ℕ)) (filter : Formula FiltersetLeaf) → IsInForce workspace filterset filter → AreReadable filter
-in_force_readable workspace None filter is = subst AreReadable (sym is) tt
-in_force_readable workspace (Some text) filter it = readable text it.tree it.taken.0 it.cx.graph filter it.compiled
+pub chosen_once : (inputs : Inputs) (text : Option (List ℕ)) (a b : Result Answers PlanFault) → IsChosen inputs text a → IsChosen inputs text b → a ≡ b
+chosen_once inputs text (Ok a) (Ok b) (force, is, are) second =
+    ap (λ (answers : Answers). Ok answers) (answers_once inputs.workspace force a b are (answers_are inputs text force b is second))
+chosen_once inputs text (Ok a) (Err b) (force, is, are) second = absurd (never_both inputs.workspace inputs.filterset is.chosen is.filterset second.1)
+chosen_once inputs text (Err a) (Ok b) first (force, is, are) = absurd (never_both inputs.workspace inputs.filterset is.chosen is.filterset first.1)
+chosen_once inputs text (Err a) (Err b) first second = ap (λ (refusal : PlanFault). Err refusal) (first.0 ∙ sym second.0)
 
 -- ---- settings
 
@@ -115,7 +116,7 @@ settled_same inputs (Err one) (Ok other) same = absurd same
 behind_once : (inputs : Inputs) (passed : Result VersionPass PlanFault) (a b : Result RunSettings PlanFault) → SettlesBehind inputs passed a → SettlesBehind inputs passed b → Same a b
 behind_once inputs (Ok passed) a b (one, is, e) (other, also, f) =
     subst (λ (x : Result RunSettings PlanFault). Same x b) e
-    (subst (λ (x : Result RunSettings PlanFault). Same (settled_by inputs one) x) f (settled_same inputs one other (one_settings inputs one other is also)))
+    (subst (λ (x : Result RunSettings PlanFault). Same (settled_by inputs one) x) f (settled_same inputs one other (one_settings (context_of inputs.workspace) inputs one other is also)))
 behind_once inputs (Err refusal) a b e f = same_by a b (e ∙ sym f)
 
 -- inputs ask for one thing, or are refused for one reason
@@ -123,18 +124,18 @@ pub settled_once : (inputs : Inputs) (a b : Result RunSettings PlanFault) → Se
 settled_once inputs = behind_once inputs (passed_of inputs)
 
 -- what is asked for is set by the configuration
-settled_from : (inputs : Inputs) (set : Result RunSettings SettingsFault) (settings : RunSettings) → Sets inputs set → settled_by inputs set ≡ Ok settings → Sets inputs (Ok settings)
+settled_from : (inputs : Inputs) (set : Result RunSettings SettingsFault) (settings : RunSettings) → Sets (context_of inputs.workspace) inputs set → settled_by inputs set ≡ Ok settings → Sets (context_of inputs.workspace) inputs (Ok settings)
 settled_from inputs (Ok one) settings is e = by_more (asks_for_more inputs) e
   where
-    by_more : (b : Bool) → (if b then Err refused.NotYet else Ok one) ≡ Ok settings → Sets inputs (Ok settings)
+    by_more : (b : Bool) → (if b then Err refused.NotYet else Ok one) ≡ Ok settings → Sets (context_of inputs.workspace) inputs (Ok settings)
     by_more true f = absurd (let h = f in cc)
-    by_more false f = let same : one ≡ settings = let h = f in cc in subst (λ (s : RunSettings). Sets inputs (Ok s)) same is
+    by_more false f = let same : one ≡ settings = let h = f in cc in subst (λ (s : RunSettings). Sets (context_of inputs.workspace) inputs (Ok s)) same is
 settled_from inputs (Err refusal) settings is e = absurd (let h = e in cc)
 
-pub settled_sets : (inputs : Inputs) (settings : RunSettings) → Settles inputs (Ok settings) → Sets inputs (Ok settings)
+pub settled_sets : (inputs : Inputs) (settings : RunSettings) → Settles inputs (Ok settings) → Sets (context_of inputs.workspace) inputs (Ok settings)
 settled_sets inputs settings settled = by_passed (passed_of inputs) settled
   where
-    by_passed : (passed : Result VersionPass PlanFault) → SettlesBehind inputs passed (Ok settings) → Sets inputs (Ok settings)
+    by_passed : (passed : Result VersionPass PlanFault) → SettlesBehind inputs passed (Ok settings) → Sets (context_of inputs.workspace) inputs (Ok settings)
     by_passed (Ok passed) (set, is, e) = settled_from inputs set settings is e
     by_passed (Err refusal) e = absurd (let h = e in cc)
 
@@ -151,7 +152,7 @@ settled_workspace inputs settings settled = by_refusal (refusal_of inputs.worksp
 
 plans_with_once : (answer : Binary → Answer) (inputs : Inputs) (settings : RunSettings) (a b : Result Planned PlanFault) → PlansWith answer inputs (Ok settings) a → PlansWith answer inputs (Ok settings) b → a ≡ b
 plans_with_once answer inputs settings a b (chosen, is, planned) (other, also, planned_also) =
-    sym planned ∙ ap (planned_by answer inputs settings) (chosen_once inputs.workspace inputs.filterset chosen other is also) ∙ planned_also
+    sym planned ∙ ap (planned_by answer inputs settings) (chosen_once inputs settings.default_filter chosen other is also) ∙ planned_also
 
 pub plans_once : (answer : Binary → Answer) (inputs : Inputs) (a b : Result Planned PlanFault) → Plans answer inputs a → Plans answer inputs b → Same a b
 plans_once answer inputs a b (one, known, planned) (other, known_also, planned_also) = by_settings one other (settled_once inputs one other known known_also) planned planned_also
@@ -167,11 +168,11 @@ plans_once answer inputs a b (one, known, planned) (other, known_also, planned_a
 -- the parts of what is planned
 pub record Parts (answer : Binary → Answer) (inputs : Inputs) (it : Planned) : Type 0 where
   pub settings : Settles inputs (Ok it.settings)
-  pub chosen : IsChosen inputs.workspace inputs.filterset (Ok it.answers)
+  pub chosen : IsChosen inputs it.settings.default_filter (Ok it.answers)
   pub listed : listing answer it.answers (listed_in inputs it.answers) ≡ Ok it.found
 
 planned_parts : (answer : Binary → Answer) (inputs : Inputs) (settings : RunSettings) (chosen : Result Answers PlanFault) (it : Planned) → Settles inputs (Ok settings)
-    → IsChosen inputs.workspace inputs.filterset chosen → planned_by answer inputs settings chosen ≡ Ok it → Parts answer inputs it
+    → IsChosen inputs settings.default_filter chosen → planned_by answer inputs settings chosen ≡ Ok it → Parts answer inputs it
 planned_parts answer inputs settings (Err refusal) it known is e = absurd (let f = e in cc)
 planned_parts answer inputs settings (Ok answers) it known is e = by_listing (listing answer answers (listed_in inputs answers)) refl e
   where

@@ -1,14 +1,13 @@
 -- Inputs have one plan.
-use Rattle.std.proofs.Common.{◌≡◌, List, ℕ, map, Ok, sym, ap, ◌∙◌, subst}
+use Rattle.std.proofs.Common.{◌≡◌, List, ℕ, map, Ok, Err, sym, ap, ◌∙◌, subst}
 use Rattle.nextest_config_elements_plain.specs.declared.max_fail.MaxFail.{MaxFail}
 use Rattle.nextest_run_events_visibility.specs.declared.visibility.StatusLevels.{StatusLevels}
 use Rattle.nextest_run_events_results.specs.declared.instance.OwnedTestInstanceId.{OwnedTestInstanceId}
 use Rattle.test_runner_core_inputs.specs.declared.inputs.Inputs.{Inputs}
 use Rattle.test_runner_core_plan.specs.declared.plan.Plan.{Plan}
 use Rattle.test_runner_core_plan.specs.declared.plan.PlanTest.{PlanTest}
-use Rattle.test_runner_core_workspace.specs.Lister.{Answer}
-use Rattle.test_runner_core_workspace.specs.declared.record.Binary.{Binary}
-use Rattle.test_runner_core_planning.specs.Plan.{Builds, IsPlanOf, Planned, plan_test}
+use Rattle.test_runner_core_planning.specs.Laws.{NotPlannedAndRefused, OnePlan}
+use Rattle.test_runner_core_planning.specs.Plan.{IsPlanOf, Planned, plan_test}
 use Rattle.test_runner_core_planning.proofs.Once.{plans_once}
 use Rattle.test_runner_core_planning.proofs.OneOrder.{one_rising}
 
@@ -35,7 +34,10 @@ plans_of_one inputs it a b of_a of_b =
     (of_a.tests ∙ ap (λ (xs : List OwnedTestInstanceId). map (plan_test it.settings) xs) tests ∙ sym of_b.tests)
     (of_a.listed ∙ sym of_b.listed) (of_a.skipped ∙ sym of_b.skipped) (of_a.limit ∙ sym of_b.limit) (of_a.levels ∙ sym of_b.levels) (of_a.warnings ∙ sym of_b.warnings)
 
-pub one_plan : (answer : Binary → Answer) (inputs : Inputs) (a b : Plan) → Builds answer inputs (Ok a) → Builds answer inputs (Ok b) → a ≡ b
+pub one_plan : OnePlan
 one_plan answer inputs a b of_a of_b =
     let same : of_a.0 ≡ of_b.0 = plans_once answer inputs (Ok of_a.0) (Ok of_b.0) of_a.1 of_b.1 in
     plans_of_one inputs of_b.0 a b (subst (λ (it : Planned). IsPlanOf inputs it a) same of_a.2) of_b.2
+
+pub not_planned_and_refused : NotPlannedAndRefused
+not_planned_and_refused answer inputs plan refusal (it, planned, built) refused = plans_once answer inputs (Ok it) (Err refusal) planned refused

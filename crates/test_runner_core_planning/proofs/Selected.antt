@@ -1,25 +1,23 @@
 -- A plan has exactly the tests that are wanted.
-use Rattle.std.proofs.Common.{◌≡◌, ◌⊎◌, inl, inr, ℕ, suc, zero, List, [], ◌∷◌, ◌++◌, map, Bool, true, false, cond, Option, None, Some, Result, Ok, Err, refl, sym, ap, ◌∙◌, subst, arith}
+use Rattle.std.proofs.Common.{◌≡◌, ◌⊎◌, inl, inr, ℕ, suc, zero, List, [], ◌∷◌, ◌++◌, get_or, map, Bool, true, false, cond, Option, None, Some, Result, Ok, Err, refl, sym, ap, ◌∙◌, subst, arith}
 use Rattle.std.specs.List.{Contains, filter}
 use Rattle.std.proofs.lemmas.List.Elements.{Contains-append_left, Contains-append_right, Contains-append_cases}
 use Rattle.std.proofs.lemmas.List.Sorted.{Contains-permutation, IsPermutation-sym}
-use Rattle.nextest_filtering_filters.specs.Meaning.{IsOn}
-use Rattle.nextest_filtering_filters.specs.declared.leaf.FiltersetLeaf.{FiltersetLeaf}
-use Rattle.nextest_filtering_filters.specs.Formula.{Formula}
+use Rattle.test_runner_core_planning.proofs.Surely.{tree_can_be}
 use Rattle.nextest_run_events_results.specs.declared.instance.OwnedTestInstanceId.{OwnedTestInstanceId}
-use Rattle.test_runner_core_listing.specs.Answers.{Answers, AreAnswers, IsOfGroup, seen_test}
+use Rattle.test_runner_core_listing.specs.Answers.{Answers, seen_test}
 use Rattle.test_runner_core_listing.specs.Listing.{Found, accepted, accepted_names, refused_name, listing, selected_in, skipped_in, ◌>>=◌}
 use Rattle.test_runner_core_listing.specs.declared.listing_fault.ListingFault.{ListingFault}
 use Rattle.test_runner_core_inputs.specs.declared.inputs.Inputs.{Inputs}
-use Rattle.test_runner_core_planning.specs.Filtering.{everything}
-use Rattle.test_runner_core_planning.specs.Plan.{listed_in, plan_test}
+use Rattle.test_runner_core_planning.specs.Filtering.{AllCanHold, AllHold, AreAnswersOf, AreInForce, InForce, IsChosen, IsOfGroup, graph_of}
+use Rattle.test_runner_core_planning.specs.Plan.{Planned, Plans, Settles, listed_in, plan_test}
 use Rattle.test_runner_core_plan.specs.declared.plan.PlanTest.{PlanTest}
 use Rattle.test_runner_core_settings.specs.declared.configured.RunSettings.{RunSettings}
 use Rattle.test_runner_core_planning.specs.Laws.{HasExactlyTheWanted, IsWanted}
-use Rattle.nextest_filtering_filters.proofs.Sure.{on_test_can_be, one_on_test}
-use Rattle.test_runner_core_planning.proofs.Once.{answers_are, parts_of}
+use Rattle.test_runner_core_planning.proofs.Once.{answers_are, parts_of, settled_once}
 use Rattle.test_runner_core_workspace.specs.Lister.{Answer}
 use Rattle.test_runner_core_workspace.specs.declared.record.Binary.{Binary}
+use Rattle.test_runner_core_workspace.specs.declared.record.WorkspaceRecord.{WorkspaceRecord}
 
 -- ---- elements
 
@@ -192,56 +190,58 @@ instances_of settings (test ∷ tests) = ap (λ (ts : List OwnedTestInstanceId).
 
 -- ---- filters
 
--- a binary one of whose tests a filter holds on is listed
-is_listed : (filter : Formula FiltersetLeaf) (answers : Answers) (binary : Binary) (name : List ℕ) → AreAnswers filter everything answers
-    → IsOn filter everything (seen_test binary name) IsOfGroup true → answers.lists binary ≡ true
-is_listed filter answers binary name are on = (are.lists binary).1 (on_test_can_be filter everything (seen_test binary name) IsOfGroup true on)
-
--- and the test is selected
-is_selected : (filter : Formula FiltersetLeaf) (answers : Answers) (binary : Binary) (name : List ℕ) → AreAnswers filter everything answers
-    → IsOn filter everything (seen_test binary name) IsOfGroup true → answers.selects binary name ≡ true
-is_selected filter answers binary name are on =
-    one_on_test filter everything (seen_test binary name) IsOfGroup (answers.selects binary name) true (are.selects binary name) on
+-- where all hold on a test of a binary, each can hold on the binary
+all_can_hold : (workspace : WorkspaceRecord) (force : InForce) (binary : Binary) (name : List ℕ) → AllHold workspace force binary name → AllCanHold workspace force binary
+all_can_hold workspace force binary name all = λ k d within. tree_can_be (graph_of workspace) (get_or force.filters k d) force.default (seen_test binary name) (IsOfGroup (seen_test binary name)) true (all k d within)
 
 -- a selected test of a listed binary is wanted
-wanted_of : (answer : Binary → Answer) (inputs : Inputs) (filter : Formula FiltersetLeaf) (answers : Answers) (test : OwnedTestInstanceId) → AreAnswers filter everything answers
-    → IsListed answer answers (listed_in inputs answers) test → IsWanted answer inputs filter test
-wanted_of answer inputs filter answers test are it = record {
+wanted_of : (answer : Binary → Answer) (inputs : Inputs) (force : InForce) (answers : Answers) (test : OwnedTestInstanceId) → AreAnswersOf inputs.workspace force answers
+    → IsListed answer answers (listed_in inputs answers) test → IsWanted answer inputs force test
+wanted_of answer inputs force answers test are it = record {
   binary = it.binary;
   among = (has_of_filter answers.lists inputs.workspace.binaries it.binary it.among).among;
   id = it.id;
   names = it.names;
   answered = it.answered;
   named = it.named;
-  holds = subst (λ (value : Bool). IsOn filter everything (seen_test it.binary test.test_name) IsOfGroup value) it.chosen_name (are.selects it.binary test.test_name);
+  holds = (are.selects it.binary test.test_name).0 it.chosen_name;
 }
 
-of_wanted : (answer : Binary → Answer) (inputs : Inputs) (filter : Formula FiltersetLeaf) (answers : Answers) (test : OwnedTestInstanceId) → AreAnswers filter everything answers
-    → IsWanted answer inputs filter test → IsListed answer answers (listed_in inputs answers) test
-of_wanted answer inputs filter answers test are it = record {
+of_wanted : (answer : Binary → Answer) (inputs : Inputs) (force : InForce) (answers : Answers) (test : OwnedTestInstanceId) → AreAnswersOf inputs.workspace force answers
+    → IsWanted answer inputs force test → IsListed answer answers (listed_in inputs answers) test
+of_wanted answer inputs force answers test are it = record {
   binary = it.binary;
-  among = filter_has answers.lists inputs.workspace.binaries it.binary it.among (is_listed filter answers it.binary test.test_name are it.holds);
+  among = filter_has answers.lists inputs.workspace.binaries it.binary it.among
+      ((are.lists it.binary).1 (all_can_hold inputs.workspace force it.binary test.test_name it.holds));
   id = it.id;
   names = it.names;
   answered = it.answered;
   named = it.named;
-  chosen_name = is_selected filter answers it.binary test.test_name are it.holds;
+  chosen_name = (are.selects it.binary test.test_name).1 it.holds;
 }
 
-pub exactly_the_wanted : HasExactlyTheWanted
-exactly_the_wanted answer inputs plan filter (it, planned, built) in_force test =
+-- what the filters in force of a plan answer
+pub plan_answers : (answer : Binary → Answer) (inputs : Inputs) (it : Planned) (settings : RunSettings) (force : InForce) → Plans answer inputs (Ok it) → Settles inputs (Ok settings)
+    → AreInForce inputs settings.default_filter force → AreAnswersOf inputs.workspace force it.answers
+plan_answers answer inputs it settings force planned settles is =
     let parts = parts_of answer inputs it planned in
-    let are = answers_are inputs.workspace inputs.filterset filter it.answers in_force parts.chosen in
+    let same : it.settings ≡ settings = settled_once inputs (Ok it.settings) (Ok settings) parts.settings settles in
+    answers_are inputs settings.default_filter force it.answers is (subst (λ (s : RunSettings). IsChosen inputs s.default_filter (Ok it.answers)) same parts.chosen)
+
+pub exactly_the_wanted : HasExactlyTheWanted
+exactly_the_wanted answer inputs plan settings force (it, planned, built) settles is test =
+    let parts = parts_of answer inputs it planned in
+    let are = plan_answers answer inputs it settings force planned settles is in
     let listed = listed_in inputs it.answers in
     let instances : map (λ (t : PlanTest). t.instance) plan.tests ≡ built.selection.tests =
     ap (map (λ (t : PlanTest). t.instance)) built.tests ∙ instances_of it.settings built.selection.tests in (
       λ has.
-          wanted_of answer inputs filter it.answers test are
+          wanted_of answer inputs force it.answers test are
           (to_listed answer it.answers listed it.found parts.listed test
           (Contains-permutation built.selection.tests it.found.tests test (IsPermutation-sym it.found.tests built.selection.tests built.selected.tests)
           (subst (λ (tests : List OwnedTestInstanceId). Contains tests test) instances has))),
       λ wanted.
           subst (λ (tests : List OwnedTestInstanceId). Contains tests test) (sym instances)
           (Contains-permutation it.found.tests built.selection.tests test built.selected.tests
-          (from_listed answer it.answers listed it.found parts.listed test (of_wanted answer inputs filter it.answers test are wanted))),
+          (from_listed answer it.answers listed it.found parts.listed test (of_wanted answer inputs force it.answers test are wanted))),
     )

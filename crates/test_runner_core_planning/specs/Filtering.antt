@@ -1,23 +1,25 @@
--- The filter in force: the filterset, where one is given.
-use Rattle.std.specs.Prelude.{◌≡◌, ℕ, List, [], Option, None, Some, Result, Ok, Err, map}
-use Rattle.nextest_filtering_arguments.specs.declared.ban.FiltersetKind.TheVariants as filterset
+-- The filters in force: the filterset, where one is given, and the default filter of the chosen profile, unless it is left aside.
+use Rattle.std.specs.Prelude.{◌≡◌, ℕ, Bool, true, false, List, [], ◌∷◌, ◌++◌, All, Option, None, Some, Result, Ok, Err, codes, filter_map, map}
+use Rattle.nextest_filtering_arguments.specs.declared.ban.FiltersetKind.TheVariants as purpose
 use Rattle.nextest_filtering_compiling.specs.Accepting.{IsAccepted}
-use Rattle.nextest_filtering_compiling.specs.Compiling.{IsCompiled}
 use Rattle.nextest_filtering_compiling.specs.Context.{Context}
+use Rattle.nextest_filtering_compiling.specs.Trees.{TreeCanBeOn, TreeIsOn}
+use Rattle.nextest_filtering_filters.specs.Meaning.{Tells}
+use Rattle.nextest_filtering_filters.specs.Query as query
 use Rattle.nextest_filtering_filters.specs.declared.known_groups.KnownGroups.TheVariants as groups
-use Rattle.nextest_filtering_filters.specs.declared.leaf.FiltersetLeaf.{FiltersetLeaf}
-use Rattle.nextest_filtering_filters.specs.declared.leaf.FiltersetLeaf.TheVariants.{All}
-use Rattle.nextest_filtering_filters.specs.Formula.{Formula, leaf}
-use Rattle.nextest_filtering_graph.specs.Graph.{Graph}
-use Rattle.nextest_filtering_graph.specs.Making.{IsGraphOf}
-use Rattle.nextest_filtering_trees.specs.Tree.{Tree}
-use Rattle.test_runner_core_listing.specs.Answers.{Answers, AreAnswers}
+use Rattle.nextest_filtering_graph.specs.Graph.{Graph, ids, placed}
+use Rattle.nextest_filtering_trees.specs.Meaning.{MatchesName}
+use Rattle.nextest_filtering_trees.specs.Tree.{Matcher, Tree, everything, set}
+use Rattle.test_runner_core_inputs.specs.declared.inputs.Inputs.{Inputs}
+use Rattle.test_runner_core_listing.specs.Answers.{Answers, seen, seen_test}
 use Rattle.test_runner_core_workspace.specs.declared.record.Binary.{Binary}
 use Rattle.test_runner_core_workspace.specs.declared.record.Link.{Link}
 use Rattle.test_runner_core_workspace.specs.declared.record.Package.{Package}
 use Rattle.test_runner_core_workspace.specs.declared.record.WorkspaceRecord.{WorkspaceRecord}
 use Rattle.test_runner_core_planning.specs.declared.plan_fault.PlanFault.{PlanFault}
 use Rattle.test_runner_core_planning.specs.declared.plan_fault.PlanFault.TheVariants as refused
+
+-- ---- a workspace as filtersets take it
 
 -- packages by id and name, links by the ids of their ends, binaries by id and name
 abbrev pub pairs_of_packages : List Package → List (List ℕ × List ℕ)
@@ -29,47 +31,79 @@ pairs_of_links links = map (λ it. (it.from, it.to)) links
 abbrev pub pairs_of_binaries : List Binary → List (List ℕ × List ℕ)
 pairs_of_binaries binaries = map (λ it. (it.id, it.name)) binaries
 
--- the graph of a workspace, and a workspace as filtersets are compiled for it
-abbrev pub IsGraphOfWorkspace : WorkspaceRecord → Graph → Type 0
-IsGraphOfWorkspace workspace = IsGraphOf (pairs_of_packages workspace.packages) (pairs_of_links workspace.links)
+-- its packages, and its links by the places of their ends
+abbrev pub graph_of : WorkspaceRecord → Graph
+graph_of workspace = record {
+  packages = pairs_of_packages workspace.packages;
+  links = filter_map (placed (ids (pairs_of_packages workspace.packages))) (pairs_of_links workspace.links);
+}
 
-pub record IsContextOf (workspace : WorkspaceRecord) (cx : Context) : Type 0 where
-  pub graph : IsGraphOfWorkspace workspace cx.graph
-  pub binaries : cx.binaries ≡ pairs_of_binaries workspace.binaries
+abbrev pub context_of : WorkspaceRecord → Context
+context_of workspace = record { graph = graph_of workspace; binaries = pairs_of_binaries workspace.binaries }
+
+-- ---- which filters are in force
 
 -- the workspace accepts a text as a filterset that chooses tests, and it is this tree; no group is known but `@global`
-abbrev pub IsTaken : Context → List ℕ → Tree → Type 0
-IsTaken cx = IsAccepted cx filterset.Test (groups.Known [])
+abbrev pub IsTaken : WorkspaceRecord → List ℕ → Tree → Type 0
+IsTaken workspace = IsAccepted (context_of workspace) purpose.Test (groups.Known [])
 
--- the workspace accepts a text as a filterset, and it is compiled to this filter
-pub record IsFiltersetOf (workspace : WorkspaceRecord) (text : List ℕ) (filter : Formula FiltersetLeaf) : Type 0 where
-  pub cx : Context
-  pub context : IsContextOf workspace cx
-  pub tree : Tree
-  pub taken : IsTaken cx text tree
-  pub compiled : IsCompiled cx.graph tree filter
+-- the same as a default filter, which may ask for no group
+abbrev pub IsTakenAsDefault : WorkspaceRecord → List ℕ → Tree → Type 0
+IsTakenAsDefault workspace = IsAccepted (context_of workspace) purpose.DefaultFilter groups.Unavailable
 
--- the workspace accepts a text as no filterset
-pub record IsNoFilterset (workspace : WorkspaceRecord) (text : List ℕ) : Type 0 where
-  pub cx : Context
-  pub context : IsContextOf workspace cx
-  pub never : (tree : Tree) → IsTaken cx text tree → ⊥
+-- the default filter: that of the text which the chosen profile sets, and everything where none is set
+abbrev pub IsDefaultTree : WorkspaceRecord → Option (List ℕ) → Tree → Type 0
+IsDefaultTree workspace None tree = tree ≡ set everything
+IsDefaultTree workspace (Some text) tree = IsTakenAsDefault workspace text tree
 
--- what holds on every test; the default filter too, as long as none is read
-abbrev pub everything : Formula FiltersetLeaf
-everything = leaf All
+-- the filterset, where one is given
+abbrev pub AreOfFilterset : WorkspaceRecord → Option (List ℕ) → List Tree → Type 0
+AreOfFilterset workspace None trees = trees ≡ []
+AreOfFilterset workspace (Some text) trees = (tree : Tree) × IsTaken workspace text tree × (trees ≡ tree ∷ [])
 
--- the filter in force: the filterset, where one is given, else everything
-abbrev pub IsInForce : WorkspaceRecord → Option (List ℕ) → Formula FiltersetLeaf → Type 0
-IsInForce workspace None filter = filter ≡ everything
-IsInForce workspace (Some text) filter = IsFiltersetOf workspace text filter
+-- the default filter, unless it is left aside
+abbrev pub unless_ignored : {A : Type 0} → Bool → A → List A
+unless_ignored true default = []
+unless_ignored false default = default ∷ []
+
+-- the filters in force, and the default filter, which `default()` is
+pub record InForce : Type 0 where
+  pub filters : List Tree
+  pub default : Tree
+
+-- those of inputs whose chosen profile sets this text as its default filter
+pub record AreInForce (inputs : Inputs) (text : Option (List ℕ)) (it : InForce) : Type 0 where
+  pub default : IsDefaultTree inputs.workspace text it.default
+  pub chosen : List Tree
+  pub filterset : AreOfFilterset inputs.workspace inputs.filterset chosen
+  pub all : it.filters ≡ chosen ++ unless_ignored inputs.ignore_default_filter it.default
 
 -- a filterset is given, and the workspace doesn't accept it
 abbrev pub IsRefused : WorkspaceRecord → Option (List ℕ) → Type 0
 IsRefused workspace None = ⊥
-IsRefused workspace (Some text) = IsNoFilterset workspace text
+IsRefused workspace (Some text) = (tree : Tree) → IsTaken workspace text tree → ⊥
 
--- what the filter in force answers, or that it is refused
-abbrev pub IsChosen : WorkspaceRecord → Option (List ℕ) → Result Answers PlanFault → Type 0
-IsChosen workspace filterset (Ok answers) = (filter : Formula FiltersetLeaf) × IsInForce workspace filterset filter × AreAnswers filter everything answers
-IsChosen workspace filterset (Err refusal) = (refusal ≡ refused.Filterset) × IsRefused workspace filterset
+-- ---- what they answer
+
+-- the group of a test has a name that is matched: as long as no rule gives it another, that of every test is `@global`
+abbrev pub IsOfGroup : query.Test → Matcher → Type 0
+IsOfGroup test m = MatchesName m (codes "@global")
+
+-- each of them can hold on a binary, by answers of its own to what it asks of the binary's tests
+abbrev pub AllCanHold : WorkspaceRecord → InForce → Binary → Type 0
+AllCanHold workspace it binary = All (λ filter. TreeCanBeOn (graph_of workspace) filter it.default (seen binary) true) it.filters
+
+-- all of them hold on a test
+abbrev pub AllHold : WorkspaceRecord → InForce → Binary → List ℕ → Type 0
+AllHold workspace it binary name =
+    All (λ filter. TreeIsOn (graph_of workspace) filter it.default (seen_test binary name) (IsOfGroup (seen_test binary name)) true) it.filters
+
+-- they list the binaries on which each of them can hold, and select the tests on which all of them hold
+pub record AreAnswersOf (workspace : WorkspaceRecord) (it : InForce) (answers : Answers) : Type 0 where
+  pub lists : (binary : Binary) → Tells (AllCanHold workspace it binary) (answers.lists binary)
+  pub selects : (binary : Binary) (name : List ℕ) → Tells (AllHold workspace it binary name) (answers.selects binary name)
+
+-- what the filters in force answer, or that the filterset is refused
+abbrev pub IsChosen : Inputs → Option (List ℕ) → Result Answers PlanFault → Type 0
+IsChosen inputs text (Ok answers) = (it : InForce) × AreInForce inputs text it × AreAnswersOf inputs.workspace it answers
+IsChosen inputs text (Err refusal) = (refusal ≡ refused.Filterset) × IsRefused inputs.workspace inputs.filterset

@@ -1,45 +1,42 @@
 -- What holds of every plan.
-use Rattle.std.specs.Prelude.{◌≡◌, ◌≢◌, ◌↔◌, ℕ, true, List, map, Result, Ok}
+use Rattle.std.specs.Prelude.{◌≡◌, ◌≢◌, ◌↔◌, ℕ, List, map, Result, Ok, Err}
 use Rattle.std.specs.List.{AllPairs, Contains}
-use Rattle.nextest_filtering_filters.specs.Meaning.{CanBeOn, IsOn}
-use Rattle.nextest_filtering_filters.specs.declared.leaf.FiltersetLeaf.{FiltersetLeaf}
-use Rattle.nextest_filtering_filters.specs.Formula.{Formula}
 use Rattle.nextest_run_events_results.specs.declared.instance.OwnedTestInstanceId.{OwnedTestInstanceId}
 use Rattle.test_runner_core_inputs.specs.declared.inputs.Inputs.{Inputs}
-use Rattle.test_runner_core_listing.specs.Answers.{IsOfGroup, seen, seen_test}
 use Rattle.test_runner_core_plan.specs.declared.plan.Plan.{Plan}
 use Rattle.test_runner_core_plan.specs.declared.plan.PlanTest.{PlanTest}
 use Rattle.test_runner_core_settings.specs.Laws.{AgreeOnChain}
 use Rattle.test_runner_core_settings.specs.declared.configured.RunSettings.{RunSettings}
 use Rattle.test_runner_core_workspace.specs.Lister.{Answer}
 use Rattle.test_runner_core_workspace.specs.declared.record.Binary.{Binary}
-use Rattle.test_runner_core_planning.specs.Filtering.{IsInForce, everything}
+use Rattle.test_runner_core_planning.specs.Filtering.{AllCanHold, AllHold, AreInForce, InForce, context_of}
 use Rattle.test_runner_core_planning.specs.Plan.{Builds, Settles}
+use Rattle.test_runner_core_planning.specs.declared.plan_error.PlanError.TheVariants.{Refused}
 use Rattle.test_runner_core_planning.specs.declared.plan_fault.PlanFault.{PlanFault}
 
--- a test is wanted: a binary of the workspace has its binary's id and answered its name, and the filter in force holds on it
-pub record IsWanted (answer : Binary → Answer) (inputs : Inputs) (filter : Formula FiltersetLeaf) (test : OwnedTestInstanceId) : Type 0 where
+-- a test is wanted: a binary of the workspace has its binary's id and answered its name, and all filters in force hold on it
+pub record IsWanted (answer : Binary → Answer) (inputs : Inputs) (force : InForce) (test : OwnedTestInstanceId) : Type 0 where
   pub binary : Binary
   pub among : Contains inputs.workspace.binaries binary
   pub id : binary.id ≡ test.binary_id
   pub names : List (List ℕ)
   pub answered : answer binary ≡ Ok names
   pub named : Contains names test.test_name
-  pub holds : IsOn filter everything (seen_test binary test.test_name) IsOfGroup true
+  pub holds : AllHold inputs.workspace force binary test.test_name
 
 -- a plan has exactly the tests that are wanted
 abbrev pub HasExactlyTheWanted : Type 0
 HasExactlyTheWanted =
-    (answer : Binary → Answer) (inputs : Inputs) (plan : Plan) (filter : Formula FiltersetLeaf)
-    → Builds answer inputs (Ok plan) → IsInForce inputs.workspace inputs.filterset filter
-    → (test : OwnedTestInstanceId) → Contains (map (λ (t : PlanTest). t.instance) plan.tests) test ↔ IsWanted answer inputs filter test
+    (answer : Binary → Answer) (inputs : Inputs) (plan : Plan) (settings : RunSettings) (force : InForce)
+    → Builds answer inputs (Ok plan) → Settles inputs (Ok settings) → AreInForce inputs settings.default_filter force
+    → (test : OwnedTestInstanceId) → Contains (map (λ (t : PlanTest). t.instance) plan.tests) test ↔ IsWanted answer inputs force test
 
--- a plan lists exactly the binaries on which the filter in force can hold, by some answers to what it asks of their tests
+-- a plan lists exactly the binaries on which each filter in force can hold, by answers of its own to what it asks of their tests
 abbrev pub ListsExactly : Type 0
 ListsExactly =
-    (answer : Binary → Answer) (inputs : Inputs) (plan : Plan) (filter : Formula FiltersetLeaf)
-    → Builds answer inputs (Ok plan) → IsInForce inputs.workspace inputs.filterset filter
-    → (binary : Binary) → Contains inputs.workspace.binaries binary → Contains plan.listed binary.id ↔ CanBeOn filter everything (seen binary) true
+    (answer : Binary → Answer) (inputs : Inputs) (plan : Plan) (settings : RunSettings) (force : InForce)
+    → Builds answer inputs (Ok plan) → Settles inputs (Ok settings) → AreInForce inputs settings.default_filter force
+    → (binary : Binary) → Contains inputs.workspace.binaries binary → Contains plan.listed binary.id ↔ AllCanHold inputs.workspace force binary
 
 -- a plan has no test twice: no two of its tests have the same binary's id and the same name
 abbrev pub HasNoneTwice : Type 0
@@ -52,7 +49,8 @@ HasNoneTwice =
 pub record DifferOutside (inputs other : Inputs) : Type 0 where
   pub workspace : other.workspace ≡ inputs.workspace
   pub filterset : other.filterset ≡ inputs.filterset
-  pub chain : AgreeOnChain inputs other
+  pub ignored : other.ignore_default_filter ≡ inputs.ignore_default_filter
+  pub chain : AgreeOnChain (context_of inputs.workspace) inputs other
 
 -- profiles outside of the chosen one's chain change nothing of a plan, its warnings aside
 abbrev pub IsolatesPlans : Type 0
@@ -60,6 +58,15 @@ IsolatesPlans =
     (answer : Binary → Answer) (inputs other : Inputs) (one second : Plan) → DifferOutside inputs other
     → Builds answer inputs (Ok one) → Builds answer other (Ok second) → second ≡ record one { warnings = second.warnings }
 
--- inputs ask for settings, or there is a first reason before their filterset why they have no plan
+-- It can't be that inputs neither ask for settings nor have a first reason before their filterset why they have no plan. No law decides whether a
+-- text is a filterset, so it is said in this form.
 abbrev pub AsksForSome : Type 0
-AsksForSome = (inputs : Inputs) → (given : Result RunSettings PlanFault) × Settles inputs given
+AsksForSome = (inputs : Inputs) → ¬ ¬ ((given : Result RunSettings PlanFault) × Settles inputs given)
+
+-- inputs have at most one plan
+abbrev pub OnePlan : Type 0
+OnePlan = (answer : Binary → Answer) (inputs : Inputs) (one other : Plan) → Builds answer inputs (Ok one) → Builds answer inputs (Ok other) → one ≡ other
+
+-- and none where they are refused
+abbrev pub NotPlannedAndRefused : Type 0
+NotPlannedAndRefused = (answer : Binary → Answer) (inputs : Inputs) (plan : Plan) (refusal : PlanFault) → Builds answer inputs (Ok plan) → ¬ Builds answer inputs (Err (Refused refusal))

@@ -19,7 +19,7 @@ use Rattle.test_runner_core_workspace.specs.Workspace.{refusal_of}
 use Rattle.test_runner_core_workspace.specs.declared.record.Binary.{Binary}
 use Rattle.test_runner_core_workspace.specs.declared.record.WorkspaceRecord.{WorkspaceRecord}
 use Rattle.test_runner_core_workspace.specs.declared.workspace_fault.WorkspaceFault.{WorkspaceFault}
-use Rattle.test_runner_core_planning.specs.Filtering.{IsChosen}
+use Rattle.test_runner_core_planning.specs.Filtering.{IsChosen, context_of}
 use Rattle.test_runner_core_planning.specs.Refusals.{of_listing, of_pass, of_settings, of_workspace}
 use Rattle.test_runner_core_plan.specs.declared.plan.Plan.{Plan}
 use Rattle.test_runner_core_plan.specs.declared.plan.PlanTest.{PlanTest}
@@ -60,7 +60,7 @@ settled_by inputs (Err refusal) = Err (of_settings refusal)
 
 -- what comes behind the version pass
 abbrev pub SettlesBehind : Inputs → Result VersionPass PlanFault → Result RunSettings PlanFault → Type 0
-SettlesBehind inputs (Ok passed) given = (set : Result RunSettings SettingsFault) × Sets inputs set × (settled_by inputs set ≡ given)
+SettlesBehind inputs (Ok passed) given = (set : Result RunSettings SettingsFault) × Sets (context_of inputs.workspace) inputs set × (settled_by inputs set ≡ given)
 SettlesBehind inputs (Err refusal) given = given ≡ Err refusal
 
 -- the settings that inputs ask for, or the first reason before their filterset why they have no plan
@@ -94,7 +94,7 @@ pub record Planned : Type 0 where
 abbrev pub listed_in : Inputs → Answers → List Binary
 listed_in inputs answers = listed_of answers inputs.workspace.binaries
 
--- what is planned where the filter in force answers so, or its filterset is refused
+-- what is planned where the filters in force answer so, or the filterset is refused
 abbrev pub planned_by : (Binary → Answer) → Inputs → RunSettings → Result Answers PlanFault → Result Planned PlanFault
 planned_by answer inputs settings chosen = do
   answers ← chosen
@@ -104,14 +104,14 @@ planned_by answer inputs settings chosen = do
 -- with the settings that inputs ask for
 abbrev pub PlansWith : (Binary → Answer) → Inputs → Result RunSettings PlanFault → Result Planned PlanFault → Type 0
 PlansWith answer inputs (Ok settings) it =
-    (chosen : Result Answers PlanFault) × IsChosen inputs.workspace inputs.filterset chosen × (planned_by answer inputs settings chosen ≡ it)
+    (chosen : Result Answers PlanFault) × IsChosen inputs settings.default_filter chosen × (planned_by answer inputs settings chosen ≡ it)
 PlansWith answer inputs (Err refusal) it = it ≡ Err refusal
 
 -- inputs have this planned, or this is the first reason why they have no plan
 abbrev pub Plans : (Binary → Answer) → Inputs → Result Planned PlanFault → Type 0
 Plans answer inputs it = (settings : Result RunSettings PlanFault) × Settles inputs settings × PlansWith answer inputs settings it
 
--- the ids that the lister is asked for where the filter in force answers so: none where its filterset is refused
+-- the ids that the lister is asked for where the filters in force answer so: none where the filterset is refused
 abbrev pub asked_by : (Binary → Answer) → Inputs → Result Answers PlanFault → List (List ℕ)
 asked_by answer inputs (Ok answers) = asked_of answer (listed_in inputs answers)
 asked_by answer inputs (Err refusal) = []
@@ -160,10 +160,10 @@ lacks_memory (Err error.OutOfMemory) = true
 abbrev pub Asks : {A : Type 0} → Result A PlanError → List (List ℕ) → List (List ℕ) → List (List ℕ) → Type 0
 Asks result = AsksFor (lacks_memory result)
 
--- by those that the filter in force lists; by none where the inputs are refused before
+-- by those that the filters in force list; by none where the inputs are refused before
 abbrev pub AsksBehind : (Binary → Answer) → Inputs → Result RunSettings PlanFault → Bool → List (List ℕ) → List (List ℕ) → Type 0
 AsksBehind answer inputs (Ok settings) lacks old new =
-    (chosen : Result Answers PlanFault) → IsChosen inputs.workspace inputs.filterset chosen → AsksFor lacks old (asked_by answer inputs chosen) new
+    (chosen : Result Answers PlanFault) → IsChosen inputs settings.default_filter chosen → AsksFor lacks old (asked_by answer inputs chosen) new
 AsksBehind answer inputs (Err refusal) lacks old new = new ≡ old
 
 -- whichever settings the inputs have

@@ -14,6 +14,7 @@ name_of_load load.BadValue = codes "Load.BadValue"
 name_of_load load.InheritsInDefault = codes "Load.InheritsInDefault"
 name_of_load load.UnknownParent = codes "Load.UnknownParent"
 name_of_load load.Cycle = codes "Load.Cycle"
+name_of_load load.BadFilter = codes "Load.BadFilter"
 
 abbrev pub name_of : PlanFault → List ℕ
 name_of fault.RepeatedPackage = codes "RepeatedPackage"

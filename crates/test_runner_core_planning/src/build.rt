@@ -1,16 +1,20 @@
 // How a plan is built.
-ghost use Rattle.std.specs.Prelude.{◌≡◌, ◌<◌, ◌^◌, [], IfOk, map};
-ghost use Rattle.nextest_filtering_filters.specs.Filter.{filter_of};
-ghost use Rattle.test_runner_core_listing.specs.Answers.{Answers, AreAnswers};
+ghost use Rattle.std.specs.Prelude.{◌≡◌, ◌<◌, ◌^◌, [], IfOk, Ok, false, map};
+ghost use Rattle.std.specs.List.{list_any};
+ghost use Rattle.nextest_filtering_filters.specs.Filter.{is_default, is_group};
+ghost use Rattle.test_runner_core_listing.specs.Answers.{AnswerAs, Answers};
 ghost use Rattle.test_runner_core_listing.specs.Listing.{asked_of, listing};
 ghost use Rattle.nextest_config_elements_counts.specs.Retries.{count_of};
-ghost use Rattle.test_runner_core_planning.specs.Filtering.{everything};
+ghost use Rattle.test_runner_core_planning.specs.Filtering.{IsChosen, IsOfGroup};
+ghost use Rattle.test_runner_core_planning.specs.Inside.{IsWanted, in_force};
 ghost use Rattle.test_runner_core_planning.specs.Plan as words;
 ghost use Rattle.test_runner_core_workspace.specs.declared.record.Binary.{Binary};
 
+use crate::filtering::filters_in_force;
+use crate::groups::AllGlobal;
 use crate::plan_error::PlanError;
 use crate::plan_fault::PlanFault;
-use crate::wanted::{Wanted, wanted_in};
+use crate::wanted::{Settled, Wanted, settle, wanted_in};
 use nextest_filtering_filters::{CompiledExpr, EvalContext};
 use nextest_run_events_results::OwnedTestInstanceId;
 use nextest_text::{Listing, Text};
@@ -45,34 +49,57 @@ fn plan_in<L: Lister>(alloc: Global, inputs: &Inputs, lister: &mut L) -> Result<
     ensures stays { (other : Binary) → L.answer lister.new other ≡ L.answer lister.old other }
     ensures asks { words.AsksWith (L.answer lister.old) inputs.now (words.lacks_memory result) (L.asked lister.old) (L.asked lister.new) }
 {
-    let wanted = wanted_in(alloc, inputs)?;
-    let selection = selection_by(alloc, inputs, &wanted.filter, lister)?;
+    let Settled {
+        config,
+        warnings,
+        cx,
+    } = settle(alloc, inputs)?;
+    let wanted = wanted_in(alloc, inputs, &config, &cx)?;
+    let selection = selection_by(alloc, inputs, &wanted, lister)?;
     if has_too_many(&wanted.settings, selection.tests.as_slice()) {
         return Err(PlanError::Refused(PlanFault::RetriesTooMany));
     }
-    let Wanted {
-        settings,
-        filter: _,
-        warnings,
-    } = wanted;
-    Ok(plan_of(alloc, &settings, selection, warnings)?)
+    Ok(plan_of(alloc, &wanted.settings, selection, warnings)?)
 }
 
-// What the filter in force selects, where the default filter holds on every test.
+// What the filters in force select.
 fn selection_by<L: Lister>(
     alloc: Global,
     inputs: &Inputs,
-    filter: &CompiledExpr,
+    wanted: &Wanted<'_>,
     lister: &mut L,
 ) -> Result<Selection, PlanError>
-    ensures selects { (chosen : Answers) → AreAnswers (filter_of filter.now) everything chosen → words.Selected result (listing (L.answer lister.old) chosen (words.listed_in inputs.now chosen)) (words.listed_in inputs.now chosen) }
+    requires { IsWanted inputs.now (Ok wanted.now) }
+    ensures selects { (chosen : Answers) → IsChosen inputs.now wanted.now.settings.default_filter (Ok chosen) → words.Selected result (listing (L.answer lister.old) chosen (words.listed_in inputs.now chosen)) (words.listed_in inputs.now chosen) }
     ensures stays { (other : Binary) → L.answer lister.new other ≡ L.answer lister.old other }
-    ensures asks { (chosen : Answers) → AreAnswers (filter_of filter.now) everything chosen → words.Asks result (L.asked lister.old) (asked_of (L.answer lister.old) (words.listed_in inputs.now chosen)) (L.asked lister.new) }
+    ensures asks { (chosen : Answers) → IsChosen inputs.now wanted.now.settings.default_filter (Ok chosen) → words.Asks result (L.asked lister.old) (asked_of (L.answer lister.old) (words.listed_in inputs.now chosen)) (L.asked lister.new) }
 {
-    let all = CompiledExpr::all(alloc)?;
-    let ecx = EvalContext::new(&all);
+    match &wanted.default_filter {
+        Some(it) => select_beside(alloc, inputs, wanted, &it.filter.compiled, lister),
+        None => select_beside(alloc, inputs, wanted, &CompiledExpr::all(alloc)?, lister),
+    }
+}
+
+// What they select, where this is the default filter.
+fn select_beside<L: Lister>(
+    alloc: Global,
+    inputs: &Inputs,
+    wanted: &Wanted<'_>,
+    default: &CompiledExpr,
+    lister: &mut L,
+) -> Result<Selection, PlanError>
+    requires no_default { list_any is_default default.now.leaves ≡ false }
+    requires no_group { list_any is_group default.now.leaves ≡ false }
+    ensures selects { (chosen : Answers) → AnswerAs (in_force wanted.now.filterset inputs.now.ignore_default_filter default.now) default.now IsOfGroup chosen → words.Selected result (listing (L.answer lister.old) chosen (words.listed_in inputs.now chosen)) (words.listed_in inputs.now chosen) }
+    ensures stays { (other : Binary) → L.answer lister.new other ≡ L.answer lister.old other }
+    ensures asks { (chosen : Answers) → AnswerAs (in_force wanted.now.filterset inputs.now.ignore_default_filter default.now) default.now IsOfGroup chosen → words.Asks result (L.asked lister.old) (asked_of (L.answer lister.old) (words.listed_in inputs.now chosen)) (L.asked lister.new) }
+{
+    let filterset = wanted.filterset.as_ref();
+    let filters = filters_in_force(alloc, filterset, default, inputs.ignore_default_filter)?;
+    let ecx = EvalContext::new(default);
+    let groups = AllGlobal { alloc };
     let binaries = inputs.workspace.binaries.as_slice();
-    Ok(select(alloc, binaries, filter, &ecx, lister)?)
+    Ok(select(alloc, binaries, filters.as_slice(), &ecx, &groups, lister)?)
 }
 
 // Whether a selected test has more retries than can be counted with its first attempt.

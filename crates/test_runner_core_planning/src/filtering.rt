@@ -1,8 +1,10 @@
-// The filter in force.
+// The filters in force.
 ghost use Rattle.std.specs.Prelude.{◌≡◌, IfOk};
+ghost use Rattle.std.specs.Option.{option_copied};
 ghost use Rattle.nextest_filtering_graph.specs.Making.{lent};
+ghost use Rattle.test_runner_core_listing.specs.Answers.{lent as lent_filters};
 ghost use Rattle.test_runner_core_planning.specs.Filtering as words;
-ghost use Rattle.test_runner_core_planning.specs.Inside.{GivesInForce};
+ghost use Rattle.test_runner_core_planning.specs.Inside.{GivesFilterset, in_force};
 ghost use Rattle.test_runner_core_workspace.specs.Workspace.{refusal_of};
 
 use crate::plan_error::PlanError;
@@ -54,7 +56,7 @@ fn binary_pairs(alloc: Global, binaries: &[Binary]) -> Result<Vec<(Text, Text)>,
 // The graph of a workspace that isn't refused.
 fn graph_of(alloc: Global, workspace: &WorkspaceRecord) -> Result<PackageGraph, AllocError>
     requires { refusal_of workspace.now ≡ None }
-    ensures { IfOk result (words.IsGraphOfWorkspace workspace.now) }
+    ensures { IfOk result (λ graph. graph ≡ words.graph_of workspace.now) }
 {
     let packages = package_pairs(alloc, workspace.packages.as_slice())?;
     let links = link_pairs(alloc, workspace.links.as_slice())?;
@@ -71,7 +73,7 @@ pub(crate) fn context_of(
     workspace: &WorkspaceRecord,
 ) -> Result<ParseContext, AllocError>
     requires { refusal_of workspace.now ≡ None }
-    ensures { IfOk result (words.IsContextOf workspace.now) }
+    ensures { IfOk result (λ cx. cx ≡ words.context_of workspace.now) }
 {
     let graph = graph_of(alloc, workspace)?;
     let binaries = binary_pairs(alloc, workspace.binaries.as_slice())?;
@@ -84,9 +86,9 @@ fn parsed(
     workspace: &WorkspaceRecord,
     cx: &ParseContext,
     text: &Text,
-) -> Result<CompiledExpr, PlanError>
-    requires { words.IsContextOf workspace.now cx.now }
-    ensures { GivesInForce workspace.now (Some text.now) result }
+) -> Result<Option<CompiledExpr>, PlanError>
+    requires { cx.now ≡ words.context_of workspace.now }
+    ensures { GivesFilterset workspace.now (Some text.now) result }
 {
     let known = KnownGroups::Known(Listing::new(alloc));
     match Filterset::parse(alloc, text.clone()?, cx, FiltersetKind::Test, &known) {
@@ -96,24 +98,43 @@ fn parsed(
                 parsed: _,
                 compiled,
             },
-        ) => Ok(compiled),
+        ) => Ok(Some(compiled)),
         Err(FiltersetError::Refused(_)) => Err(PlanError::Refused(PlanFault::Filterset)),
         Err(FiltersetError::OutOfMemory) => Err(PlanError::OutOfMemory),
     }
 }
 
-// The filter in force: the filterset, where one is given, else what holds on every test.
-pub(crate) fn filter_in(
+// The filterset, where one is given, as it is compiled.
+pub(crate) fn filterset_in(
     alloc: Global,
     workspace: &WorkspaceRecord,
     cx: &ParseContext,
     filterset: &Option<Text>,
-) -> Result<CompiledExpr, PlanError>
-    requires { words.IsContextOf workspace.now cx.now }
-    ensures { GivesInForce workspace.now filterset.now result }
+) -> Result<Option<CompiledExpr>, PlanError>
+    requires { cx.now ≡ words.context_of workspace.now }
+    ensures { GivesFilterset workspace.now filterset.now result }
 {
     match filterset {
         Some(text) => parsed(alloc, workspace, cx, text),
-        None => Ok(CompiledExpr::all(alloc)?),
+        None => Ok(None),
     }
+}
+
+// The filters in force: the filterset, where one is given, and the default filter, unless it is left aside.
+pub(crate) fn filters_in_force<'f>(
+    alloc: Global,
+    filterset: Option<&'f CompiledExpr>,
+    default: &'f CompiledExpr,
+    is_ignored: bool,
+) -> Result<Vec<&'f CompiledExpr>, AllocError>
+    ensures { IfOk result (λ filters. lent_filters filters.items ≡ in_force (option_copied filterset.entry) is_ignored default.now) }
+{
+    let mut filters = Vec::new(alloc);
+    if let Some(filterset) = filterset {
+        filters.push(filterset)?;
+    }
+    if !is_ignored {
+        filters.push(default)?;
+    }
+    Ok(filters)
 }

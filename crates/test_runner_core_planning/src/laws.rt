@@ -1,12 +1,22 @@
 //! What holds of every plan that is built. Each function does nothing, and its contract is the law.
-ghost use Rattle.test_runner_core_planning.specs.Laws.{AsksForSome, HasExactlyTheWanted, HasNoneTwice, IsolatesPlans, ListsExactly};
+ghost use Rattle.test_runner_core_planning.specs.Laws.{AsksForSome, HasExactlyTheWanted, HasNoneTwice, IsolatesPlans, ListsExactly, NotPlannedAndRefused, OnePlan};
 
-/// A test is selected exactly if a binary of the workspace answers its name and the filter in force holds on it.
+/// Inputs have at most one plan.
+pub fn one_plan()
+    ensures { OnePlan }
+{}
+
+/// Inputs that have a plan aren't refused.
+pub fn not_planned_and_refused()
+    ensures { NotPlannedAndRefused }
+{}
+
+/// A test is selected exactly if a binary of the workspace answers its name and all filters in force hold on it.
 pub fn selected()
     ensures { HasExactlyTheWanted }
 {}
 
-/// A binary is listed exactly if the filter in force can hold on it, by some answers to what it asks of the binary's tests.
+/// A binary is listed exactly if each filter in force can hold on it, by answers of its own to what it asks of the binary's tests.
 pub fn listed()
     ensures { ListsExactly }
 {}
@@ -22,7 +32,8 @@ pub fn isolated()
     ensures plan { IsolatesPlans }
 {}
 
-/// All inputs ask for settings, or there is a first reason, before their filterset is looked at, why they have no plan.
+/// It can't be that inputs neither ask for settings nor have a first reason, before their filterset is looked at, why they have no
+/// plan.
 pub fn some_settings()
     ensures { AsksForSome }
 {}

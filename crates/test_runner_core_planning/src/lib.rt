@@ -3,6 +3,7 @@
 
 mod build;
 mod filtering;
+mod groups;
 pub mod laws;
 mod plan_error;
 mod plan_fault;

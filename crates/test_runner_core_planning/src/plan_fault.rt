@@ -149,6 +149,7 @@ fn load_name(kind: LoadKind) -> &'static str
         LoadKind::InheritsInDefault => "Load.InheritsInDefault",
         LoadKind::UnknownParent => "Load.UnknownParent",
         LoadKind::Cycle => "Load.Cycle",
+        LoadKind::BadFilter => "Load.BadFilter",
     }
 }
 

@@ -1,32 +1,36 @@
 // What inputs ask for.
 ghost use Rattle.std.specs.Prelude.{◌≡◌, ◌++◌, IfOk};
-ghost use Rattle.test_runner_core_planning.specs.Inside.{AreSettled, IsWanted};
+ghost use Rattle.test_runner_core_planning.specs.Filtering as filtering;
+ghost use Rattle.test_runner_core_planning.specs.Inside.{AreSettled, IsConfigured, IsWanted};
 ghost use Rattle.test_runner_core_planning.specs.Plan as words;
 
-use crate::filtering::{context_of, filter_in};
+use crate::filtering::{context_of, filterset_in};
 use crate::plan_error::PlanError;
 use crate::plan_fault::PlanFault;
-use nextest_filtering_compiling::ParseContext;
+use nextest_config_resolution_profiles::CompiledDefaultFilter;
+use nextest_filtering_compiling::{Filterset, ParseContext};
 use nextest_filtering_filters::CompiledExpr;
 use nextest_text::{Listing, Text};
 use std::alloc::{AllocError, Global};
 use test_runner_core_inputs::Inputs;
 use test_runner_core_settings::{
-    ConfiguredRun, RunSettings, VersionPass, run_settings, version_pass,
+    ChosenRun, ConfiguredRun, RunConfig, RunSettings, VersionPass, configure, run_settings,
+    version_pass,
 };
 
-// What inputs ask for.
+// What inputs ask for, with their default filter lent.
 #[derive(Drop)]
-pub(crate) struct Wanted {
+pub(crate) struct Wanted<'c> {
     pub(crate) settings: RunSettings,
-    pub(crate) filter: CompiledExpr,
-    pub(crate) warnings: Listing<Text>,
+    pub(crate) filterset: Option<CompiledExpr>,
+    pub(crate) default_filter: Option<CompiledDefaultFilter<'c, Filterset>>,
 }
 
-// The settings that inputs ask for, with all warnings, and their workspace as filtersets are compiled for it.
+// The configuration of inputs, with all warnings, and their workspace as filtersets are compiled for it.
 #[derive(Drop)]
 pub(crate) struct Settled {
-    pub(crate) run: ConfiguredRun,
+    pub(crate) config: RunConfig,
+    pub(crate) warnings: Listing<Text>,
     pub(crate) cx: ParseContext,
 }
 
@@ -37,38 +41,21 @@ fn asks_for_more(inputs: &Inputs) -> bool
     !inputs.host.triple.is_empty() || !inputs.host.facts.is_empty() || inputs.target.is_some()
 }
 
-// The settings that inputs ask for, with all warnings and their workspace as filtersets are compiled for it, unless they are
-// refused before their filterset is looked at.
-fn settle(alloc: Global, inputs: &Inputs) -> Result<Settled, PlanError>
+// The configuration of inputs, unless they are refused before their profile is looked for.
+pub(crate) fn settle(alloc: Global, inputs: &Inputs) -> Result<Settled, PlanError>
     ensures { AreSettled inputs.now result }
 {
     inputs.workspace.check(alloc)?;
-    let passed = version_pass(alloc, inputs)?;
+    let VersionPass { warnings } = version_pass(alloc, inputs)?;
     let cx = context_of(alloc, &inputs.workspace)?;
-    let configured = run_settings(alloc, &cx, inputs)?;
-    if asks_for_more(inputs) {
-        return Err(PlanError::Refused(PlanFault::NotYet));
-    }
-    let run = with_warnings(passed, configured)?;
-    Ok(Settled { run, cx })
-}
-
-// What a configuration sets, with the warnings of the version in front of its own.
-fn with_warnings(
-    passed: VersionPass,
-    configured: ConfiguredRun,
-) -> Result<ConfiguredRun, AllocError>
-    ensures settings { IfOk result (λ it. it.settings ≡ configured.settings) }
-    ensures warnings { IfOk result (λ it. it.warnings ≡ passed.warnings ++ configured.warnings) }
-{
-    let VersionPass { warnings } = passed;
     let ConfiguredRun {
-        settings,
+        config,
         warnings: more,
-    } = configured;
-    Ok(ConfiguredRun {
-        settings,
+    } = configure(alloc, &cx, inputs)?;
+    Ok(Settled {
+        config,
         warnings: joined(warnings, more)?,
+        cx,
     })
 }
 
@@ -83,16 +70,28 @@ fn joined(first: Listing<Text>, more: Listing<Text>) -> Result<Listing<Text>, Al
     Ok(all)
 }
 
-// What inputs ask for.
-pub(crate) fn wanted_in(alloc: Global, inputs: &Inputs) -> Result<Wanted, PlanError>
+// What inputs ask for that have this configuration, and whose workspace is `cx` to filtersets.
+pub(crate) fn wanted_in<'c>(
+    alloc: Global,
+    inputs: &Inputs,
+    config: &'c RunConfig,
+    cx: &ParseContext,
+) -> Result<Wanted<'c>, PlanError>
+    requires configured { IsConfigured inputs.now config.now }
+    requires context { cx.now ≡ filtering.context_of inputs.now.workspace }
     ensures { IsWanted inputs.now result }
 {
-    let Settled { run, cx } = settle(alloc, inputs)?;
-    let filter = filter_in(alloc, &inputs.workspace, &cx, &inputs.filterset)?;
-    let ConfiguredRun { settings, warnings } = run;
+    let ChosenRun {
+        settings,
+        default_filter,
+    } = run_settings(alloc, config, inputs)?;
+    if asks_for_more(inputs) {
+        return Err(PlanError::Refused(PlanFault::NotYet));
+    }
+    let filterset = filterset_in(alloc, &inputs.workspace, cx, &inputs.filterset)?;
     Ok(Wanted {
         settings,
-        filter,
-        warnings,
+        filterset,
+        default_filter,
     })
 }
