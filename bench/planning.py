@@ -8,7 +8,8 @@ inputs, the least of seven of each, in turns: one whose filterset is refused (`a
 more, and one whose tests are listed, selected and sorted, and then refused for too many retries, so that no session is made and nothing is
 reported. Beside the filterset below (or the one that is given) it times none, and filtersets made to be hostile: each has to take time in
 proportion to the names' bytes. A filterset that selects no test isn't refused so: it has to select one. Names rise, as a test harness lists
-them, but for one row.
+them, but for one row. In one row a default filter of as many predicates is in force beside the filterset; the last line is how much longer that
+takes than the filterset alone.
 """
 import json
 import pathlib
@@ -18,6 +19,7 @@ import time
 
 PROGRAM = pathlib.Path(__file__).resolve().parent.parent / "crates/test_runner/out/test_runner"
 BINARIES, TESTS, TIMES = 300, 1_000, 7
+DEFAULT = r"(test(~e) | test(/r\d*$/)) & !test(#*reader*{_d\,_e}) & (package(p*) | rdeps(=q))"
 FILTERSET = r"(test(~a) | test(/x\d+$/)) & !test(#*slow*{_b\,_c}) & (package(p*) | deps(=q))"
 HOSTILE = {
     "glob *a*a*a*a*b": "all() | test(#*a*a*a*a*b)",
@@ -32,7 +34,7 @@ def name(at):
     return f"module_{at // 40}::{word}::case_{at:04}{tail}"
 
 
-def inputs(filterset, in_order=True):
+def inputs(filterset, default, in_order=True):
     packages = [f"p{at}" for at in range(30)] + ["q"] + [f"r{at}" for at in range(30)]
     links = [["q", f"r{at}"] for at in range(15)]
     names = [name(at) for at in range(TESTS)]
@@ -43,7 +45,8 @@ def inputs(filterset, in_order=True):
         for at in range(BINARIES)
     ]
     workspace = {"packages": [{"id": it, "name": it} for it in packages], "links": links, "binaries": binaries}
-    sources = [{"kind": "explicit", "path": "nextest.toml", "text": "[profile.default]\nretries = 4294967295"}]
+    text = "[profile.default]\nretries = 4294967295\n" + (f"default-filter = '{default}'\n" if default else "")
+    sources = [{"kind": "explicit", "path": "nextest.toml", "text": text}]
     whole = {"workspace": workspace, "sources": sources, "current_version": "0.9.100"}
     if filterset is not None:
         whole["filterset"] = filterset
@@ -61,18 +64,21 @@ def seconds(given, refused):
 
 def main():
     chosen = sys.argv[1] if len(sys.argv) > 1 else FILTERSET
-    rows = [("no filterset", None, True), ("filterset", chosen, True), ("filterset, names in no order", chosen, False)]
-    rows += [(words, filterset, True) for words, filterset in HOSTILE.items()]
+    rows = [("no filterset", None, None, True), ("filterset", chosen, None, True), ("filterset and default filter", chosen, DEFAULT, True)]
+    rows += [("filterset, names in no order", chosen, None, False), *((words, filterset, None, True) for words, filterset in HOSTILE.items())]
+    plans = {}
     print(f"{'':40}{'read':>8}{'plan':>8}{'tests a second':>18}")
-    for words, filterset, in_order in rows:
+    for words, filterset, default, in_order in rows:
         length = len(filterset or "")
-        given, refused = inputs(filterset, in_order), inputs("all" + " " * max(length - 3, 1), in_order)
+        given, refused = inputs(filterset, default, in_order), inputs("all" + " " * max(length - 3, 1), default, in_order)
         reads, wholes = [], []
         for _ in range(TIMES):
             reads.append(seconds(refused, "Filterset"))
             wholes.append(seconds(given, "RetriesTooMany"))
         read, plan = min(reads), min(wholes) - min(reads)
+        plans[words] = plan
         print(f"{words:40}{read:8.3f}{plan:8.3f}{BINARIES * TESTS / plan:18,.0f}")
+    print(f"both filters in force over the filterset alone: {plans['filterset and default filter'] / plans['filterset']:.2f}")
 
 
 if __name__ == "__main__":

@@ -244,6 +244,12 @@ def accepted(profiles):
             raise Refusal(f"Cycle profile `{name}` inherits without end: its parents go in a cycle")
 
 
+def filtered(profiles):
+    for name in in_order(profiles):
+        if profiles[name].get("default-filter") == "":
+            raise Refusal(f"BadFilter in profile `{name}`, `default-filter` is no filter here: ``")
+
+
 def load(sources):
     tree = tomllib.loads(BUILT_IN)
     for file in [file_of(source) for source in counted(sources)]:
@@ -253,6 +259,7 @@ def load(sources):
     except Bad as bad:
         raise Refusal(f"BadValue in all configuration files together: {bad}") from None
     accepted(config["profile"])
+    filtered(config["profile"])
     return config
 
 
@@ -650,8 +657,28 @@ def drawn_rows(seeds, wrong=60):
         yield choose.choice(["default", "default-miri", "a", "b", "a"]), ",".join(["profiles", "parents", *keys]), sources
 
 
+def filter_rows():
+    """Default filters without a language, of which the empty text is none."""
+    none, some = 'default-filter = ""\n', 'default-filter = "x"\n'
+    for text in (
+        f"[profile.default]\n{none}",
+        f"[profile.z]\n{none}",
+        f"[profile.z]\n{none}[profile.b]\n{none}[profile.c]\n{some}",
+        f"[profile.z]\n{none}inherits = 'q'\n",
+        f"[profile.a]\n{none}[profile.z]\ninherits = 'z'\n",
+        f"[profile.a]\n{none}[profile.default-z]\ninherits = 'a'\n",
+        f"[profile.a]\n{none}retries = -1\n",
+    ):
+        yield "default", "default-filter", [repository(text)]
+    for high, low in ((some, none), (none, some), (none, none), ("", none), ("retries = 1\n", none)):
+        for name in ("default", "z"):
+            yield name, "default-filter", [repository(f"[profile.{name}]\n{high}"), tool("t", f"[profile.{name}]\n{low}")]
+    yield "x", "default-filter,parents", [repository(f"[profile.x]\ninherits = 'y'\n[profile.y]\n{some}")]
+    yield "x", "default-filter,parents", [repository(f"[profile.x]\ninherits = 'y'\n[profile.y]\n{none}[profile.default]\n{some}")]
+
+
 def load_rows():
-    for rows in (source_rows, value_rows, merge_rows, chain_rows):
+    for rows in (source_rows, value_rows, merge_rows, chain_rows, filter_rows):
         yield from rows()
     yield "default", "profiles", [tool("t", "experimental = ['setup-scripts', 'zzz']")]
     yield from drawn_rows(range(200))

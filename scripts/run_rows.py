@@ -84,11 +84,11 @@ def versions_told(sources, inputs):
 
 def is_taken(file):
     profiles = file.get("profile", {}).values()
-    return not {"test-groups", "script", "scripts"} & set(file) and not any({"default-filter", "overrides", "scripts"} & set(it) for it in profiles)
+    return not {"test-groups", "script", "scripts"} & set(file) and not any({"overrides", "scripts"} & set(it) for it in profiles)
 
 
 def plan_of(inputs):
-    """The warnings and the settings of the chosen profile, by their keys."""
+    """The warnings, the settings of the chosen profile by their keys, and the tests to run."""
     told = [as_told(source) for source in inputs["sources"]]
     counted = configs.counted(told)
     warnings = versions_told(counted, inputs)
@@ -96,6 +96,8 @@ def plan_of(inputs):
         config = configs.load(told)
     except configs.Refusal as refusal:
         raise Refused(f"Load.{str(refusal).split(' ')[0]}") from None
+    if not all(it.get("default-filter", "all()") in ("all()", "none()") for it in config["profile"].values()):
+        raise Refused("Load.BadFilter")
     texts = [(path, text.removeprefix("text ")) for _, path, text in counted if text.startswith("text ")]
     if not all(is_taken(tomllib.loads(text)) for _, text in texts):
         raise Refused("NotYet")
@@ -109,18 +111,20 @@ def plan_of(inputs):
     keys = "retries flaky-result fail-fast status-level final-status-level success-output failure-output".split()
     settings = {key: configs.setting(config, name, key) for key in keys}
     settings["retries"] = int(re.search("count: ([0-9]+)", settings["retries"])[1])
-    if settings["retries"] == 2**32 - 1 and any(binary["tests"] for binary in inputs["workspace"]["binaries"]):
+    everything = inputs.get("ignore_default_filter") or configs.setting(config, name, "default-filter") == "all()"
+    tests = [(it["id"], test) for it in inputs["workspace"]["binaries"] if everything for test in it["tests"]]
+    if settings["retries"] == 2**32 - 1 and tests:
         raise Refused("RetriesTooMany")
-    return warnings, settings
+    return warnings, settings, tests
 
 
 def plan_answer(inputs):
     try:
-        warnings, settings = plan_of(inputs)
+        warnings, settings, wanted = plan_of(inputs)
     except Refused as refusal:
         return str(refusal)
     words = "x{retries} {flaky-result} {success-output} {failure-output}".format_map({**settings, "retries": settings["retries"] + 1})
-    tests = "".join(f" [{it['id']} {name} {words}]" for it in inputs["workspace"]["binaries"] for name in it["tests"])
+    tests = "".join(f" [{id} {name} {words}]" for id, name in wanted)
     told = "".join(f" [{line}]" for line in warnings)
     return f"run{tests}; limit {settings['fail-fast']}; levels {settings['status-level']} {settings['final-status-level']}; warnings{told}"
 
@@ -278,10 +282,10 @@ def run_answer(stream):
     first, *log = stream.split("\n")
     inputs = json.loads(first)
     try:
-        warnings, settings = plan_of(inputs)
+        warnings, settings, wanted = plan_of(inputs)
     except Refused as refusal:
         return f"refused\t{refusal}\n(status {92 if str(refusal) == 'VersionError' else 96})\n"
-    run = Run(inputs["workspace"]["binaries"][0]["tests"], settings)
+    run = Run([name for _, name in wanted], settings)
     lines = [f"warning\t{warning}" for warning in warnings]
     for number, line in enumerate(log, 1):
         try:

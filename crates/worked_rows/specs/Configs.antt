@@ -13,21 +13,21 @@ use Rattle.nextest_config_resolution_settings.specs.declared.source.SettingSourc
 use Rattle.nextest_config_resolution_sources.specs.declared.source.ConfigSource.{ConfigSource}
 use Rattle.nextest_config_resolution_values.specs.declared.profile_config.ProfileConfig.{ProfileConfig}
 
--- how a profile's failing tests are tried again, and where that is taken from
-pub record HasRetries (sources : List ConfigSource) (name : List ℕ) (it : RetryPolicy × SettingSource) : Type 0 where
-  pub config : Whole
-  pub loaded : IsConfig [] sources (Ok config)
+-- how a profile's failing tests are tried again, and where that is taken from, where a text is a default filter by `Is`
+pub record HasRetries {F : Type 0} (Is : List ℕ → F → Type 0) (IsTooDeep : List ℕ → Type 0) (sources : List ConfigSource) (name : List ℕ) (it : RetryPolicy × SettingSource) : Type 0 where
+  pub config : Whole F
+  pub loaded : IsConfig Is IsTooDeep [] sources (Ok config)
   pub chain : List ProfileConfig
   pub chained : IsChainOf (profiles_of config) name chain
   pub retries : IsTracked keeps_all key.retries chain fallback.retries it
 
 -- no profile of what the sources come to has a name
-pub record HasNoProfile (sources : List ConfigSource) (name : List ℕ) : Type 0 where
-  pub config : Whole
-  pub loaded : IsConfig [] sources (Ok config)
+pub record HasNoProfile {F : Type 0} (Is : List ℕ → F → Type 0) (IsTooDeep : List ℕ → Type 0) (sources : List ConfigSource) (name : List ℕ) : Type 0 where
+  pub config : Whole F
+  pub loaded : IsConfig Is IsTooDeep [] sources (Ok config)
   pub unknown : ¬ Contains (names_of config) name
 
 -- what there is to tell of a profile's retries: nothing where the sources are refused, or no profile has the name
-abbrev pub AreRetriesOf : List ConfigSource → List ℕ → Option (RetryPolicy × SettingSource) → Type 0
-AreRetriesOf sources name None = ((fault : LoadFault) × IsConfig [] sources (Err (Refused fault))) ⊎ HasNoProfile sources name
-AreRetriesOf sources name (Some it) = HasRetries sources name it
+abbrev pub AreRetriesOf : {F : Type 0} → (List ℕ → F → Type 0) → (List ℕ → Type 0) → List ConfigSource → List ℕ → Option (RetryPolicy × SettingSource) → Type 0
+AreRetriesOf Is IsTooDeep sources name None = ((fault : LoadFault) × IsConfig Is IsTooDeep [] sources (Err (Refused fault))) ⊎ HasNoProfile Is IsTooDeep sources name
+AreRetriesOf Is IsTooDeep sources name (Some it) = HasRetries Is IsTooDeep sources name it

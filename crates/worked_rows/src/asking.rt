@@ -2,6 +2,7 @@
 ghost use Rattle.std.specs.Prelude.{◌≡◌, IfOk};
 ghost use Rattle.nextest_filtering_arguments.specs.declared.ban.FiltersetKind.TheVariants as purpose;
 ghost use Rattle.nextest_filtering_filters.specs.Query.{test_of};
+ghost use Rattle.nextest_config_resolution_profiles.specs.Config.{IsDefaultIn};
 ghost use Rattle.worked_rows.specs.Configs.{AreRetriesOf};
 
 use crate::configs::{BAR, sources_of};
@@ -73,7 +74,7 @@ fn retries_of<F: Filters, S: Specs>(
     name: &str,
     platforms: &BuildPlatforms<'_, S::Facts>,
 ) -> Result<Option<(RetryPolicy, SettingSource)>, AllocError>
-    ensures { IfOk result (AreRetriesOf sources.now name.now) }
+    ensures { IfOk result (AreRetriesOf (IsDefaultIn F.is_parsed cx.now) F.is_too_deep sources.now name.now) }
 {
     let config = match NextestConfig::<F, S>::from_sources(alloc, "", cx, sources) {
         Ok(config) => config,

@@ -1,9 +1,10 @@
 // What sources of configurations come to, and what is told of a file.
 use crate::parts::{joined, push_part};
+use crate::plain_filter::PlainFilter;
 use crate::settings::setting;
 use nextest_config_resolution::{
-    ConfigSource, ConfigSourceKind, ConfigSourceOutcome, DefaultConfigWarnings, EvaluatableProfile,
-    LoadError, LoadFault, LoadedConfig, NamedProfile, ProfileConfig, ToolName, built_in, load,
+    ConfigSource, ConfigSourceKind, ConfigSourceOutcome, DefaultConfigWarnings, DefaultFilters,
+    EvaluatableProfile, LoadError, LoadFault, LoadedConfig, NamedProfile, ProfileConfig, ToolName, built_in, load,
     tell_file,
 };
 use nextest_text::Text;
@@ -54,7 +55,7 @@ fn outcome_of(alloc: Global, outcome: &str) -> Option<ConfigSourceOutcome> {
 }
 
 // A profile and the settings that are asked for, with commas between them, and then sources: what each setting is, or why the
-// sources are refused.
+// sources are refused. Default filters are those without a language.
 pub(crate) fn loads(alloc: Global, input: &str) -> Option<String> {
     let (head, sources) = input.split_once(BAR)?;
     let sources = sources_of(alloc, sources)?;
@@ -63,7 +64,7 @@ pub(crate) fn loads(alloc: Global, input: &str) -> Option<String> {
 
 fn loaded(alloc: Global, sources: &[ConfigSource], head: &str) -> Option<String> {
     let built_in = built_in(alloc).ok()?;
-    match load(alloc, &built_in, sources) {
+    match load::<DefaultFilters<PlainFilter>>(alloc, &built_in, &(), sources) {
         Ok(config) => settings_told(alloc, &config, head),
         Err(LoadError::Refused(fault)) => refused(alloc, &fault),
         Err(LoadError::OutOfMemory) => None,
@@ -82,7 +83,7 @@ fn refused(alloc: Global, fault: &LoadFault) -> Option<String> {
 }
 
 // What the settings of a profile are.
-fn settings_told(alloc: Global, config: &LoadedConfig, head: &str) -> Option<String> {
+fn settings_told(alloc: Global, config: &LoadedConfig<PlainFilter>, head: &str) -> Option<String> {
     let (name, settings) = head.split_once(' ')?;
     let Some(chain) = chain_of(alloc, config.profiles.as_slice(), name) else {
         return String::from_str(alloc, "no such profile").ok();
@@ -95,7 +96,7 @@ fn settings_told(alloc: Global, config: &LoadedConfig, head: &str) -> Option<Str
 // Settings of a profile, with commas between their keys.
 fn each_told(
     alloc: Global,
-    config: &LoadedConfig,
+    config: &LoadedConfig<PlainFilter>,
     profile: &EvaluatableProfile<'_>,
     settings: &str,
 ) -> Option<String> {

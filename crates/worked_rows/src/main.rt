@@ -49,6 +49,7 @@ fn main(rt: HostRuntime) -> Result<ExitCode> {
     let plans = [
         ("plans", Some(&base), false),
         ("selected", None, false),
+        ("in_force", None, false),
         ("profiles_plans", Some(&base), true),
     ];
     let mut hold = inputs_hold(&rt)?;

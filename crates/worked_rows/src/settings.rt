@@ -1,5 +1,6 @@
 // The settings of a profile in words.
 use crate::parts::push_part;
+use crate::plain_filter::PlainFilter;
 use nextest_config_elements::{JunitConfig, NextestRunMode};
 use nextest_config_resolution::{EvaluatableProfile, LoadedConfig};
 use nextest_text::Text;
@@ -9,7 +10,7 @@ use std::fmt::Debug;
 // A setting of a profile.
 pub(crate) fn setting(
     alloc: Global,
-    config: &LoadedConfig,
+    config: &LoadedConfig<PlainFilter>,
     profile: &EvaluatableProfile<'_>,
     key: &str,
 ) -> Option<String> {
@@ -72,7 +73,7 @@ fn debug<T: Debug + Drop>(alloc: Global, value: T) -> Option<String> {
 }
 
 // The names of all profiles, each in brackets.
-fn names(alloc: Global, config: &LoadedConfig) -> Option<String> {
+fn names(alloc: Global, config: &LoadedConfig<PlainFilter>) -> Option<String> {
     let mut answer = String::new(alloc);
     for profile in config.profiles.as_slice() {
         push_part(
