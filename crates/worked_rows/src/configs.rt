@@ -4,8 +4,8 @@ use crate::plain_filter::PlainFilter;
 use crate::settings::setting;
 use nextest_config_resolution::{
     ConfigSource, ConfigSourceKind, ConfigSourceOutcome, DefaultConfigWarnings, DefaultFilters,
-    EvaluatableProfile, LoadError, LoadFault, LoadedConfig, NamedProfile, ProfileConfig, ToolName, built_in, load,
-    tell_file,
+    EvaluatableProfile, LoadError, LoadFault, LoadedConfig, NamedProfile, ProfileConfig, ToolName,
+    built_in, load, tell_file,
 };
 use nextest_text::Text;
 use std::alloc::Global;
