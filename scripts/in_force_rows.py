@@ -32,43 +32,14 @@ HEAD = """# Made by scripts/in_force_rows.py. Whole inputs => the tests to run w
 SLOW = rows.Leaf("test", "test(~slow)", lambda name: "slow" in name)
 TEST_A = rows.Leaf("test", "test(a)", lambda name: "a" in name)
 DEFAULT = rows.Leaf("default", "default()")
+PREDICATES = ["test", "test", "default", "default", "kind", "platform", "deps", "package", "group", "all"]
+DEFAULT_PREDICATES = ["test", "test", "test", "kind", "platform", "package", "binary", "all", "none", "default", "group"]
 
 
 def file(profiles, kind="explicit"):
     """A source that sets these keys of these profiles."""
     text = "".join(f"[profile.{name}]\n" + "".join(f"{key} = {json.dumps(value, ensure_ascii=False)}\n" for key, value in keys.items()) for name, keys in profiles.items())
     return {"kind": kind, **({"tool": "t"} if kind == "tool" else {}), "path": f"{kind}.toml", "text": text}
-
-
-def inputs(workspace, listed, sources, **fields):
-    record = {
-        "packages": [{"id": id, "name": name} for id, name in workspace.packages.items()],
-        "links": workspace.links,
-        "binaries": [{**binary._asdict(), "tests": tests} for binary, tests in zip(workspace.binaries, listed)],
-    }
-    whole = {"workspace": record, "sources": sources, "current_version": "0.9.100", **fields}
-    return json.dumps(whole, separators=(",", ":"), ensure_ascii=False)
-
-
-def planned(workspace, listed, in_force, default):
-    """What filters in force select, beside a default filter."""
-    wanted = [
-        (binary, tests)
-        for binary, tests in zip(workspace.binaries, listed)
-        if all(rows.on_binary(it, default, workspace, binary) != "false" for it in in_force)
-    ]
-    asked, run, skip = [], [], []
-    for binary, tests in wanted:
-        asked.append(binary.id)
-        if isinstance(tests, dict):
-            return "ListFault; asked" + selected.told(asked)
-        for test in tests:
-            holds = all(rows.on_test(it, default, workspace, binary, test, "@global") == "true" for it in in_force)
-            (run if holds else skip).append((binary.id, test))
-    run.sort(key=lambda test: [part.encode() for part in test])
-    ran = selected.told(f"[{id} {test} x1]" for id, test in run)
-    skipped = selected.told(f"[{id} {test}]" for id, test in skip)
-    return f"run{ran}; skip{skipped}; {selected.LIMIT}; listed{selected.told(asked)}; asked{selected.told(asked)}"
 
 
 def kinds_of(workspace, listed, filterset, default, ignored):
@@ -116,14 +87,14 @@ def drawn_row(draw, counts):
     """A row; none where it asks too much."""
     workspace = rows.WORKSPACES[draw.choice(["chain", "net", "ring"])]
     listed = [selected.drawn_tests(draw) for _ in workspace.binaries]
-    pieces, default = drawn_filter(draw, workspace, ["test", "test", "test", "kind", "platform", "package", "binary", "all", "none", "default", "group"], 0.1)
+    pieces, default = drawn_filter(draw, workspace, "default-filter", None, DEFAULT_PREDICATES, 0.1)
     (other, _), filterset, ignored = rows.drawn_default(draw, workspace), None, draw.random() < 0.15
     fields = {"ignore_default_filter": True} if ignored else {}
     refused = None
     if rows.faults(workspace, "default-filter", None, pieces):
         refused = "Load.BadFilter"
     if draw.random() < 0.85:
-        chosen, filterset = drawn_filter(draw, workspace, ["test", "test", "default", "default", "kind", "platform", "deps", "package", "group", "all"], 0)
+        chosen, filterset = drawn_filter(draw, workspace, "test", [], PREDICATES, 0)
         fields["filterset"] = rows.text_of(chosen)
         if refused is None and rows.faults(workspace, "test", [], chosen):
             refused = "Filterset"
@@ -134,17 +105,15 @@ def drawn_row(draw, counts):
     if refused is None:
         counts.update(set(kinds_of(workspace, listed, filterset, default, ignored)))
     counts[refused] += 1
-    answer = planned(workspace, listed, in_force, default) if refused is None else f"{refused}; asked"
-    return f"{inputs(workspace, listed, sources, **more, **fields)} => {answer}"
+    answer = selected.planned(workspace, listed, in_force, default) if refused is None else f"{refused}; asked"
+    return f"{selected.inputs(workspace, listed, sources, **more, **fields)} => {answer}"
 
 
-def drawn_filter(draw, workspace, predicates, faulty):
-    """A filter of few predicates; most that would be refused as a default filter are drawn again."""
+def drawn_filter(draw, workspace, purpose, groups, predicates, faulty):
+    """A filter of few predicates: its pieces, and its formula. Of those that are refused for this purpose only this share is kept."""
     while True:
         pieces, formula = rows.Drawing(draw, workspace, predicates).expression(1)
-        if len(list(rows.leaves_of(pieces))) > 4:
-            continue
-        if "default" not in predicates or draw.random() < faulty or not rows.faults(workspace, "default-filter" if faulty else "test", None if faulty else [], pieces):
+        if len(list(rows.leaves_of(pieces))) <= 4 and (draw.random() < faulty or not rows.faults(workspace, purpose, groups, pieces)):
             return pieces, formula
 
 
@@ -159,7 +128,7 @@ def by_hand():
     def row(text, filterset, in_force, default, **fields):
         sources = [file({"default": {"default-filter": text}})]
         fields = {**({"filterset": filterset} if filterset is not None else {}), **fields}
-        return f"{inputs(workspace, listed, sources, **fields)} => {planned(workspace, listed, in_force, default)}"
+        return f"{selected.inputs(workspace, listed, sources, **fields)} => {selected.planned(workspace, listed, in_force, default)}"
 
     ignored = {"ignore_default_filter": True}
     fast, text = ("not", SLOW), "not test(~slow)"
@@ -178,7 +147,7 @@ def by_hand():
     yield row("all()", "test(a", [], everything).split(" => ")[0] + " => Filterset; asked"
     for bad in ("default()", "group(x)", "group(@global)", "foo(", "", " ", "package(zzz)", "test(a) or", "binary(zzz)"):
         for fields in ({}, {"filterset": "test(a"}, ignored):
-            yield f"{inputs(workspace, listed, [file({'default': {'default-filter': bad}})], **fields)} => Load.BadFilter; asked"
+            yield f"{selected.inputs(workspace, listed, [file({'default': {'default-filter': bad}})], **fields)} => Load.BadFilter; asked"
     for sources, fields, in_force in (
         ([file({"default": {"default-filter": text}}), file({"default": {"default-filter": "foo("}}, "tool")], {}, [fast]),
         ([file({"default": {}, "z": {}}), file({"z": {"default-filter": text}}, "tool")], {}, [everything]),
@@ -187,7 +156,7 @@ def by_hand():
         ([file({"x": {"inherits": "y"}, "y": {}, "default": {"default-filter": text}})], {"profile": "x"}, [fast]),
         ([file({"x": {"inherits": "y", "default-filter": "all()"}, "y": {"default-filter": text}})], {"profile": "x"}, [everything]),
     ):
-        yield f"{inputs(workspace, listed, sources, **fields)} => {planned(workspace, listed, in_force, in_force[0])}"
+        yield f"{selected.inputs(workspace, listed, sources, **fields)} => {selected.planned(workspace, listed, in_force, in_force[0])}"
     for profiles, refusal in (
         ({"z": {"default-filter": "foo("}}, "Load.BadFilter"),
         ({"z": {"default-filter": "foo(", "inherits": "q"}}, "Load.UnknownParent"),
@@ -196,7 +165,7 @@ def by_hand():
         ({"z": {"default-filter": ["all()"]}}, "Load.BadValue"),
     ):
         for fields in ({}, {"profile": "none"}, {"target": {"triple": "", "facts": []}}):
-            yield f"{inputs(workspace, listed, [file(profiles)], **fields)} => {refusal}; asked"
+            yield f"{selected.inputs(workspace, listed, [file(profiles)], **fields)} => {refusal}; asked"
 
 
 def main():

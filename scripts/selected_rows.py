@@ -30,21 +30,22 @@ EVERYTHING = rows.Leaf("all", "all()")
 HAND = ["all", "", " ", "test(a", "test(a) or", "default()", "group(@global)", "group(heavy)", "not group(*)", "test(a) and not test(a)", "package(zzz)"]
 
 
-def inputs(workspace, listed, filterset):
+def inputs(workspace, listed, sources, **fields):
     record = {
         "packages": [{"id": id, "name": name} for id, name in workspace.packages.items()],
         "links": workspace.links,
         "binaries": [{**binary._asdict(), "tests": tests} for binary, tests in zip(workspace.binaries, listed)],
     }
-    whole = {"workspace": record, "sources": [], "current_version": "0.9.100", "filterset": filterset}
+    whole = {"workspace": record, "sources": sources, "current_version": "0.9.100", **fields}
     return json.dumps(whole, separators=(",", ":"), ensure_ascii=False)
 
 
-def planned(workspace, listed, formula):
+def planned(workspace, listed, in_force, default):
+    """What the filters in force select, beside this default filter."""
     wanted = [
         (binary, tests)
         for binary, tests in zip(workspace.binaries, listed)
-        if rows.on_binary(formula, EVERYTHING, workspace, binary) != "false"
+        if all(rows.on_binary(it, default, workspace, binary) != "false" for it in in_force)
     ]
     asked, run, skip = [], [], []
     for binary, tests in wanted:
@@ -52,7 +53,7 @@ def planned(workspace, listed, formula):
         if isinstance(tests, dict):
             return "ListFault; asked" + told(asked)
         for test in tests:
-            holds = rows.on_test(formula, EVERYTHING, workspace, binary, test, "@global") == "true"
+            holds = all(rows.on_test(it, default, workspace, binary, test, "@global") == "true" for it in in_force)
             (run if holds else skip).append((binary.id, test))
     run.sort(key=lambda test: [part.encode() for part in test])
     ran = told(f"[{id} {test} x1]" for id, test in run)
@@ -74,8 +75,8 @@ def row(draw, workspace, pieces, formula):
         return None
     listed = [drawn_tests(draw) for _ in workspace.binaries]
     refused = rows.faults(workspace, "test", [], pieces)
-    answer = "Filterset; asked" if refused else planned(workspace, listed, formula)
-    return f"{inputs(workspace, listed, rows.text_of(pieces))} => {answer}"
+    answer = "Filterset; asked" if refused else planned(workspace, listed, [formula], EVERYTHING)
+    return f"{inputs(workspace, listed, [], filterset=rows.text_of(pieces))} => {answer}"
 
 
 def by_hand(draw):
@@ -89,8 +90,8 @@ def by_hand(draw):
         "test(a) and not test(a)": ("and", test, ("not", test)),
     }
     for text in HAND:
-        answer = planned(workspace, listed, trees[text]) if text in trees else "Filterset; asked"
-        yield f"{inputs(workspace, listed, text)} => {answer}"
+        answer = planned(workspace, listed, [trees[text]], EVERYTHING) if text in trees else "Filterset; asked"
+        yield f"{inputs(workspace, listed, [], filterset=text)} => {answer}"
 
 
 def main():
