@@ -1,6 +1,5 @@
 -- What a tree means: it is one filter, however it is compiled, and its matchers are readable.
 use Rattle.std.proofs.Common.{◌≡◌, Bool, ℕ, List, sym, subst, ◌∙◌}
-use Rattle.std.specs.Prelude.{true}
 use Rattle.std.specs.BTreeSet.{contains_text}
 use Rattle.nextest_filtering_filters.specs.Deciding.{AreReadable, HasReadable, IsReadable}
 use Rattle.nextest_filtering_filters.specs.Meaning.{CanBeOn, Either, IsOn, MayBe, Never, Tells}
@@ -123,10 +122,12 @@ pub same_on_binary : (graph : Graph) (tree : Tree) (a b default : Formula Filter
 same_on_binary graph tree a b default one other binary = same_gives graph binary Either Either (Gives (MayBe binary Either Either Never) default) tree a b one other
 
 -- both ways
-pub one_meaning : OneMeaning
-one_meaning graph tree a b default one other = (
+pub one_meaning : {G : Type 0} (Member : G → Test → Matcher → Type 0) → OneMeaning Member
+one_meaning Member graph tree a b default one other = (
   (λ binary value. (same_on_binary graph tree a b default one other binary value, same_on_binary graph tree b a default other one binary value)),
-  (λ test member value. let Member : Matcher → Type 0 = λ m. member m ≡ true in (same_on_test graph tree a b default one other test Member value, same_on_test graph tree b a default other one test Member value)),
+  (λ groups test value.
+      let In = Member groups test in
+      (same_on_test graph tree a b default one other test In value, same_on_test graph tree b a default other one test In value)),
 )
 
 -- ---- matchers that are readable

@@ -5,8 +5,8 @@ use nextest_filtering_filters::GroupLookup;
 
 /// However a tree is compiled for a workspace, the filter is the same on every binary and on every test, whoever is asked for
 /// groups.
-pub fn one_meaning()
-    ensures { OneMeaning }
+pub fn one_meaning<G: GroupLookup>()
+    ensures { OneMeaning G.member }
 {}
 
 /// Compiling keeps what a filterset means: on every binary and on every test the filter is what the tree is, whoever is asked

@@ -1,5 +1,5 @@
 -- What holds of all filters.
-use Rattle.std.proofs.Common.{◌≡◌, Bool, true, false, refl}
+use Rattle.std.proofs.Common.{◌≡◌, Bool, false, refl}
 use Rattle.std.specs.List.{list_any}
 use Rattle.nextest_filtering_filters.specs.Formula.{Formula, Gives}
 use Rattle.nextest_filtering_filters.proofs.Giving.{gives_less}
@@ -39,8 +39,9 @@ on_test_can_be filter default test Member value =
     (gives_less (Wide Never) (Known Never) (may_wider test.binary Name Group Never Never (λ v never. never)) default))
     filter value
 
-pub sure_of_tests : SureOfTests
-sure_of_tests filter default test member one value is on = only_value (CanBeOn filter default test.binary) one value is (on_test_can_be filter default test (λ m. member m ≡ true) value on)
+pub sure_of_tests : {G : Type 0} (Member : G → Test → Matcher → Type 0) → SureOfTests Member
+sure_of_tests Member groups filter default test one value is on =
+    only_value (CanBeOn filter default test.binary) one value is (on_test_can_be filter default test (Member groups test) value on)
 
 -- groups make a difference just where one is asked for
 may_group : (binary : Binary) (Name Group Other : Matcher → Bool → Type 0) (Default More : Bool → Type 0) → ((value : Bool) → Default value → More value) → (it : FiltersetLeaf) (value : Bool) → is_group it ≡ false
@@ -62,11 +63,12 @@ without_groups it binary Name Group Other Default More there none =
     filter_less it (MayBe binary Name Other More) (MayBe binary Name Group Default)
     (λ place value may. may_group binary Name Group Other Default More there (leaf_at it.leaves place) value (none_at is_group refl it.leaves place none) may)
 
-pub same_without_groups : SameWithoutGroups
-same_without_groups filter default test member other value none none_there on =
+pub same_without_groups : {G H : Type 0} (Member : G → Test → Matcher → Type 0) (Else : H → Test → Matcher → Type 0)
+    → SameWithoutGroups Member Else
+same_without_groups Member Else groups others filter default test value none none_there on =
     let Name : Matcher → Bool → Type 0 = λ m. Tells (MatchesName m test.name) in
-    let Group : Matcher → Bool → Type 0 = λ m. Tells (member m ≡ true) in
-    let Other : Matcher → Bool → Type 0 = λ m. Tells (other m ≡ true) in
+    let Group : Matcher → Bool → Type 0 = λ m. Tells (Member groups test m) in
+    let Other : Matcher → Bool → Type 0 = λ m. Tells (Else others test m) in
     let Known = MayBe test.binary Name Group in
     let Again = MayBe test.binary Name Other in
     without_groups filter test.binary Name Group Other (Gives (Known Never) (filter_of default)) (Gives (Again Never) (filter_of default))
@@ -79,5 +81,5 @@ one_on_test filter default test Member =
     let Known = MayBe test.binary Name (λ m. Tells (Member m)) in
     told_one test.binary test.name Member (Gives (Known Never) default) (told_one test.binary test.name Member Never (λ a b never other. absurd never) default) filter
 
-pub one_answer : OneAnswer
-one_answer filter default test member = one_on_test filter default test (λ m. member m ≡ true)
+pub one_answer : {G : Type 0} (Member : G → Test → Matcher → Type 0) → OneAnswer Member
+one_answer Member groups filter default test = one_on_test filter default test (Member groups test)

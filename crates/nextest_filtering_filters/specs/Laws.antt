@@ -1,5 +1,5 @@
--- What holds of all filters.
-use Rattle.std.specs.Prelude.{◌≡◌, Bool, true, false, Some}
+-- What holds of all filters, whoever is asked for groups: a look-up says whose group has a name that a matcher matches.
+use Rattle.std.specs.Prelude.{◌≡◌, Bool, false, Some}
 use Rattle.std.specs.List.{list_any}
 use Rattle.nextest_filtering_filters.specs.Formula.{Formula, IsValue}
 use Rattle.nextest_filtering_trees.specs.Tree.{Matcher}
@@ -9,21 +9,21 @@ use Rattle.nextest_filtering_filters.specs.Query.{Test}
 use Rattle.nextest_filtering_filters.specs.declared.leaf.FiltersetLeaf.{FiltersetLeaf}
 
 -- what is sure of a binary is so of its tests
-abbrev pub SureOfTests : Type 0
-SureOfTests =
-    (filter default : Formula FiltersetLeaf) (test : Test) (member : Matcher → Bool) (one value : Bool)
-    → IsValue (CanBeOn filter default test.binary) (Some one) → IsOn filter default test (λ m. member m ≡ true) value → value ≡ one
+abbrev pub SureOfTests : {G : Type 0} → (G → Test → Matcher → Type 0) → Type 0
+SureOfTests {G} Member =
+    (groups : G) (filter default : Formula FiltersetLeaf) (test : Test) (one value : Bool)
+    → IsValue (CanBeOn filter default test.binary) (Some one) → IsOn filter default test (Member groups test) value → value ≡ one
 
 -- groups that nobody asks for make no difference
-abbrev pub SameWithoutGroups : Type 0
-SameWithoutGroups =
-    (filter default : Compiled) (test : Test) (member other : Matcher → Bool) (value : Bool)
+abbrev pub SameWithoutGroups : {G H : Type 0} → (G → Test → Matcher → Type 0) → (H → Test → Matcher → Type 0) → Type 0
+SameWithoutGroups {G} {H} Member Other =
+    (groups : G) (others : H) (filter default : Compiled) (test : Test) (value : Bool)
     → list_any is_group filter.leaves ≡ false → list_any is_group default.leaves ≡ false
-    → IsOn (filter_of filter) (filter_of default) test (λ m. member m ≡ true) value
-    → IsOn (filter_of filter) (filter_of default) test (λ m. other m ≡ true) value
+    → IsOn (filter_of filter) (filter_of default) test (Member groups test) value
+    → IsOn (filter_of filter) (filter_of default) test (Other others test) value
 
 -- a filter is at most one value on a test
-abbrev pub OneAnswer : Type 0
-OneAnswer =
-    (filter default : Formula FiltersetLeaf) (test : Test) (member : Matcher → Bool) (a b : Bool)
-    → IsOn filter default test (λ m. member m ≡ true) a → IsOn filter default test (λ m. member m ≡ true) b → a ≡ b
+abbrev pub OneAnswer : {G : Type 0} → (G → Test → Matcher → Type 0) → Type 0
+OneAnswer {G} Member =
+    (groups : G) (filter default : Formula FiltersetLeaf) (test : Test) (a b : Bool)
+    → IsOn filter default test (Member groups test) a → IsOn filter default test (Member groups test) b → a ≡ b

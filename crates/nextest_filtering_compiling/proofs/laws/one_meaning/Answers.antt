@@ -2,4 +2,4 @@ use Rattle.nextest_filtering_compiling.specs.Meaning.{one_meaning}
 use Rattle.nextest_filtering_compiling.proofs.laws.one_meaning.Goals as goal
 
 pub returns : goal.returns
-returns c = one_meaning
+returns g c = one_meaning g.G.GroupLookup.member
