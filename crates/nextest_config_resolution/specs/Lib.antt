@@ -11,7 +11,7 @@ pub use Rattle.nextest_config_resolution_load.specs.Laws as LoadLaws
 pub use Rattle.nextest_config_resolution_load.specs.Telling as LoadTelling
 -- whole configurations, and their profiles
 pub use Rattle.nextest_config_resolution_profiles.specs.Config
-pub use Rattle.nextest_config_resolution_profiles.specs.Default as DefaultFilters
+pub use Rattle.nextest_config_resolution_profiles.specs.Values as ProfileValues
 pub use Rattle.nextest_config_resolution_profiles.specs.Kept
 pub use Rattle.nextest_config_resolution_profiles.specs.Laws as ProfileLaws
 pub use Rattle.nextest_config_resolution_profiles.specs.Selection
@@ -33,9 +33,11 @@ pub use Rattle.nextest_config_resolution_inheritance.specs.Refusals
 pub use Rattle.nextest_config_resolution_settings.specs.Fallbacks
 pub use Rattle.nextest_config_resolution_settings.specs.Keys as SettingKeys
 pub use Rattle.nextest_config_resolution_settings.specs.Laws as SettingLaws
+pub use Rattle.nextest_config_resolution_settings.specs.Default as DefaultFilters
 pub use Rattle.nextest_config_resolution_settings.specs.Nearest
 pub use Rattle.nextest_config_resolution_settings.specs.Profile as ProfileSettings
 pub use Rattle.nextest_config_resolution_settings.specs.TestSettings
+pub use Rattle.nextest_config_resolution_settings.specs.Tracking
 pub use Rattle.nextest_config_resolution_profiles.specs.BuiltIn
 pub use Rattle.nextest_config_resolution_profiles.specs.BuiltInLaws as BuiltInLaws
 -- warnings

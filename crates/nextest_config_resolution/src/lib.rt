@@ -16,13 +16,14 @@ pub use nextest_config_resolution_load::{
     load_with_warnings,
 };
 pub use nextest_config_resolution_profiles::{
-    BuildPlatforms, CompiledDefaultFilter, CompiledDefaultFilterSection, DEFAULT_CONFIG,
-    DefaultFilters, EarlyProfile, NextestConfig, ProfileError, ProfileNotFound, built_in,
+    BuildPlatforms, DEFAULT_CONFIG, DefaultFilters, EarlyProfile, NextestConfig, ProfileError,
+    ProfileNotFound, built_in,
 };
 pub use nextest_config_resolution_settings::{
-    EvaluatableProfile, ListSettings, NoRule, ScriptCommand, ScriptCommandEnvMap,
-    ScriptCommandRelativeTo, Sets, Setting, SettingSource, TestGroupRef, TestSettings, TrackSource,
-    WrapperScriptConfig, WrapperScriptTargetRunner, fallbacks, find_setting, keys, nearest,
+    CompiledDefaultFilter, CompiledDefaultFilterSection, EvaluatableProfile, ListSettings,
+    OverrideId, Rule, ScriptCommand, ScriptCommandEnvMap, ScriptCommandRelativeTo, Sets, Setting,
+    SettingSource, TestGroupRef, TestSettings, TrackSource, WrapperScriptConfig,
+    WrapperScriptTargetRunner, fallbacks, find_in_profiles, find_setting, keys, nearest,
 };
 pub use nextest_config_resolution_sources::{
     CONFIG_PATH, ConfigFileSelection, ConfigPaths, ConfigSource, ConfigSourceOutcome,

@@ -10,8 +10,8 @@ use Rattle.nextest_config_resolution_settings.specs.Nearest.{IsNearest}
 use Rattle.nextest_config_resolution_values.specs.declared.profile_config.ProfileConfig.{ProfileConfig}
 use Rattle.nextest_config_resolution_profiles.specs.Chains.{AreAt}
 use Rattle.nextest_config_resolution_profiles.specs.Config.{IsDefaultFilterOf}
-use Rattle.nextest_config_resolution_profiles.specs.declared.default_filter.CompiledDefaultFilter.{CompiledDefaultFilter}
-use Rattle.nextest_config_resolution_profiles.specs.declared.default_filter.CompiledDefaultFilterSection.TheVariants as section
+use Rattle.nextest_config_resolution_settings.specs.declared.default_filter.CompiledDefaultFilter.{CompiledDefaultFilter}
+use Rattle.nextest_config_resolution_settings.specs.declared.default_filter.CompiledDefaultFilterSection.TheVariants as section
 use Rattle.nextest_config_resolution_profiles.proofs.Filtered.{config_at, nearest_at}
 use Rattle.nextest_config_resolution_profiles.proofs.Names.{all_of, name_is}
 

@@ -16,7 +16,7 @@ use Rattle.nextest_config_resolution_values.specs.declared.profile_config.Profil
 -- ---- a name that stands there has values
 
 -- what is found in profiles, by whether the first is it
-abbrev found_by : Name → Named → List Named → Bool → Option ProfileConfig
+abbrev pub found_by : Name → Named → List Named → Bool → Option ProfileConfig
 found_by name profile profiles first = option_map (λ (it : Named). it.1) (cond first (Some profile) (find (λ (it : Named). bytes_eq name it.0) profiles))
 
 pub value_there : (name : Name) (profiles : List Named) → Contains (names (parents_of profiles)) name → (value : ProfileConfig) × (values_of profiles name ≡ Some value)

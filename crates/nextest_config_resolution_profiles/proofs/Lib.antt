@@ -1,4 +1,5 @@
 pub mod Chained
+pub mod DefaultKept
 pub mod Ending
 pub mod Filtered
 pub mod Inheriting
@@ -8,6 +9,8 @@ pub mod Kept
 pub mod Names
 pub mod OneProfile
 pub mod SameChain
+pub mod SetsAll
 pub mod SomeChain
 pub mod SomeConfig
+pub mod Tables
 pub mod Values

@@ -13,12 +13,12 @@ one_order profiles (goes_on apart chain) (ends is) = absurd (apart is)
 one_order profiles (goes_on {name = name} apart chain) (goes_on also more) = ap (λ (names : List Name). name ∷ names) (one_order profiles chain more)
 
 -- what is there
-abbrev given : {X : Type 0} → List (Option X) → List X
+abbrev pub given : {X : Type 0} → List (Option X) → List X
 given [] = []
 given (None ∷ more) = given more
 given (Some x ∷ more) = x ∷ given more
 
-given_all : {X : Type 0} (xs : List X) → given (map Some xs) ≡ xs
+pub given_all : {X : Type 0} (xs : List X) → given (map Some xs) ≡ xs
 given_all [] = refl
 given_all (x ∷ xs) = ap (λ more. x ∷ more) (given_all xs)
 

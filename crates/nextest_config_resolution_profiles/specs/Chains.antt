@@ -7,7 +7,7 @@ use Rattle.nextest_config_resolution_load.specs.declared.loaded_config.NamedProf
 use Rattle.nextest_config_resolution_settings.specs.Nearest.{lent}
 use Rattle.nextest_config_resolution_values.specs.File.{Named}
 use Rattle.nextest_config_resolution_values.specs.declared.profile_config.ProfileConfig.{ProfileConfig}
-use Rattle.nextest_config_resolution_profiles.specs.Config.{HasDefaultFilter, IsChainOf}
+use Rattle.nextest_config_resolution_profiles.specs.Config.{IsChainOf, IsDefaultFilterOf}
 use Rattle.nextest_config_resolution_profiles.specs.declared.chains.Chained.{Chained}
 
 -- the values of the profiles at some places
@@ -21,4 +21,4 @@ pub record AreAt (profiles : List Named) (places : List ℕ) (values : List Prof
 -- the chain of the profile of a name, and its default filter
 pub record IsChained {F : Type 0} (profiles : List NamedProfile) (filters : List (Option F)) (name : Name) (it : Chained F) : Type 0 where
   pub chained : IsChainOf (map named profiles) name (lent it.values.items)
-  pub filtered : HasDefaultFilter profiles filters chained.names (lent it.values.items) it.default_filter
+  pub filtered : IsDefaultFilterOf profiles filters chained.names (lent it.values.items) it.default_filter

@@ -1,26 +1,26 @@
 -- A whole configuration, and its profiles.
-use Rattle.std.specs.Prelude.{◌≡◌, ℕ, List, Option, None, Some, Result, Ok, Err, ⊤, Contains, codes, find, map, option_map, slice_get, unwrap_or}
-use Rattle.std.specs.Str.{bytes_eq}
+use Rattle.std.specs.Prelude.{◌≡◌, ℕ, ◌==◌, Bool, ◌||◌, List, ◌++◌, Option, Some, Result, Ok, Err, ⊤, Contains, codes, length, map, nat_eq, slice_get, if◌then◌else◌}
+use Rattle.std.specs.List.{starts_with}
 use Rattle.nextest_filtering_arguments.specs.declared.ban.FiltersetKind.{FiltersetKind}
 use Rattle.nextest_filtering_arguments.specs.declared.ban.FiltersetKind.TheVariants as purpose
 use Rattle.nextest_filtering_filters.specs.declared.known_groups.KnownGroups.{KnownGroups}
 use Rattle.nextest_filtering_filters.specs.declared.known_groups.KnownGroups.TheVariants as groups
 use Rattle.nextest_config_resolution_profiles.specs.BuiltIn.{built_in_members}
-use Rattle.nextest_config_resolution_inheritance.specs.Inheritance.{Name, IsChain}
-use Rattle.nextest_config_resolution_load.specs.Checks.{parents_of}
+use Rattle.nextest_config_resolution_inheritance.specs.Inheritance.{Name}
 use Rattle.nextest_config_resolution_load.specs.Load.{IsLoaded, seen}
 use Rattle.nextest_config_resolution_load.specs.declared.load_error.LoadError.{LoadError}
 use Rattle.nextest_config_resolution_load.specs.declared.loaded_config.NamedProfile.{NamedProfile}
 use Rattle.nextest_config_resolution_settings.specs.Keys as key
-use Rattle.nextest_config_resolution_settings.specs.Nearest.{IsNearest, SetsNone, lent}
+use Rattle.nextest_config_resolution_settings.specs.Nearest.{IsNearest, lent}
 use Rattle.nextest_config_resolution_sources.specs.declared.source.ConfigSource.{ConfigSource}
 use Rattle.nextest_config_resolution_values.specs.File.{Named}
 use Rattle.nextest_config_resolution_values.specs.declared.profile_config.ProfileConfig.{ProfileConfig}
-use Rattle.nextest_config_resolution_profiles.specs.declared.default_filter.CompiledDefaultFilter.{CompiledDefaultFilter}
-use Rattle.nextest_config_resolution_profiles.specs.declared.default_filter.CompiledDefaultFilterSection.TheVariants as section
+use Rattle.nextest_config_resolution_settings.specs.declared.default_filter.CompiledDefaultFilter.{CompiledDefaultFilter}
+use Rattle.nextest_config_resolution_settings.specs.declared.default_filter.CompiledDefaultFilterSection.TheVariants as section
 use Rattle.nextest_config_resolution_profiles.specs.declared.early_profile.EarlyProfile.{EarlyProfile}
 use Rattle.nextest_config_resolution_profiles.specs.declared.profile_error.ProfileError.{ProfileError}
 use Rattle.nextest_config_resolution_profiles.specs.declared.profile_error.ProfileError.TheVariants as error
+pub use Rattle.nextest_config_resolution_profiles.specs.Values.{IsChainOf, values_of}
 use Rattle.nextest_config_resolution_profiles.specs.Whole.{Whole}
 
 -- its profiles, by the bytes of their names, and the names themselves
@@ -30,9 +30,18 @@ profiles_of config = (seen config.loaded).profiles
 abbrev pub names_of : {F : Type 0} → Whole F → List Name
 names_of config = map (λ profile. profile.name) config.loaded.profiles
 
--- the directory of the store, and what is built in where none is set
-abbrev pub store_of : {F : Type 0} → Whole F → List ℕ
-store_of config = unwrap_or config.loaded.store_dir (codes "target/nextest")
+-- a directory that doesn't stand below a workspace: it begins at the root, or there is no workspace
+abbrev pub stands_alone : List ℕ → List ℕ → Bool
+stands_alone root dir = starts_with nat_eq dir (codes "/") || length root == 0
+
+-- the directory of a profile's files in a store
+abbrev pub dir_in_store : List ℕ → List ℕ → List ℕ → List ℕ
+dir_in_store root dir name =
+    if stands_alone root dir then dir ++ (codes "/" ++ name) else root ++ (codes "/" ++ (dir ++ (codes "/" ++ name)))
+
+-- the directory of a profile's files, in the store that a configuration sets
+abbrev pub IsStoreDir : {F : Type 0} → Whole F → Name → List ℕ → Type 0
+IsStoreDir config name it = (dir : List ℕ) × (config.loaded.store_dir ≡ Some dir) × (it ≡ dir_in_store config.root dir name)
 
 -- a text is this filter, as a default filter: it may ask for no group, so none is known
 abbrev pub IsDefaultIn : {F Cx : Type 0} → (Cx → FiltersetKind → KnownGroups → List ℕ → F → Type 0) → Cx → List ℕ → F → Type 0
@@ -47,27 +56,14 @@ IsConfig Is IsTooDeep root sources (Err refused) = IsLoaded Is IsTooDeep built_i
 abbrev pub name_of : {F S : Type 0} → EarlyProfile F S → Name
 name_of profile = profile.name.now
 
-abbrev pub root_of : {F S : Type 0} → EarlyProfile F S → List ℕ
-root_of profile = profile.root.now
-
-abbrev pub dir_of : {F S : Type 0} → EarlyProfile F S → List ℕ
-dir_of profile = profile.store.now
+abbrev pub store_dir_of : {F S : Type 0} → EarlyProfile F S → List ℕ
+store_dir_of profile = profile.store_dir
 
 abbrev pub chain_of : {F S : Type 0} → EarlyProfile F S → List ProfileConfig
 chain_of profile = lent profile.chain.items
 
-abbrev pub default_of : {F S : Type 0} → EarlyProfile F S → Option (CompiledDefaultFilter F)
+abbrev pub default_of : {F S : Type 0} → EarlyProfile F S → CompiledDefaultFilter F
 default_of profile = profile.default_filter
-
--- the values of the profile of a name
-abbrev pub values_of : List Named → Name → Option ProfileConfig
-values_of profiles name = option_map (λ profile. profile.1) (find (λ profile. bytes_eq name profile.0) profiles)
-
--- the values of the profiles of which the names are the chain of a name
-pub record IsChainOf (profiles : List Named) (name : Name) (values : List ProfileConfig) : Type 0 where
-  pub names : List Name
-  pub in_order : IsChain (parents_of profiles) name names
-  pub valued : map (values_of profiles) names ≡ map Some values
 
 -- the default filter of a chain is that of the nearest profile that sets one, as it was read; it stands at the same place as its profile
 pub record IsDefaultFilterOf {F : Type 0} (profiles : List NamedProfile) (filters : List (Option F)) (names : List Name) (chain : List ProfileConfig) (it : CompiledDefaultFilter F) : Type 0 where
@@ -83,18 +79,12 @@ pub record IsDefaultFilterOf {F : Type 0} (profiles : List NamedProfile) (filter
   pub read : slice_get filters at ≡ Some (Some it.filter.now)
   pub section : it.section ≡ section.Profile
 
--- there is one exactly if a profile of the chain sets it
-abbrev pub HasDefaultFilter : {F : Type 0} → List NamedProfile → List (Option F) → List Name → List ProfileConfig → Option (CompiledDefaultFilter F) → Type 0
-HasDefaultFilter profiles filters names chain None = SetsNone key.default_filter chain
-HasDefaultFilter profiles filters names chain (Some it) = IsDefaultFilterOf profiles filters names chain it
-
 -- the profile of a name, before anything is known of the platforms
 pub record IsEarly {F S : Type 0} (config : Whole F) (name : Name) (it : EarlyProfile F S) : Type 0 where
   pub named : name_of it ≡ name
-  pub rooted : root_of it ≡ config.root
-  pub stored : dir_of it ≡ store_of config
+  pub stored : IsStoreDir config name (store_dir_of it)
   pub chained : IsChainOf (profiles_of config) name (chain_of it)
-  pub filtered : HasDefaultFilter config.loaded.profiles config.loaded.default_filters chained.names (chain_of it) (default_of it)
+  pub filtered : IsDefaultFilterOf config.loaded.profiles config.loaded.default_filters chained.names (chain_of it) (default_of it)
 
 -- the profile of a name, or that none has it, with the names of all; want of memory says nothing
 abbrev pub IsProfile : {F S : Type 0} → Whole F → Name → Result (EarlyProfile F S) ProfileError → Type 0

@@ -1,14 +1,15 @@
 -- What the laws say.
-use Rattle.std.specs.Prelude.{◌≡◌, ◌⊎◌, ℕ, List, Ok, Err, All, Contains}
+use Rattle.std.specs.Prelude.{◌≡◌, ◌⊎◌, ℕ, List, Some, Ok, Err, All, Contains}
 use Rattle.nextest_config_resolution_inheritance.specs.Inheritance.{Name}
 use Rattle.nextest_config_resolution_load.specs.declared.load_error.LoadError.TheVariants.{Refused}
 use Rattle.nextest_config_resolution_load.specs.declared.load_fault.LoadFault.{LoadFault}
 use Rattle.nextest_config_resolution_sources.specs.declared.source.ConfigSource.{ConfigSource}
 use Rattle.nextest_config_resolution_values.specs.File.{Named}
 use Rattle.nextest_config_resolution_values.specs.declared.profile_config.ProfileConfig.{ProfileConfig}
+use Rattle.nextest_config_resolution_profiles.specs.BuiltInLaws.{SetsEach}
 use Rattle.nextest_config_resolution_profiles.specs.Config.{IsChainOf, IsConfig, IsDefaultFilterOf, names_of, profiles_of, values_of}
 use Rattle.nextest_config_resolution_profiles.specs.Whole.{Whole}
-use Rattle.nextest_config_resolution_profiles.specs.declared.default_filter.CompiledDefaultFilter.{CompiledDefaultFilter}
+use Rattle.nextest_config_resolution_settings.specs.declared.default_filter.CompiledDefaultFilter.{CompiledDefaultFilter}
 
 -- the chain of a profile has one list of values
 abbrev pub OneProfile : Type 0
@@ -33,3 +34,11 @@ SameChain = (profiles others : List Named) (name : Name) (values : List ProfileC
 abbrev pub DefaultIsRead : {F : Type 0} → (List ℕ → F → Type 0) → (List ℕ → Type 0) → Type 0
 DefaultIsRead {F} Is IsTooDeep = (root : List ℕ) (sources : List ConfigSource) (config : Whole F) (names : List Name) (chain : List ProfileConfig) (it : CompiledDefaultFilter F)
     → IsConfig Is IsTooDeep root sources (Ok config) → (of : IsDefaultFilterOf config.loaded.profiles config.loaded.default_filters names chain it) → Is of.text it.filter.now
+
+-- a configuration sets the directory of its store, and each of its chains sets each setting but the path of JUnit's report, whatever files say
+pub record SetsAll {F : Type 0} (config : Whole F) : Type 0 where
+  pub store : (dir : List ℕ) × (config.loaded.store_dir ≡ Some dir)
+  pub each : (name : Name) (chain : List ProfileConfig) → IsChainOf (profiles_of config) name chain → SetsEach chain
+
+abbrev pub NeverFallsBack : {F : Type 0} → (List ℕ → F → Type 0) → (List ℕ → Type 0) → Type 0
+NeverFallsBack {F} Is IsTooDeep = (root : List ℕ) (sources : List ConfigSource) (config : Whole F) → IsConfig Is IsTooDeep root sources (Ok config) → SetsAll config

@@ -4,8 +4,8 @@ pub mod Profiles
 pub mod Rows
 pub mod Chains
 pub mod Config
-pub mod Default
 pub mod Kept
 pub mod Laws
 pub mod Selection
 pub mod Whole
+pub mod Values

@@ -5,15 +5,18 @@ ghost use Rattle.nextest_config_resolution_inheritance.specs.Inheritance.{IsAcce
 ghost use Rattle.nextest_config_resolution_load.specs.Checks.{parents_of};
 ghost use Rattle.nextest_config_resolution_load.specs.Load.{named};
 ghost use Rattle.nextest_config_resolution_profiles.specs.Chains.{AreAt, IsChained};
-ghost use Rattle.nextest_config_resolution_profiles.specs.Config.{HasDefaultFilter};
+ghost use Rattle.nextest_config_resolution_profiles.specs.Config.{IsDefaultFilterOf};
 ghost use Rattle.nextest_config_resolution_profiles.specs.Whole.{AreFiltered};
-ghost use Rattle.nextest_config_resolution_settings.specs.Nearest.{lent};
+ghost use Rattle.nextest_config_resolution_profiles.specs.Values.{SetsFilter};
+ghost use Rattle.nextest_config_resolution_settings.specs.Keys as key;
+ghost use Rattle.nextest_config_resolution_settings.specs.Nearest.{SetsNone, lent};
 
-use crate::default_filter::{CompiledDefaultFilter, CompiledDefaultFilterSection};
 use nextest_config_resolution_inheritance::chain_of;
 use nextest_config_resolution_load::NamedProfile;
 use nextest_config_resolution_settings::keys::DefaultFilterKey;
-use nextest_config_resolution_settings::nearest;
+use nextest_config_resolution_settings::{
+    CompiledDefaultFilter, CompiledDefaultFilterSection, nearest,
+};
 use nextest_config_resolution_values::ProfileConfig;
 use nextest_text::{Listing, Text};
 use std::alloc::{AllocError, Global};
@@ -58,7 +61,7 @@ pub(crate) fn all_names(
 #[derive(Drop)]
 pub(crate) struct Chained<'c, F> {
     pub(crate) values: Vec<&'c ProfileConfig>,
-    pub(crate) default_filter: Option<CompiledDefaultFilter<'c, F>>,
+    pub(crate) default_filter: CompiledDefaultFilter<'c, F>,
 }
 
 // The chain of the profile at a place, where these are the default filters of all profiles.
@@ -71,6 +74,7 @@ pub(crate) fn chain_at<'c, F>(
     requires accepted { IsAccepted (parents_of (map named profiles.now)) }
     requires rise { Rise (parents_of (map named profiles.now)) }
     requires has_default { Contains (names (parents_of (map named profiles.now))) default }
+    requires sets_filter { SetsFilter (map named profiles.now) }
     requires filtered { AreFiltered profiles.now filters.now }
     requires place { place < length profiles.now }
     ensures { IfOk result (IsChained profiles.now filters.now (name_at (parents_of (map named profiles.now)) place)) }
@@ -84,27 +88,30 @@ pub(crate) fn chain_at<'c, F>(
     })
 }
 
-// The default filter of a chain: that of the nearest profile that sets one.
+// The default filter of a chain in which one is set: that of the nearest profile that sets one.
 fn default_filter_of<'c, F>(
     profiles: &'c [NamedProfile],
     filters: &'c [Option<F>],
     places: &[usize],
     values: &[&'c ProfileConfig],
-) -> Option<CompiledDefaultFilter<'c, F>>
+) -> CompiledDefaultFilter<'c, F>
     requires within { All (λ place. place < length profiles.now) places.now }
     requires at { AreAt (map named profiles.now) places.now (lent values.now) }
     requires filtered { AreFiltered profiles.now filters.now }
-    ensures { HasDefaultFilter profiles.now filters.now (names_at (parents_of (map named profiles.now)) places.now) (lent values.now) result }
+    requires set { ¬ SetsNone key.default_filter (lent values.now) }
+    ensures { IsDefaultFilterOf profiles.now filters.now (names_at (parents_of (map named profiles.now)) places.now) (lent values.now) result }
 {
-    let (near, _) = nearest::<DefaultFilterKey, ProfileConfig>(values)?;
+    let Some((near, _)) = nearest::<DefaultFilterKey, ProfileConfig>(values) else {
+        unreachable!();
+    };
     let place = places[near];
     let profile = profiles[place].name.as_str();
     match &filters[place] {
-        Some(filter) => Some(CompiledDefaultFilter {
+        Some(filter) => CompiledDefaultFilter {
             filter,
             profile,
             section: CompiledDefaultFilterSection::Profile,
-        }),
+        },
         None => unreachable!(),
     }
 }

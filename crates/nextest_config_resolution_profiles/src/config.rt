@@ -3,8 +3,10 @@ use crate::chains::{Chained, all_names, chain_at, place_of};
 use crate::default_filters::DefaultFilters;
 use crate::early_profile::EarlyProfile;
 use crate::profile_error::{ProfileError, ProfileNotFound};
-use crate::selection::select_kinds;
+use crate::selection::selected;
+use crate::store_dir::dir_in_store;
 use crate::tree::built_in;
+use nextest_config_elements_versions::FeatureSet;
 use nextest_config_resolution_filters::{Filters, Specs};
 use nextest_config_resolution_load::{
     ConfigWarnings, LoadError, LoadedConfig, load, load_with_warnings,
@@ -40,18 +42,19 @@ impl<F: Filters, S: Specs> Model for NextestConfig<F, S> {
 
     ghost view = { λ it. record { root = it.root; loaded = it.loaded } };
 
-    // The profiles inherit as they may, their names rise, `default` is among them, and their default filters are read.
+    // The profiles inherit as they may, their names rise, `default` is among them and sets a default filter, the default filters of
+    // all are read, and there is a directory of the store.
     ghost invariant = { λ it. IsSound it.loaded };
 }
 
 impl<F: Filters, S: Specs> NextestConfig<F, S> {
     ghost use Rattle.nextest_config_resolution_load.specs.Telling.{TellsAs, warnings_in};
-    ghost use Rattle.nextest_config_resolution_profiles.specs.Config.{IsConfig, IsDefaultIn, IsProfile, store_of};
+    ghost use Rattle.nextest_config_resolution_profiles.specs.Config.{IsConfig, IsDefaultIn, IsProfile};
     ghost use Rattle.nextest_config_resolution_profiles.specs.Selection.{selected_by};
-    ghost use Rattle.std.specs.Prelude.{◌≡◌};
+    ghost use Rattle.std.specs.Prelude.{◌≡◌, Some};
 
     /// What sources come to, those that count, each over the lower ones and over what is built in, in the workspace at `root`,
-    /// which `cx` is to filters.
+    /// which `cx` is to filters. No rule asks for the `experimental` features yet.
     ///
     /// # Errors
     ///
@@ -62,6 +65,7 @@ impl<F: Filters, S: Specs> NextestConfig<F, S> {
         root: &str,
         cx: &F::Cx,
         sources: &[ConfigSource],
+        _experimental: FeatureSet,
     ) -> Result<NextestConfig<F, S>, LoadError>
         ensures { IsConfig (IsDefaultIn F.is_parsed cx.now) F.is_too_deep root.now sources.now result }
     {
@@ -87,6 +91,7 @@ impl<F: Filters, S: Specs> NextestConfig<F, S> {
         root: &str,
         cx: &F::Cx,
         sources: &[ConfigSource],
+        _experimental: FeatureSet,
         warnings: &mut W,
     ) -> Result<NextestConfig<F, S>, LoadError>
         ensures config { IsConfig (IsDefaultIn F.is_parsed cx.now) F.is_too_deep root.now sources.now result }
@@ -116,14 +121,22 @@ impl<F: Filters, S: Specs> NextestConfig<F, S> {
         root: &str,
         cx: &F::Cx,
         selection: &ConfigFileSelection,
-        mut sources: Vec<ConfigSource>,
+        sources: &[ConfigSource],
+        experimental: FeatureSet,
         warnings: &mut W,
     ) -> Result<NextestConfig<F, S>, LoadError>
-        ensures config { IsConfig (IsDefaultIn F.is_parsed cx.now) F.is_too_deep root.now (selected_by selection.now sources.items) result }
-        ensures told { TellsAs W.has_told warnings.old warnings.new (warnings_in (selected_by selection.now sources.items)) result }
+        ensures config { IsConfig (IsDefaultIn F.is_parsed cx.now) F.is_too_deep root.now (selected_by selection.now sources.now) result }
+        ensures told { TellsAs W.has_told warnings.old warnings.new (warnings_in (selected_by selection.now sources.now)) result }
     {
-        select_kinds(selection, sources.as_mut_slice());
-        NextestConfig::from_sources_with_warnings(alloc, root, cx, sources.as_slice(), warnings)
+        let sources = selected(alloc, selection, sources)?;
+        NextestConfig::from_sources_with_warnings(
+            alloc,
+            root,
+            cx,
+            sources.as_slice(),
+            experimental,
+            warnings,
+        )
     }
 
     /// What `from_sources_with_selection` gives in the workspace that the paths tell of.
@@ -136,14 +149,23 @@ impl<F: Filters, S: Specs> NextestConfig<F, S> {
         paths: &ConfigPaths,
         cx: &F::Cx,
         selection: &ConfigFileSelection,
-        sources: Vec<ConfigSource>,
+        sources: &[ConfigSource],
+        experimental: FeatureSet,
         warnings: &mut W,
     ) -> Result<NextestConfig<F, S>, LoadError>
-        ensures config { IsConfig (IsDefaultIn F.is_parsed cx.now) F.is_too_deep paths.now.workspace_root (selected_by selection.now sources.items) result }
-        ensures told { TellsAs W.has_told warnings.old warnings.new (warnings_in (selected_by selection.now sources.items)) result }
+        ensures config { IsConfig (IsDefaultIn F.is_parsed cx.now) F.is_too_deep paths.now.workspace_root (selected_by selection.now sources.now) result }
+        ensures told { TellsAs W.has_told warnings.old warnings.new (warnings_in (selected_by selection.now sources.now)) result }
     {
         let root = paths.workspace_root.as_str();
-        NextestConfig::from_sources_with_selection(alloc, root, cx, selection, sources, warnings)
+        NextestConfig::from_sources_with_selection(
+            alloc,
+            root,
+            cx,
+            selection,
+            sources,
+            experimental,
+            warnings,
+        )
     }
 
     /// Whether a file that counts sets a key that isn't read yet, as `LoadedConfig` says.
@@ -169,10 +191,10 @@ impl<F: Filters, S: Specs> NextestConfig<F, S> {
                     values,
                     default_filter,
                 } = chain_at(alloc, profiles, filters, place)?;
+                let name = profiles[place].name.as_str();
                 Ok(EarlyProfile {
-                    name: profiles[place].name.as_str(),
-                    root: self.root.as_str(),
-                    store: self.store(),
+                    name,
+                    store_dir: dir_in_store(alloc, self.root.as_str(), self.store(), name)?,
                     chain: values,
                     default_filter,
                     by: PhantomData,
@@ -185,13 +207,13 @@ impl<F: Filters, S: Specs> NextestConfig<F, S> {
         }
     }
 
-    // The directory of the store. What is built in sets one; that it is set in each configuration is not proved.
+    // The directory of the store.
     fn store(&self) -> &str
-        ensures { result.now ≡ store_of self.now }
+        ensures { self.now.loaded.store_dir ≡ Some result.now }
     {
         match &self.loaded.store_dir {
             Some(dir) => dir.as_str(),
-            None => "target/nextest",
+            None => unreachable!(),
         }
     }
 }

@@ -1,29 +1,26 @@
 // A profile before anything is known of the platforms.
-ghost use Rattle.std.specs.Prelude.{◌≡◌, IfOk};
+ghost use Rattle.std.specs.Prelude.{◌≡◌};
 ghost use Rattle.std.specs.Bool.{OnFalse, OnTrue};
-ghost use Rattle.nextest_config_resolution_profiles.specs.Config.{SetsJunit, chain_of, default_of, dir_of, name_of, root_of};
+ghost use Rattle.nextest_config_resolution_profiles.specs.Config.{SetsJunit, chain_of, default_of, name_of, store_dir_of};
 ghost use Rattle.nextest_config_resolution_settings.specs.Keys as key;
 ghost use Rattle.nextest_config_resolution_settings.specs.Nearest.{SetsNone};
 ghost use Rattle.nextest_config_resolution_settings.specs.Profile as profile;
 
-use crate::default_filter::CompiledDefaultFilter;
 use nextest_config_resolution_filters::{Filters, Specs};
 use nextest_config_resolution_settings::keys::JunitPathKey;
-use nextest_config_resolution_settings::{EvaluatableProfile, nearest};
+use nextest_config_resolution_settings::{CompiledDefaultFilter, EvaluatableProfile, nearest};
 use nextest_config_resolution_values::ProfileConfig;
 use nextest_text::Text;
-use std::alloc::{AllocError, Global};
 use std::marker::PhantomData;
 
 /// A profile before anything is known of the platforms: its chain, and where its files stand.
 #[derive(Drop)]
 pub struct EarlyProfile<'c, F, S> {
     pub(crate) name: &'c str,
-    pub(crate) root: &'c str,
-    pub(crate) store: &'c str,
+    pub(crate) store_dir: Text,
     // Its own values first, then those of its parents one after another, and those of `default` last.
     pub(crate) chain: Vec<&'c ProfileConfig>,
-    pub(crate) default_filter: Option<CompiledDefaultFilter<'c, F>>,
+    pub(crate) default_filter: CompiledDefaultFilter<'c, F>,
     pub(crate) by: PhantomData<S>,
 }
 
@@ -44,27 +41,12 @@ impl<'c, F: Filters, S: Specs> EarlyProfile<'c, F, S> {
         self.name
     }
 
-    /// The filter of the tests that are run where none is asked for: that of the nearest profile of the chain which sets one.
-    /// `None` where none does.
-    pub fn default_filter(&self) -> Option<CompiledDefaultFilter<'c, F>>
-        ensures { result ≡ default_of self.now }
-    {
-        match &self.default_filter {
-            Some(it) => Some(CompiledDefaultFilter {
-                filter: it.filter,
-                profile: it.profile,
-                section: it.section,
-            }),
-            None => None,
-        }
-    }
-
     /// The directory of its files: DIR/PROFILE where the store's directory begins at the root, or there is no workspace; and
-    /// ROOT/DIR/PROFILE else. An `Err` says that there was no memory.
-    pub fn store_dir(&self, alloc: Global) -> Result<Text, AllocError>
-        ensures { IfOk result (λ text. text ≡ profile.store_dir_of (root_of self.now) (dir_of self.now) (name_of self.now)) }
+    /// ROOT/DIR/PROFILE else.
+    pub fn store_dir(&self) -> &str
+        ensures { result.now ≡ store_dir_of self.now }
     {
-        EvaluatableProfile::new(self.name, self.root, self.store, Vec::new(alloc)).store_dir(alloc)
+        self.store_dir.as_str()
     }
 
     /// Whether there is a report in JUnit's form: exactly if a profile of the chain sets `junit.path`.
@@ -83,20 +65,19 @@ impl<'c, F: Filters, S: Specs> EarlyProfile<'c, F, S> {
     pub fn apply_build_platforms(
         self,
         _platforms: &BuildPlatforms<'_, S::Facts>,
-    ) -> EvaluatableProfile<'c>
+    ) -> EvaluatableProfile<'c, F, S>
         ensures name { profile.name_of result ≡ name_of self.entry }
-        ensures root { profile.root_of result ≡ root_of self.entry }
-        ensures store { profile.store_of result ≡ dir_of self.entry }
+        ensures store_dir { profile.store_dir_of result ≡ store_dir_of self.entry }
         ensures chain { profile.chain_of result ≡ chain_of self.entry }
+        ensures default_filter { profile.default_of result ≡ default_of self.entry }
     {
         let EarlyProfile {
             name,
-            root,
-            store,
+            store_dir,
             chain,
-            default_filter: _,
+            default_filter,
             by: _,
         } = self;
-        EvaluatableProfile::new(name, root, store, chain)
+        EvaluatableProfile::new(name, store_dir, chain, default_filter)
     }
 }

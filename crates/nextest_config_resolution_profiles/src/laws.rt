@@ -1,7 +1,7 @@
 //! What holds of whole configurations. Each law is the contract of a function that does nothing.
 ghost use Rattle.nextest_config_resolution_profiles.specs.Config.{IsDefaultIn};
 ghost use Rattle.nextest_config_resolution_profiles.specs.Kept.{KeptProfile};
-ghost use Rattle.nextest_config_resolution_profiles.specs.Laws.{DefaultIsRead, OneProfile, SameChain, SomeChain, SomeConfig};
+ghost use Rattle.nextest_config_resolution_profiles.specs.Laws.{DefaultIsRead, NeverFallsBack, OneProfile, SameChain, SomeChain, SomeConfig};
 ghost use Rattle.nextest_config_resolution_profiles.specs.BuiltInLaws.{Accepted, NoFallback, ReadAs, WrittenAs};
 
 use crate::default_config::DEFAULT_CONFIG;
@@ -53,4 +53,9 @@ pub fn accepted()
 /// A chain that ends with its `default` sets each setting that has a fallback, so that none is ever used.
 pub fn no_fallback()
     ensures { NoFallback }
+{}
+
+/// A configuration sets the directory of its store, and each of its chains sets each setting but the path of JUnit's report, so that no fallback is ever used.
+pub fn never_falls_back<F: Filters>()
+    ensures { (cx : F.Cx) → NeverFallsBack (IsDefaultIn F.is_parsed cx) F.is_too_deep }
 {}

@@ -4,18 +4,17 @@
 mod chains;
 mod config;
 mod default_config;
-mod default_filter;
 mod default_filters;
 mod early_profile;
 pub mod laws;
 mod profile_error;
 mod rows;
 mod selection;
+mod store_dir;
 mod tree;
 
 pub use config::NextestConfig;
 pub use default_config::DEFAULT_CONFIG;
-pub use default_filter::{CompiledDefaultFilter, CompiledDefaultFilterSection};
 pub use default_filters::DefaultFilters;
 pub use early_profile::{BuildPlatforms, EarlyProfile};
 pub use profile_error::{ProfileError, ProfileNotFound};

@@ -1,27 +1,41 @@
 // Which of the repository's sources are named, and which are looked for.
-ghost use Rattle.std.specs.Prelude.{◌≡◌};
-ghost use Rattle.nextest_config_resolution_profiles.specs.Selection.{selected_by, source_by};
+ghost use Rattle.std.specs.Prelude.{◌≡◌, IfOk};
+ghost use Rattle.nextest_config_resolution_profiles.specs.Selection.{kind_by, selected_by};
 
 use nextest_config_elements_identifiers::ConfigSourceKind;
 use nextest_config_resolution_sources::{ConfigFileSelection, ConfigSource};
+use std::alloc::{AllocError, Global};
 
-// Sets where the repository's sources come from.
-pub(crate) fn select_kinds(selection: &ConfigFileSelection, sources: &mut [ConfigSource])
-    ensures { sources.new ≡ selected_by selection.now sources.old }
+// The sources, those of the repository as a selection says.
+pub(crate) fn selected(
+    alloc: Global,
+    selection: &ConfigFileSelection,
+    sources: &[ConfigSource],
+) -> Result<Vec<ConfigSource>, AllocError>
+    ensures { IfOk result (λ it. it.items ≡ selected_by selection.now sources.now) }
 {
-    for source in sources.iter_mut() {
-        select_kind(selection, source);
+    let mut found = Vec::with_capacity(alloc, sources.len())?;
+    for source in sources {
+        found.push(ConfigSource {
+            kind: kind_by(selection, &source.kind)?,
+            path: source.path.clone()?,
+            outcome: source.outcome.clone()?,
+        })?;
     }
+    Ok(found)
 }
 
-// Sets where a source of the repository comes from.
-fn select_kind(selection: &ConfigFileSelection, source: &mut ConfigSource)
-    ensures { source.new ≡ source_by selection.now source.old }
+// Where a source comes from, as a selection says.
+fn kind_by(
+    selection: &ConfigFileSelection,
+    kind: &ConfigSourceKind,
+) -> Result<ConfigSourceKind, AllocError>
+    ensures { IfOk result (λ it. it ≡ kind_by selection.now kind.now) }
 {
-    match &source.kind {
-        ConfigSourceKind::Tool(_) => {}
+    match kind {
+        ConfigSourceKind::Tool(name) => Ok(ConfigSourceKind::Tool(name.clone()?)),
         ConfigSourceKind::ExplicitRepository | ConfigSourceKind::DiscoveredRepository => {
-            source.kind = selection.kind();
+            Ok(selection.kind())
         }
     }
 }

@@ -2,7 +2,9 @@
 use Rattle.std.proofs.Common.{◌≡◌, ℕ, ◌+◌, ◌<◌, ◌≤◌, List, ◌∷◌, ◌++◌, Option, Some, None, length, get_or, take, drop, Bor, sym, ap, ◌∙◌, subst, arith}
 use Rattle.std.proofs.lemmas.List.{take-append-drop, drop_more, get_or-map, length-map, length-take-le, take_all}
 use Rattle.std.proofs.lemmas.List.Elements.{All-more}
-use Rattle.nextest_config_resolution_settings.specs.Nearest.{IsNearest, SetsNone, lent}
+use Rattle.nextest_config_resolution_settings.specs.Nearest.{IsNearest, IsOfProfiles, IsSetting, SetsNone, Source, an_override, a_profile, no_layer, lent}
+use Rattle.nextest_config_resolution_settings.specs.declared.source.OverrideId.{OverrideId}
+use Rattle.nextest_config_resolution_settings.proofs.Unique.{layer_at, within}
 
 lent_at : {L : Type 0} (layers : List (Bor L)) (place : ℕ) (layer : Bor L) → place < length layers → layer ≡ get_or layers place layer
     → get_or (lent layers) place layer.now ≡ layer.now
@@ -44,3 +46,17 @@ pub none_all : {L V : Type 0} (set_by : L → Option V) (layers : List (Bor L)) 
 none_all set_by layers place over unset =
     let whole : length (lent layers) ≤ place = omega (arith, length-map layers (λ it. it.now)) in
     subst (λ xs. SetsNone set_by xs) (take_all place (lent layers) whole) unset
+
+-- the nearest layer is the one that is lent at its place
+pub nearest_is : {L V : Type 0} (set_by : L → Option V) (layers : List (Bor L)) (place : ℕ) (value : V) (layer : Bor L)
+    → (n : IsNearest set_by (lent layers) place value) → layer ≡ get_or layers place layer → layer.now ≡ n.layer
+nearest_is set_by layers place value layer n is =
+    let inside : place < length layers = omega (arith, within n, length-map layers (λ it. it.now)) in
+    sym (layer_at n layer.now ∙ lent_at layers place layer inside is)
+
+-- where no rule sets a setting, its value is that of profiles
+pub unset_by_rules : {R P V : Type 0} (id_of : R → OverrideId) (by_rule : R → Option V) (by_profile : P → Option V) (rules : List R) (profiles : List P) (fallback value : V) (from : Source)
+    → SetsNone by_rule rules → IsOfProfiles by_profile profiles fallback value from → IsSetting id_of by_rule by_profile rules profiles fallback value from
+unset_by_rules id_of by_rule by_profile rules profiles fallback value (an_override id) unset is = absurd is
+unset_by_rules id_of by_rule by_profile rules profiles fallback value (a_profile place) unset is = (unset, is)
+unset_by_rules id_of by_rule by_profile rules profiles fallback value no_layer unset is = (unset, is)

@@ -4,8 +4,14 @@ use Rattle.std.proofs.Math.Seq.{get_or-append_seam}
 use Rattle.std.proofs.lemmas.List.{get_or_append_left, length-append}
 use Rattle.std.proofs.lemmas.Option.{none-some, same_Some}
 use Rattle.nextest_config_resolution_settings.specs.Laws.{OneSetting}
-use Rattle.nextest_config_resolution_settings.specs.Nearest.{IsNearest, SetsNone}
-use Rattle.nextest_config_resolution_settings.specs.declared.source.SettingSource.TheVariants as source
+use Rattle.nextest_config_resolution_settings.specs.Nearest.{IsNearest, IsOfProfiles, SetsNone, Source, an_override, a_profile, no_layer}
+use Rattle.nextest_config_resolution_settings.specs.declared.source.OverrideId.{OverrideId}
+
+pub layer_at : {L V : Type 0} {set_by : L → Option V} {layers : List L} {place : ℕ} {value : V}
+    → (n : IsNearest set_by layers place value) → (d : L) → n.layer ≡ get_or layers place d
+layer_at {place = place} n d = sym (
+    ap (λ xs. get_or xs place d) n.divided ∙ ap (λ k. get_or (n.front ++ n.layer ∷ n.back) k d) n.placed ∙ get_or-append_seam n.front n.layer n.back d
+    )
 
 at_place : {L V : Type 0} {set_by : L → Option V} {layers : List L} {place : ℕ} {value : V}
     → IsNearest set_by layers place value → (d : L) → set_by (get_or layers place d) ≡ Some value
@@ -19,7 +25,7 @@ before_place {set_by = set_by} n k below d =
     let inside : k < length n.front = omega (arith, n.placed) in
     ap (λ xs. set_by (get_or xs k d)) n.divided ∙ ap set_by (get_or_append_left n.front (n.layer ∷ n.back) d k inside) ∙ n.before k d inside
 
-within : {L V : Type 0} {set_by : L → Option V} {layers : List L} {place : ℕ} {value : V}
+pub within : {L V : Type 0} {set_by : L → Option V} {layers : List L} {place : ℕ} {value : V}
     → IsNearest set_by layers place value → place < length layers
 within n = omega (arith, n.placed, ap length n.divided, length-append n.front (n.layer ∷ n.back))
 
@@ -38,15 +44,36 @@ one_nearest {set_by = set_by} {layers = layers} {place = place} {other = other} 
     let same : place ≡ other = omega (arith, not_before one two, not_before two one) in
     (same_Some _ _ (sym (at_place one one.layer) ∙ ap (λ k. set_by (get_or layers k one.layer)) same ∙ at_place two one.layer), same)
 
-pub one_setting : {R P V : Type 0} (by_rule : R → Option V) (by_profile : P → Option V) → OneSetting by_rule by_profile
-one_setting by_rule by_profile rules profiles fallback one second (source.Override p) (source.Override q) this that =
-    let both = one_nearest this that in (both.0, ap source.Override both.1)
-one_setting by_rule by_profile rules profiles fallback one second (source.Override p) (source.Profile q) this that = absurd (set_and_unset this that.0)
-one_setting by_rule by_profile rules profiles fallback one second (source.Override p) source.Default this that = absurd (set_and_unset this that.0)
-one_setting by_rule by_profile rules profiles fallback one second (source.Profile p) (source.Override q) this that = absurd (set_and_unset that this.0)
-one_setting by_rule by_profile rules profiles fallback one second (source.Profile p) (source.Profile q) this that =
-    let both = one_nearest this.1 that.1 in (both.0, ap source.Profile both.1)
-one_setting by_rule by_profile rules profiles fallback one second (source.Profile p) source.Default this that = absurd (set_and_unset this.1 that.1)
-one_setting by_rule by_profile rules profiles fallback one second source.Default (source.Override q) this that = absurd (set_and_unset that this.0)
-one_setting by_rule by_profile rules profiles fallback one second source.Default (source.Profile q) this that = absurd (set_and_unset that.1 this.1)
-one_setting by_rule by_profile rules profiles fallback one second source.Default source.Default this that = (this.2 ∙ sym that.2, refl)
+-- and it is one layer
+pub one_layer : {L V : Type 0} {set_by : L → Option V} {layers : List L} {place other : ℕ} {value second : V}
+    → (one : IsNearest set_by layers place value) → (two : IsNearest set_by layers other second) → one.layer ≡ two.layer
+one_layer {layers = layers} one two =
+    layer_at one one.layer ∙ ap (λ k. get_or layers k one.layer) (one_nearest one two).1 ∙ sym (layer_at two one.layer)
+
+-- profiles have one value of a setting, which comes from one place
+pub one_of_profiles : {P V : Type 0} (by_profile : P → Option V) (profiles : List P) (fallback one second : V) (from other : Source)
+    → IsOfProfiles by_profile profiles fallback one from → IsOfProfiles by_profile profiles fallback second other → (one ≡ second) × (from ≡ other)
+one_of_profiles by_profile profiles fallback one second (an_override id) other this that = absurd this
+one_of_profiles by_profile profiles fallback one second (a_profile p) (an_override id) this that = absurd that
+one_of_profiles by_profile profiles fallback one second (a_profile p) (a_profile q) this that = let both = one_nearest this that in (both.0, ap a_profile both.1)
+one_of_profiles by_profile profiles fallback one second (a_profile p) no_layer this that = absurd (set_and_unset this that.0)
+one_of_profiles by_profile profiles fallback one second no_layer (an_override id) this that = absurd that
+one_of_profiles by_profile profiles fallback one second no_layer (a_profile q) this that = absurd (set_and_unset that this.0)
+one_of_profiles by_profile profiles fallback one second no_layer no_layer this that = (this.1 ∙ sym that.1, refl)
+
+pub one_setting : {R P V : Type 0} (id_of : R → OverrideId) (by_rule : R → Option V) (by_profile : P → Option V) → OneSetting id_of by_rule by_profile
+one_setting id_of by_rule by_profile rules profiles fallback one second (an_override a) (an_override b) this that =
+    let both = one_nearest this.nearest that.nearest in
+    (both.0, ap an_override (this.named ∙ ap id_of (one_layer this.nearest that.nearest) ∙ sym that.named))
+one_setting id_of by_rule by_profile rules profiles fallback one second (an_override a) (a_profile q) this that = absurd (set_and_unset this.nearest that.0)
+one_setting id_of by_rule by_profile rules profiles fallback one second (an_override a) no_layer this that = absurd (set_and_unset this.nearest that.0)
+one_setting id_of by_rule by_profile rules profiles fallback one second (a_profile p) (an_override b) this that = absurd (set_and_unset that.nearest this.0)
+one_setting id_of by_rule by_profile rules profiles fallback one second no_layer (an_override b) this that = absurd (set_and_unset that.nearest this.0)
+one_setting id_of by_rule by_profile rules profiles fallback one second (a_profile p) (a_profile q) this that =
+    one_of_profiles by_profile profiles fallback one second (a_profile p) (a_profile q) this.1 that.1
+one_setting id_of by_rule by_profile rules profiles fallback one second (a_profile p) no_layer this that =
+    one_of_profiles by_profile profiles fallback one second (a_profile p) no_layer this.1 that.1
+one_setting id_of by_rule by_profile rules profiles fallback one second no_layer (a_profile q) this that =
+    one_of_profiles by_profile profiles fallback one second no_layer (a_profile q) this.1 that.1
+one_setting id_of by_rule by_profile rules profiles fallback one second no_layer no_layer this that =
+    one_of_profiles by_profile profiles fallback one second no_layer no_layer this.1 that.1

@@ -1,31 +1,31 @@
 -- What the laws say.
 use Rattle.std.specs.Prelude.{◌≡◌, List, Option}
 use Rattle.nextest_config_elements_plain.specs.declared.run_mode.NextestRunMode.{NextestRunMode}
-use Rattle.nextest_config_resolution_settings.specs.Nearest.{IsSetting}
+use Rattle.nextest_config_resolution_settings.specs.Nearest.{IsSetting, Source}
 use Rattle.nextest_config_resolution_settings.specs.TestSettings.{AreSame, AreSettings, HaveSameSources}
-use Rattle.nextest_config_resolution_settings.specs.declared.source.SettingSource.{SettingSource}
+use Rattle.nextest_config_resolution_settings.specs.declared.source.OverrideId.{OverrideId}
 use Rattle.nextest_config_resolution_settings.specs.declared.test_settings.TestSettings.{TestSettings}
 use Rattle.nextest_config_resolution_values.specs.declared.profile_config.ProfileConfig.{ProfileConfig}
 
 -- a setting has at most one value, which comes from one place
-abbrev pub OneSetting : {R P V : Type 0} → (R → Option V) → (P → Option V) → Type 0
-OneSetting {R} {P} {V} by_rule by_profile =
-    (rules : List R) (profiles : List P) (fallback one second : V) (from other : SettingSource)
-    → IsSetting by_rule by_profile rules profiles fallback one from → IsSetting by_rule by_profile rules profiles fallback second other
+abbrev pub OneSetting : {R P V : Type 0} → (R → OverrideId) → (R → Option V) → (P → Option V) → Type 0
+OneSetting {R} {P} {V} id_of by_rule by_profile =
+    (rules : List R) (profiles : List P) (fallback one second : V) (from other : Source)
+    → IsSetting id_of by_rule by_profile rules profiles fallback one from → IsSetting id_of by_rule by_profile rules profiles fallback second other
     → (one ≡ second) × (from ≡ other)
 
 -- a chain sets the same for each test, whatever is kept of where that is taken from
-abbrev pub SameSettings : {S T : Type 0} → (SettingSource → S) → (SettingSource → T) → Type 0
-SameSettings {S} {T} kept also =
+abbrev pub SameSettings : {S T : Type 0} → (S → Source → Type 0) → (T → Source → Type 0) → Type 0
+SameSettings {S} {T} Tells Also =
     (mode : NextestRunMode) (chain : List ProfileConfig) (one : TestSettings S) (other : TestSettings T)
-    → AreSettings kept mode chain one → AreSettings also mode chain other → AreSame one other
+    → AreSettings Tells mode chain one → AreSettings Also mode chain other → AreSame one other
 
 -- and each setting is taken from one place
-abbrev pub SameSources : {S : Type 0} → (SettingSource → S) → Type 0
-SameSources {S} kept =
+abbrev pub SameSources : {S : Type 0} → (S → Source → Type 0) → Type 0
+SameSources {S} Tells =
     (mode : NextestRunMode) (chain : List ProfileConfig) (one other : TestSettings S)
-    → AreSettings kept mode chain one → AreSettings kept mode chain other → HaveSameSources one other
+    → AreSettings Tells mode chain one → AreSettings Tells mode chain other → HaveSameSources Tells one other
 
 -- a chain sets something for each test
-abbrev pub SomeSettings : {S : Type 0} → (SettingSource → S) → Type 0
-SomeSettings {S} kept = (mode : NextestRunMode) (chain : List ProfileConfig) → (settings : TestSettings S) × AreSettings kept mode chain settings
+abbrev pub SomeSettings : {S : Type 0} → (S → Source → Type 0) → Type 0
+SomeSettings {S} Tells = (mode : NextestRunMode) (chain : List ProfileConfig) → (settings : TestSettings S) × AreSettings Tells mode chain settings

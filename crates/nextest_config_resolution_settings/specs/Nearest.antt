@@ -1,6 +1,7 @@
 -- Which value a setting has: that of the nearest layer of a list that sets it, else a fallback.
 use Rattle.std.specs.Prelude.{◌≡◌, ℕ, List, ◌∷◌, ◌++◌, Option, Some, None, All, length, map}
 use denote.Ref.{Bor}
+use Rattle.nextest_config_resolution_settings.specs.declared.source.OverrideId.{OverrideId}
 use Rattle.nextest_config_resolution_settings.specs.declared.source.SettingSource.{SettingSource}
 use Rattle.nextest_config_resolution_settings.specs.declared.source.SettingSource.TheVariants as source
 
@@ -22,15 +23,33 @@ pub record IsNearest {L V : Type 0} (set_by : L → Option V) (layers : List L) 
   pub before : SetsNone set_by front
   pub sets : set_by layer ≡ Some value
 
--- the value of a setting over rules, then profiles, then a fallback, and where it comes from
-abbrev pub IsSetting : {R P V : Type 0} → (R → Option V) → (P → Option V) → List R → List P → V → V → SettingSource → Type 0
-IsSetting by_rule by_profile rules profiles fallback value (source.Override place) = IsNearest by_rule rules place value
-IsSetting by_rule by_profile rules profiles fallback value (source.Profile place) =
-    SetsNone by_rule rules × IsNearest by_profile profiles place value
-IsSetting by_rule by_profile rules profiles fallback value source.Default =
-    SetsNone by_rule rules × SetsNone by_profile profiles × (value ≡ fallback)
+-- where the value of a setting comes from: from an override, from a profile by its place in the chain, or from no layer
+pub data Source : Type 0 where
+  an_override : OverrideId → Source
+  a_profile : ℕ → Source
+  no_layer : Source
 
--- the value of a setting, wherever it comes from
-pub record HasValue {R P V : Type 0} (by_rule : R → Option V) (by_profile : P → Option V) (rules : List R) (profiles : List P) (fallback value : V) : Type 0 where
-  pub from : SettingSource
-  pub is : IsSetting by_rule by_profile rules profiles fallback value from
+abbrev pub seen : SettingSource → Source
+seen (source.Override id) = an_override id.now
+seen (source.Profile place) = a_profile place
+seen source.Default = no_layer
+
+-- the nearest rule that sets a setting is this override
+pub record IsOfRule {R V : Type 0} (id_of : R → OverrideId) (by_rule : R → Option V) (rules : List R) (value : V) (id : OverrideId) : Type 0 where
+  pub place : ℕ
+  pub nearest : IsNearest by_rule rules place value
+  pub named : id ≡ id_of nearest.layer
+
+-- the value of a setting over profiles, then a fallback, and where it comes from
+abbrev pub IsOfProfiles : {P V : Type 0} → (P → Option V) → List P → V → V → Source → Type 0
+IsOfProfiles by_profile profiles fallback value (an_override id) = ⊥
+IsOfProfiles by_profile profiles fallback value (a_profile place) = IsNearest by_profile profiles place value
+IsOfProfiles by_profile profiles fallback value no_layer = SetsNone by_profile profiles × (value ≡ fallback)
+
+-- the value of a setting over rules, then profiles, then a fallback, and where it comes from
+abbrev pub IsSetting : {R P V : Type 0} → (R → OverrideId) → (R → Option V) → (P → Option V) → List R → List P → V → V → Source → Type 0
+IsSetting id_of by_rule by_profile rules profiles fallback value (an_override id) = IsOfRule id_of by_rule rules value id
+IsSetting id_of by_rule by_profile rules profiles fallback value (a_profile place) =
+    SetsNone by_rule rules × IsOfProfiles by_profile profiles fallback value (a_profile place)
+IsSetting id_of by_rule by_profile rules profiles fallback value no_layer =
+    SetsNone by_rule rules × IsOfProfiles by_profile profiles fallback value no_layer

@@ -3,38 +3,31 @@ use Rattle.std.specs.Prelude.{◌≡◌, List, None, pos}
 use Rattle.nextest_config_elements_plain.specs.declared.run_mode.NextestRunMode.{NextestRunMode}
 use Rattle.nextest_config_resolution_settings.specs.Fallbacks as fallback
 use Rattle.nextest_config_resolution_settings.specs.Keys as key
+use Rattle.nextest_config_resolution_settings.specs.Nearest.{Source, no_layer}
 use Rattle.nextest_config_resolution_settings.specs.Profile.{IsTracked}
-use Rattle.nextest_config_resolution_settings.specs.declared.source.SettingSource.{SettingSource}
-use Rattle.nextest_config_resolution_settings.specs.declared.source.SettingSource.TheVariants as source
+use Rattle.nextest_config_resolution_settings.specs.Tracking.{HaveOneSource}
 use Rattle.nextest_config_resolution_settings.specs.declared.test_settings.TestGroupRef.TheVariants as group
 use Rattle.nextest_config_resolution_settings.specs.declared.test_settings.TestSettings.{TestSettings}
 use Rattle.nextest_config_resolution_values.specs.declared.profile_config.ProfileConfig.{ProfileConfig}
 
--- nothing is kept of where a setting is taken from, or all
-abbrev pub keeps_none : SettingSource → Unit {0}
-keeps_none source = tt
-
-abbrev pub keeps_all : SettingSource → SettingSource
-keeps_all source = source
-
 -- each is what the chain of a profile has, with what is kept of where it is taken from, but for what a rule alone sets: a priority, a
 -- wrapper script and a group
-pub record AreSettings {S : Type 0} (kept : SettingSource → S) (mode : NextestRunMode) (chain : List ProfileConfig) (settings : TestSettings S) : Type 0 where
-  pub priority : settings.priority ≡ (pos 0, kept source.Default)
-  pub threads_required : IsTracked kept key.threads_required chain fallback.threads_required settings.threads_required
-  pub run_wrapper : settings.run_wrapper ≡ (None, kept source.Default)
-  pub run_extra_args : IsTracked kept key.run_extra_args chain fallback.run_extra_args (settings.run_extra_args.0.now, settings.run_extra_args.1)
-  pub retries : IsTracked kept key.retries chain fallback.retries settings.retries
-  pub flaky_result : IsTracked kept key.flaky_result chain fallback.flaky_result settings.flaky_result
-  pub slow_timeout : IsTracked kept (key.slow_timeout mode) chain (fallback.slow_timeout mode) settings.slow_timeout
-  pub leak_timeout : IsTracked kept key.leak_timeout chain fallback.leak_timeout settings.leak_timeout
-  pub test_group : settings.test_group ≡ (group.Global, kept source.Default)
-  pub success_output : IsTracked kept key.success_output chain fallback.success_output settings.success_output
-  pub failure_output : IsTracked kept key.failure_output chain fallback.failure_output settings.failure_output
-  pub junit_store_success_output : IsTracked kept key.junit_store_success_output chain fallback.junit_store_success_output settings.junit_store_success_output
-  pub junit_store_failure_output : IsTracked kept key.junit_store_failure_output chain fallback.junit_store_failure_output settings.junit_store_failure_output
-  pub junit_report_skipped : IsTracked kept key.junit_report_skipped chain fallback.junit_report_skipped settings.junit_report_skipped
-  pub junit_flaky_fail_status : IsTracked kept key.junit_flaky_fail_status chain fallback.junit_flaky_fail_status settings.junit_flaky_fail_status
+pub record AreSettings {S : Type 0} (Tells : S → Source → Type 0) (mode : NextestRunMode) (chain : List ProfileConfig) (settings : TestSettings S) : Type 0 where
+  pub priority : (settings.priority.0 ≡ pos 0) × Tells settings.priority.1 no_layer
+  pub threads_required : IsTracked Tells key.threads_required chain fallback.threads_required settings.threads_required
+  pub run_wrapper : (settings.run_wrapper.0 ≡ None) × Tells settings.run_wrapper.1 no_layer
+  pub run_extra_args : IsTracked Tells key.run_extra_args chain fallback.run_extra_args (settings.run_extra_args.0.now, settings.run_extra_args.1)
+  pub retries : IsTracked Tells key.retries chain fallback.retries settings.retries
+  pub flaky_result : IsTracked Tells key.flaky_result chain fallback.flaky_result settings.flaky_result
+  pub slow_timeout : IsTracked Tells (key.slow_timeout mode) chain (fallback.slow_timeout mode) settings.slow_timeout
+  pub leak_timeout : IsTracked Tells key.leak_timeout chain fallback.leak_timeout settings.leak_timeout
+  pub test_group : (settings.test_group.0 ≡ group.Global) × Tells settings.test_group.1 no_layer
+  pub success_output : IsTracked Tells key.success_output chain fallback.success_output settings.success_output
+  pub failure_output : IsTracked Tells key.failure_output chain fallback.failure_output settings.failure_output
+  pub junit_store_success_output : IsTracked Tells key.junit_store_success_output chain fallback.junit_store_success_output settings.junit_store_success_output
+  pub junit_store_failure_output : IsTracked Tells key.junit_store_failure_output chain fallback.junit_store_failure_output settings.junit_store_failure_output
+  pub junit_report_skipped : IsTracked Tells key.junit_report_skipped chain fallback.junit_report_skipped settings.junit_report_skipped
+  pub junit_flaky_fail_status : IsTracked Tells key.junit_flaky_fail_status chain fallback.junit_flaky_fail_status settings.junit_flaky_fail_status
 
 -- each setting of the one is that of the other
 pub record AreSame {S T : Type 0} (one : TestSettings S) (other : TestSettings T) : Type 0 where
@@ -54,20 +47,20 @@ pub record AreSame {S T : Type 0} (one : TestSettings S) (other : TestSettings T
   pub junit_report_skipped : one.junit_report_skipped.0 ≡ other.junit_report_skipped.0
   pub junit_flaky_fail_status : one.junit_flaky_fail_status.0 ≡ other.junit_flaky_fail_status.0
 
--- and so is what is kept of where it is taken from
-pub record HaveSameSources {S : Type 0} (one other : TestSettings S) : Type 0 where
-  pub priority : one.priority.1 ≡ other.priority.1
-  pub threads_required : one.threads_required.1 ≡ other.threads_required.1
-  pub run_wrapper : one.run_wrapper.1 ≡ other.run_wrapper.1
-  pub run_extra_args : one.run_extra_args.1 ≡ other.run_extra_args.1
-  pub retries : one.retries.1 ≡ other.retries.1
-  pub flaky_result : one.flaky_result.1 ≡ other.flaky_result.1
-  pub slow_timeout : one.slow_timeout.1 ≡ other.slow_timeout.1
-  pub leak_timeout : one.leak_timeout.1 ≡ other.leak_timeout.1
-  pub test_group : one.test_group.1 ≡ other.test_group.1
-  pub success_output : one.success_output.1 ≡ other.success_output.1
-  pub failure_output : one.failure_output.1 ≡ other.failure_output.1
-  pub junit_store_success_output : one.junit_store_success_output.1 ≡ other.junit_store_success_output.1
-  pub junit_store_failure_output : one.junit_store_failure_output.1 ≡ other.junit_store_failure_output.1
-  pub junit_report_skipped : one.junit_report_skipped.1 ≡ other.junit_report_skipped.1
-  pub junit_flaky_fail_status : one.junit_flaky_fail_status.1 ≡ other.junit_flaky_fail_status.1
+-- and what is kept of each is of one source
+pub record HaveSameSources {S : Type 0} (Tells : S → Source → Type 0) (one other : TestSettings S) : Type 0 where
+  pub priority : HaveOneSource Tells one.priority.1 other.priority.1
+  pub threads_required : HaveOneSource Tells one.threads_required.1 other.threads_required.1
+  pub run_wrapper : HaveOneSource Tells one.run_wrapper.1 other.run_wrapper.1
+  pub run_extra_args : HaveOneSource Tells one.run_extra_args.1 other.run_extra_args.1
+  pub retries : HaveOneSource Tells one.retries.1 other.retries.1
+  pub flaky_result : HaveOneSource Tells one.flaky_result.1 other.flaky_result.1
+  pub slow_timeout : HaveOneSource Tells one.slow_timeout.1 other.slow_timeout.1
+  pub leak_timeout : HaveOneSource Tells one.leak_timeout.1 other.leak_timeout.1
+  pub test_group : HaveOneSource Tells one.test_group.1 other.test_group.1
+  pub success_output : HaveOneSource Tells one.success_output.1 other.success_output.1
+  pub failure_output : HaveOneSource Tells one.failure_output.1 other.failure_output.1
+  pub junit_store_success_output : HaveOneSource Tells one.junit_store_success_output.1 other.junit_store_success_output.1
+  pub junit_store_failure_output : HaveOneSource Tells one.junit_store_failure_output.1 other.junit_store_failure_output.1
+  pub junit_report_skipped : HaveOneSource Tells one.junit_report_skipped.1 other.junit_report_skipped.1
+  pub junit_flaky_fail_status : HaveOneSource Tells one.junit_flaky_fail_status.1 other.junit_flaky_fail_status.1

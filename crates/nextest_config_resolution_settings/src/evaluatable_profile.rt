@@ -4,16 +4,18 @@ ghost use Rattle.std.specs.Option.{option_copied};
 ghost use Rattle.nextest_config_resolution_settings.specs.Fallbacks as fallback;
 ghost use Rattle.nextest_config_resolution_settings.specs.Keys as key;
 ghost use Rattle.nextest_config_resolution_settings.specs.Nearest.{lent};
-ghost use Rattle.nextest_config_resolution_settings.specs.Profile.{IsTracked, MayHaveJunit, MaySet, OfProfiles, chain_of, inherits_of, name_of, root_of, stands_alone, store_dir_of, store_of};
-ghost use Rattle.nextest_config_resolution_settings.specs.TestSettings.{AreSettings, keeps_all, keeps_none};
+ghost use Rattle.nextest_config_resolution_settings.specs.Profile.{IsTracked, MayHaveJunit, OfProfiles, chain_of, default_of, inherits_of, name_of, store_dir_of};
+ghost use Rattle.nextest_config_resolution_settings.specs.TestSettings.{AreSettings};
+ghost use Rattle.nextest_config_resolution_settings.specs.Tracking.{TellsAll, TellsNothing};
 
+use crate::default_filter::CompiledDefaultFilter;
 use crate::fallbacks;
 use crate::keys::{
-    BenchGlobalTimeoutKey, BenchSlowTimeoutKey, DefaultFilterKey, FailFastKey, FailureOutputKey,
-    FinalStatusLevelKey, FlakyResultKey, GlobalTimeoutKey, JunitFlakyFailStatusKey, JunitPathKey,
-    JunitReportNameKey, JunitReportSkippedKey, JunitStoreFailureOutputKey,
-    JunitStoreSuccessOutputKey, LeakTimeoutKey, RetriesKey, RunExtraArgsKey, SlowTimeoutKey,
-    StatusLevelKey, SuccessOutputKey, TestThreadsKey, ThreadsRequiredKey,
+    BenchGlobalTimeoutKey, BenchSlowTimeoutKey, FailFastKey, FailureOutputKey, FinalStatusLevelKey,
+    FlakyResultKey, GlobalTimeoutKey, JunitFlakyFailStatusKey, JunitPathKey, JunitReportNameKey,
+    JunitReportSkippedKey, JunitStoreFailureOutputKey, JunitStoreSuccessOutputKey, LeakTimeoutKey,
+    RetriesKey, RunExtraArgsKey, SlowTimeoutKey, StatusLevelKey, SuccessOutputKey, TestThreadsKey,
+    ThreadsRequiredKey,
 };
 use crate::list_settings::ListSettings;
 use crate::profiles::{found_by, of_profiles, set_by, tracked, value_or};
@@ -27,37 +29,42 @@ use nextest_config_elements_plain::{
     FinalStatusLevel, FlakyResult, MaxFail, NextestRunMode, StatusLevel, TestOutputDisplay,
 };
 use nextest_config_resolution_values::ProfileConfig;
+use nextest_filtering_filters::{BinaryQuery, TestQuery};
 use nextest_text::Text;
 use std::alloc::{AllocError, Global};
+use std::marker::PhantomData;
 
-/// A profile: each of its settings has the value that the nearest profile of its chain sets, else a fallback.
+/// A profile: each of its settings has the value that the nearest profile of its chain sets, else a fallback. Its configuration
+/// tells tests apart by filters `F`, and builds by specs `S`, of which none is asked yet.
 #[derive(Drop)]
-pub struct EvaluatableProfile<'c> {
+pub struct EvaluatableProfile<'c, F, S> {
     name: &'c str,
-    root: &'c str,
-    store: &'c str,
+    store_dir: Text,
     chain: Vec<&'c ProfileConfig>,
+    default_filter: CompiledDefaultFilter<'c, F>,
+    by: PhantomData<S>,
 }
 
-impl<'c> EvaluatableProfile<'c> {
-    /// The profile of a name, in the workspace at `root` and with the store at `store_dir`. `chain` has its values first, then
-    /// those of its parents one after another, and those of `default` last.
+impl<'c, F, S> EvaluatableProfile<'c, F, S> {
+    /// The profile of a name, with the directory of its files and its default filter. `chain` has its values first, then those
+    /// of its parents one after another, and those of `default` last.
     pub fn new(
         name: &'c str,
-        root: &'c str,
-        store_dir: &'c str,
+        store_dir: Text,
         chain: Vec<&'c ProfileConfig>,
-    ) -> EvaluatableProfile<'c>
+        default_filter: CompiledDefaultFilter<'c, F>,
+    ) -> EvaluatableProfile<'c, F, S>
         ensures name { name_of result ≡ name.now }
-        ensures root { root_of result ≡ root.now }
-        ensures store { store_of result ≡ store_dir.now }
+        ensures store_dir { store_dir_of result ≡ store_dir }
         ensures chain { chain_of result ≡ lent chain.entry.items }
+        ensures default_filter { default_of result ≡ default_filter.entry }
     {
         EvaluatableProfile {
             name,
-            root,
-            store: store_dir,
+            store_dir,
             chain,
+            default_filter,
+            by: PhantomData,
         }
     }
 
@@ -82,15 +89,11 @@ impl<'c> EvaluatableProfile<'c> {
         text_of(self.chain.first()?.inherits.as_ref())
     }
 
-    /// The directory of its files: DIR/PROFILE where the store's directory begins at the root, or there is no workspace; and
-    /// ROOT/DIR/PROFILE else. An `Err` says that there was no memory.
-    pub fn store_dir(&self, alloc: Global) -> Result<Text, AllocError>
-        ensures { IfOk result (λ text. text ≡ store_dir_of (root_of self.now) (store_of self.now) (name_of self.now)) }
+    /// The directory of its files.
+    pub fn store_dir(&self) -> &str
+        ensures { result.now ≡ store_dir_of self.now }
     {
-        if stands_alone(self.root, self.store) {
-            return Ok(Text::from(format!(in alloc; "{}/{}", self.store, self.name)?));
-        }
-        Ok(Text::from(format!(in alloc; "{}/{}/{}", self.root, self.store, self.name)?))
+        self.store_dir.as_str()
     }
 
     /// `retries`: how a failing test is tried again.
@@ -213,12 +216,15 @@ impl<'c> EvaluatableProfile<'c> {
         }
     }
 
-    /// `default-filter`: the filterset of the tests that are run where none is asked for, as its text. `None` where no profile
-    /// of the chain sets it.
-    pub fn default_filter(&self) -> Option<&'c str>
-        ensures { MaySet key.default_filter (chain_of self.now) (option_copied result) }
+    /// `default-filter`: the filter of the tests that are run where none is asked for.
+    pub fn default_filter(&self) -> CompiledDefaultFilter<'c, F>
+        ensures { result ≡ default_of self.now }
     {
-        text_of(set_by::<DefaultFilterKey, ProfileConfig>(&self.chain))
+        CompiledDefaultFilter {
+            filter: self.default_filter.filter,
+            profile: self.default_filter.profile,
+            section: self.default_filter.section,
+        }
     }
 
     /// The report in JUnit's form. There is one exactly if a profile of the chain sets `junit.path`.
@@ -238,62 +244,87 @@ impl<'c> EvaluatableProfile<'c> {
         }
     }
 
-    /// The settings of each test, where no rule holds for it: those of its profile.
-    pub fn settings_for(&self, mode: NextestRunMode) -> TestSettings<'c>
-        ensures { AreSettings keeps_none mode (chain_of self.now) result }
+    /// The settings of a test: those of its profile, since no rule is read yet.
+    ///
+    /// # Errors
+    ///
+    /// It fails only on allocation.
+    pub fn settings_for(
+        &self,
+        _alloc: Global,
+        mode: NextestRunMode,
+        _query: &TestQuery<'_>,
+    ) -> Result<TestSettings<'c>, AllocError>
+        ensures { IfOk result (AreSettings TellsNothing mode (chain_of self.now)) }
     {
-        self.settings_by::<()>(mode)
+        Ok(self.settings_by::<()>(mode))
     }
 
-    /// The settings of each test, where no rule holds for it, and where each of them is taken from. `SettingSource::Profile` has a
-    /// place of the chain: 0 is the profile itself.
-    pub fn settings_with_source_for(&self, mode: NextestRunMode) -> TestSettings<'c, SettingSource>
-        ensures { AreSettings keeps_all mode (chain_of self.now) result }
+    /// The settings of a test, as `settings_for` gives them, and where each of them is taken from.
+    ///
+    /// # Errors
+    ///
+    /// It fails only on allocation.
+    pub fn settings_with_source_for(
+        &self,
+        _alloc: Global,
+        mode: NextestRunMode,
+        _query: &TestQuery<'_>,
+    ) -> Result<TestSettings<'c, SettingSource<'c>>, AllocError>
+        ensures { IfOk result (AreSettings TellsAll mode (chain_of self.now)) }
     {
-        self.settings_by::<SettingSource>(mode)
+        Ok(self.settings_by::<SettingSource<'c>>(mode))
     }
 
-    /// The settings with which the tests of each binary are listed, where no rule holds for it: nothing is set.
-    pub fn list_settings_for(&self) -> ListSettings<'c>
-        ensures { result.list_wrapper.0 ≡ None }
+    /// The settings with which the tests of a binary are listed: nothing is set, since no rule is read yet.
+    ///
+    /// # Errors
+    ///
+    /// It fails only on allocation.
+    pub fn list_settings_for(
+        &self,
+        _alloc: Global,
+        _query: &BinaryQuery<'_>,
+    ) -> Result<ListSettings<'c>, AllocError>
+        ensures { IfOk result (λ it. it.list_wrapper.0 ≡ None) }
     {
-        ListSettings::debug_empty()
+        Ok(ListSettings::debug_empty())
     }
 
     // The settings of each test, where no rule holds for it, and what is kept of where each of them is taken from. Rules alone set
     // a priority, a wrapper script or a group.
-    fn settings_by<S: TrackSource>(&self, mode: NextestRunMode) -> TestSettings<'c, S>
-        ensures { AreSettings S.kept mode (chain_of self.now) result }
+    fn settings_by<T: TrackSource<'c>>(&self, mode: NextestRunMode) -> TestSettings<'c, T>
+        ensures { AreSettings T.tells mode (chain_of self.now) result }
     {
         let chain = self.chain.as_slice();
         TestSettings {
-            priority: (TestPriority::default(), S::track(SettingSource::Default)),
-            threads_required: tracked::<ThreadsRequiredKey, S>(
+            priority: (TestPriority::default(), T::track(SettingSource::Default)),
+            threads_required: tracked::<ThreadsRequiredKey, T>(
                 chain,
                 fallbacks::threads_required(),
             ),
-            run_wrapper: (None, S::track(SettingSource::Default)),
+            run_wrapper: (None, T::track(SettingSource::Default)),
             run_extra_args: self.run_extra_args_by(),
-            retries: tracked::<RetriesKey, S>(chain, fallbacks::retries()),
-            flaky_result: tracked::<FlakyResultKey, S>(chain, fallbacks::flaky_result()),
+            retries: tracked::<RetriesKey, T>(chain, fallbacks::retries()),
+            flaky_result: tracked::<FlakyResultKey, T>(chain, fallbacks::flaky_result()),
             slow_timeout: self.slow_timeout_by(mode),
-            leak_timeout: tracked::<LeakTimeoutKey, S>(chain, fallbacks::leak_timeout()),
-            test_group: (TestGroupRef::Global, S::track(SettingSource::Default)),
-            success_output: tracked::<SuccessOutputKey, S>(chain, fallbacks::success_output()),
-            failure_output: tracked::<FailureOutputKey, S>(chain, fallbacks::failure_output()),
-            junit_store_success_output: tracked::<JunitStoreSuccessOutputKey, S>(
+            leak_timeout: tracked::<LeakTimeoutKey, T>(chain, fallbacks::leak_timeout()),
+            test_group: (TestGroupRef::Global, T::track(SettingSource::Default)),
+            success_output: tracked::<SuccessOutputKey, T>(chain, fallbacks::success_output()),
+            failure_output: tracked::<FailureOutputKey, T>(chain, fallbacks::failure_output()),
+            junit_store_success_output: tracked::<JunitStoreSuccessOutputKey, T>(
                 chain,
                 fallbacks::junit_store_success_output(),
             ),
-            junit_store_failure_output: tracked::<JunitStoreFailureOutputKey, S>(
+            junit_store_failure_output: tracked::<JunitStoreFailureOutputKey, T>(
                 chain,
                 fallbacks::junit_store_failure_output(),
             ),
-            junit_report_skipped: tracked::<JunitReportSkippedKey, S>(
+            junit_report_skipped: tracked::<JunitReportSkippedKey, T>(
                 chain,
                 fallbacks::junit_report_skipped(),
             ),
-            junit_flaky_fail_status: tracked::<JunitFlakyFailStatusKey, S>(
+            junit_flaky_fail_status: tracked::<JunitFlakyFailStatusKey, T>(
                 chain,
                 fallbacks::junit_flaky_fail_status(),
             ),
@@ -301,23 +332,23 @@ impl<'c> EvaluatableProfile<'c> {
     }
 
     // `slow-timeout`, and what is kept of where it is taken from; of benchmarks `bench.slow-timeout`, and that alone.
-    fn slow_timeout_by<S: TrackSource>(&self, mode: NextestRunMode) -> (SlowTimeout, S)
-        ensures { IsTracked S.kept (key.slow_timeout mode) (chain_of self.now) (fallback.slow_timeout mode) result }
+    fn slow_timeout_by<T: TrackSource<'c>>(&self, mode: NextestRunMode) -> (SlowTimeout, T)
+        ensures { IsTracked T.tells (key.slow_timeout mode) (chain_of self.now) (fallback.slow_timeout mode) result }
     {
         let otherwise = fallbacks::slow_timeout(mode);
         match mode {
-            NextestRunMode::Test => { tracked::<SlowTimeoutKey, S>(&self.chain, otherwise) }
+            NextestRunMode::Test => { tracked::<SlowTimeoutKey, T>(&self.chain, otherwise) }
             NextestRunMode::Benchmark => {
-                tracked::<BenchSlowTimeoutKey, S>(&self.chain, otherwise)
+                tracked::<BenchSlowTimeoutKey, T>(&self.chain, otherwise)
             }
         }
     }
 
     // `run-extra-args`, and what is kept of where it is taken from.
-    fn run_extra_args_by<S: TrackSource>(&self) -> (&'c [Text], S)
-        ensures { IsTracked S.kept key.run_extra_args (chain_of self.now) fallback.run_extra_args (result.0.now, result.1) }
+    fn run_extra_args_by<T: TrackSource<'c>>(&self) -> (&'c [Text], T)
+        ensures { IsTracked T.tells key.run_extra_args (chain_of self.now) fallback.run_extra_args (result.0.now, result.1) }
     {
-        let (found, source) = found_by::<RunExtraArgsKey, ProfileConfig, S>(&self.chain);
+        let (found, source) = found_by::<RunExtraArgsKey, ProfileConfig, T>(&self.chain);
         match found {
             Some(arguments) => (arguments.as_slice(), source),
             None => (&[], source),
@@ -375,11 +406,4 @@ fn text_of(text: Option<&Text>) -> Option<&str>
         Some(text) => Some(text.as_str()),
         None => None,
     }
-}
-
-// Whether a directory doesn't stand below a workspace.
-fn stands_alone(root: &str, dir: &str) -> bool
-    ensures { result ≡ stands_alone root.now dir.now }
-{
-    dir.starts_with("/") || root.is_empty()
 }

@@ -1,9 +1,9 @@
 // The layers of a configuration, and what they set.
 ghost use Rattle.std.specs.Prelude.{◌≡◌, IfNone, IfSome, unwrap_or};
 ghost use Rattle.std.specs.Option.{option_copied};
-ghost use Rattle.nextest_config_resolution_settings.specs.Nearest.{IsNearest, IsSetting, SetsNone, lent};
+ghost use Rattle.nextest_config_resolution_settings.specs.Nearest.{IsNearest, IsOfProfiles, IsSetting, SetsNone, lent, seen};
 
-use crate::source::SettingSource;
+use crate::source::{OverrideId, SettingSource};
 
 /// A setting, as the word for what is looked for.
 pub trait Setting {
@@ -37,33 +37,43 @@ pub fn nearest<'c, S: Setting, L: Sets<S>>(layers: &[&'c L]) -> Option<(usize, &
     None
 }
 
+/// A rule of a configuration, which is one of its overrides.
+pub trait Rule {
+    ghost use Rattle.std.specs.Prelude.{◌≡◌};
+    ghost use Rattle.nextest_config_resolution_settings.specs.declared.source.OverrideId.{OverrideId};
+
+    ghost id: { Self → OverrideId };
+
+    /// Which override it is.
+    fn id(&self) -> &OverrideId
+        ensures { result.now ≡ id self.now };
+}
+
 /// The value of a setting over rules, then profiles, and where it comes from: that of the nearest rule that sets it, else that
 /// of the nearest profile that does. `None` where no layer sets it, and then whatever the fallback is holds.
-pub fn find_setting<'c, S: Setting, R: Sets<S>, P: Sets<S>>(
+pub fn find_setting<'c, S: Setting, R: Sets<S> + Rule, P: Sets<S>>(
     rules: &[&'c R],
     profiles: &[&'c P],
-) -> (Option<&'c S::Value>, SettingSource)
-    ensures { (fallback : S.Value) → IsSetting R.value P.value (lent rules.now) (lent profiles.now) fallback
-        (unwrap_or (option_copied result.0) fallback) result.1 }
+) -> (Option<&'c S::Value>, SettingSource<'c>)
+    ensures { (fallback : S.Value) → IsSetting R.id R.value P.value (lent rules.now) (lent profiles.now) fallback
+        (unwrap_or (option_copied result.0) fallback) (seen result.1) }
 {
-    if let Some((place, value)) = nearest::<S, R>(rules) {
-        return (Some(value), SettingSource::Override(place));
-    }
-    match nearest::<S, P>(profiles) {
-        Some((place, value)) => (Some(value), SettingSource::Profile(place)),
-        None => (None, SettingSource::Default),
+    match nearest::<S, R>(rules) {
+        Some((place, value)) => (Some(value), SettingSource::Override(rules[place].id())),
+        None => find_in_profiles::<S, P>(profiles),
     }
 }
 
-/// The layer of a list that has none: it sets nothing.
-pub struct NoRule;
-
-impl<S: Setting> Sets<S> for NoRule {
-    ghost use Rattle.std.specs.Prelude.{None};
-
-    ghost value = { λ _. None };
-
-    fn value(&self) -> Option<&S::Value> {
-        None
+/// The value of a setting over profiles, and where it comes from, where no rule sets it: that of the nearest profile that does.
+/// `None` where none of them sets it, and then whatever the fallback is holds.
+pub fn find_in_profiles<'c, 'p, S: Setting, P: Sets<S>>(
+    profiles: &[&'c P],
+) -> (Option<&'c S::Value>, SettingSource<'p>)
+    ensures { (fallback : S.Value) → IsOfProfiles P.value (lent profiles.now) fallback
+        (unwrap_or (option_copied result.0) fallback) (seen result.1) }
+{
+    match nearest::<S, P>(profiles) {
+        Some((place, value)) => (Some(value), SettingSource::Profile(place)),
+        None => (None, SettingSource::Default),
     }
 }

@@ -5,6 +5,7 @@
 //! read from its chain of profiles alone.
 #![tactic(auto)]
 
+mod default_filter;
 mod evaluatable_profile;
 pub mod fallbacks;
 pub mod keys;
@@ -16,10 +17,11 @@ mod source;
 mod test_settings;
 mod wrapper_script;
 
+pub use default_filter::{CompiledDefaultFilter, CompiledDefaultFilterSection};
 pub use evaluatable_profile::EvaluatableProfile;
-pub use layers::{NoRule, Sets, Setting, find_setting, nearest};
+pub use layers::{Rule, Sets, Setting, find_in_profiles, find_setting, nearest};
 pub use list_settings::ListSettings;
-pub use source::{SettingSource, TrackSource};
+pub use source::{OverrideId, SettingSource, TrackSource};
 pub use test_settings::{TestGroupRef, TestSettings};
 pub use wrapper_script::{
     ScriptCommand, ScriptCommandEnvMap, ScriptCommandRelativeTo, WrapperScriptConfig,

@@ -1,10 +1,10 @@
-// The values that profiles have, where no rules are asked.
+// The values that profiles have, where no rule sets any.
 ghost use Rattle.std.specs.Prelude.{unwrap_or};
 ghost use Rattle.std.specs.Option.{option_copied};
 ghost use Rattle.nextest_config_resolution_settings.specs.Nearest.{lent};
 ghost use Rattle.nextest_config_resolution_settings.specs.Profile.{IsTracked, MaySet, OfProfiles};
 
-use crate::layers::{NoRule, Sets, Setting, find_setting, nearest};
+use crate::layers::{Sets, Setting, find_in_profiles, nearest};
 use crate::source::TrackSource;
 use nextest_config_resolution_values::ProfileConfig;
 
@@ -12,7 +12,7 @@ use nextest_config_resolution_values::ProfileConfig;
 pub(crate) fn of_profiles<'c, S: Setting, P: Sets<S>>(profiles: &[&'c P]) -> Option<&'c S::Value>
     ensures { (fallback : S.Value) → OfProfiles P.value (lent profiles.now) fallback (unwrap_or (option_copied result) fallback) }
 {
-    find_setting::<S, NoRule, P>(&[], profiles).0
+    find_in_profiles::<S, P>(profiles).0
 }
 
 // The value that profiles have of a setting, lent, or the fallback.
@@ -30,24 +30,24 @@ pub(crate) fn value_or<'c, S: Setting, P: Sets<S>>(
 
 // The value that profiles have of a setting, lent, and what is kept of where it is taken from. `None` where none of them sets it,
 // and then whatever the fallback is holds.
-pub(crate) fn found_by<'c, S: Setting, P: Sets<S>, T: TrackSource>(
+pub(crate) fn found_by<'c, S: Setting, P: Sets<S>, T: TrackSource<'c>>(
     profiles: &[&'c P],
 ) -> (Option<&'c S::Value>, T)
-    ensures { (fallback : S.Value) → IsTracked T.kept P.value (lent profiles.now) fallback (unwrap_or (option_copied result.0) fallback, result.1) }
+    ensures { (fallback : S.Value) → IsTracked T.tells P.value (lent profiles.now) fallback (unwrap_or (option_copied result.0) fallback, result.1) }
 {
-    let (value, source) = find_setting::<S, NoRule, P>(&[], profiles);
+    let (value, source) = find_in_profiles::<S, P>(profiles);
     (value, T::track(source))
 }
 
 // The value that profiles have of a setting, or the fallback, and what is kept of where it is taken from.
-pub(crate) fn tracked<'c, S: Setting, T: TrackSource>(
+pub(crate) fn tracked<'c, S: Setting, T: TrackSource<'c>>(
     profiles: &[&'c ProfileConfig],
     fallback: S::Value,
 ) -> (S::Value, T)
 where
     ProfileConfig: Sets<S>,
     S::Value: Copy + 'c,
-    ensures { IsTracked T.kept ⟦<ProfileConfig as Sets<S>>⟧.value (lent profiles.now) fallback result }
+    ensures { IsTracked T.tells ⟦<ProfileConfig as Sets<S>>⟧.value (lent profiles.now) fallback result }
 {
     let (found, source) = found_by::<S, ProfileConfig, T>(profiles);
     match found {

@@ -1,38 +1,73 @@
 // Where the value of a setting comes from.
+use nextest_text::Text;
 
-/// Where the value of a setting comes from: a layer by its place in its list, the nearest first, or none.
+/// An override of a configuration, by where it is written.
+#[derive(Debug, PartialEq, Eq)]
+pub struct OverrideId {
+    /// The path of its file.
+    pub file: Text,
+    /// The name of its profile.
+    pub profile: Text,
+    /// Its place among the overrides of that profile in that file, from 0 on.
+    pub index: usize,
+}
+
+// One call drops it, whoever holds it.
+impl Drop for OverrideId {
+    fn drop(self) {
+        let Self {
+            file: _,
+            profile: _,
+            index: _,
+        } = self;
+    }
+}
+
+/// Where the value of a setting comes from.
 #[derive(Clone, Copy, Debug, PartialEq, Eq)]
-pub enum SettingSource {
-    /// A rule that holds for a test.
-    Override(usize),
-    /// A profile of the chain.
+pub enum SettingSource<'p> {
+    /// An override that holds for the test.
+    Override(&'p OverrideId),
+    /// A profile of the chain, by its place there: 0 is the profile that was asked.
     Profile(usize),
     /// No layer sets it, and the fallback holds.
     Default,
 }
 
 /// What is kept of where a setting comes from: nothing (`()`), or all of it (`SettingSource`).
-pub trait TrackSource: Copy {
-    ghost use Rattle.std.specs.Prelude.{◌≡◌};
-    ghost use Rattle.nextest_config_resolution_settings.specs.declared.source.SettingSource.{SettingSource};
+pub trait TrackSource<'p>: Copy {
+    ghost use Rattle.nextest_config_resolution_settings.specs.Nearest.{Source, seen};
+    ghost use Rattle.nextest_config_resolution_settings.specs.Tracking.{KeepsSome};
 
-    ghost kept: { SettingSource → Self };
+    // What is kept where a setting comes from there.
+    ghost tells: { Self → Source → Type 0 };
+
+    // Something is kept of each source.
+    ghost keeps: { KeepsSome tells };
 
     /// What is kept of where a setting comes from.
-    fn track(source: SettingSource) -> Self
-        ensures { result ≡ kept source };
+    fn track(source: SettingSource<'p>) -> Self
+        ensures { tells result (seen source.entry) };
 }
 
-impl TrackSource for () {
-    ghost kept = { λ _. tt };
+impl<'p> TrackSource<'p> for () {
+    ghost use Rattle.nextest_config_resolution_settings.specs.Tracking.{TellsNothing, nothing_kept};
 
-    fn track(_source: SettingSource) {}
+    ghost tells = { TellsNothing };
+
+    ghost keeps = { nothing_kept };
+
+    fn track(_source: SettingSource<'p>) {}
 }
 
-impl TrackSource for SettingSource {
-    ghost kept = { λ source. source };
+impl<'p> TrackSource<'p> for SettingSource<'p> {
+    ghost use Rattle.nextest_config_resolution_settings.specs.Tracking.{TellsAll, all_kept};
 
-    fn track(source: SettingSource) -> SettingSource {
+    ghost tells = { TellsAll };
+
+    ghost keeps = { all_kept };
+
+    fn track(source: SettingSource<'p>) -> SettingSource<'p> {
         source
     }
 }

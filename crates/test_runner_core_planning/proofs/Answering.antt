@@ -1,7 +1,7 @@
 -- What the filters in force answer, by their trees and as they are compiled.
-use Rattle.std.proofs.Common.{◌≡◌, ℕ, List, [], ◌∷◌, ◌++◌, map, Bool, true, false, Option, None, Some, Ok, refl, sym, ap, ◌∙◌, subst}
+use Rattle.std.proofs.Common.{◌≡◌, ℕ, List, [], ◌∷◌, ◌++◌, map, Bool, true, false, Option, None, Some, Ok, refl, ap, ◌∙◌, subst}
 use Rattle.std.specs.List.{All, AllZip, cons_option}
-use Rattle.std.specs.Prelude.{codes}
+use Rattle.std.specs.Prelude.{◌↔◌, codes}
 use Rattle.std.proofs.lemmas.List.Elements.{All-nil, All-cons, All-head, All-tail}
 use Rattle.nextest_filtering_compiling.proofs.Trees.{can_be_as_compiled, is_on_as_compiled}
 use Rattle.nextest_filtering_compiling.specs.Compiling.{IsCompiled}
@@ -15,27 +15,20 @@ use Rattle.nextest_filtering_filters.specs.Meaning.{CanBeOn, IsOn, Tells}
 use Rattle.nextest_filtering_filters.specs.Query as query
 use Rattle.nextest_filtering_filters.specs.declared.known_groups.KnownGroups.TheVariants as groups
 use Rattle.nextest_filtering_filters.specs.declared.leaf.FiltersetLeaf.{FiltersetLeaf}
-use Rattle.nextest_filtering_filters.specs.declared.leaf.FiltersetLeaf.TheVariants as predicate
-use Rattle.nextest_filtering_filters.specs.declared.step.Step.TheVariants as step
 use Rattle.nextest_filtering_filters.proofs.Deciding.{decided_name}
 use Rattle.nextest_filtering_syntax.specs.Parsed.{tree_of}
-use Rattle.nextest_filtering_trees.specs.Tree.{Matcher, Tree, everything, set}
+use Rattle.nextest_filtering_trees.specs.Tree.{Matcher, Tree}
 use Rattle.nextest_filtering_compiling.specs.Trees.{TreeCanBeOn, TreeIsOn}
 use Rattle.test_runner_core_inputs.specs.declared.inputs.Inputs.{Inputs}
 use Rattle.test_runner_core_listing.specs.Answers.{AnswerAs, Answers, seen, seen_test}
 use Rattle.test_runner_core_listing.proofs.Answering.{has_answers}
 use Rattle.test_runner_core_settings.specs.Sets.{IsDefault}
+use Rattle.test_runner_core_workspace.specs.declared.record.Binary.{Binary}
 use Rattle.test_runner_core_workspace.specs.declared.record.WorkspaceRecord.{WorkspaceRecord}
-use Rattle.test_runner_core_planning.specs.Filtering.{AreAnswersOf, AreInForce, AreOfFilterset, InForce, IsChosen, IsDefaultTree, IsOfGroup, context_of, graph_of, unless_ignored}
+use Rattle.test_runner_core_planning.specs.Filtering.{AllCanHold, AllHold, AreAnswersOf, AreInForce, AreOfFilterset, InForce, IsChosen, IsOfGroup, context_of, graph_of, unless_ignored}
 use Rattle.test_runner_core_planning.specs.Inside.{IsFilteredBy, in_force}
 
 -- ---- lists side by side
-
-zip_each : {A B : Type 0} (R S : A → B → Type 0) (xs : List A) (ys : List B) → ((x : A) (y : B) → R x y → S x y) → AllZip R xs ys → AllZip S xs ys
-zip_each R S [] [] each all = tt
-zip_each R S [] (y ∷ ys) each all = absurd all
-zip_each R S (x ∷ xs) [] each all = absurd all
-zip_each R S (x ∷ xs) (y ∷ ys) each all = (each x y all.0, zip_each R S xs ys each all.1)
 
 zip_append : {A B : Type 0} (R : A → B → Type 0) (xs : List A) (ys : List B) (more : List A) (others : List B) → AllZip R xs ys → AllZip R more others → AllZip R (xs ++ more) (ys ++ others)
 zip_append R [] [] more others all rest = rest
@@ -43,20 +36,27 @@ zip_append R [] (y ∷ ys) more others all rest = absurd all
 zip_append R (x ∷ xs) [] more others all rest = absurd all
 zip_append R (x ∷ xs) (y ∷ ys) more others all rest = (all.0, zip_append R xs ys more others all.1 rest)
 
-all_there : {A B : Type 0} (P : A → Type 0) (Q : B → Type 0) (xs : List A) (ys : List B) → AllZip (λ x y. P x → Q y) xs ys → All P xs → All Q ys
-all_there P Q [] [] each all = All-nil Q
-all_there P Q [] (y ∷ ys) each all = absurd each
-all_there P Q (x ∷ xs) [] each all = absurd each
-all_there P Q (x ∷ xs) (y ∷ ys) each all = All-cons Q y ys (each.0 (All-head P x xs all)) (all_there P Q xs ys each.1 (All-tail P x xs all))
+-- something holds of each of the one list exactly if it does of each of the other, where those side by side are alike
+all_alike : {A B : Type 0} (R : A → B → Type 0) (P : A → Type 0) (Q : B → Type 0) → ((x : A) (y : B) → R x y → Q y ↔ P x) → (xs : List A) (ys : List B)
+    → AllZip R xs ys → All Q ys ↔ All P xs
+all_alike R P Q each [] [] zipped = ((λ all. All-nil P), (λ all. All-nil Q))
+all_alike R P Q each [] (y ∷ ys) zipped = absurd zipped
+all_alike R P Q each (x ∷ xs) [] zipped = absurd zipped
+all_alike R P Q each (x ∷ xs) (y ∷ ys) zipped =
+    let one = each x y zipped.0 in
+    let more = all_alike R P Q each xs ys zipped.1 in (
+      (λ all. All-cons P x xs (one.0 (All-head Q y ys all)) (more.0 (All-tail Q y ys all))),
+      (λ all. All-cons Q y ys (one.1 (All-head P x xs all)) (more.1 (All-tail P x xs all))),
+    )
 
-all_back : {A B : Type 0} (P : A → Type 0) (Q : B → Type 0) (xs : List A) (ys : List B) → AllZip (λ x y. Q y → P x) xs ys → All Q ys → All P xs
-all_back P Q [] [] each all = All-nil P
-all_back P Q [] (y ∷ ys) each all = absurd each
-all_back P Q (x ∷ xs) [] each all = absurd each
-all_back P Q (x ∷ xs) (y ∷ ys) each all = All-cons P x xs (each.0 (All-head Q y ys all)) (all_back P Q xs ys each.1 (All-tail Q y ys all))
-
-tells_as : (So Other : Type 0) (value : Bool) → (So → Other) → (Other → So) → Tells So value → Tells Other value
-tells_as So Other value there back tells = ((λ e. there (tells.0 e)), (λ other. tells.1 (back other)))
+-- so what tells the one tells the other
+tells_alike : {A B : Type 0} (R : A → B → Type 0) (P : A → Type 0) (Q : B → Type 0) → ((x : A) (y : B) → R x y → Q y ↔ P x) → (xs : List A) (ys : List B)
+    → AllZip R xs ys → (value : Bool) → Tells (All Q ys) value ↔ Tells (All P xs) value
+tells_alike R P Q each xs ys zipped value =
+    let same = all_alike R P Q each xs ys zipped in (
+      (λ tells. ((λ e. same.0 (tells.0 e)), (λ all. tells.1 (same.1 all)))),
+      (λ tells. ((λ e. same.1 (tells.0 e)), (λ all. tells.1 (same.0 all)))),
+    )
 
 -- ---- trees, and what they are compiled to
 
@@ -64,60 +64,40 @@ pub record AreCompiledTo (workspace : WorkspaceRecord) (it : InForce) (filters :
   pub each : AllZip (IsCompiled (graph_of workspace)) it.filters (map filter_of filters)
   pub default : IsCompiled (graph_of workspace) it.default (filter_of beside)
 
--- what they answer is what their trees do
-answers_to : (workspace : WorkspaceRecord) (it : InForce) (filters : List Compiled) (default : Compiled) (answers : Answers) → AreCompiledTo workspace it filters default
-    → AnswerAs filters default IsOfGroup answers → AreAnswersOf workspace it answers
-answers_to workspace it filters default answers compiled are =
+-- what tells that each of them can hold on a binary tells it of their trees, and the other way
+lists_alike : (workspace : WorkspaceRecord) (it : InForce) (filters : List Compiled) (default : Compiled) → AreCompiledTo workspace it filters default
+    → (binary : Binary) (value : Bool) → Tells (All (λ f. CanBeOn f (filter_of default) (seen binary) true) (map filter_of filters)) value ↔ Tells (AllCanHold workspace it binary) value
+lists_alike workspace it filters default compiled binary =
     let graph = graph_of workspace in
     let d = filter_of default in
-    let formulas = map filter_of filters in
-    let Made = IsCompiled graph in record {
-      lists = λ binary.
-          let On : Tree → Type 0 = λ tree. TreeCanBeOn graph tree it.default (seen binary) true in
-          let Can : Formula FiltersetLeaf → Type 0 = λ f. CanBeOn f d (seen binary) true in
-          tells_as (All Can formulas) (All On it.filters) (answers.lists binary)
-          (all_back On Can it.filters formulas (zip_each Made (λ tree f. Can f → On tree) it.filters formulas (λ tree f made. (can_be_as_compiled graph tree it.default f d made compiled.default (seen binary) true).0) compiled.each))
-          (all_there On Can it.filters formulas (zip_each Made (λ tree f. On tree → Can f) it.filters formulas (λ tree f made. (can_be_as_compiled graph tree it.default f d made compiled.default (seen binary) true).1) compiled.each))
-          (are.lists binary);
-      selects = λ binary name.
-          let test = seen_test binary name in
-          let On : Tree → Type 0 = λ tree. TreeIsOn graph tree it.default test (IsOfGroup test) true in
-          let Is : Formula FiltersetLeaf → Type 0 = λ f. IsOn f d test (IsOfGroup test) true in
-          tells_as (All Is formulas) (All On it.filters) (answers.selects binary name)
-          (all_back On Is it.filters formulas (zip_each Made (λ tree f. Is f → On tree) it.filters formulas (λ tree f made. (is_on_as_compiled graph tree it.default f d made compiled.default test (IsOfGroup test) true).0) compiled.each))
-          (all_there On Is it.filters formulas (zip_each Made (λ tree f. On tree → Is f) it.filters formulas (λ tree f made. (is_on_as_compiled graph tree it.default f d made compiled.default test (IsOfGroup test) true).1) compiled.each))
-          (are.selects binary name);
-    }
+    tells_alike (IsCompiled graph) (λ tree. TreeCanBeOn graph tree it.default (seen binary) true) (λ f. CanBeOn f d (seen binary) true)
+    (λ tree f made. can_be_as_compiled graph tree it.default f d made compiled.default (seen binary) true) it.filters (map filter_of filters) compiled.each
 
--- and the other way
-pub answers_from : (workspace : WorkspaceRecord) (it : InForce) (filters : List Compiled) (default : Compiled) (answers : Answers) → AreCompiledTo workspace it filters default
-    → AreAnswersOf workspace it answers → AnswerAs filters default IsOfGroup answers
-answers_from workspace it filters default answers compiled are =
+-- so that all of them hold on a test
+selects_alike : (workspace : WorkspaceRecord) (it : InForce) (filters : List Compiled) (default : Compiled) → AreCompiledTo workspace it filters default
+    → (binary : Binary) (name : List ℕ) (value : Bool)
+    → Tells (All (λ f. IsOn f (filter_of default) (seen_test binary name) (IsOfGroup (seen_test binary name)) true) (map filter_of filters)) value ↔ Tells (AllHold workspace it binary name) value
+selects_alike workspace it filters default compiled binary name =
     let graph = graph_of workspace in
     let d = filter_of default in
-    let formulas = map filter_of filters in
-    let Made = IsCompiled graph in record {
-      lists = λ binary.
-          let On : Tree → Type 0 = λ tree. TreeCanBeOn graph tree it.default (seen binary) true in
-          let Can : Formula FiltersetLeaf → Type 0 = λ f. CanBeOn f d (seen binary) true in
-          tells_as (All On it.filters) (All Can formulas) (answers.lists binary)
-          (all_there On Can it.filters formulas (zip_each Made (λ tree f. On tree → Can f) it.filters formulas (λ tree f made. (can_be_as_compiled graph tree it.default f d made compiled.default (seen binary) true).1) compiled.each))
-          (all_back On Can it.filters formulas (zip_each Made (λ tree f. Can f → On tree) it.filters formulas (λ tree f made. (can_be_as_compiled graph tree it.default f d made compiled.default (seen binary) true).0) compiled.each))
-          (are.lists binary);
-      selects = λ binary name.
-          let test = seen_test binary name in
-          let On : Tree → Type 0 = λ tree. TreeIsOn graph tree it.default test (IsOfGroup test) true in
-          let Is : Formula FiltersetLeaf → Type 0 = λ f. IsOn f d test (IsOfGroup test) true in
-          tells_as (All On it.filters) (All Is formulas) (answers.selects binary name)
-          (all_there On Is it.filters formulas (zip_each Made (λ tree f. On tree → Is f) it.filters formulas (λ tree f made. (is_on_as_compiled graph tree it.default f d made compiled.default test (IsOfGroup test) true).1) compiled.each))
-          (all_back On Is it.filters formulas (zip_each Made (λ tree f. Is f → On tree) it.filters formulas (λ tree f made. (is_on_as_compiled graph tree it.default f d made compiled.default test (IsOfGroup test) true).0) compiled.each))
-          (are.selects binary name);
-    }
+    let test = seen_test binary name in
+    tells_alike (IsCompiled graph) (λ tree. TreeIsOn graph tree it.default test (IsOfGroup test) true) (λ f. IsOn f d test (IsOfGroup test) true)
+    (λ tree f made. is_on_as_compiled graph tree it.default f d made compiled.default test (IsOfGroup test) true) it.filters (map filter_of filters) compiled.each
+
+-- what they answer is exactly what their trees do
+pub answers_alike : (workspace : WorkspaceRecord) (it : InForce) (filters : List Compiled) (default : Compiled) (answers : Answers) → AreCompiledTo workspace it filters default
+    → AnswerAs filters default IsOfGroup answers ↔ AreAnswersOf workspace it answers
+answers_alike workspace it filters default answers compiled =
+    let lists = λ (binary : Binary). lists_alike workspace it filters default compiled binary (answers.lists binary) in
+    let selects = λ (binary : Binary) (name : List ℕ). selects_alike workspace it filters default compiled binary name (answers.selects binary name) in (
+      (λ are. record { lists = λ binary. (lists binary).0 (are.lists binary); selects = λ binary name. (selects binary name).0 (are.selects binary name) }),
+      (λ are. record { lists = λ binary. (lists binary).1 (are.lists binary); selects = λ binary name. (selects binary name).1 (are.selects binary name) }),
+    )
 
 -- ---- the filters in force of inputs
 
 -- those of inputs, as they are compiled, of which each question is decided
-pub record HasForce (inputs : Inputs) (text : Option (List ℕ)) (filterset : Option Compiled) (default : Compiled) : Type 0 where
+pub record HasForce (inputs : Inputs) (text : List ℕ) (filterset : Option Compiled) (default : Compiled) : Type 0 where
   pub force : InForce
   pub of_inputs : AreInForce inputs text force
   pub compiled : AreCompiledTo inputs.workspace force (in_force filterset inputs.ignore_default_filter default) default
@@ -165,55 +145,37 @@ all_append : (P : Compiled → Type 0) (xs ys : List Compiled) → All P xs → 
 all_append P [] ys one other = other
 all_append P (x ∷ xs) ys one other = All-cons P x (xs ++ ys) (All-head P x xs one) (all_append P xs ys (All-tail P x xs one) other)
 
-force_with : (inputs : Inputs) (text : Option (List ℕ)) (filterset : Option Compiled) (tree : Tree) (default : Compiled) → IsFilteredBy inputs.workspace inputs.filterset filterset
-    → IsDefaultTree inputs.workspace text tree → IsCompiled (graph_of inputs.workspace) tree (filter_of default) → AreReadable (filter_of default)
-    → AllLeaves (λ it. is_default it ≡ false) (filter_of default) → HasForce inputs text filterset default
-force_with inputs text filterset tree default filtered is made reads none =
+pub force_of_read : (inputs : Inputs) (text : List ℕ) (filterset : Option Compiled) (it : Filterset) → IsFilteredBy inputs.workspace inputs.filterset filterset
+    → IsDefault (context_of inputs.workspace) text it → HasForce inputs text filterset it.compiled
+force_of_read inputs text filterset it filtered is =
     let ignored = inputs.ignore_default_filter in
     let Made = IsCompiled (graph_of inputs.workspace) in
     let Reads : Compiled → Type 0 = λ filter. AreReadable (filter_of filter) in
     let of = of_filterset inputs.workspace inputs.filterset filterset filtered in
+    let tree = tree_of it.parsed in
+    let default = it.compiled in
+    let reads = readable text tree is.1.0 (graph_of inputs.workspace) (filter_of default) is.3 in
     let first = cons_option filterset [] in
     let last = unless_ignored ignored default in
     let trees = of.chosen ++ unless_ignored ignored tree in
-    let zipped = zip_append Made of.chosen (map filter_of first) (unless_ignored ignored tree) (map filter_of last) of.each (zip_unless inputs.workspace ignored tree default made) in
+    let zipped = zip_append Made of.chosen (map filter_of first) (unless_ignored ignored tree) (map filter_of last) of.each (zip_unless inputs.workspace ignored tree default is.3) in
     let same : map filter_of first ++ map filter_of last ≡ map filter_of (in_force filterset ignored default) = mapped_append first last ∙ ap (map filter_of) (behind filterset last) in
     record {
       force = record { filters = trees; default = tree };
-      of_inputs = record { default = is; chosen = of.chosen; filterset = of.are; all = refl };
-      compiled = record { each = subst (λ (formulas : List (Formula FiltersetLeaf)). AllZip Made trees formulas) same zipped; default = made };
+      of_inputs = record { default = is.1; chosen = of.chosen; filterset = of.are; all = refl };
+      compiled = record { each = subst (λ (formulas : List (Formula FiltersetLeaf)). AllZip Made trees formulas) same zipped; default = is.3 };
       readable = subst (λ (filters : List Compiled). All Reads filters) (behind filterset last) (all_append Reads first last of.readable (all_unless ignored default reads));
       default_readable = reads;
-      no_default = none;
+      no_default = no_default it (default_serves (context_of inputs.workspace) groups.Unavailable text it is);
     }
-
--- everything, as it is compiled
-abbrev pub all : Compiled
-all = record { steps = step.Leaf 0 ∷ []; leaves = predicate.All ∷ [] }
-
--- where no default filter is set
-pub force_of_all : (inputs : Inputs) (filterset : Option Compiled) (default : Compiled) → filter_of default ≡ filter_of all → IsFilteredBy inputs.workspace inputs.filterset filterset
-    → HasForce inputs None filterset default
-force_of_all inputs filterset default same filtered =
-    force_with inputs None filterset (set everything) default filtered refl
-    (subst (λ (f : Formula FiltersetLeaf). IsCompiled (graph_of inputs.workspace) (set everything) f) (sym same) (predicate.All, refl, refl))
-    (subst AreReadable (sym same) tt) (subst (AllLeaves (λ it. is_default it ≡ false)) (sym same) refl)
-
--- where one is set, and read
-pub force_of_read : (inputs : Inputs) (text : List ℕ) (filterset : Option Compiled) (it : Filterset) → IsFilteredBy inputs.workspace inputs.filterset filterset
-    → IsDefault (context_of inputs.workspace) text it → HasForce inputs (Some text) filterset it.compiled
-force_of_read inputs text filterset it filtered is =
-    let tree = tree_of it.parsed in
-    force_with inputs (Some text) filterset tree it.compiled filtered is.1 is.3 (readable text tree is.1.0 (graph_of inputs.workspace) (filter_of it.compiled) is.3)
-    (no_default it (default_serves (context_of inputs.workspace) groups.Unavailable text it is))
 
 -- whether the group of a test is matched can be decided
 decided_group : (test : query.Test) (m : Matcher) → IsReadable m → (b : Bool) × Tells (IsOfGroup test m) b
 decided_group test m reads = decided_name m (codes "@global") reads
 
 -- they answer something
-pub some_chosen : (inputs : Inputs) (text : Option (List ℕ)) (filterset : Option Compiled) (default : Compiled) → HasForce inputs text filterset default → (answers : Answers) × IsChosen inputs text (Ok answers)
+pub some_chosen : (inputs : Inputs) (text : List ℕ) (filterset : Option Compiled) (default : Compiled) → HasForce inputs text filterset default → (answers : Answers) × IsChosen inputs text (Ok answers)
 some_chosen inputs text filterset default has =
     let filters = in_force filterset inputs.ignore_default_filter default in
     let made = has_answers IsOfGroup filters default decided_group has.readable has.default_readable has.no_default in
-    (made.0, (has.force, has.of_inputs, answers_to inputs.workspace has.force filters default made.0 has.compiled made.1))
+    (made.0, (has.force, has.of_inputs, (answers_alike inputs.workspace has.force filters default made.0 has.compiled).0 made.1))

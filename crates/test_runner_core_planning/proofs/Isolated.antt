@@ -4,7 +4,7 @@ use Rattle.nextest_run_events_results.specs.declared.instance.OwnedTestInstanceI
 use Rattle.test_runner_core_inputs.specs.declared.inputs.Inputs.{Inputs}
 use Rattle.test_runner_core_listing.specs.Answers.{Answers}
 use Rattle.test_runner_core_listing.specs.Listing.{Found, listed_of, listing}
-use Rattle.test_runner_core_planning.specs.Filtering.{AreAnswersOf, AreOfFilterset, IsChosen, IsDefaultTree, context_of, unless_ignored}
+use Rattle.test_runner_core_planning.specs.Filtering.{AreAnswersOf, AreOfFilterset, IsChosen, IsTakenAsDefault, context_of, unless_ignored}
 use Rattle.test_runner_core_planning.specs.Plan.{IsPlanOf, Planned, SettlesBehind, listed_in, passed_of, plan_test, settled_by}
 use Rattle.test_runner_core_plan.specs.declared.plan.Plan.{Plan}
 use Rattle.test_runner_core_planning.specs.declared.plan_fault.PlanFault.{PlanFault}
@@ -22,11 +22,11 @@ use Rattle.test_runner_core_planning.proofs.OneOrder.{one_rising}
 use Rattle.test_runner_core_planning.proofs.OnePlan.{plans_same, with_warnings}
 
 -- filters in force of the one are those of the other
-chosen_alike : (inputs other : Inputs) (text : Option (List ℕ)) (answers : Answers) → DifferOutside inputs other → IsChosen other text (Ok answers) → IsChosen inputs text (Ok answers)
+chosen_alike : (inputs other : Inputs) (text : List ℕ) (answers : Answers) → DifferOutside inputs other → IsChosen other text (Ok answers) → IsChosen inputs text (Ok answers)
 chosen_alike inputs other text answers differ (force, is, are) = (
   force,
   record {
-    default = subst (λ (w : WorkspaceRecord). IsDefaultTree w text force.default) differ.workspace is.default;
+    default = subst (λ (w : WorkspaceRecord). IsTakenAsDefault w text force.default) differ.workspace is.default;
     chosen = is.chosen;
     filterset = subst (λ (w : WorkspaceRecord). AreOfFilterset w inputs.filterset is.chosen) differ.workspace
         (subst (λ (f : Option (List ℕ)). AreOfFilterset other.workspace f is.chosen) differ.filterset is.filterset);

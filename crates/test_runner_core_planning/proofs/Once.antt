@@ -21,7 +21,7 @@ use Rattle.test_runner_core_workspace.specs.declared.workspace_fault.WorkspaceFa
 use Rattle.test_runner_core_workspace.specs.Lister.{Answer}
 use Rattle.test_runner_core_workspace.specs.declared.record.Binary.{Binary}
 use Rattle.test_runner_core_workspace.specs.declared.record.WorkspaceRecord.{WorkspaceRecord}
-use Rattle.test_runner_core_planning.specs.Filtering.{AllCanHold, AllHold, AreAnswersOf, AreInForce, AreOfFilterset, InForce, IsChosen, IsDefaultTree, IsRefused, context_of, unless_ignored}
+use Rattle.test_runner_core_planning.specs.Filtering.{AllCanHold, AllHold, AreAnswersOf, AreInForce, AreOfFilterset, InForce, IsChosen, IsRefused, context_of, unless_ignored}
 use Rattle.test_runner_core_planning.specs.Plan.{◌>>=◌, Planned, Plans, PlansWith, Settles, SettlesBehind, asks_for_more, found_by, has_too_many, listed_in, passed_by, passed_of, planned_by, settled_by, workspace_of}
 use Rattle.test_runner_core_planning.specs.Refusals.{of_settings}
 use Rattle.test_runner_core_planning.specs.Texts.{name_of, name_of_load, status_of}
@@ -30,21 +30,16 @@ use Rattle.test_runner_core_planning.specs.declared.plan_fault.PlanFault.TheVari
 
 -- ---- the filters in force
 
--- a text is one default filter
-default_once : (workspace : WorkspaceRecord) (text : Option (List ℕ)) (one other : Tree) → IsDefaultTree workspace text one → IsDefaultTree workspace text other → one ≡ other
-default_once workspace None one other a b = a ∙ sym b
-default_once workspace (Some text) one other a b = one_tree text one other a.0 b.0
-
--- and one filterset
+-- a text is one filterset
 of_filterset_once : (workspace : WorkspaceRecord) (text : Option (List ℕ)) (one other : List Tree) → AreOfFilterset workspace text one → AreOfFilterset workspace text other → one ≡ other
 of_filterset_once workspace None one other a b = a ∙ sym b
 of_filterset_once workspace (Some text) one other (tree, taken, is) (second, also, same) =
     is ∙ ap (λ (t : Tree). t ∷ []) (one_tree text tree second taken.0 also.0) ∙ sym same
 
 -- so the filters in force are one list
-pub in_force_once : (inputs : Inputs) (text : Option (List ℕ)) (one other : InForce) → AreInForce inputs text one → AreInForce inputs text other → one ≡ other
+pub in_force_once : (inputs : Inputs) (text : List ℕ) (one other : InForce) → AreInForce inputs text one → AreInForce inputs text other → one ≡ other
 in_force_once inputs text one other a b =
-    let default : one.default ≡ other.default = default_once inputs.workspace text one.default other.default a.default b.default in
+    let default : one.default ≡ other.default = one_tree text one.default other.default a.default.0 b.default.0 in
     let chosen : a.chosen ≡ b.chosen = of_filterset_once inputs.workspace inputs.filterset a.chosen b.chosen a.filterset b.filterset in
     let filters : one.filters ≡ other.filters =
     a.all
@@ -54,7 +49,7 @@ in_force_once inputs text one other a b =
     λ i. record { filters = filters i; default = default i }
 
 -- what is chosen is what the filters in force answer
-pub answers_are : (inputs : Inputs) (text : Option (List ℕ)) (force : InForce) (answers : Answers) → AreInForce inputs text force → IsChosen inputs text (Ok answers) → AreAnswersOf inputs.workspace force answers
+pub answers_are : (inputs : Inputs) (text : List ℕ) (force : InForce) (answers : Answers) → AreInForce inputs text force → IsChosen inputs text (Ok answers) → AreAnswersOf inputs.workspace force answers
 answers_are inputs text force answers is (other, also, are) =
     subst (λ (it : InForce). AreAnswersOf inputs.workspace it answers) (in_force_once inputs text other force also is) are
 
@@ -70,7 +65,7 @@ answers_once workspace force a b first second = λ i. record {
   selects = λ binary name. tells_one (AllHold workspace force binary name) (a.selects binary name) (b.selects binary name) (first.selects binary name) (second.selects binary name) i;
 }
 
-pub chosen_once : (inputs : Inputs) (text : Option (List ℕ)) (a b : Result Answers PlanFault) → IsChosen inputs text a → IsChosen inputs text b → a ≡ b
+pub chosen_once : (inputs : Inputs) (text : List ℕ) (a b : Result Answers PlanFault) → IsChosen inputs text a → IsChosen inputs text b → a ≡ b
 chosen_once inputs text (Ok a) (Ok b) (force, is, are) second =
     ap (λ (answers : Answers). Ok answers) (answers_once inputs.workspace force a b are (answers_are inputs text force b is second))
 chosen_once inputs text (Ok a) (Err b) (force, is, are) second = absurd (never_both inputs.workspace inputs.filterset is.chosen is.filterset second.1)

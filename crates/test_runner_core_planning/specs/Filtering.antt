@@ -9,7 +9,7 @@ use Rattle.nextest_filtering_filters.specs.Query as query
 use Rattle.nextest_filtering_filters.specs.declared.known_groups.KnownGroups.TheVariants as groups
 use Rattle.nextest_filtering_graph.specs.Graph.{Graph, ids, placed}
 use Rattle.nextest_filtering_trees.specs.Meaning.{MatchesName}
-use Rattle.nextest_filtering_trees.specs.Tree.{Matcher, Tree, everything, set}
+use Rattle.nextest_filtering_trees.specs.Tree.{Matcher, Tree}
 use Rattle.test_runner_core_inputs.specs.declared.inputs.Inputs.{Inputs}
 use Rattle.test_runner_core_listing.specs.Answers.{Answers, seen, seen_test}
 use Rattle.test_runner_core_workspace.specs.declared.record.Binary.{Binary}
@@ -51,11 +51,6 @@ IsTaken workspace = IsAccepted (context_of workspace) purpose.Test (groups.Known
 abbrev pub IsTakenAsDefault : WorkspaceRecord → List ℕ → Tree → Type 0
 IsTakenAsDefault workspace = IsAccepted (context_of workspace) purpose.DefaultFilter groups.Unavailable
 
--- the default filter: that of the text which the chosen profile sets, and everything where none is set
-abbrev pub IsDefaultTree : WorkspaceRecord → Option (List ℕ) → Tree → Type 0
-IsDefaultTree workspace None tree = tree ≡ set everything
-IsDefaultTree workspace (Some text) tree = IsTakenAsDefault workspace text tree
-
 -- the filterset, where one is given
 abbrev pub AreOfFilterset : WorkspaceRecord → Option (List ℕ) → List Tree → Type 0
 AreOfFilterset workspace None trees = trees ≡ []
@@ -72,8 +67,8 @@ pub record InForce : Type 0 where
   pub default : Tree
 
 -- those of inputs whose chosen profile sets this text as its default filter
-pub record AreInForce (inputs : Inputs) (text : Option (List ℕ)) (it : InForce) : Type 0 where
-  pub default : IsDefaultTree inputs.workspace text it.default
+pub record AreInForce (inputs : Inputs) (text : List ℕ) (it : InForce) : Type 0 where
+  pub default : IsTakenAsDefault inputs.workspace text it.default
   pub chosen : List Tree
   pub filterset : AreOfFilterset inputs.workspace inputs.filterset chosen
   pub all : it.filters ≡ chosen ++ unless_ignored inputs.ignore_default_filter it.default
@@ -104,6 +99,6 @@ pub record AreAnswersOf (workspace : WorkspaceRecord) (it : InForce) (answers : 
   pub selects : (binary : Binary) (name : List ℕ) → Tells (AllHold workspace it binary name) (answers.selects binary name)
 
 -- what the filters in force answer, or that the filterset is refused
-abbrev pub IsChosen : Inputs → Option (List ℕ) → Result Answers PlanFault → Type 0
+abbrev pub IsChosen : Inputs → List ℕ → Result Answers PlanFault → Type 0
 IsChosen inputs text (Ok answers) = (it : InForce) × AreInForce inputs text it × AreAnswersOf inputs.workspace it answers
 IsChosen inputs text (Err refusal) = (refusal ≡ refused.Filterset) × IsRefused inputs.workspace inputs.filterset

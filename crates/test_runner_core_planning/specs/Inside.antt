@@ -1,14 +1,12 @@
 -- What calls inside of this crate give: the filters in force as they are compiled, and all that inputs ask for.
 use Rattle.std.specs.Prelude.{◌≡◌, ◌⊎◌, ℕ, Bool, List, Option, None, Some, Result, Ok, Err, ⊤}
 use Rattle.std.specs.List.{cons_option}
-use Rattle.nextest_config_resolution_load.specs.Load.{IsReadAs}
 use Rattle.nextest_config_resolution_profiles.specs.Whole.{Whole}
 use Rattle.nextest_filtering_compiling.specs.Compiling.{IsCompiled}
 use Rattle.nextest_filtering_compiling.specs.declared.filterset.Filterset.{Filterset}
 use Rattle.nextest_filtering_filters.specs.Filter.{Compiled, filter_of}
 use Rattle.nextest_filtering_trees.specs.Tree.{Tree}
 use Rattle.test_runner_core_inputs.specs.declared.inputs.Inputs.{Inputs}
-use Rattle.test_runner_core_settings.specs.Calls.{filter_in}
 use Rattle.test_runner_core_settings.specs.Sets.{IsDefault, Reads}
 use Rattle.test_runner_core_settings.specs.declared.configured.RunSettings.{RunSettings}
 use Rattle.test_runner_core_settings.specs.declared.pass.VersionPass.{VersionPass}
@@ -55,7 +53,7 @@ abbrev pub IsWanted : Inputs → Result Wanted PlanError → Type 0
 IsWanted inputs (Ok wanted) =
     Settles inputs (Ok wanted.settings)
     × IsFilteredBy inputs.workspace inputs.filterset wanted.filterset
-    × IsReadAs (IsDefault (context_of inputs.workspace)) wanted.settings.default_filter (filter_in wanted.default_filter)
+    × IsDefault (context_of inputs.workspace) wanted.settings.default_filter wanted.default_filter.filter.now
 IsWanted inputs (Err (error.Refused refusal)) =
     Settles inputs (Err refusal)
     ⊎ ((settings : RunSettings) × Settles inputs (Ok settings) × IsChosen inputs settings.default_filter (Err refusal))

@@ -74,10 +74,8 @@ fn selection_by<L: Lister>(
     ensures stays { (other : Binary) → L.answer lister.new other ≡ L.answer lister.old other }
     ensures asks { (chosen : Answers) → IsChosen inputs.now wanted.now.settings.default_filter (Ok chosen) → words.Asks result (L.asked lister.old) (asked_of (L.answer lister.old) (words.listed_in inputs.now chosen)) (L.asked lister.new) }
 {
-    match &wanted.default_filter {
-        Some(it) => select_beside(alloc, inputs, wanted, &it.filter.compiled, lister),
-        None => select_beside(alloc, inputs, wanted, &CompiledExpr::all(alloc)?, lister),
-    }
+    let default = &wanted.default_filter.filter.compiled;
+    select_beside(alloc, inputs, wanted, default, lister)
 }
 
 // What they select, where this is the default filter.

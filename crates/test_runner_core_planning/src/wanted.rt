@@ -7,7 +7,7 @@ ghost use Rattle.test_runner_core_planning.specs.Plan as words;
 use crate::filtering::{context_of, filterset_in};
 use crate::plan_error::PlanError;
 use crate::plan_fault::PlanFault;
-use nextest_config_resolution_profiles::CompiledDefaultFilter;
+use nextest_config_resolution_settings::CompiledDefaultFilter;
 use nextest_filtering_compiling::{Filterset, ParseContext};
 use nextest_filtering_filters::CompiledExpr;
 use nextest_text::{Listing, Text};
@@ -23,7 +23,7 @@ use test_runner_core_settings::{
 pub(crate) struct Wanted<'c> {
     pub(crate) settings: RunSettings,
     pub(crate) filterset: Option<CompiledExpr>,
-    pub(crate) default_filter: Option<CompiledDefaultFilter<'c, Filterset>>,
+    pub(crate) default_filter: CompiledDefaultFilter<'c, Filterset>,
 }
 
 // The configuration of inputs, with all warnings, and their workspace as filtersets are compiled for it.
@@ -46,12 +46,15 @@ pub(crate) fn settle(alloc: Global, inputs: &Inputs) -> Result<Settled, PlanErro
     ensures { AreSettled inputs.now result }
 {
     inputs.workspace.check(alloc)?;
-    let VersionPass { warnings } = version_pass(alloc, inputs)?;
+    let VersionPass {
+        warnings,
+        experimental,
+    } = version_pass(alloc, inputs)?;
     let cx = context_of(alloc, &inputs.workspace)?;
     let ConfiguredRun {
         config,
         warnings: more,
-    } = configure(alloc, &cx, inputs)?;
+    } = configure(alloc, &cx, inputs, experimental)?;
     Ok(Settled {
         config,
         warnings: joined(warnings, more)?,

@@ -1,22 +1,23 @@
 -- What the chosen profile of a configuration sets, and its default filter.
-use Rattle.std.proofs.Common.{◌≡◌, ℕ, List, Option, None, Some, Ok, Err, sym, ◌∙◌, subst}
+use Rattle.std.proofs.Common.{◌≡◌, ℕ, List, Option, Ok, Err, sym, ◌∙◌, subst}
 use Rattle.std.specs.List.{Contains}
-use Rattle.nextest_config_resolution_load.specs.Load.{IsReadAs}
-use Rattle.nextest_config_resolution_profiles.specs.Config.{HasDefaultFilter, IsChainOf, IsEarly, IsProfile, chain_of, default_of, names_of, profiles_of}
+use Rattle.nextest_config_resolution_load.specs.declared.loaded_config.NamedProfile.{NamedProfile}
+use Rattle.nextest_config_resolution_profiles.specs.Config.{IsChainOf, IsDefaultFilterOf, IsEarly, IsProfile, chain_of, default_of, names_of, profiles_of}
 use Rattle.nextest_config_resolution_profiles.specs.Whole.{Whole}
-use Rattle.nextest_config_resolution_profiles.specs.declared.default_filter.CompiledDefaultFilter.{CompiledDefaultFilter}
+use Rattle.nextest_config_resolution_settings.specs.declared.default_filter.CompiledDefaultFilter.{CompiledDefaultFilter}
 use Rattle.nextest_config_resolution_profiles.specs.declared.early_profile.EarlyProfile.{EarlyProfile}
 use Rattle.nextest_config_resolution_profiles.specs.declared.profile_error.ProfileError.{ProfileError}
 use Rattle.nextest_config_resolution_profiles.specs.declared.profile_error.ProfileError.TheVariants as profile
 use Rattle.nextest_config_resolution_profiles.proofs.Filtered.{default_is_read}
 use Rattle.nextest_config_resolution_settings.specs.Keys as key
-use Rattle.nextest_config_resolution_settings.specs.Profile.{MaySet}
+use Rattle.nextest_config_resolution_settings.specs.Nearest.{SetsNone}
+use Rattle.nextest_config_resolution_settings.specs.Profile.{IsSetTo}
 use Rattle.nextest_config_resolution_settings.proofs.Unique.{one_nearest, set_and_unset}
 use Rattle.nextest_config_resolution_values.specs.declared.profile_config.ProfileConfig.{ProfileConfig}
 use Rattle.nextest_filtering_compiling.specs.Context.{Context}
 use Rattle.nextest_filtering_compiling.specs.declared.filterset.Filterset.{Filterset}
 use Rattle.test_runner_core_inputs.specs.declared.inputs.Inputs.{Inputs}
-use Rattle.test_runner_core_settings.specs.Calls.{Chooses, error_of_profile, filter_in}
+use Rattle.test_runner_core_settings.specs.Calls.{Chooses, error_of_profile}
 use Rattle.test_runner_core_settings.specs.Sets.{IsDefault, IsTooDeep, Reads}
 use Rattle.test_runner_core_settings.specs.Settings.{AreRunSettings}
 use Rattle.test_runner_core_settings.specs.declared.configured.ChosenRun.{ChosenRun}
@@ -33,13 +34,15 @@ never_chosen S cx inputs config name (profile.NotFound told) reads is missing = 
 }
 never_chosen S cx inputs config name profile.OutOfMemory reads is missing = tt
 
+-- a chain of which a default filter is told sets one
+pub tells_set : {F : Type 0} (profiles : List NamedProfile) (filters : List (Option F)) (names : List (List ℕ)) (chain : List ProfileConfig) (it : CompiledDefaultFilter F)
+    → IsDefaultFilterOf profiles filters names chain it → ¬ SetsNone key.default_filter chain
+tells_set profiles filters names chain it is unset = set_and_unset is.nearest unset
+
 -- the default filter that a profile tells is the one of the text that its chain sets
-filter_of_text : (cx : Context) (inputs : Inputs) (config : Whole Filterset) (names : List (List ℕ)) (chain : List ProfileConfig) (text : Option (List ℕ)) (found : Option (CompiledDefaultFilter Filterset))
-    → Reads cx inputs config → MaySet key.default_filter chain text → HasDefaultFilter config.loaded.profiles config.loaded.default_filters names chain found → IsReadAs (IsDefault cx) text (filter_in found)
-filter_of_text cx inputs config names chain None None reads unset has = tt
-filter_of_text cx inputs config names chain None (Some it) reads unset has = absurd (set_and_unset has.nearest unset)
-filter_of_text cx inputs config names chain (Some text) None reads (place, is) has = absurd (set_and_unset is has)
-filter_of_text cx inputs config names chain (Some text) (Some it) reads (place, is) has =
+filter_of_text : (cx : Context) (inputs : Inputs) (config : Whole Filterset) (names : List (List ℕ)) (chain : List ProfileConfig) (text : List ℕ) (it : CompiledDefaultFilter Filterset)
+    → Reads cx inputs config → IsSetTo key.default_filter chain text → IsDefaultFilterOf config.loaded.profiles config.loaded.default_filters names chain it → IsDefault cx text it.filter.now
+filter_of_text cx inputs config names chain text it reads (place, is) has =
     let same : has.text ≡ text = (one_nearest has.nearest is).0 in
     subst (λ (t : List ℕ). IsDefault cx t it.filter.now) same (default_is_read (IsDefault cx) IsTooDeep inputs.root inputs.sources config names chain it reads.loaded has)
 
@@ -54,6 +57,6 @@ chosen cx inputs config name early chain it reads is found same filter settings 
         chained = subst (λ (n : List ℕ). IsChainOf (profiles_of config) n (chain_of early)) is found.chained;
         settings = set;
       },
-      subst (λ (f : Option (CompiledDefaultFilter Filterset)). IsReadAs (IsDefault cx) it.settings.default_filter (filter_in f)) (sym filter)
+      subst (λ (f : CompiledDefaultFilter Filterset). IsDefault cx it.settings.default_filter f.filter.now) (sym filter)
           (filter_of_text cx inputs config found.chained.names (chain_of early) it.settings.default_filter (default_of early) reads set.default_filter found.filtered),
     )

@@ -2,7 +2,6 @@
 use Rattle.std.proofs.Common.{◌≡◌, ◌<◌, ℕ, Bool, true, false, List, [], ◌∷◌, ◌++◌, map, codes, Option, None, Some, Result, Ok, Err, refl, sym, subst, cond, arith, find}
 use Rattle.std.specs.Prelude.{⊤, nat_lt, pos, negsuc, if◌then◌else◌}
 use Rattle.std.proofs.lemmas.Bool.Decides.{nat_tests}
-use Rattle.std.proofs.lemmas.Option.{none-some}
 use Rattle.std.specs.List.{AllByRecursion}
 use Rattle.std.specs.Option.{option_map, option_map_or}
 use Rattle.std.specs.Str.{bytes_eq}
@@ -18,11 +17,8 @@ use Rattle.nextest_config_resolution_load.specs.Checks.{config_in, merged_in}
 use Rattle.nextest_config_resolution_profiles.specs.Config.{values_of}
 use Rattle.nextest_config_resolution_settings.specs.Fallbacks as fallback
 use Rattle.nextest_config_resolution_settings.specs.Keys as key
-use Rattle.nextest_config_resolution_settings.specs.Nearest.{IsSetting}
+use Rattle.nextest_config_resolution_settings.specs.Nearest.{IsOfProfiles, Source, an_override, a_profile, no_layer}
 use Rattle.nextest_config_resolution_settings.specs.Profile.{OfProfiles}
-use Rattle.nextest_config_resolution_settings.specs.declared.layers.NoRule.{NoRule}
-use Rattle.nextest_config_resolution_settings.specs.declared.source.SettingSource.{SettingSource}
-use Rattle.nextest_config_resolution_settings.specs.declared.source.SettingSource.TheVariants as source
 use Rattle.nextest_config_resolution_values.specs.Accepted.{MayBe, Reads}
 use Rattle.nextest_config_resolution_values.specs.File.{FileConfig, Named, profiles_at, profiles_in, profiles_of, store_dir_at}
 use Rattle.nextest_config_resolution_values.specs.Profile.{profile_in, profile_of}
@@ -194,12 +190,12 @@ one_of (first ∷ front) back config have = one_of front back config have.1
 has_limit : (chain : List ProfileConfig) (limit : MaxFail) → AllByRecursion HasLimit chain → OfProfiles key.fail_fast chain fallback.fail_fast limit → IsOneAtLeast limit
 has_limit chain limit have value = by_source value.from value.is
   where
-    by_source : (from : SettingSource) → IsSetting {R = NoRule} (λ _. None) key.fail_fast [] chain fallback.fail_fast limit from → IsOneAtLeast limit
-    by_source (source.Override place) is = absurd (none-some _ is.sets)
-    by_source (source.Profile place) (none, is) =
+    by_source : (from : Source) → IsOfProfiles key.fail_fast chain fallback.fail_fast limit from → IsOneAtLeast limit
+    by_source (an_override id) is = absurd is
+    by_source (a_profile place) is =
         subst (λ (found : Option MaxFail). HoldsIfSome found IsOneAtLeast) is.sets
         (one_of is.front is.back is.layer (subst (λ (all : List ProfileConfig). AllByRecursion HasLimit all) is.divided have))
-    by_source source.Default (none, unset, is) = subst IsOneAtLeast (sym is) (omega arith)
+    by_source no_layer (unset, is) = subst IsOneAtLeast (sym is) (omega arith)
 
 pub sets_limit : SetsLimit
 sets_limit cx inputs it by =

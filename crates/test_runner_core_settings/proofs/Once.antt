@@ -1,5 +1,5 @@
 -- Inputs set one thing, or are refused for one reason.
-use Rattle.std.proofs.Common.{◌≡◌, ℕ, suc, Bool, true, false, List, [], ◌∷◌, map, Option, None, Some, Ok, Err, refl, sym, ap, ◌∙◌, subst, cond, arith, find}
+use Rattle.std.proofs.Common.{◌≡◌, ℕ, suc, Bool, true, false, List, [], ◌∷◌, map, Some, Ok, Err, refl, sym, ap, ◌∙◌, subst, cond, arith, find}
 use Rattle.std.specs.Prelude.{is_some}
 use Rattle.std.specs.List.{Contains}
 use Rattle.std.specs.Option.{option_map}
@@ -28,11 +28,11 @@ use Rattle.nextest_config_resolution_profiles.specs.declared.profile_error.Profi
 use Rattle.nextest_config_resolution_profiles.proofs.OneProfile.{one_chain_of}
 use Rattle.nextest_config_resolution_settings.specs.Fallbacks as fallback
 use Rattle.nextest_config_resolution_settings.specs.Keys as key
-use Rattle.nextest_config_resolution_settings.specs.Profile.{MaySet}
-use Rattle.nextest_config_resolution_settings.specs.TestSettings.{AreSettings, keeps_none}
+use Rattle.nextest_config_resolution_settings.specs.TestSettings.{AreSettings}
+use Rattle.nextest_config_resolution_settings.specs.Tracking.{TellsNothing}
 use Rattle.nextest_config_resolution_settings.specs.declared.test_settings.TestSettings.{TestSettings}
 use Rattle.nextest_config_resolution_settings.proofs.Sourced.{one_value, same_settings}
-use Rattle.nextest_config_resolution_settings.proofs.Unique.{one_nearest, set_and_unset}
+use Rattle.nextest_config_resolution_settings.proofs.Unique.{one_nearest}
 use Rattle.nextest_config_resolution_values.specs.File.{FileConfig, Named}
 use Rattle.nextest_config_resolution_values.specs.declared.profile_config.ProfileConfig.{ProfileConfig}
 use Rattle.nextest_filtering_compiling.specs.Context.{Context}
@@ -48,10 +48,10 @@ use Rattle.test_runner_core_settings.specs.declared.settings_fault.SettingsFault
 -- ---- the settings of a chain
 
 -- copies of the settings of a chain are one
-one_test : (mode : NextestRunMode) (chain : List ProfileConfig) (one other : TestSettings (Unit {0})) → AreSettings keeps_none mode chain one → AreSettings keeps_none mode chain other
+one_test : (mode : NextestRunMode) (chain : List ProfileConfig) (one other : TestSettings (Unit {0})) → AreSettings TellsNothing mode chain one → AreSettings TellsNothing mode chain other
     → owned_of one ≡ owned_of other
 one_test mode chain one other a b =
-    let same = same_settings keeps_none keeps_none mode chain one other a b in
+    let same = same_settings TellsNothing TellsNothing mode chain one other a b in
     let priority = same.priority in
     let threads = same.threads_required in
     let arguments = same.run_extra_args in
@@ -68,22 +68,15 @@ one_test mode chain one other a b =
     let status = same.junit_flaky_fail_status in
     cc
 
--- a chain sets one value, or none
-one_text : {L V : Type 0} (set_by : L → Option V) (layers : List L) (one other : Option V) → MaySet set_by layers one → MaySet set_by layers other → one ≡ other
-one_text set_by layers None None a b = refl
-one_text set_by layers None (Some second) a (place, b) = absurd (set_and_unset b a)
-one_text set_by layers (Some first) None (place, a) b = absurd (set_and_unset a b)
-one_text set_by layers (Some first) (Some second) (place, a) (other, b) = ap Some (one_nearest a b).0
-
 pub one_run : (mode : NextestRunMode) (chain : List ProfileConfig) (one other : RunSettings) → AreRunSettings mode chain one → AreRunSettings mode chain other → one ≡ other
 one_run mode chain one other a b =
     let test : one.test ≡ other.test = a.test.owned ∙ one_test mode chain a.test.lent b.test.lent a.test.each b.test.each ∙ sym b.test.owned in
     let limit : one.max_fail ≡ other.max_fail = one_value key.fail_fast chain fallback.fail_fast _ _ a.max_fail b.max_fail in
     let level : one.levels.status_level ≡ other.levels.status_level = one_value key.status_level chain fallback.status_level _ _ a.status_level b.status_level in
     let final_level : one.levels.final_status_level ≡ other.levels.final_status_level = one_value key.final_status_level chain fallback.final_status_level _ _ a.final_status_level b.final_status_level in
-    let filter : one.default_filter ≡ other.default_filter = one_text key.default_filter chain one.default_filter other.default_filter a.default_filter b.default_filter in
+    let filter : one.default_filter ≡ other.default_filter = (one_nearest a.default_filter.1 b.default_filter.1).0 in
     ap (λ (t : PlanSettings). record { test = t; default_filter = one.default_filter; max_fail = one.max_fail; levels = one.levels }) test
-    ∙ ap (λ (d : Option (List ℕ)). record { test = other.test; default_filter = d; max_fail = one.max_fail; levels = one.levels }) filter
+    ∙ ap (λ (d : List ℕ). record { test = other.test; default_filter = d; max_fail = one.max_fail; levels = one.levels }) filter
     ∙ ap (λ (m : MaxFail). record { test = other.test; default_filter = other.default_filter; max_fail = m; levels = one.levels }) limit
     ∙ ap (λ (s : StatusLevel). record { test = other.test; default_filter = other.default_filter; max_fail = other.max_fail; levels = record { status_level = s; final_status_level = one.levels.final_status_level } }) level
     ∙ ap (λ (f : FinalStatusLevel). record { test = other.test; default_filter = other.default_filter; max_fail = other.max_fail; levels = record { status_level = other.levels.status_level; final_status_level = f } }) final_level

@@ -1,22 +1,18 @@
 -- Inputs set something, or there is a reason why they set nothing.
 use Rattle.std.specs.List.{Contains}
-use Rattle.std.proofs.Common.{◌≡◌, ◌⊎◌, inl, inr, ℕ, Bool, true, false, List, [], Option, None, Some, Result, Ok, Err, refl}
-use Rattle.std.proofs.lemmas.Option.{none-some}
+use Rattle.std.proofs.Common.{◌≡◌, ◌⊎◌, inl, inr, Bool, true, false, List, Result, Ok, Err, refl}
 use Rattle.nextest_config_elements_plain.specs.declared.run_mode.NextestRunMode.{NextestRunMode}
 use Rattle.nextest_config_resolution_load.specs.declared.load_error.LoadError.TheVariants as load
 use Rattle.nextest_config_resolution_load.specs.declared.load_fault.LoadFault.{LoadFault}
 use Rattle.nextest_config_resolution_profiles.specs.Config.{IsChainOf, names_of, profiles_of}
 use Rattle.nextest_config_resolution_profiles.specs.Whole.{Whole}
 use Rattle.nextest_config_resolution_profiles.proofs.SomeChain.{some_chain}
+use Rattle.nextest_config_resolution_profiles.proofs.SetsAll.{never_falls_back}
 use Rattle.nextest_config_resolution_profiles.proofs.SomeConfig.{some_config}
 use Rattle.nextest_config_resolution_settings.specs.Fallbacks as fallback
 use Rattle.nextest_config_resolution_settings.specs.Keys as key
-use Rattle.nextest_config_resolution_settings.specs.Nearest.{IsSetting}
-use Rattle.nextest_config_resolution_settings.specs.Profile.{MaySet}
-use Rattle.nextest_config_resolution_settings.specs.declared.layers.NoRule.{NoRule}
-use Rattle.nextest_config_resolution_settings.specs.declared.source.SettingSource.{SettingSource}
-use Rattle.nextest_config_resolution_settings.specs.declared.source.SettingSource.TheVariants as source
-use Rattle.nextest_config_resolution_settings.specs.TestSettings.{keeps_none}
+use Rattle.nextest_config_resolution_settings.specs.Nearest.{SetsNone}
+use Rattle.nextest_config_resolution_settings.specs.Tracking.{TellsNothing, nothing_kept}
 use Rattle.nextest_config_resolution_settings.proofs.Some as settings
 use Rattle.nextest_config_resolution_values.specs.declared.profile_config.ProfileConfig.{ProfileConfig}
 use Rattle.nextest_filtering_compiling.specs.declared.filterset.Filterset.{Filterset}
@@ -27,23 +23,14 @@ use Rattle.test_runner_core_settings.specs.declared.configured.RunSettings.{RunS
 use Rattle.test_runner_core_settings.specs.declared.settings_fault.SettingsFault.{SettingsFault}
 use Rattle.test_runner_core_settings.specs.declared.settings_fault.SettingsFault.TheVariants as fault
 
--- the text of the default filter
-some_text : (chain : List ProfileConfig) → (text : Option (List ℕ)) × MaySet key.default_filter chain text
-some_text chain = let it = settings.some_tracked keeps_none key.default_filter chain [] in by_source it.0.0 it.1.from it.1.is
-  where
-    by_source : (value : List ℕ) (from : SettingSource) → IsSetting {R = NoRule} (λ _. None) key.default_filter [] chain [] value from → (text : Option (List ℕ)) × MaySet key.default_filter chain text
-    by_source value (source.Override place) is = absurd (none-some _ is.sets)
-    by_source value (source.Profile place) (none, is) = (Some value, (place, is))
-    by_source value source.Default (none, unset, is) = (None, unset)
-
 -- what a chain sets for a run
-some_run : (mode : NextestRunMode) (chain : List ProfileConfig) → (it : RunSettings) × AreRunSettings mode chain it
-some_run mode chain =
-    let test = settings.some_settings keeps_none mode chain in
+some_run : (mode : NextestRunMode) (chain : List ProfileConfig) → ¬ SetsNone key.default_filter chain → (it : RunSettings) × AreRunSettings mode chain it
+some_run mode chain set =
+    let test = settings.some_settings TellsNothing nothing_kept mode chain in
     let limit = settings.some_value key.fail_fast chain fallback.fail_fast in
     let level = settings.some_value key.status_level chain fallback.status_level in
     let final_level = settings.some_value key.final_status_level chain fallback.final_status_level in
-    let filter = some_text chain in (
+    let filter = settings.some_nearest key.default_filter chain set in (
       record { test = owned_of test.0; default_filter = filter.0; max_fail = limit.0; levels = record { status_level = level.0; final_status_level = final_level.0 } },
       record {
         test = record { lent = test.0; each = test.1; owned = refl };
@@ -60,7 +47,7 @@ some_settings cx inputs never = some_config (IsDefault cx) IsTooDeep inputs.root
     by_chain : (config : Whole Filterset) → Reads cx inputs config → ((values : List ProfileConfig) × IsChainOf (profiles_of config) inputs.profile values) ⊎ ¬ Contains (names_of config) inputs.profile
         → (given : Result RunSettings SettingsFault) × Sets cx inputs given
     by_chain config reads (inl (values, chained)) =
-        let it = some_run inputs.mode values in (Ok it.0, record { config = config; reads = reads; chain = values; chained = chained; settings = it.1 })
+        let it = some_run inputs.mode values ((never_falls_back (IsDefault cx) IsTooDeep inputs.root inputs.sources config reads.loaded).each inputs.profile values chained).default_filter in (Ok it.0, record { config = config; reads = reads; chain = values; chained = chained; settings = it.1 })
     by_chain config reads (inr none) =
         (Err (fault.ProfileNotFound (record { name = inputs.profile; known = names_of config })), record { config = config; reads = reads; name = refl; known = refl; none = none })
 

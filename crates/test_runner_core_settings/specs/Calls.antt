@@ -1,13 +1,10 @@
 -- What calls of this crate give; want of memory says nothing.
-use Rattle.std.specs.Prelude.{◌≡◌, Option, option_map, Result, Ok, Err, ⊤}
-use Rattle.nextest_config_resolution_load.specs.Load.{IsReadAs}
+use Rattle.std.specs.Prelude.{◌≡◌, Result, Ok, Err, ⊤}
 use Rattle.nextest_config_resolution_load.specs.declared.load_error.LoadError.{LoadError}
 use Rattle.nextest_config_resolution_load.specs.declared.load_error.LoadError.TheVariants as load
-use Rattle.nextest_config_resolution_profiles.specs.declared.default_filter.CompiledDefaultFilter.{CompiledDefaultFilter}
 use Rattle.nextest_config_resolution_profiles.specs.declared.profile_error.ProfileError.{ProfileError}
 use Rattle.nextest_config_resolution_profiles.specs.declared.profile_error.ProfileError.TheVariants as profile
 use Rattle.nextest_filtering_compiling.specs.Context.{Context}
-use Rattle.nextest_filtering_compiling.specs.declared.filterset.Filterset.{Filterset}
 use Rattle.test_runner_core_inputs.specs.declared.inputs.Inputs.{Inputs}
 use Rattle.test_runner_core_settings.specs.Sets.{IsDefault, Reads, Sets, key_warnings}
 use Rattle.test_runner_core_settings.specs.declared.configured.ChosenRun.{ChosenRun}
@@ -31,12 +28,8 @@ Configures cx inputs (Ok it) = Reads cx inputs it.config × (it.warnings ≡ key
 Configures cx inputs (Err (error.Refused refusal)) = Sets cx inputs (Err refusal)
 Configures cx inputs (Err error.OutOfMemory) = ⊤
 
--- the filter that a profile lends
-abbrev pub filter_in : Option (CompiledDefaultFilter Filterset) → Option Filterset
-filter_in found = option_map (λ it. it.filter.now) found
-
 -- a call gives what the chosen profile sets, and its default filter as it was read, or refuses the inputs
 abbrev pub Chooses : Context → Inputs → Result ChosenRun SettingsError → Type 0
-Chooses cx inputs (Ok it) = Sets cx inputs (Ok it.settings) × IsReadAs (IsDefault cx) it.settings.default_filter (filter_in it.default_filter)
+Chooses cx inputs (Ok it) = Sets cx inputs (Ok it.settings) × IsDefault cx it.settings.default_filter it.default_filter.filter.now
 Chooses cx inputs (Err (error.Refused refusal)) = Sets cx inputs (Err refusal)
 Chooses cx inputs (Err error.OutOfMemory) = ⊤

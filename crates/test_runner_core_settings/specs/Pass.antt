@@ -32,7 +32,7 @@ abbrev pub judged : VersionOnlyConfig → Parts → Bool → Result VersionPass 
 judged config current is_overridden =
     if is_refused is_overridden (verdict config.nextest_version current) then Err refused.VersionError
     else if nat_lt 0 (length config.experimental.unknown) then Err refused.UnknownFeature
-    else Ok (record { warnings = warnings_by is_overridden current (verdict config.nextest_version current) })
+    else Ok (record { warnings = warnings_by is_overridden current (verdict config.nextest_version current); experimental = config.experimental.known })
 
 abbrev pub pass_by : Parts → Bool → Result (List Asking) Refusal → Result VersionPass VersionPassFault
 pass_by current is_overridden (Ok all) = judged (config_in all) current is_overridden

@@ -5,8 +5,9 @@ use Rattle.nextest_config_elements_identifiers.specs.declared.test_group.TestGro
 use Rattle.nextest_config_elements_plain.specs.declared.run_mode.NextestRunMode.{NextestRunMode}
 use Rattle.nextest_config_resolution_settings.specs.Fallbacks as fallback
 use Rattle.nextest_config_resolution_settings.specs.Keys as key
-use Rattle.nextest_config_resolution_settings.specs.Profile.{MaySet, OfProfiles}
-use Rattle.nextest_config_resolution_settings.specs.TestSettings.{AreSettings, keeps_none}
+use Rattle.nextest_config_resolution_settings.specs.Profile.{IsSetTo, OfProfiles}
+use Rattle.nextest_config_resolution_settings.specs.TestSettings.{AreSettings}
+use Rattle.nextest_config_resolution_settings.specs.Tracking.{TellsNothing}
 use Rattle.nextest_config_resolution_settings.specs.declared.test_settings.TestGroupRef.{TestGroupRef}
 use Rattle.nextest_config_resolution_settings.specs.declared.test_settings.TestGroupRef.TheVariants as group_ref
 use Rattle.nextest_config_resolution_settings.specs.declared.test_settings.TestSettings.{TestSettings}
@@ -40,13 +41,13 @@ owned_of it = record {
 -- each setting of a test is what the chain has
 pub record AreOfTests (mode : NextestRunMode) (chain : List ProfileConfig) (it : PlanSettings) : Type 0 where
   pub lent : TestSettings (Unit {0})
-  pub each : AreSettings keeps_none mode chain lent
+  pub each : AreSettings TellsNothing mode chain lent
   pub owned : it ≡ owned_of lent
 
 -- and so is each of the run, with the text of the default filter
 pub record AreRunSettings (mode : NextestRunMode) (chain : List ProfileConfig) (it : RunSettings) : Type 0 where
   pub test : AreOfTests mode chain it.test
-  pub default_filter : MaySet key.default_filter chain it.default_filter
+  pub default_filter : IsSetTo key.default_filter chain it.default_filter
   pub max_fail : OfProfiles key.fail_fast chain fallback.fail_fast it.max_fail
   pub status_level : OfProfiles key.status_level chain fallback.status_level it.levels.status_level
   pub final_status_level : OfProfiles key.final_status_level chain fallback.final_status_level it.levels.final_status_level

@@ -1,7 +1,8 @@
 // What the configuration of inputs sets for their run.
 ghost use Rattle.std.specs.Prelude.{◌≡◌, IfOk};
-ghost use Rattle.std.specs.Option.{option_copied};
-ghost use Rattle.nextest_config_resolution_settings.specs.Profile.{chain_of};
+ghost use Rattle.nextest_config_resolution_settings.specs.Keys as key;
+ghost use Rattle.nextest_config_resolution_settings.specs.Nearest.{SetsNone, lent};
+ghost use Rattle.nextest_config_resolution_settings.specs.Profile.{IsSetTo, chain_of};
 ghost use Rattle.nextest_filtering_compiling.specs.Context.{Context};
 ghost use Rattle.test_runner_core_settings.specs.Calls.{Chooses, Configures};
 ghost use Rattle.test_runner_core_settings.specs.Sets.{Reads};
@@ -12,8 +13,11 @@ use crate::owned::settings_of_tests;
 use crate::settings_error::SettingsError;
 use crate::settings_fault::SettingsFault;
 use nextest_config_elements_plain::{MaxFail, NextestRunMode};
-use nextest_config_resolution_profiles::{BuildPlatforms, CompiledDefaultFilter, NextestConfig};
-use nextest_config_resolution_settings::EvaluatableProfile;
+use nextest_config_elements_versions::FeatureSet;
+use nextest_config_resolution_profiles::{BuildPlatforms, NextestConfig};
+use nextest_config_resolution_settings::keys::DefaultFilterKey;
+use nextest_config_resolution_settings::{CompiledDefaultFilter, EvaluatableProfile, nearest};
+use nextest_config_resolution_values::ProfileConfig;
 use nextest_config_resolution_warnings::DefaultConfigWarnings;
 use nextest_filtering_compiling::{Filterset, ParseContext};
 use nextest_run_events_visibility::StatusLevels;
@@ -29,8 +33,8 @@ pub type RunConfig = NextestConfig<Filterset, NoSpecs>;
 pub struct RunSettings {
     /// The settings of each test.
     pub test: PlanSettings,
-    /// The text of the default filter; `None` where no profile sets one.
-    pub default_filter: Option<Text>,
+    /// The text of the default filter.
+    pub default_filter: Text,
     /// How many failing tests stop the run.
     pub max_fail: MaxFail,
     /// Which statuses are shown.
@@ -63,12 +67,12 @@ pub struct ConfiguredRun {
 pub struct ChosenRun<'c> {
     /// What the profile sets.
     pub settings: RunSettings,
-    /// Its default filter, where one is set.
-    pub default_filter: Option<CompiledDefaultFilter<'c, Filterset>>,
+    /// Its default filter.
+    pub default_filter: CompiledDefaultFilter<'c, Filterset>,
 }
 
 /// What the sources of inputs come to, those that count, each over the lower ones and over what is built in. `cx` is the
-/// workspace of the inputs to filtersets.
+/// workspace of the inputs to filtersets, and `experimental` are the features that the sources ask for.
 ///
 /// # Errors
 ///
@@ -78,13 +82,21 @@ pub fn configure(
     alloc: Global,
     cx: &ParseContext,
     inputs: &Inputs,
+    experimental: FeatureSet,
 ) -> Result<ConfiguredRun, SettingsError>
     ensures { Configures cx.now inputs.now result }
 {
     let mut warnings = DefaultConfigWarnings::new(alloc);
     let sources = inputs.sources.as_slice();
     let root = inputs.root.as_str();
-    let config = RunConfig::from_sources_with_warnings(alloc, root, cx, sources, &mut warnings)?;
+    let config = RunConfig::from_sources_with_warnings(
+        alloc,
+        root,
+        cx,
+        sources,
+        experimental,
+        &mut warnings,
+    )?;
     if config.sets_later_keys() {
         return Err(SettingsError::Refused(SettingsFault::NotYet));
     }
@@ -107,29 +119,31 @@ pub fn run_settings<'c>(
     ensures { (cx : Context) → Reads cx inputs.now config.now → Chooses cx inputs.now result }
 {
     let early = config.profile(alloc, inputs.profile.as_str())?;
-    let default_filter = early.default_filter();
     let platforms = BuildPlatforms {
         host: &(),
         target: None,
     };
     let profile = early.apply_build_platforms(&platforms);
+    let default_filter = profile.default_filter();
+    let settings = evaluated(alloc, &profile, inputs.mode)?;
     Ok(ChosenRun {
-        settings: evaluated(alloc, &profile, inputs.mode)?,
+        settings,
         default_filter,
     })
 }
 
-// What a profile sets.
+// What a profile sets, of which a profile of the chain sets a default filter.
 fn evaluated(
     alloc: Global,
-    profile: &EvaluatableProfile<'_>,
+    profile: &EvaluatableProfile<'_, Filterset, NoSpecs>,
     mode: NextestRunMode,
 ) -> Result<RunSettings, AllocError>
+    requires { ¬ SetsNone key.default_filter (chain_of profile.now) }
     ensures { IfOk result (AreRunSettings mode (chain_of profile.now)) }
 {
     Ok(RunSettings {
         test: settings_of_tests(alloc, profile, mode)?,
-        default_filter: owned_text(alloc, profile.default_filter())?,
+        default_filter: default_text(alloc, profile.chain())?,
         max_fail: profile.max_fail(),
         levels: StatusLevels {
             status_level: profile.status_level(),
@@ -138,12 +152,13 @@ fn evaluated(
     })
 }
 
-// A text that may be there, owned.
-fn owned_text(alloc: Global, text: Option<&str>) -> Result<Option<Text>, AllocError>
-    ensures { IfOk result (λ it. it ≡ option_copied text.entry) }
+// The text of the default filter that the nearest profile of a chain sets.
+fn default_text(alloc: Global, chain: &[&ProfileConfig]) -> Result<Text, AllocError>
+    requires { ¬ SetsNone key.default_filter (lent chain.now) }
+    ensures { IfOk result (IsSetTo key.default_filter (lent chain.now)) }
 {
-    match text {
-        Some(text) => Ok(Some(Text::from_str(alloc, text)?)),
-        None => Ok(None),
+    match nearest::<DefaultFilterKey, ProfileConfig>(chain) {
+        Some((_, text)) => Ok(text.clone()?),
+        None => unreachable!(),
     }
 }

@@ -3,11 +3,13 @@ ghost use Rattle.std.specs.Prelude.{◌≡◌, IfOk};
 ghost use Rattle.nextest_config_resolution_settings.specs.Profile.{chain_of};
 ghost use Rattle.test_runner_core_settings.specs.Settings.{AreOfTests, owned_group, owned_of};
 
+use crate::no_specs::NoSpecs;
 use nextest_config_elements_identifiers::TestGroup;
 use nextest_config_elements_plain::NextestRunMode;
-use nextest_config_resolution_settings::{
-    EvaluatableProfile, TestGroupRef, TestSettings, WrapperScriptConfig,
-};
+use nextest_config_resolution_settings::{EvaluatableProfile, TestGroupRef, TestSettings};
+use nextest_filtering_compiling::Filterset;
+use nextest_filtering_filters::{BinaryQuery, TestQuery};
+use nextest_filtering_trees::BuildPlatform;
 use nextest_text::{Listing, Text};
 use std::alloc::{AllocError, Global};
 use test_runner_core_plan::PlanSettings;
@@ -52,16 +54,26 @@ fn with_group(
 // The settings of each test by a profile, owned.
 pub(crate) fn settings_of_tests(
     alloc: Global,
-    profile: &EvaluatableProfile<'_>,
+    profile: &EvaluatableProfile<'_, Filterset, NoSpecs>,
     mode: NextestRunMode,
 ) -> Result<PlanSettings, AllocError>
     ensures { IfOk result (AreOfTests mode (chain_of profile.now)) }
 {
-    let settings = profile.settings_for(mode);
-    // No rule is read yet, so there is none.
-    let _wrapper: Option<&WrapperScriptConfig> = settings.run_wrapper();
-    let group = owned_group(settings.test_group())?;
-    with_group(alloc, &settings, group)
+    // No rule is read yet, so the settings of one test are those of each.
+    let query = TestQuery {
+        binary_query: BinaryQuery {
+            package_id: "",
+            binary_id: "",
+            kind: "",
+            binary_name: "",
+            platform: BuildPlatform::Target,
+        },
+        test_name: "",
+    };
+    match profile.settings_for(alloc, mode, &query) {
+        Ok(settings) => owned_settings(alloc, &settings),
+        Err(error) => Err(error),
+    }
 }
 
 // Texts, owned.

@@ -6,7 +6,9 @@ ghost use Rattle.test_runner_core_settings.specs.Told.{is_error};
 use crate::pass_error::{VersionPassError, VersionPassFault};
 use crate::sources::lent_sources;
 use crate::warning::warnings_told;
-use nextest_config_elements_versions::{NextestVersionEval, VersionOnlyConfig, VersionOnlyError};
+use nextest_config_elements_versions::{
+    FeatureSet, NextestVersionEval, VersionOnlyConfig, VersionOnlyError,
+};
 use nextest_text::{Listing, Text};
 use std::alloc::Global;
 use test_runner_core_inputs::Inputs;
@@ -16,6 +18,8 @@ use test_runner_core_inputs::Inputs;
 pub struct VersionPass {
     /// The warnings, as reports tell them.
     pub warnings: Listing<Text>,
+    /// The features that the sources ask for.
+    pub experimental: FeatureSet,
 }
 
 /// Judges the inputs by the versions and features that their sources ask for, of which the tools' count, the first handed in
@@ -55,6 +59,7 @@ fn judge(
     }
     Ok(VersionPass {
         warnings: warnings_told(alloc, &eval)?,
+        experimental: config.experimental().known(),
     })
 }
 

@@ -3,13 +3,14 @@ ghost use Rattle.std.specs.Prelude.{◌≡◌, IfOk};
 ghost use Rattle.nextest_filtering_arguments.specs.declared.ban.FiltersetKind.TheVariants as purpose;
 ghost use Rattle.nextest_filtering_filters.specs.Query.{test_of};
 ghost use Rattle.nextest_config_resolution_profiles.specs.Config.{IsDefaultIn};
-ghost use Rattle.worked_rows.specs.Configs.{AreRetriesOf};
+ghost use Rattle.nextest_config_resolution_settings.specs.Nearest.{seen};
+ghost use Rattle.worked_rows.specs.Configs.{AreRetriesOf, place_of};
 
 use crate::configs::{BAR, sources_of};
 use crate::parts::texts_of;
 use crate::plain_filter::PlainFilter;
 use crate::plain_spec::PlainSpec;
-use nextest_config_elements::{NextestRunMode, RetryPolicy};
+use nextest_config_elements::{FeatureSet, NextestRunMode, RetryPolicy};
 use nextest_config_resolution::{
     BuildPlatforms, ConfigSource, FilterError, Filters, LoadError, NextestConfig, ProfileError,
     SettingSource, SpecError, Specs,
@@ -20,6 +21,20 @@ use nextest_filtering::{
 };
 use nextest_text::{Listing, Text};
 use std::alloc::{AllocError, Global};
+
+// The test of a name, of a library.
+fn test_named(name: &str) -> TestQuery<'_> {
+    TestQuery {
+        binary_query: BinaryQuery {
+            package_id: "a-1",
+            binary_id: "a",
+            kind: "lib",
+            binary_name: "a",
+            platform: BuildPlatform::Target,
+        },
+        test_name: name,
+    }
+}
 
 // Whether the filter of an override holds on a test, beside a default filter, both by their texts. What is sure of the
 // test's binary isn't asked of the test.
@@ -65,18 +80,24 @@ fn holds_on<S: Specs>(
     Ok(spec.eval(facts))
 }
 
-// How the profile of a name has failing tests tried again, and where it takes that from, whatever filters and specs its
-// configuration has. `None` where the sources are refused, or no profile has the name; want of memory says nothing of them.
+// How the profile of a name has failing tests tried again, and the place in its chain of the profile that sets that, whatever
+// filters and specs its configuration has. `None` where the sources are refused, or no profile has the name; want of memory says nothing of them.
 fn retries_of<F: Filters, S: Specs>(
     alloc: Global,
     cx: &F::Cx,
     sources: &[ConfigSource],
     name: &str,
     platforms: &BuildPlatforms<'_, S::Facts>,
-) -> Result<Option<(RetryPolicy, SettingSource)>, AllocError>
+) -> Result<Option<(RetryPolicy, Option<usize>)>, AllocError>
     ensures { IfOk result (AreRetriesOf (IsDefaultIn F.is_parsed cx.now) F.is_too_deep sources.now name.now) }
 {
-    let config = match NextestConfig::<F, S>::from_sources(alloc, "", cx, sources) {
+    let config = match NextestConfig::<F, S>::from_sources(
+        alloc,
+        "",
+        cx,
+        sources,
+        FeatureSet::default(),
+    ) {
         Ok(config) => config,
         Err(LoadError::Refused(_)) => return Ok(None),
         Err(LoadError::OutOfMemory) => return Err(AllocError),
@@ -86,26 +107,26 @@ fn retries_of<F: Filters, S: Specs>(
         Err(ProfileError::NotFound(_)) => return Ok(None),
         Err(ProfileError::OutOfMemory) => return Err(AllocError),
     };
-    Ok(Some(
-        profile
-            .settings_with_source_for(NextestRunMode::Test)
-            .retries,
-    ))
+    let query = test_named("slow");
+    match profile.settings_with_source_for(alloc, NextestRunMode::Test, &query) {
+        Ok(settings) => Ok(Some((settings.retries.0, place_of(settings.retries.1)))),
+        Err(error) => Err(error),
+    }
+}
+
+// The place in its chain of the profile that a setting comes from.
+fn place_of(source: SettingSource<'_>) -> Option<usize>
+    ensures { result ≡ place_of (seen source.entry) }
+{
+    match source {
+        SettingSource::Profile(place) => Some(place),
+        SettingSource::Override(_) | SettingSource::Default => None,
+    }
 }
 
 // A filter and a default filter: whether the one holds on the test `slow` of a library.
 fn held<F: Filters>(alloc: Global, input: &str, cx: &F::Cx) -> Option<String> {
     let (filter, default) = input.split_once(BAR)?;
-    let query = TestQuery {
-        binary_query: BinaryQuery {
-            package_id: "a-1",
-            binary_id: "a",
-            kind: "lib",
-            binary_name: "a",
-            platform: BuildPlatform::Target,
-        },
-        test_name: "slow",
-    };
     let filter = Text::from_str(alloc, filter).ok()?;
     let default = Text::from_str(alloc, default).ok()?;
     match holds::<F>(
@@ -114,7 +135,7 @@ fn held<F: Filters>(alloc: Global, input: &str, cx: &F::Cx) -> Option<String> {
         default,
         cx,
         &KnownGroups::Unavailable,
-        &query,
+        &test_named("slow"),
     ) {
         Ok(value) => format!(in alloc; "{value}").ok(),
         Err(FilterError::Refused) => String::from_str(alloc, "refused").ok(),
@@ -184,7 +205,8 @@ pub(crate) fn plain_configs(alloc: Global, input: &str) -> Option<String> {
         &platforms,
     ).ok()?
     {
-        Some((retries, source)) => format!(in alloc; "{retries:?} {source:?}").ok(),
+        Some((retries, Some(place))) => format!(in alloc; "{retries:?} Profile({place})").ok(),
+        Some((retries, None)) => format!(in alloc; "{retries:?} Default").ok(),
         None => String::from_str(alloc, "no such profile").ok(),
     }
 }

@@ -1,14 +1,20 @@
 // What sources of configurations come to, and what is told of a file.
 use crate::parts::{joined, push_part};
 use crate::plain_filter::PlainFilter;
+use crate::plain_spec::PlainSpec;
 use crate::settings::setting;
+use nextest_config_elements::FeatureSet;
 use nextest_config_resolution::{
-    ConfigSource, ConfigSourceKind, ConfigSourceOutcome, DefaultConfigWarnings, DefaultFilters,
-    EvaluatableProfile, LoadError, LoadFault, LoadedConfig, NamedProfile, ProfileConfig, ToolName,
-    built_in, load, tell_file,
+    BuildPlatforms, ConfigSource, ConfigSourceKind, ConfigSourceOutcome, DefaultConfigWarnings,
+    EvaluatableProfile, LoadError, LoadFault, NextestConfig, ProfileError, ToolName, tell_file,
 };
-use nextest_text::Text;
+use nextest_text::{Listing, Text};
 use std::alloc::Global;
+
+// A configuration of filters and specs without a language, and a profile of it.
+pub(crate) type PlainConfig = NextestConfig<PlainFilter, PlainSpec>;
+
+pub(crate) type PlainProfile<'c> = EvaluatableProfile<'c, PlainFilter, PlainSpec>;
 
 // What stands between the parts of a row.
 pub(crate) const BAR: &str = " | ";
@@ -63,8 +69,7 @@ pub(crate) fn loads(alloc: Global, input: &str) -> Option<String> {
 }
 
 fn loaded(alloc: Global, sources: &[ConfigSource], head: &str) -> Option<String> {
-    let built_in = built_in(alloc).ok()?;
-    match load::<DefaultFilters<PlainFilter>>(alloc, &built_in, &(), sources) {
+    match PlainConfig::from_sources(alloc, "/work", &(), sources, FeatureSet::default()) {
         Ok(config) => settings_told(alloc, &config, head),
         Err(LoadError::Refused(fault)) => refused(alloc, &fault),
         Err(LoadError::OutOfMemory) => None,
@@ -83,21 +88,27 @@ fn refused(alloc: Global, fault: &LoadFault) -> Option<String> {
 }
 
 // What the settings of a profile are.
-fn settings_told(alloc: Global, config: &LoadedConfig<PlainFilter>, head: &str) -> Option<String> {
+fn settings_told(alloc: Global, config: &PlainConfig, head: &str) -> Option<String> {
     let (name, settings) = head.split_once(' ')?;
-    let Some(chain) = chain_of(alloc, config.profiles.as_slice(), name) else {
-        return String::from_str(alloc, "no such profile").ok();
+    let platforms = BuildPlatforms {
+        host: &Listing::new(alloc),
+        target: None,
     };
-    let store_dir = config.store_dir.as_ref().map_or("", |dir| dir.as_str());
-    let profile = EvaluatableProfile::new(name, "/work", store_dir, chain);
-    each_told(alloc, config, &profile, settings)
+    match config.profile(alloc, name) {
+        Ok(early) => {
+            let profile = early.apply_build_platforms(&platforms);
+            each_told(alloc, config, &profile, settings)
+        }
+        Err(ProfileError::NotFound(_)) => String::from_str(alloc, "no such profile").ok(),
+        Err(ProfileError::OutOfMemory) => None,
+    }
 }
 
 // Settings of a profile, with commas between their keys.
 fn each_told(
     alloc: Global,
-    config: &LoadedConfig<PlainFilter>,
-    profile: &EvaluatableProfile<'_>,
+    config: &PlainConfig,
+    profile: &PlainProfile<'_>,
     settings: &str,
 ) -> Option<String> {
     let mut answer = String::new(alloc);
@@ -111,43 +122,6 @@ fn each_told(
 fn push_value(alloc: Global, answer: &mut String, key: &str, value: &str) -> Option<()> {
     let told = format!(in alloc; "{key} = {value}").ok()?;
     push_part(answer, "; ", told.as_str())
-}
-
-// What a profile and its parents set, one after another, and `default` last.
-fn chain_of<'c>(
-    alloc: Global,
-    profiles: &'c [NamedProfile],
-    name: &'c str,
-) -> Option<Vec<&'c ProfileConfig>> {
-    let mut chain = Vec::new(alloc);
-    let mut here = name;
-    for _ in profiles {
-        let config = config_of(profiles, here)?;
-        chain.push(config).ok()?;
-        if here == "default" {
-            return Some(chain);
-        }
-        here = parent_of(config);
-    }
-    None
-}
-
-// What a profile sets.
-fn config_of<'c>(profiles: &'c [NamedProfile], name: &str) -> Option<&'c ProfileConfig> {
-    for profile in profiles {
-        if profile.name.as_str() == name {
-            return Some(&profile.config);
-        }
-    }
-    None
-}
-
-// The profile that holds where one says nothing.
-fn parent_of(config: &ProfileConfig) -> &str {
-    match &config.inherits {
-        Some(parent) => parent.as_str(),
-        None => "default",
-    }
 }
 
 // The path of a file and its text: what is told of it, one behind the other, or `-` where nothing is.

@@ -1,8 +1,9 @@
 // The settings of a profile in words.
+use crate::configs::{PlainConfig, PlainProfile};
 use crate::parts::push_part;
 use crate::plain_filter::PlainFilter;
 use nextest_config_elements::{JunitConfig, NextestRunMode};
-use nextest_config_resolution::{EvaluatableProfile, LoadedConfig};
+use nextest_config_resolution::ProfileError;
 use nextest_text::Text;
 use std::alloc::Global;
 use std::fmt::Debug;
@@ -10,29 +11,34 @@ use std::fmt::Debug;
 // A setting of a profile.
 pub(crate) fn setting(
     alloc: Global,
-    config: &LoadedConfig<PlainFilter>,
-    profile: &EvaluatableProfile<'_>,
+    config: &PlainConfig,
+    profile: &PlainProfile<'_>,
     key: &str,
 ) -> Option<String> {
     match key {
         "profiles" => names(alloc, config),
         "parents" => debug(alloc, profile.chain().len().saturating_sub(1)),
-        "store-dir" => store_dir(alloc, profile),
+        "store-dir" => String::from_str(alloc, profile.store_dir()).ok(),
         "inherits" => may_be(alloc, profile.inherits()),
-        "default-filter" => may_be(alloc, profile.default_filter()),
+        "default-filter" => filter_text(alloc, profile.default_filter().filter),
         "run-extra-args" => arguments(alloc, profile.run_extra_args()),
         "junit" => report(alloc, profile.junit()),
         _ => of_runs(alloc, profile, key),
     }
 }
 
-fn store_dir(alloc: Global, profile: &EvaluatableProfile<'_>) -> Option<String> {
-    let dir = profile.store_dir(alloc).ok()?;
-    format!(in alloc; "{dir}").ok()
+// The text of a filter.
+fn filter_text(alloc: Global, filter: &PlainFilter) -> Option<String> {
+    let text = match filter {
+        PlainFilter::Everything => "all()",
+        PlainFilter::Nothing => "none()",
+        PlainFilter::Named(name) => name.as_str(),
+    };
+    String::from_str(alloc, text).ok()
 }
 
 // A setting of how runs go.
-fn of_runs(alloc: Global, profile: &EvaluatableProfile<'_>, key: &str) -> Option<String> {
+fn of_runs(alloc: Global, profile: &PlainProfile<'_>, key: &str) -> Option<String> {
     match key {
         "retries" => debug(alloc, profile.retries()),
         "flaky-result" => debug(alloc, profile.flaky_result()),
@@ -45,7 +51,7 @@ fn of_runs(alloc: Global, profile: &EvaluatableProfile<'_>, key: &str) -> Option
 }
 
 // A setting of how long tests and runs may take.
-fn of_timeouts(alloc: Global, profile: &EvaluatableProfile<'_>, key: &str) -> Option<String> {
+fn of_timeouts(alloc: Global, profile: &PlainProfile<'_>, key: &str) -> Option<String> {
     let (test, benchmark) = (NextestRunMode::Test, NextestRunMode::Benchmark);
     match key {
         "slow-timeout" => debug(alloc, profile.slow_timeout(test)),
@@ -57,7 +63,7 @@ fn of_timeouts(alloc: Global, profile: &EvaluatableProfile<'_>, key: &str) -> Op
 }
 
 // A setting of what is shown.
-fn of_shows(alloc: Global, profile: &EvaluatableProfile<'_>, key: &str) -> Option<String> {
+fn of_shows(alloc: Global, profile: &PlainProfile<'_>, key: &str) -> Option<String> {
     match key {
         "status-level" => debug(alloc, profile.status_level()),
         "final-status-level" => debug(alloc, profile.final_status_level()),
@@ -72,14 +78,17 @@ fn debug<T: Debug + Drop>(alloc: Global, value: T) -> Option<String> {
     format!(in alloc; "{value:?}").ok()
 }
 
-// The names of all profiles, each in brackets.
-fn names(alloc: Global, config: &LoadedConfig<PlainFilter>) -> Option<String> {
+// The names of all profiles, each in brackets, as they are told where no profile has a name.
+fn names(alloc: Global, config: &PlainConfig) -> Option<String> {
+    let Err(ProfileError::NotFound(told)) = config.profile(alloc, "\0") else {
+        return None;
+    };
     let mut answer = String::new(alloc);
-    for profile in config.profiles.as_slice() {
+    for name in told.known.as_slice() {
         push_part(
             &mut answer,
             "",
-            format!(in alloc; "[{}]", profile.name).ok()?.as_str(),
+            format!(in alloc; "[{name}]").ok()?.as_str(),
         )?;
     }
     Some(answer)

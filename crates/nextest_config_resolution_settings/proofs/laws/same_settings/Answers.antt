@@ -4,7 +4,7 @@ use Rattle.nextest_config_resolution_settings.proofs.laws.same_settings.Goals as
 
 pub returns : goal.returns
 returns g c = record {
-  some = some_settings g.S.TrackSource.kept;
-  settings = same_settings g.S.TrackSource.kept g.T.TrackSource.kept;
-  sources = same_sources g.S.TrackSource.kept;
+  some = some_settings g.S.TrackSource.tells g.S.TrackSource.keeps;
+  settings = same_settings g.S.TrackSource.tells g.T.TrackSource.tells;
+  sources = same_sources g.S.TrackSource.tells;
 }

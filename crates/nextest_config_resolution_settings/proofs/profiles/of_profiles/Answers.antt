@@ -1,4 +1,5 @@
+use Rattle.nextest_config_resolution_settings.specs.Nearest.{seen}
 use Rattle.nextest_config_resolution_settings.proofs.profiles.of_profiles.Goals as goal
 
 pub returns : goal.returns
-returns g c = λ fallback. record { from = c.find_setting.result.1; is = c.find_setting.ensures fallback }
+returns g c = λ fallback. record { from = seen c.find_in_profiles.result.1; is = c.find_in_profiles.ensures fallback }

@@ -1,6 +1,6 @@
 // The default filter of a profile.
 ghost use Rattle.std.specs.Prelude.{◌≡◌, IfOk};
-ghost use Rattle.nextest_config_resolution_profiles.specs.Default.{config_text};
+ghost use Rattle.nextest_config_resolution_settings.specs.Default.{config_text};
 
 use nextest_text::Text;
 use std::alloc::{AllocError, Global};
