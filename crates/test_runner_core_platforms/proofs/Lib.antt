@@ -1,0 +1,5 @@
+pub mod Lengths
+pub mod Splits
+pub mod Reading
+pub mod Values
+pub mod Whole

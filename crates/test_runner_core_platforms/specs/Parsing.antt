@@ -1,0 +1,92 @@
+-- What reading parts of a platform spec answers.
+use Rattle.std.specs.Prelude.{◌≡◌, ◌⊎◌, ◌≤◌, ℕ, Bool, false, List, [], length, ◌++◌, codes, Option, None, Some, Result, Ok, Err, ⊤}
+use Rattle.std.specs.Borrow.{Bor}
+use Rattle.nextest_filtering_trees.specs.Grammar.{Behind, unblanked}
+use Rattle.test_runner_core_platforms.specs.Spec.{Condition, fact, fact_value, negation, all_of, any_of, Conditions, no_conditions, Spec, triple, condition}
+use Rattle.test_runner_core_platforms.specs.Grammar.{is_of_name, is_of_triple, is_of_value, AllAre, starts, ReadsName, ReadsValue, IsCondition, AreConditions, IsTriple, IsSpec}
+use Rattle.test_runner_core_platforms.specs.Trees.{condition_of, conditions_of, spec_of}
+use Rattle.test_runner_core_platforms.specs.declared.condition.Condition.{Condition as Tree}
+use Rattle.test_runner_core_platforms.specs.declared.condition.Conditions.{Conditions as Trees}
+use Rattle.test_runner_core_platforms.specs.declared.span.Span.{Span}
+use Rattle.test_runner_core_platforms.specs.declared.span.Span.TheVariants as span
+use Rattle.test_runner_core_platforms.specs.declared.stop.Stop.{Stop}
+use Rattle.test_runner_core_platforms.specs.declared.stop.Stop.TheVariants.{Bad, Memory}
+use Rattle.test_runner_core_platforms.specs.declared.platform_spec.PlatformSpec.{PlatformSpec}
+use Rattle.test_runner_core_platforms.specs.declared.platform_spec_error.PlatformSpecError.{PlatformSpecError}
+use Rattle.test_runner_core_platforms.specs.declared.platform_spec_error.PlatformSpecError.TheVariants.{BadSpec, OutOfMemory}
+
+-- the bytes that a span goes over
+abbrev pub is_in : Span → ℕ → Bool
+is_in span.Name = is_of_name
+is_in span.Triple = is_of_triple
+is_in span.Value = is_of_value
+
+-- such bytes stand in front, and what follows doesn't begin with one
+pub record IsSplit (span : Span) (text front rest : List ℕ) : Type 0 where
+  pub whole : text ≡ front ++ rest
+  pub each : AllAre (is_in span) front
+  pub ends : starts (is_in span) rest ≡ false
+
+-- a part was read, or none stands here
+abbrev pub Finds : (List ℕ → List ℕ → Type 0) → Option (Bor (List ℕ) × Bor (List ℕ)) → Type 0
+Finds Reads (Some found) = Reads found.0.now found.1.now
+Finds Reads None = (part rest : List ℕ) → Reads part rest → ⊥
+
+-- the operation of that name, whose `(` stands before the text
+abbrev pub ReadsOperation : List ℕ → List ℕ → Condition → List ℕ → Type 0
+ReadsOperation name text (fact other) rest = ⊥
+ReadsOperation name text (fact_value other value) rest = ⊥
+ReadsOperation name text (negation it) rest = (name ≡ codes "not") × (behind : List ℕ) × IsCondition text it behind × Behind (codes ")") behind rest
+ReadsOperation name text (all_of each) rest = (name ≡ codes "all") × AreConditions text each rest
+ReadsOperation name text (any_of each) rest = (name ≡ codes "any") × AreConditions text each rest
+
+-- the fact of that name with the value that the text begins with
+abbrev pub ReadsFactValue : List ℕ → List ℕ → Condition → List ℕ → Type 0
+ReadsFactValue name text (fact other) rest = ⊥
+ReadsFactValue name text (fact_value other value) rest = (other ≡ name) × ReadsValue text value rest
+ReadsFactValue name text (negation it) rest = ⊥
+ReadsFactValue name text (all_of each) rest = ⊥
+ReadsFactValue name text (any_of each) rest = ⊥
+
+-- what follows a condition among others: `)`, or `,` and further ones
+abbrev pub AreOthers : List ℕ → Conditions → List ℕ → Type 0
+AreOthers text each rest = ((each ≡ no_conditions) × Behind (codes ")") text rest) ⊎ ((behind : List ℕ) × Behind (codes ",") text behind × AreConditions behind each rest)
+
+-- a condition was read, or none stands here
+abbrev pub FindsCondition : (Condition → List ℕ → Type 0) → Result (Tree × Bor (List ℕ)) Stop → Type 0
+FindsCondition Reads (Ok found) = Reads (condition_of found.0) found.1.now
+FindsCondition Reads (Err (Bad left)) = (it : Condition) (rest : List ℕ) → Reads it rest → ⊥
+FindsCondition Reads (Err Memory) = ⊤
+
+-- so of conditions
+abbrev pub FindsConditions : (Conditions → List ℕ → Type 0) → Result (Trees × Bor (List ℕ)) Stop → Type 0
+FindsConditions Reads (Ok found) = Reads (conditions_of found.0) found.1.now
+FindsConditions Reads (Err (Bad left)) = (each : Conditions) (rest : List ℕ) → Reads each rest → ⊥
+FindsConditions Reads (Err Memory) = ⊤
+
+-- what follows `cfg` and its `(`, or they don't stand here
+abbrev pub FindsCfg : List ℕ → Option (Bor (List ℕ)) → Type 0
+FindsCfg text (Some opened) = (named : List ℕ) × Behind (codes "cfg") text named × Behind (codes "(") named opened.now
+FindsCfg text None = (named opened : List ℕ) → Behind (codes "cfg") text named → Behind (codes "(") named opened → ⊥
+
+-- a condition and `)` are all that the text has
+abbrev pub EndsCfg : List ℕ → Spec → Type 0
+EndsCfg text (triple name) = ⊥
+EndsCfg text (condition it) = (read rest : List ℕ) × IsCondition text it read × Behind (codes ")") read rest × (unblanked rest ≡ [])
+
+-- the text is a triple
+abbrev pub OnlyTriple : List ℕ → Spec → Type 0
+OnlyTriple text (triple name) = IsTriple text name
+OnlyTriple text (condition it) = ⊥
+
+-- the spec was read, or there is none
+abbrev pub FindsSpec : (Spec → Type 0) → Result PlatformSpec Stop → Type 0
+FindsSpec Reads (Ok it) = Reads (spec_of it)
+FindsSpec Reads (Err (Bad left)) = (it : Spec) → Reads it → ⊥
+FindsSpec Reads (Err Memory) = ⊤
+
+-- The text is this spec; or it is none, with a place in it. Want of memory says nothing of it.
+abbrev pub Parses : List ℕ → Result PlatformSpec PlatformSpecError → Type 0
+Parses text (Ok it) = IsSpec text (spec_of it)
+Parses text (Err (BadSpec offset)) = ((it : Spec) → IsSpec text it → ⊥) × (offset ≤ length text)
+Parses text (Err OutOfMemory) = ⊤
