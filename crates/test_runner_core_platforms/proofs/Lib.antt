@@ -1,3 +1,4 @@
+pub mod Repeats
 pub mod Lengths
 pub mod Splits
 pub mod Reading

@@ -1,8 +1,10 @@
 -- What is known of a platform.
-use Rattle.std.specs.Prelude.{ℕ, Bool, true, false, ◌&&◌, ◌||◌, List, [], ◌∷◌, Option, None, Some, option_map, find}
+use Rattle.std.specs.Prelude.{◌≡◌, ℕ, Bool, true, false, ◌&&◌, ◌||◌, List, [], ◌∷◌, Option, None, Some, option_map, find, Result, Ok, Err, ⊤}
 use Rattle.std.specs.List.{list_any}
 use Rattle.std.specs.Str.{bytes_eq}
 use Rattle.test_runner_core_platforms.specs.declared.fact.Fact.{Fact}
+use Rattle.test_runner_core_platforms.specs.declared.fact.PlatformFactsError.{PlatformFactsError}
+use Rattle.test_runner_core_platforms.specs.declared.fact.PlatformFactsError.TheVariants.{RepeatedFact, OutOfMemory}
 
 -- the triple of a platform, and the facts that are handed in
 pub record Facts : Type 0 where
@@ -28,3 +30,9 @@ answer_of known name value = option_map (λ it. it.holds) (find (is_of name valu
 abbrev pub has_repeat : List Fact → Bool
 has_repeat [] = false
 has_repeat (it ∷ rest) = list_any (is_of it.name it.value) rest || has_repeat rest
+
+-- The platform of that triple with these facts, or two of them repeat. Want of memory says nothing of them.
+abbrev pub MakesFacts : List ℕ → List Fact → Result Facts PlatformFactsError → Type 0
+MakesFacts triple facts (Ok it) = (it.triple ≡ triple) × (it.known ≡ facts) × (has_repeat facts ≡ false)
+MakesFacts triple facts (Err RepeatedFact) = has_repeat facts ≡ true
+MakesFacts triple facts (Err OutOfMemory) = ⊤

@@ -1,9 +1,10 @@
 // What is known of a platform.
-ghost use Rattle.std.specs.Prelude.{◌≡◌, true, false, option_copied, IfOk, IfErr};
-ghost use Rattle.std.specs.List.{list_any};
-ghost use Rattle.test_runner_core_platforms.specs.Facts.{same_value, is_of, answer_of, has_repeat};
+ghost use Rattle.std.specs.Prelude.{◌≡◌, option_copied, IfOk};
+ghost use Rattle.test_runner_core_platforms.specs.Facts.{same_value, is_of, answer_of, has_repeat, MakesFacts};
 
 use nextest_text::{Listing, Text};
+use std::alloc::{AllocError, Global};
+use std::collections::BTreeSet;
 use std::marker::Model;
 use thiserror::Error;
 
@@ -47,6 +48,20 @@ pub enum PlatformFactsError {
     /// Two facts have the same name and the same value, or both none.
     #[error("two facts have the same name and the same value")]
     RepeatedFact,
+    /// There is no memory, which says nothing of the facts.
+    #[error("out of memory")]
+    OutOfMemory,
+}
+
+impl From<AllocError> for PlatformFactsError {
+    ghost use Rattle.std.specs.Prelude.{◌≡◌};
+    ghost use Rattle.test_runner_core_platforms.specs.declared.fact.PlatformFactsError.TheVariants.{OutOfMemory};
+
+    ghost from_gives = { λ _ error. error ≡ OutOfMemory };
+
+    fn from(_: AllocError) -> PlatformFactsError {
+        PlatformFactsError::OutOfMemory
+    }
 }
 
 // The value, lent.
@@ -81,35 +96,31 @@ impl Fact {
     }
 }
 
-// Whether a fact among these has the name and the value of that one.
-fn is_among(facts: &[Fact], fact: &Fact) -> bool
-    ensures { result ≡ list_any (is_of fact.now.name fact.now.value) facts.now }
-{
-    facts
-        .iter()
-        .any(|it| it.is_of(fact.name.as_str(), lent(&fact.value)))
-}
-
 // Whether two of these have the same name and the same value.
-fn has_repeat(facts: &[Fact]) -> bool
-    ensures { result ≡ has_repeat facts.now }
+fn has_repeat(alloc: Global, facts: &[Fact]) -> Result<bool, AllocError>
+    ensures { IfOk result (λ repeated. repeated ≡ has_repeat facts.now) }
 {
-    for (index, fact) in facts.iter().enumerate() {
-        if is_among(&facts[index + 1..], fact) {
-            return true;
+    let mut keys = BTreeSet::new(alloc);
+    for fact in facts {
+        let key = (fact.name.as_str(), lent(&fact.value));
+        if !keys.insert(key)? {
+            return Ok(true);
         }
     }
-    false
+    Ok(false)
 }
 
 impl PlatformFacts {
     /// The platform of that triple, on which these facts are known. Refused where two facts have the same name and the
-    /// same value, with the same answer too. It takes no memory.
-    pub fn new(triple: Text, facts: Listing<Fact>) -> Result<PlatformFacts, PlatformFactsError>
-        ensures ok { IfOk result (λ it. (it.triple ≡ triple) × (it.known ≡ facts) × (has_repeat facts ≡ false)) }
-        ensures refused { IfErr result (λ _. has_repeat facts ≡ true) }
+    /// same value, with the same answer too. Or there was no memory, which says nothing of the facts.
+    pub fn new(
+        alloc: Global,
+        triple: Text,
+        facts: Listing<Fact>,
+    ) -> Result<PlatformFacts, PlatformFactsError>
+        ensures { MakesFacts triple facts result }
     {
-        if has_repeat(facts.as_slice()) {
+        if has_repeat(alloc, facts.as_slice())? {
             return Err(PlatformFactsError::RepeatedFact);
         }
         Ok(PlatformFacts {
