@@ -1,5 +1,5 @@
 -- What is read of a condition is so, and nothing else is.
-use Rattle.std.proofs.Common.{◌≡◌, refl, ℕ, ◌<◌, Bool, true, false, List, [], ◌∷◌, ◌++◌, length, ap, sym, ◌∙◌, subst, inl, inr, ◌⊎◌}
+use Rattle.std.proofs.Common.{◌≡◌, refl, ℕ, Bool, true, false, List, [], ◌∷◌, ap, sym, ◌∙◌, subst, inl, inr}
 use Rattle.std.specs.Prelude.{codes, ◌==◌, Result, Ok, Err}
 use Rattle.std.specs.Borrow.{Bor}
 use Rattle.std.specs.Result.{IsErrAnd}
@@ -7,9 +7,9 @@ use Rattle.std.proofs.lemmas.Result.{err_from_is_err_and}
 use Rattle.std.proofs.lemmas.Bool.{false≢true, or_cases, eqb-true}
 use Rattle.nextest_filtering_trees.specs.Grammar.{Behind, unblanked}
 use Rattle.test_runner_core_platforms.specs.Spec.{Condition, fact, fact_value, negation, all_of, any_of, Conditions, no_conditions, with_first}
-use Rattle.test_runner_core_platforms.specs.Grammar.{starts, ReadsName, ReadsValue, goes_on, IsCondition, is_fact, is_value, is_negation, is_all, is_any, AreConditions, no_more, last_one, one_more}
+use Rattle.test_runner_core_platforms.specs.Grammar.{starts, ReadsName, goes_on, IsCondition, is_fact, is_value, is_negation, is_all, is_any, AreConditions, no_more, last_one, one_more}
 use Rattle.test_runner_core_platforms.specs.Parsing.{ReadsFactValue, ReadsOperation, AreOthers, FindsCondition, FindsConditions}
-use Rattle.test_runner_core_platforms.specs.Single.{one_behind, one_condition, operation_only, value_only, closes_none}
+use Rattle.test_runner_core_platforms.specs.Single.{one_condition, operation_only, value_only}
 use Rattle.test_runner_core_platforms.specs.Trees.{condition_of, conditions_of}
 use Rattle.test_runner_core_platforms.specs.declared.condition.Condition.{Condition as Tree}
 use Rattle.test_runner_core_platforms.specs.declared.condition.Conditions.{Conditions as Trees}

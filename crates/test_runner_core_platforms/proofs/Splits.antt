@@ -1,5 +1,5 @@
 -- Where a span ends, a text may be cut.
-use Rattle.std.proofs.Common.{◌≡◌, refl, ℕ, zero, suc, subst, inl, inr, ◌⊎◌, ◌+◌, ◌<◌, ◌≤◌, Bool, true, false, List, [], ◌∷◌, ◌++◌, length, take, drop, get_or, ap, sym, ◌∙◌, arith, rules}
+use Rattle.std.proofs.Common.{◌≡◌, refl, ℕ, zero, suc, subst, inl, inr, ◌+◌, ◌<◌, ◌≤◌, Bool, true, false, List, [], ◌∷◌, ◌++◌, length, take, drop, get_or, ap, sym, ◌∙◌, arith}
 use Rattle.std.specs.Prelude.{codes, IsCharBoundary}
 use Rattle.std.specs.Str.{IsUtf8}
 use Rattle.std.proofs.lemmas.Bool.{false≢true, cases_lt}
@@ -8,7 +8,7 @@ use Rattle.std.proofs.lemmas.Str.{IsCharBoundary-start, IsCharBoundary-end, IsCh
 use Rattle.nextest_filtering_trees.specs.Grammar.{Behind, unblanked}
 use Rattle.test_runner_core_platforms.specs.Grammar.{begins_name, is_of_name, is_of_triple, is_of_value, AllAre, IsName, starts, ReadsName, ReadsValue}
 use Rattle.test_runner_core_platforms.specs.Parsing.{is_in, IsSplit}
-use Rattle.test_runner_core_platforms.specs.Single.{one_span, name_each, named_begins, quote_last, tail}
+use Rattle.test_runner_core_platforms.specs.Single.{one_span, name_each, quote_last, tail}
 use Rattle.test_runner_core_platforms.specs.declared.span.Span.{Span}
 use Rattle.test_runner_core_platforms.specs.declared.span.Span.TheVariants as span
 

@@ -1,13 +1,12 @@
 -- What a spec can come out as, and its value by three values, are the same.
-use Rattle.std.proofs.Common.{◌≡◌, refl, ℕ, Bool, true, false, List, [], ◌∷◌, ap, sym, ◌∙◌, subst}
-use Rattle.std.specs.Prelude.{◌≢◌, ◌&&◌, ◌||◌, not, Option, None, Some, option_map}
+use Rattle.std.proofs.Common.{◌≡◌, refl, Bool, true, false, List, [], ◌∷◌, ap, sym, ◌∙◌, subst}
+use Rattle.std.specs.Prelude.{◌&&◌, ◌||◌, not, Option, None, Some, option_map}
 use Rattle.std.specs.List.{list_all, list_any}
-use Rattle.std.specs.Str.{bytes_eq}
 use Rattle.std.proofs.lemmas.Bool.{false≢true}
 use Rattle.nextest_filtering_filters.specs.Formula.{IsValue}
 use Rattle.test_runner_core_platforms.specs.declared.fact.Fact.{Fact}
 use Rattle.test_runner_core_platforms.specs.Spec.{Condition, fact, fact_value, negation, all_of, any_of, Conditions, no_conditions, with_first, Spec, triple, condition}
-use Rattle.test_runner_core_platforms.specs.Facts.{Facts, answer_of}
+use Rattle.test_runner_core_platforms.specs.Facts.{Facts}
 use Rattle.test_runner_core_platforms.specs.Meaning.{MayBe, ComesOut, of_fact, of_value, of_negation, of_all, of_any, ComeOut, of_none, of_more, SpecComesOut, HasValue, both, either, condition_value, value_of_all, value_of_any, value_of}
 
 -- ---- three values

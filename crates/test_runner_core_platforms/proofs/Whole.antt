@@ -1,13 +1,13 @@
 -- What is read of a whole text is so, and nothing else is.
-use Rattle.std.proofs.Common.{◌≡◌, refl, ℕ, Bool, true, false, List, [], ◌∷◌, ◌++◌, length, ap, sym, ◌∙◌, subst}
+use Rattle.std.proofs.Common.{◌≡◌, ℕ, true, false, List, [], length, ap, sym, ◌∙◌, subst}
 use Rattle.std.specs.Prelude.{codes, nat_eq, Result, Ok, Err}
 use Rattle.std.proofs.lemmas.Bool.{false≢true, eqb-true}
 use Rattle.std.proofs.lemmas.List.{nil_from_length}
 use Rattle.nextest_filtering_trees.specs.Grammar.{Behind, unblanked}
 use Rattle.test_runner_core_platforms.specs.Spec.{Condition, Spec, triple, condition}
-use Rattle.test_runner_core_platforms.specs.Grammar.{is_of_triple, IsCondition, IsTriple, IsCfg, IsSpec}
+use Rattle.test_runner_core_platforms.specs.Grammar.{is_of_triple, IsCondition, IsSpec}
 use Rattle.test_runner_core_platforms.specs.Parsing.{IsSplit, EndsCfg, OnlyTriple, FindsSpec}
-use Rattle.test_runner_core_platforms.specs.Single.{one_span, one_behind, one_condition, triple_ends, triple_stops, triple_or_cfg}
+use Rattle.test_runner_core_platforms.specs.Single.{one_span, one_behind, one_condition, triple_ends, triple_or_cfg}
 use Rattle.test_runner_core_platforms.specs.Trees.{spec_of}
 use Rattle.test_runner_core_platforms.specs.declared.platform_spec.PlatformSpec.{PlatformSpec}
 use Rattle.test_runner_core_platforms.specs.declared.span.Span.TheVariants as span

@@ -8,7 +8,6 @@ use Rattle.test_runner_core_platforms.specs.Grammar.{IsSpec}
 use Rattle.test_runner_core_platforms.specs.Meaning.{HasValue, value_of}
 use Rattle.test_runner_core_platforms.specs.Single.{one_spec}
 use Rattle.test_runner_core_platforms.specs.Trees.{spec_of}
-use Rattle.test_runner_core_platforms.specs.declared.platform_spec.PlatformSpec.{PlatformSpec}
 
 -- a text is one spec at most
 abbrev pub OneSpec : Type 0

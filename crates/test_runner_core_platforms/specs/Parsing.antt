@@ -3,7 +3,7 @@ use Rattle.std.specs.Prelude.{◌≡◌, ◌⊎◌, ◌≤◌, ℕ, Bool, false,
 use Rattle.std.specs.Borrow.{Bor}
 use Rattle.nextest_filtering_trees.specs.Grammar.{Behind, unblanked}
 use Rattle.test_runner_core_platforms.specs.Spec.{Condition, fact, fact_value, negation, all_of, any_of, Conditions, no_conditions, Spec, triple, condition}
-use Rattle.test_runner_core_platforms.specs.Grammar.{is_of_name, is_of_triple, is_of_value, AllAre, starts, ReadsName, ReadsValue, IsCondition, AreConditions, IsTriple, IsSpec}
+use Rattle.test_runner_core_platforms.specs.Grammar.{is_of_name, is_of_triple, is_of_value, AllAre, starts, ReadsValue, IsCondition, AreConditions, IsTriple, IsSpec}
 use Rattle.test_runner_core_platforms.specs.Trees.{condition_of, conditions_of, spec_of}
 use Rattle.test_runner_core_platforms.specs.declared.condition.Condition.{Condition as Tree}
 use Rattle.test_runner_core_platforms.specs.declared.condition.Conditions.{Conditions as Trees}

@@ -104,8 +104,8 @@ impl PlatformSpec {
     /// Whether it holds on a platform of which these facts are known; `None` where they don't tell. A triple is always
     /// known. It takes no memory.
     pub fn eval(&self, facts: &PlatformFacts) -> Option<bool>
-        ensures value { HasValue facts.now (spec_of self.now) result }
-        ensures is { result ≡ value_of facts.now (spec_of self.now) }
+        ensures only { HasValue facts.now (spec_of self.now) result }
+        ensures value { result ≡ value_of facts.now (spec_of self.now) }
     {
         match &self.kind {
             Kind::Triple(name) => Some(name.as_str() == facts.triple()),

@@ -1,4 +1,4 @@
-use Rattle.std.proofs.Common.{◌≡◌, take}
+use Rattle.std.proofs.Common.{take}
 use Rattle.test_runner_core_platforms.specs.Grammar.{AllAre}
 use Rattle.test_runner_core_platforms.specs.Parsing.{is_in}
 use Rattle.test_runner_core_platforms.proofs.span.Span.len_in.Given as goal
