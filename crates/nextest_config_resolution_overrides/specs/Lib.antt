@@ -1,0 +1,4 @@
+pub mod Accepted
+pub mod Laws
+pub mod Overrides
+pub mod Paths

@@ -1,0 +1,131 @@
+// The values of an override's keys that stand side by side.
+ghost use Rattle.toml.specs.View.{table_view};
+ghost use Rattle.nextest_config_resolution_overrides.specs.Overrides as read;
+ghost use Rattle.nextest_config_resolution_overrides.specs.Paths.{override_path};
+ghost use Rattle.nextest_config_resolution_values.specs.Paths.{GivesAt};
+
+use crate::bench::bench_at;
+use crate::found::optional_text;
+use crate::junit::OverrideJunit;
+use crate::override_value::optional_value;
+use crate::platforms::OverridePlatforms;
+use nextest_config_elements_counts::{
+    LeakTimeout, RetryPolicy, SlowTimeout, TestPriority, ThreadsRequired,
+};
+use nextest_config_elements_identifiers::TestGroup;
+use nextest_config_elements_plain::{FlakyResult, TestOutputDisplay};
+use nextest_config_elements_readers::{Any, optional};
+use nextest_config_elements_reading::ValueError;
+use nextest_text::{Listing, Text};
+use std::alloc::Global;
+use toml::Table;
+
+// From `bench` to `flaky-result`.
+#[derive(Drop)]
+pub(crate) struct BenchToFlaky {
+    pub(crate) bench_slow_timeout: Option<SlowTimeout>,
+    pub(crate) default_filter: Option<Text>,
+    pub(crate) failure_output: Option<TestOutputDisplay>,
+    pub(crate) filter: Option<Text>,
+    pub(crate) flaky_result: Option<FlakyResult>,
+}
+
+// From `junit` to `retries`.
+#[derive(Drop)]
+pub(crate) struct JunitToRetries {
+    pub(crate) junit: Option<OverrideJunit>,
+    pub(crate) leak_timeout: Option<LeakTimeout>,
+    pub(crate) platform: Option<OverridePlatforms>,
+    pub(crate) priority: Option<TestPriority>,
+    pub(crate) retries: Option<RetryPolicy>,
+}
+
+// From `run-extra-args` to `threads-required`.
+#[derive(Drop)]
+pub(crate) struct ArgsToThreads {
+    pub(crate) run_extra_args: Option<Listing<Text>>,
+    pub(crate) slow_timeout: Option<SlowTimeout>,
+    pub(crate) success_output: Option<TestOutputDisplay>,
+    pub(crate) test_group: Option<TestGroup>,
+    pub(crate) threads_required: Option<ThreadsRequired>,
+}
+
+// What an override says from `bench` to `flaky-result`.
+#[tactic(auto, unfolding(crate::specs::Overrides::bench_to_flaky))]
+pub(crate) fn bench_to_flaky(
+    alloc: Global,
+    name: &str,
+    place: &str,
+    table: &Table,
+) -> Result<BenchToFlaky, ValueError>
+    ensures { GivesAt (override_path name.now place.now) result (read.bench_to_flaky (table_view table.now)) }
+{
+    let path = ["profile", name, "overrides", place];
+    let bench_slow_timeout = bench_at(alloc, name, place, table)?;
+    let default_filter = optional_text(alloc, table, &path, "default-filter")?;
+    let failure_output = optional::<Any, TestOutputDisplay>(alloc, table, &path, "failure-output")?;
+    let filter = optional_text(alloc, table, &path, "filter")?;
+    let flaky_result = optional::<Any, FlakyResult>(alloc, table, &path, "flaky-result")?;
+    Ok(BenchToFlaky {
+        bench_slow_timeout,
+        default_filter,
+        failure_output,
+        filter,
+        flaky_result,
+    })
+}
+
+// What an override says from `junit` to `retries`.
+#[tactic(auto, unfolding(crate::specs::Overrides::junit_to_retries))]
+pub(crate) fn junit_to_retries(
+    alloc: Global,
+    name: &str,
+    place: &str,
+    table: &Table,
+) -> Result<JunitToRetries, ValueError>
+    ensures { GivesAt (override_path name.now place.now) result (read.junit_to_retries (table_view table.now)) }
+{
+    let path = ["profile", name, "overrides", place];
+    let junit = optional_value::<OverrideJunit>(alloc, name, place, table, "junit")?;
+    let leak_timeout = optional_value::<LeakTimeout>(alloc, name, place, table, "leak-timeout")?;
+    let platform = optional_value::<OverridePlatforms>(alloc, name, place, table, "platform")?;
+    let priority = optional::<Any, TestPriority>(alloc, table, &path, "priority")?;
+    let retries = optional_value::<RetryPolicy>(alloc, name, place, table, "retries")?;
+    Ok(JunitToRetries {
+        junit,
+        leak_timeout,
+        platform,
+        priority,
+        retries,
+    })
+}
+
+// What an override says from `run-extra-args` to `threads-required`.
+#[tactic(auto, unfolding(crate::specs::Overrides::args_to_threads))]
+pub(crate) fn args_to_threads(
+    alloc: Global,
+    name: &str,
+    place: &str,
+    table: &Table,
+) -> Result<ArgsToThreads, ValueError>
+    ensures { GivesAt (override_path name.now place.now) result (read.args_to_threads (table_view table.now)) }
+{
+    let path = ["profile", name, "overrides", place];
+    let arguments = optional_value::<Listing<Text>>(alloc, name, place, table, "run-extra-args")?;
+    let slow_timeout = optional_value::<SlowTimeout>(alloc, name, place, table, "slow-timeout")?;
+    let success_output = optional::<Any, TestOutputDisplay>(alloc, table, &path, "success-output")?;
+    let test_group = optional_value::<TestGroup>(alloc, name, place, table, "test-group")?;
+    let threads_required = optional::<Any, ThreadsRequired>(
+        alloc,
+        table,
+        &path,
+        "threads-required",
+    )?;
+    Ok(ArgsToThreads {
+        run_extra_args: arguments,
+        slow_timeout,
+        success_output,
+        test_group,
+        threads_required,
+    })
+}
