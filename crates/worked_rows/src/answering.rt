@@ -3,7 +3,7 @@
 use crate::table::{Table, rows_hold};
 use crate::{
     asking, attempts, compiled, configs, elements, ends, filter_texts, filter_trees, log_lines,
-    orders, outputs, stress, summaries, values, verdicts, visibility,
+    orders, outputs, platform_specs, stress, summaries, values, verdicts, visibility,
 };
 use anyhow::Result;
 use std::alloc::Global;
@@ -72,6 +72,7 @@ warnings
 plain_filters
 filters
 plain_specs
+platform_specs
 plain_configs";
 
 // The table of a name.
@@ -105,6 +106,7 @@ fn of_layers(name: &str, alloc: Global, input: &str) -> Option<String> {
         "plain_filters" => asking::plain_filters(alloc, input),
         "filters" => asking::filters(alloc, input),
         "plain_specs" => asking::plain_specs(alloc, input),
+        "platform_specs" => platform_specs::platform_specs(alloc, input),
         "plain_configs" => asking::plain_configs(alloc, input),
         "log_lines" => log_lines::log_lines(alloc, input),
         _ => of_filter_trees(name, alloc, input),

@@ -25,6 +25,7 @@ mod parts;
 mod plain_filter;
 mod plain_spec;
 mod plans;
+mod platform_specs;
 mod settings;
 mod signs;
 mod stress;
