@@ -79,13 +79,6 @@ no_negation text inside u read none (negation it) rest is =
 no_negation text inside u read none (all_of each) rest is = false≢true (ap (λ (l : List ℕ). starts (λ byte. byte == 97) l) is.0)
 no_negation text inside u read none (any_of each) rest is = false≢true (ap (λ (l : List ℕ). starts (λ byte. byte == 97) l) is.0)
 
-pub no_inside : (text : List ℕ) → ((it : Condition) (rest : List ℕ) → IsCondition text it rest → ⊥) → (it : Condition) (rest : List ℕ) → ReadsOperation (codes "not") text it rest → ⊥
-no_inside text none (fact other) rest is = is
-no_inside text none (fact_value other value) rest is = is
-no_inside text none (negation it) rest is = none it is.1 is.2
-no_inside text none (all_of each) rest is = false≢true (ap (λ (l : List ℕ). starts (λ byte. byte == 97) l) is.0)
-no_inside text none (any_of each) rest is = false≢true (ap (λ (l : List ℕ). starts (λ byte. byte == 97) l) is.0)
-
 -- ---- conditions
 
 pub conditions_read : (text r rest : List ℕ) (it : Condition) (each : Conditions) → IsCondition text it r → AreOthers r each rest → AreConditions text (with_first it each) rest
@@ -101,11 +94,6 @@ no_others _ r it read closes none _ _ (last_one text s rest other also ends) =
 no_others _ r it read closes none _ _ (one_more text s t rest other each also parts more) =
     let one = one_condition text it r other s read also in
     none each rest (inr (t, subst (λ (l : List ℕ). Behind (codes ",") l t) (sym one.1) parts, more))
-
-pub no_first : (text : List ℕ) → ((it : Condition) (rest : List ℕ) → IsCondition text it rest → ⊥) → ((rest : List ℕ) → Behind (codes ")") text rest → ⊥) → (each : Conditions) (rest : List ℕ) → AreConditions text each rest → ⊥
-no_first _ none closes _ _ (no_more text rest ends) = closes rest ends
-no_first _ none closes _ _ (last_one text r rest it read ends) = none it r read
-no_first _ none closes _ _ (one_more text r s rest it each read parts more) = none it r read
 
 -- where what follows the first isn't read, no conditions are
 others_stop : (text r : List ℕ) (first : Condition) (e : Stop) → IsCondition text first r → ((rest : List ℕ) → Behind (codes ")") text rest → ⊥) → FindsConditions (AreOthers r) (Err e) → FindsConditions (AreConditions text) (Err e)

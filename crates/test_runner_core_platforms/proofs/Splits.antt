@@ -2,13 +2,13 @@
 use Rattle.std.proofs.Common.{◌≡◌, refl, ℕ, zero, suc, subst, inl, inr, ◌+◌, ◌<◌, ◌≤◌, Bool, true, false, List, [], ◌∷◌, ◌++◌, length, take, drop, get_or, ap, sym, ◌∙◌, arith}
 use Rattle.std.specs.Prelude.{codes, IsCharBoundary}
 use Rattle.std.specs.Str.{IsUtf8}
-use Rattle.std.proofs.lemmas.Bool.{false≢true, cases_lt}
+use Rattle.std.proofs.lemmas.Bool.{cases_lt}
 use Rattle.std.proofs.lemmas.Bool.Decides.{nat_tests}
 use Rattle.std.proofs.lemmas.Str.{IsCharBoundary-start, IsCharBoundary-end, IsCharBoundary-before_ascii, IsCharBoundary-after_ascii}
-use Rattle.nextest_filtering_trees.specs.Grammar.{Behind, unblanked}
-use Rattle.test_runner_core_platforms.specs.Grammar.{begins_name, is_of_name, is_of_triple, is_of_value, AllAre, IsName, starts, ReadsName, ReadsValue}
+use Rattle.nextest_filtering_trees.specs.Grammar.{Behind}
+use Rattle.test_runner_core_platforms.specs.Grammar.{is_of_name, is_of_triple, is_of_value, AllAre, starts, ReadsValue}
 use Rattle.test_runner_core_platforms.specs.Parsing.{is_in, IsSplit}
-use Rattle.test_runner_core_platforms.specs.Single.{one_span, name_each, quote_last, tail}
+use Rattle.test_runner_core_platforms.specs.Single.{one_span, quote_last, tail}
 use Rattle.test_runner_core_platforms.specs.declared.span.Span.{Span}
 use Rattle.test_runner_core_platforms.specs.declared.span.Span.TheVariants as span
 
@@ -54,37 +54,9 @@ cut span.Name text n utf8 within all ends = cut_behind is_of_name text n utf8 wi
 cut span.Triple text n utf8 within all ends = cut_behind is_of_triple text n utf8 within small_triple all
 cut span.Value text n utf8 within all ends = cut_before is_of_value text n within small_end ends
 
--- ---- names
-
-name_is : (name : List ℕ) → AllAre is_of_name name → starts begins_name name ≡ true → IsName name
-name_is [] all begins = absurd (false≢true begins)
-name_is (first ∷ more) all begins = (begins, all.1)
-
-pub name_found : (text ahead name rest : List ℕ) → ahead ≡ unblanked text → IsSplit span.Name ahead name rest → starts begins_name name ≡ true → ReadsName text name rest
-name_found text ahead name rest same split begins = record { here = sym same ∙ split.whole; is = name_is name split.each begins; ends = split.ends }
-
-name_starts : (name : List ℕ) → IsName name → starts begins_name name ≡ true
-name_starts [] is = absurd is
-name_starts (first ∷ more) is = is.0
-
-pub no_name : (text ahead name rest : List ℕ) → ahead ≡ unblanked text → IsSplit span.Name ahead name rest → starts begins_name name ≡ false → (part end : List ℕ) → ReadsName text part end → ⊥
-no_name text ahead name rest same split begins part end read =
-    let one = one_span is_of_name name part rest end split.each (name_each part read.is) split.ends read.ends (sym split.whole ∙ (same ∙ read.here)) in
-    false≢true (sym begins ∙ (ap (starts begins_name) one.0 ∙ name_starts part read.is))
-
--- ---- values
-
-pub value_found : (text inside v e rest : List ℕ) → Behind (codes "\"") text inside → IsSplit span.Value inside v e → e ≡ codes "\"" ++ rest → ReadsValue text v rest
-value_found text inside v e rest opens split closes = record {
-  here = opens ∙ ap (λ (l : List ℕ). 34 ∷ l) (split.whole ∙ (ap (λ (l : List ℕ). v ++ l) closes ∙ sym (quote_last v rest)));
-  each = split.each;
-}
-
+-- a value that no quote ends is none
 pub no_value : (text inside v e : List ℕ) → Behind (codes "\"") text inside → IsSplit span.Value inside v e → ((rest : List ℕ) → e ≡ codes "\"" ++ rest → ⊥) → (part rest : List ℕ) → ReadsValue text part rest → ⊥
 no_value text inside v e opens split none part rest read =
     let is : inside ≡ part ++ (34 ∷ rest) = ap tail (sym opens ∙ read.here) ∙ quote_last part rest in
     let one = one_span is_of_value v part e (34 ∷ rest) split.each read.each split.ends refl (sym split.whole ∙ is) in
     none rest one.1
-
-pub no_quote : (text : List ℕ) → ((inside : List ℕ) → Behind (codes "\"") text inside → ⊥) → (part rest : List ℕ) → ReadsValue text part rest → ⊥
-no_quote text none part rest read = none ((part ++ codes "\"") ++ rest) read.here
