@@ -1,4 +1,5 @@
 pub mod Repeats
+pub mod Trees
 pub mod Lengths
 pub mod Splits
 pub mod Reading

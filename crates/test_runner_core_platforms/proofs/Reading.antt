@@ -1,6 +1,6 @@
 -- What is read of a condition is so, and nothing else is.
-use Rattle.std.proofs.Common.{◌≡◌, refl, ℕ, Bool, true, false, List, [], ◌∷◌, ap, sym, ◌∙◌, subst, inl, inr}
-use Rattle.std.specs.Prelude.{codes, ◌==◌, Result, Ok, Err}
+use Rattle.std.proofs.Common.{◌≡◌, refl, ℕ, ◌≤◌, Bool, true, false, List, [], ◌∷◌, ◌++◌, length, map, ap, sym, ◌∙◌, subst, inl, inr, arith}
+use Rattle.std.specs.Prelude.{codes, ◌==◌, Result, Ok, Err, Vec}
 use Rattle.std.specs.Borrow.{Bor}
 use Rattle.std.specs.Result.{IsErrAnd}
 use Rattle.std.proofs.lemmas.Result.{err_from_is_err_and}
@@ -8,11 +8,15 @@ use Rattle.std.proofs.lemmas.Bool.{false≢true, or_cases, eqb-true}
 use Rattle.nextest_filtering_trees.specs.Grammar.{Behind, unblanked}
 use Rattle.test_runner_core_platforms.specs.Spec.{Condition, fact, fact_value, negation, all_of, any_of, Conditions, no_conditions, with_first}
 use Rattle.test_runner_core_platforms.specs.Grammar.{starts, ReadsName, goes_on, IsCondition, is_fact, is_value, is_negation, is_all, is_any, AreConditions, no_more, last_one, one_more}
-use Rattle.test_runner_core_platforms.specs.Parsing.{ReadsFactValue, ReadsOperation, AreOthers, FindsCondition, FindsConditions}
-use Rattle.test_runner_core_platforms.specs.Single.{one_condition, operation_only, value_only}
-use Rattle.test_runner_core_platforms.specs.Trees.{condition_of, conditions_of}
-use Rattle.test_runner_core_platforms.specs.declared.condition.Condition.{Condition as Tree}
-use Rattle.test_runner_core_platforms.specs.declared.condition.Conditions.{Conditions as Trees}
+use Rattle.test_runner_core_platforms.specs.Parsing.{ReadsFactValue, ReadsOperation, FindsCondition, FindsConditions}
+use Rattle.test_runner_core_platforms.specs.Single.{one_behind, one_condition, operation_only, value_only, closes_none, closes_or_parts}
+use Rattle.std.specs.declared.alloc.Global.{Global}
+use Rattle.nextest_filtering_arguments.proofs.Spans.{shorter_token}
+use Rattle.test_runner_core_platforms.proofs.Trees.{of_fact}
+use Rattle.test_runner_core_platforms.proofs.Lengths.{shorter_condition}
+use Rattle.std.proofs.lemmas.List.{map-append}
+use Rattle.test_runner_core_platforms.specs.Trees.{joined, condition_of, conditions_of}
+use Rattle.test_runner_core_platforms.specs.declared.condition.Condition.{Condition as Tree, Fact}
 use Rattle.test_runner_core_platforms.specs.declared.stop.Stop.{Stop}
 use Rattle.test_runner_core_platforms.specs.declared.stop.Stop.TheVariants.{Bad, Memory}
 
@@ -64,9 +68,9 @@ ends_at : (r ahead : List ℕ) → unblanked r ≡ ahead → ((s : List ℕ) →
 ends_at r [] e opens equals = refl
 ends_at r (byte ∷ t) e opens equals = ends_by r byte t (goes_on byte) e refl opens equals
 
-pub fact_read : (text name rest copy : List ℕ) → ReadsName text name rest → ((s : List ℕ) → Behind (codes "(") rest s → ⊥) → ((s : List ℕ) → Behind (codes "=") rest s → ⊥) → copy ≡ name → IsCondition text (fact copy) rest
+pub fact_read : (text name rest copy : List ℕ) → ReadsName text name rest → ((s : List ℕ) → Behind (codes "(") rest s → ⊥) → ((s : List ℕ) → Behind (codes "=") rest s → ⊥) → copy ≡ name → IsCondition text (condition_of (Fact copy)) rest
 fact_read text name rest copy read opens equals same =
-    subst (λ (n : List ℕ). IsCondition text (fact n) rest) (sym same) (is_fact text name rest read (ends_at rest (unblanked rest) refl opens equals))
+    subst (λ (c : Condition). IsCondition text c rest) (ap fact (sym same) ∙ sym (of_fact copy)) (is_fact text name rest read (ends_at rest (unblanked rest) refl opens equals))
 
 -- ---- operations
 
@@ -81,34 +85,87 @@ no_negation text inside u read none (any_of each) rest is = false≢true (ap (λ
 
 -- ---- conditions
 
-pub conditions_read : (text r rest : List ℕ) (it : Condition) (each : Conditions) → IsCondition text it r → AreOthers r each rest → AreConditions text (with_first it each) rest
-conditions_read text r rest it each read (inl (is, closes)) = subst (λ (others : Conditions). AreConditions text (with_first it others) rest) (sym is) (last_one text r rest it read closes)
-conditions_read text r rest it each read (inr (s, parts, more)) = one_more text r s rest it each read parts more
+joined-push : (each : List Condition) (it : Condition) (more : Conditions) → joined each (with_first it more) ≡ joined (each ++ it ∷ []) more
+joined-push [] it more = refl
+joined-push (first ∷ each) it more = ap (with_first first) (joined-push each it more)
 
-pub no_others : (text r : List ℕ) (it : Condition) → IsCondition text it r → ((rest : List ℕ) → Behind (codes ")") text rest → ⊥) → ((each : Conditions) (rest : List ℕ) → AreOthers r each rest → ⊥)
-    → (each : Conditions) (rest : List ℕ) → AreConditions text each rest → ⊥
-no_others _ r it read closes none _ _ (no_more text rest ends) = closes rest ends
-no_others _ r it read closes none _ _ (last_one text s rest other also ends) =
-    let one = one_condition text it r other s read also in
-    none no_conditions rest (inl (refl, subst (λ (l : List ℕ). Behind (codes ")") l rest) (sym one.1) ends))
-no_others _ r it read closes none _ _ (one_more text s t rest other each also parts more) =
-    let one = one_condition text it r other s read also in
-    none each rest (inr (t, subst (λ (l : List ℕ). Behind (codes ",") l t) (sym one.1) parts, more))
+-- These were read of a text, up to the rest: conditions of the rest are those of the text behind these, and the text has no others.
+pub record HasRead (text : List ℕ) (each : List Condition) (rest : List ℕ) : Type 0 where
+  pub back : (more : Conditions) (end : List ℕ) → AreConditions rest more end → AreConditions text (joined each more) end
+  pub only : (all : Conditions) (end : List ℕ) → AreConditions text all end → (more : Conditions) × AreConditions rest more end × (all ≡ joined each more)
+  pub shorter : length rest ≤ length text
 
--- where what follows the first isn't read, no conditions are
-others_stop : (text r : List ℕ) (first : Condition) (e : Stop) → IsCondition text first r → ((rest : List ℕ) → Behind (codes ")") text rest → ⊥) → FindsConditions (AreOthers r) (Err e) → FindsConditions (AreConditions text) (Err e)
-others_stop text r first (Bad left) read closes none = no_others text r first read closes none
-others_stop text r first Memory read closes none = tt
+pub begins : (text : List ℕ) → HasRead text [] text
+begins text = record { back = λ more end are. are; only = λ all end are. (all, are, refl); shorter = Prim.omega arith }
 
-pub stops_others : (text r : List ℕ) (first : Condition) (e : Stop) (found : Result (Trees × Bor (List ℕ)) Stop) → IsCondition text first r → ((rest : List ℕ) → Behind (codes ")") text rest → ⊥)
-    → FindsConditions (AreOthers r) (Err e) → IsErrAnd found (λ y. y ≡ e) → FindsConditions (AreConditions text) found
-stops_others text r first e found read closes none is =
+after_comma : (rest behind next : List ℕ) (it : Condition) (more : Conditions) (end : List ℕ) → IsCondition rest it behind → Behind (codes ",") behind next → AreConditions rest more end
+    → (others : Conditions) × AreConditions next others end × (more ≡ with_first it others)
+after_comma _ behind next it _ _ read parts (no_more rest end closes) = absurd (closes_none rest end it behind closes read)
+after_comma _ behind next it _ _ read parts (last_one rest r end other also closes) =
+    let one = one_condition rest it behind other r read also in
+    absurd (closes_or_parts r end next closes (subst (λ (l : List ℕ). Behind (codes ",") l next) one.1 parts))
+after_comma _ behind next it _ _ read parts (one_more rest r s end other each also part more) =
+    let one = one_condition rest it behind other r read also in
+    let same = one_behind (codes ",") r s next part (subst (λ (l : List ℕ). Behind (codes ",") l next) one.1 parts) in
+    (each, subst (λ (l : List ℕ). AreConditions l each end) same more, ap (λ (c : Condition). with_first c each) (sym one.0))
+
+-- one more, with a comma behind it
+goes_on_with : (text : List ℕ) (each : List Condition) (rest behind next : List ℕ) (it : Condition) → HasRead text each rest → IsCondition rest it behind → Behind (codes ",") behind next
+    → HasRead text (each ++ it ∷ []) next
+goes_on_with text each rest behind next it so_far read parts = record {
+  back = λ more end are. subst (λ (c : Conditions). AreConditions text c end) (joined-push each it more) (so_far.back (with_first it more) end (one_more rest behind next end it more read parts are));
+  only = λ all end are.
+      let known = so_far.only all end are in
+      let others = after_comma rest behind next it known.0 end read parts known.1 in
+      (others.0, others.1, known.2 ∙ (ap (joined each) others.2 ∙ joined-push each it others.0));
+  shorter = Prim.omega (arith, so_far.shorter, shorter_condition rest it behind read, shorter_token (44 ∷ []) next behind parts (Prim.omega arith));
+}
+
+pub one_pushed : (text : List ℕ) (trees new : List Tree) (rest behind next : List ℕ) (it : Tree) → HasRead text (map condition_of trees) rest → IsCondition rest (condition_of it) behind
+    → Behind (codes ",") behind next → new ≡ trees ++ it ∷ [] → HasRead text (map condition_of new) next
+one_pushed text trees new rest behind next it so_far read parts is =
+    subst (λ (l : List Condition). HasRead text l next) (sym (ap (map condition_of) is ∙ map-append condition_of trees (it ∷ [])))
+    (goes_on_with text (map condition_of trees) rest behind next (condition_of it) so_far read parts)
+
+pub closes_now : (text : List ℕ) (each : List Condition) (rest end : List ℕ) → HasRead text each rest → Behind (codes ")") rest end → AreConditions text (joined each no_conditions) end
+closes_now text each rest end so_far closes = so_far.back no_conditions end (no_more rest end closes)
+
+pub closes_last : (text : List ℕ) (trees new : List Tree) (rest behind end : List ℕ) (it : Tree) → HasRead text (map condition_of trees) rest → IsCondition rest (condition_of it) behind
+    → Behind (codes ")") behind end → new ≡ trees ++ it ∷ [] → AreConditions text (conditions_of new) end
+closes_last text trees new rest behind end it so_far read closes is =
+    subst (λ (c : Conditions). AreConditions text c end)
+    (joined-push (map condition_of trees) (condition_of it) no_conditions ∙ ap (λ (l : List Condition). joined l no_conditions) (sym (ap (map condition_of) is ∙ map-append condition_of trees (it ∷ []))))
+    (so_far.back (with_first (condition_of it) no_conditions) end (last_one rest behind end (condition_of it) read closes))
+
+ends_wrong : (rest behind : List ℕ) (it : Condition) → IsCondition rest it behind → ((s : List ℕ) → Behind (codes ",") behind s → ⊥) → ((s : List ℕ) → Behind (codes ")") behind s → ⊥)
+    → (more : Conditions) (end : List ℕ) → AreConditions rest more end → ⊥
+ends_wrong _ behind it read parts closes _ _ (no_more rest end ends) = closes_none rest end it behind ends read
+ends_wrong _ behind it read parts closes _ _ (last_one rest r end other also ends) =
+    let one = one_condition rest it behind other r read also in
+    closes end (subst (λ (l : List ℕ). Behind (codes ")") l end) (sym one.1) ends)
+ends_wrong _ behind it read parts closes _ _ (one_more rest r s end other each also part more) =
+    let one = one_condition rest it behind other r read also in
+    parts s (subst (λ (l : List ℕ). Behind (codes ",") l s) (sym one.1) part)
+
+pub no_sign : (text : List ℕ) (each : List Condition) (rest behind : List ℕ) (it : Condition) → HasRead text each rest → IsCondition rest it behind → ((s : List ℕ) → Behind (codes ",") behind s → ⊥)
+    → ((s : List ℕ) → Behind (codes ")") behind s → ⊥) → (all : Conditions) (end : List ℕ) → AreConditions text all end → ⊥
+no_sign text each rest behind it so_far read parts closes all end are =
+    let known = so_far.only all end are in
+    ends_wrong rest behind it read parts closes known.0 end known.1
+
+no_first : (rest : List ℕ) → ((it : Condition) (r : List ℕ) → IsCondition rest it r → ⊥) → ((s : List ℕ) → Behind (codes ")") rest s → ⊥) → (more : Conditions) (end : List ℕ) → AreConditions rest more end → ⊥
+no_first _ none closes _ _ (no_more rest end ends) = closes end ends
+no_first _ none closes _ _ (last_one rest r end it read ends) = none it r read
+no_first _ none closes _ _ (one_more rest r s end it each read parts more) = none it r read
+
+first_stops : (text : List ℕ) (each : List Condition) (rest : List ℕ) (e : Stop) → HasRead text each rest → ((s : List ℕ) → Behind (codes ")") rest s → ⊥) → FindsCondition (IsCondition rest) (Err e)
+    → FindsConditions (AreConditions text) (Err e)
+first_stops text each rest (Bad left) so_far closes none = λ all end are. let known = so_far.only all end are in no_first rest none closes known.0 end known.1
+first_stops text each rest Memory so_far closes none = tt
+
+-- where no condition is read of the rest, none are of the text
+pub stops_first : (text : List ℕ) (each : List Condition) (rest : List ℕ) (e : Stop) (found : Result (Vec Tree Global × Bor (List ℕ)) Stop) → HasRead text each rest → ((s : List ℕ) → Behind (codes ")") rest s → ⊥)
+    → FindsCondition (IsCondition rest) (Err e) → IsErrAnd found (λ y. y ≡ e) → FindsConditions (AreConditions text) found
+stops_first text each rest e found so_far closes none is =
     let p = err_from_is_err_and found is in
-    subst (FindsConditions (AreConditions text)) (sym p.1) (subst (λ y. FindsConditions (AreConditions text) (Err y)) (sym p.2) (others_stop text r first e read closes none))
-
--- from boxes
-pub conditions_boxed : (text r rest : List ℕ) (it first : Tree) (each others : Trees) → IsCondition text (condition_of it) r → AreOthers r (conditions_of each) rest → first ≡ it → others ≡ each
-    → AreConditions text (with_first (condition_of first) (conditions_of others)) rest
-conditions_boxed text r rest it first each others read more same alike =
-    let boxed = subst (λ (c : Conditions). AreConditions text c rest) (ap (λ (e : Trees). with_first (condition_of it) (conditions_of e)) (sym alike)) (conditions_read text r rest (condition_of it) (conditions_of each) read more) in
-    subst (λ (c : Conditions). AreConditions text c rest) (ap (λ (f : Tree). with_first (condition_of f) (conditions_of others)) (sym same)) boxed
+    subst (FindsConditions (AreConditions text)) (sym p.1) (subst (λ y. FindsConditions (AreConditions text) (Err y)) (sym p.2) (first_stops text each rest e so_far closes none))

@@ -1,12 +1,12 @@
 -- What reading parts of a platform spec answers.
-use Rattle.std.specs.Prelude.{◌≡◌, ◌⊎◌, ◌≤◌, ℕ, Bool, false, List, [], length, ◌++◌, codes, Option, None, Some, Result, Ok, Err, ⊤}
+use Rattle.std.specs.Prelude.{◌≡◌, ◌≤◌, ℕ, Bool, false, List, [], length, ◌++◌, codes, Option, None, Some, Result, Ok, Err, Vec, ⊤}
 use Rattle.std.specs.Borrow.{Bor}
+use Rattle.std.specs.declared.alloc.Global.{Global}
 use Rattle.nextest_filtering_trees.specs.Grammar.{Behind, unblanked}
-use Rattle.test_runner_core_platforms.specs.Spec.{Condition, fact, fact_value, negation, all_of, any_of, Conditions, no_conditions, Spec, triple, condition}
+use Rattle.test_runner_core_platforms.specs.Spec.{Condition, fact, fact_value, negation, all_of, any_of, Conditions, Spec, triple, condition}
 use Rattle.test_runner_core_platforms.specs.Grammar.{is_of_name, is_of_triple, is_of_value, AllAre, starts, ReadsValue, IsCondition, AreConditions, IsTriple, IsSpec}
 use Rattle.test_runner_core_platforms.specs.Trees.{condition_of, conditions_of, spec_of}
 use Rattle.test_runner_core_platforms.specs.declared.condition.Condition.{Condition as Tree}
-use Rattle.test_runner_core_platforms.specs.declared.condition.Conditions.{Conditions as Trees}
 use Rattle.test_runner_core_platforms.specs.declared.span.Span.{Span}
 use Rattle.test_runner_core_platforms.specs.declared.span.Span.TheVariants as span
 use Rattle.test_runner_core_platforms.specs.declared.stop.Stop.{Stop}
@@ -48,10 +48,6 @@ ReadsFactValue name text (negation it) rest = ⊥
 ReadsFactValue name text (all_of each) rest = ⊥
 ReadsFactValue name text (any_of each) rest = ⊥
 
--- what follows a condition among others: `)`, or `,` and further ones
-abbrev pub AreOthers : List ℕ → Conditions → List ℕ → Type 0
-AreOthers text each rest = ((each ≡ no_conditions) × Behind (codes ")") text rest) ⊎ ((behind : List ℕ) × Behind (codes ",") text behind × AreConditions behind each rest)
-
 -- a condition was read, or none stands here
 abbrev pub FindsCondition : (Condition → List ℕ → Type 0) → Result (Tree × Bor (List ℕ)) Stop → Type 0
 FindsCondition Reads (Ok found) = Reads (condition_of found.0) found.1.now
@@ -59,8 +55,8 @@ FindsCondition Reads (Err (Bad left)) = (it : Condition) (rest : List ℕ) → R
 FindsCondition Reads (Err Memory) = ⊤
 
 -- so of conditions
-abbrev pub FindsConditions : (Conditions → List ℕ → Type 0) → Result (Trees × Bor (List ℕ)) Stop → Type 0
-FindsConditions Reads (Ok found) = Reads (conditions_of found.0) found.1.now
+abbrev pub FindsConditions : (Conditions → List ℕ → Type 0) → Result (Vec Tree Global × Bor (List ℕ)) Stop → Type 0
+FindsConditions Reads (Ok found) = Reads (conditions_of found.0.items) found.1.now
 FindsConditions Reads (Err (Bad left)) = (each : Conditions) (rest : List ℕ) → Reads each rest → ⊥
 FindsConditions Reads (Err Memory) = ⊤
 

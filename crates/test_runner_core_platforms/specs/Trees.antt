@@ -1,24 +1,30 @@
 -- The specs that values stand for.
+use Rattle.std.specs.Prelude.{List, [], ◌∷◌, map}
 use Rattle.test_runner_core_platforms.specs.Spec.{Condition, fact, fact_value, negation, all_of, any_of, Conditions, no_conditions, with_first, Spec, triple, condition}
-use Rattle.test_runner_core_platforms.specs.declared.condition.Condition.{Condition as Tree}
-use Rattle.test_runner_core_platforms.specs.declared.condition.Condition.TheVariants as tree
-use Rattle.test_runner_core_platforms.specs.declared.condition.Conditions.{Conditions as Trees}
-use Rattle.test_runner_core_platforms.specs.declared.condition.Conditions.TheVariants as trees
+use Rattle.test_runner_core_platforms.specs.declared.condition.Condition.{Condition as Tree, fold-Condition}
+use Rattle.test_runner_core_platforms.specs.declared.condition.Condition.TheOpen.{Condition-F}
 use Rattle.test_runner_core_platforms.specs.declared.platform_spec.Kind.{Kind}
 use Rattle.test_runner_core_platforms.specs.declared.platform_spec.Kind.TheVariants as kind
 use Rattle.test_runner_core_platforms.specs.declared.platform_spec.PlatformSpec.{PlatformSpec}
 
-abbrev mutual
-  pub condition_of : Tree → Condition
-  condition_of (tree.Fact name) = fact name
-  condition_of (tree.FactValue name value) = fact_value name value
-  condition_of (tree.Not' p it) = negation (condition_of it)
-  condition_of (tree.All' p each) = all_of (conditions_of each)
-  condition_of (tree.Any' p each) = any_of (conditions_of each)
+-- these, and more behind them
+abbrev pub joined : List Condition → Conditions → Conditions
+joined [] more = more
+joined (it ∷ each) more = with_first it (joined each more)
 
-  pub conditions_of : Trees → Conditions
-  conditions_of trees.Empty = no_conditions
-  conditions_of (trees.More' p it q each) = with_first (condition_of it) (conditions_of each)
+-- one level, with each condition inside already seen as its tree
+abbrev pub condition_step : Condition-F Condition → Condition
+condition_step (Condition-F.Fact name) = fact name
+condition_step (Condition-F.FactValue name value) = fact_value name value
+condition_step (Condition-F.Not it) = negation it.value
+condition_step (Condition-F.All each) = all_of (joined each.items no_conditions)
+condition_step (Condition-F.Any each) = any_of (joined each.items no_conditions)
+
+abbrev pub condition_of : Tree → Condition
+condition_of = fold-Condition Condition condition_step
+
+abbrev pub conditions_of : List Tree → Conditions
+conditions_of each = joined (map condition_of each) no_conditions
 
 abbrev pub spec_of_kind : Kind → Spec
 spec_of_kind (kind.Triple name) = triple name

@@ -7,7 +7,6 @@ use crate::fact::PlatformFacts;
 use nextest_text::Text;
 
 /// What holds on a platform or doesn't.
-#[cycle(tree)]
 pub(crate) enum Condition {
     /// A name.
     Fact(Text),
@@ -16,37 +15,17 @@ pub(crate) enum Condition {
     /// `not(a)`
     Not(Box<Condition>),
     /// `all(a, b)`
-    All(Box<Conditions>),
+    All(Vec<Condition>),
     /// `any(a, b)`
-    Any(Box<Conditions>),
-}
-
-/// Conditions, one after another.
-#[cycle(tree)]
-pub(crate) enum Conditions {
-    /// None.
-    Empty,
-    /// One, and those behind it.
-    More(Box<Condition>, Box<Conditions>),
+    Any(Vec<Condition>),
 }
 
 impl Drop for Condition {
-    #[cycle(drops)]
     fn drop(self) {
         match self {
             Condition::Fact(_) | Condition::FactValue(_, _) => {}
             Condition::Not(_) => {}
             Condition::All(_) | Condition::Any(_) => {}
-        }
-    }
-}
-
-impl Drop for Conditions {
-    #[cycle(drops)]
-    fn drop(self) {
-        match self {
-            Conditions::Empty => {}
-            Conditions::More(_, _) => {}
         }
     }
 }
@@ -99,32 +78,32 @@ impl Condition {
             Condition::Fact(name) => facts.answer(name.as_str(), None),
             Condition::FactValue(name, value) => facts.answer(name.as_str(), Some(value.as_str())),
             Condition::Not(inside) => negated(inside.value(facts)),
-            Condition::All(each) => each.all_value(facts),
-            Condition::Any(each) => each.any_value(facts),
+            Condition::All(each) => all_value(each.as_slice(), facts),
+            Condition::Any(each) => any_value(each.as_slice(), facts),
         }
     }
 }
 
-impl Conditions {
-    // Whether all of them hold; `None` where the facts don't tell.
-    #[cycle(value)]
-    fn all_value(&self, facts: &PlatformFacts) -> Option<bool>
-        ensures { result ≡ value_of_all facts.now.known (conditions_of self.now) }
-    {
-        match self {
-            Conditions::Empty => Some(true),
-            Conditions::More(first, rest) => both(first.value(facts), rest.all_value(facts)),
-        }
+// Whether all of them hold; `None` where the facts don't tell.
+#[cycle(value)]
+fn all_value(each: &[Condition], facts: &PlatformFacts) -> Option<bool>
+    ensures { result ≡ value_of_all facts.now.known (conditions_of each.now) }
+{
+    let mut found = Some(true);
+    for it in each {
+        found = both(found, it.value(facts));
     }
+    found
+}
 
-    // Whether any of them holds; `None` where the facts don't tell.
-    #[cycle(value)]
-    fn any_value(&self, facts: &PlatformFacts) -> Option<bool>
-        ensures { result ≡ value_of_any facts.now.known (conditions_of self.now) }
-    {
-        match self {
-            Conditions::Empty => Some(false),
-            Conditions::More(first, rest) => either(first.value(facts), rest.any_value(facts)),
-        }
+// Whether any of them holds; `None` where the facts don't tell.
+#[cycle(value)]
+fn any_value(each: &[Condition], facts: &PlatformFacts) -> Option<bool>
+    ensures { result ≡ value_of_any facts.now.known (conditions_of each.now) }
+{
+    let mut found = Some(false);
+    for it in each {
+        found = either(found, it.value(facts));
     }
+    found
 }

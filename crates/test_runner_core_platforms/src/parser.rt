@@ -1,9 +1,9 @@
 // Conditions, as they are read.
 ghost use Rattle.std.specs.Prelude.{codes};
 ghost use Rattle.test_runner_core_platforms.specs.Grammar.{AreConditions, IsCondition};
-ghost use Rattle.test_runner_core_platforms.specs.Parsing.{FindsCondition, FindsConditions, AreOthers, ReadsFactValue, ReadsOperation};
+ghost use Rattle.test_runner_core_platforms.specs.Parsing.{FindsCondition, FindsConditions, ReadsFactValue, ReadsOperation};
 
-use crate::condition::{Condition, Conditions};
+use crate::condition::Condition;
 use crate::span::{name, token, value};
 use crate::stop::Stop;
 use nextest_text::Text;
@@ -48,11 +48,11 @@ fn operation<'i>(alloc: Global, name: &str, text: &'i str) -> Result<(Condition,
     }
     if name == "all" {
         let (each, rest) = conditions(alloc, text)?;
-        return Ok((Condition::All(Box::new(alloc, each)?), rest));
+        return Ok((Condition::All(each), rest));
     }
     if name == "any" {
         let (each, rest) = conditions(alloc, text)?;
-        return Ok((Condition::Any(Box::new(alloc, each)?), rest));
+        return Ok((Condition::Any(each), rest));
     }
     Err(Stop::Bad(text.len()))
 }
@@ -62,38 +62,32 @@ fn operation<'i>(alloc: Global, name: &str, text: &'i str) -> Result<(Condition,
 fn negation<'i>(alloc: Global, text: &'i str) -> Result<(Condition, &'i str), Stop>
     ensures { FindsCondition (ReadsOperation (codes "not") text.now) result }
 {
-    let (inside, behind) = condition(alloc, text)?;
-    let Some(rest) = token(behind, ")") else {
-        return Err(Stop::Bad(behind.len()));
+    let (inside, end) = condition(alloc, text)?;
+    let Some(rest) = token(end, ")") else {
+        return Err(Stop::Bad(end.len()));
     };
     Ok((Condition::Not(Box::new(alloc, inside)?), rest))
 }
 
 // Conditions up to `)`, and what follows it.
 #[cycle(parser)]
-fn conditions<'i>(alloc: Global, text: &'i str) -> Result<(Conditions, &'i str), Stop>
+fn conditions<'i>(alloc: Global, text: &'i str) -> Result<(Vec<Condition>, &'i str), Stop>
     ensures { FindsConditions (AreConditions text.now) result }
 {
-    if let Some(rest) = token(text, ")") {
-        return Ok((Conditions::Empty, rest));
-    }
-    let (first, behind) = condition(alloc, text)?;
-    let (others, rest) = others(alloc, behind)?;
-    let first = Box::new(alloc, first)?;
-    let others = Box::new(alloc, others)?;
-    Ok((Conditions::More(first, others), rest))
-}
-
-// What follows a condition among others: `,` and further ones, or `)`.
-#[cycle(parser)]
-fn others<'i>(alloc: Global, text: &'i str) -> Result<(Conditions, &'i str), Stop>
-    ensures { FindsConditions (AreOthers text.now) result }
-{
-    if let Some(rest) = token(text, ",") {
-        return conditions(alloc, rest);
-    }
-    match token(text, ")") {
-        Some(rest) => Ok((Conditions::Empty, rest)),
-        None => Err(Stop::Bad(text.len())),
+    let mut each = Vec::new(alloc);
+    let mut rest = text;
+    loop {
+        if let Some(end) = token(rest, ")") {
+            return Ok((each, end));
+        }
+        let (it, behind) = condition(alloc, rest)?;
+        each.push(it)?;
+        let Some(next) = token(behind, ",") else {
+            let Some(end) = token(behind, ")") else {
+                return Err(Stop::Bad(behind.len()));
+            };
+            return Ok((each, end));
+        };
+        rest = next;
     }
 }
