@@ -1,0 +1,3 @@
+pub mod Keys
+pub mod Laws
+pub mod Rules
