@@ -6,11 +6,13 @@
 //! rules alone. Which rules hold is asked elsewhere.
 #![tactic(auto)]
 
+mod finding;
 mod keys;
 pub mod laws;
 mod placed_override;
 mod rules;
 
+pub use finding::find_of_rules;
 pub use keys::{PriorityKey, TestGroupKey};
 pub use placed_override::PlacedOverride;
 pub use rules::rules_of;
