@@ -1,4 +1,5 @@
 pub mod Accepted
+pub mod Groups
 pub mod Laws
 pub mod Overrides
 pub mod Paths
