@@ -7,8 +7,9 @@ proof (the crate, from nothing), tests (the crate once more with its tests), edi
 Rattle's own compiler make of a proved program or of tests). A process that lives less than the time between two looks may be
 missed; the sum of all, by the system's own count, stands in the last line.
 
-Seconds of one day are no seconds of another, so one small proof is timed before and after, once a processor side by side, and a
-unit is a 35th of what it takes on average (scripts/calibration.py). Where the two times are far apart the machine wasn't quiet.
+Seconds of one day are no seconds of another, so one small proof is timed before and after, in rounds, once a processor side by
+side, and a unit is a 35th of what it takes (scripts/calibration.py): of the rounds before the median, of those after the median,
+and of these two the mean. Where the two are far apart the machine wasn't quiet.
 What other processes used meanwhile is told as well: of /proc/stat what the run and this script didn't use themselves.
 """
 import collections
@@ -16,6 +17,7 @@ import os
 import pathlib
 import re
 import resource
+import statistics
 import subprocess
 import sys
 import time
@@ -30,7 +32,8 @@ KINDS = ("proof", "tests", "edits", "build")
 BETWEEN_LOOKS = 0.4
 TICK = os.sysconf("SC_CLK_TCK")
 
-# How far the two times of the small proof may be apart, and how long the machine is looked at before and after.
+# How often the small proof is timed before and after, how far the two medians may be apart, and how long the machine is looked at.
+ROUNDS = 5
 MOST_APART = 0.10
 LOOK_SECONDS = 3
 
@@ -124,14 +127,17 @@ def tell_load(when):
 
 
 def time_proof(when):
-    """What the small proof takes in processor seconds; `None` where there is no unit."""
-    try:
-        timed = calibrate()
-    except Unfit as why:
-        print(f"{when}: no unit, and raw seconds alone, since {why}", flush=True)
-        return None
-    print(f"{when}: the small proof took {timed}", flush=True)
-    return timed.processor_seconds
+    """What the small proof takes in processor seconds, the median of some rounds; `None` where there is no unit."""
+    rounds = []
+    for _ in range(ROUNDS):
+        try:
+            timed = calibrate()
+        except Unfit as why:
+            print(f"{when}: no unit, and raw seconds alone, since {why}", flush=True)
+            return None
+        print(f"{when}: the small proof took {timed}", flush=True)
+        rounds.append(timed.processor_seconds)
+    return statistics.median(rounds)
 
 
 def seconds_of_unit(before, after):
