@@ -1,4 +1,6 @@
 pub mod Backoffs
 pub mod Keys
+pub mod Parts
 pub mod Policies
 pub mod Slow
+pub mod Texts

@@ -1,11 +1,14 @@
 pub mod Accepted
 pub mod Junit
+pub mod Keys
 pub mod Laws
 pub mod Levels
 pub mod Limits
 pub mod Names
+pub mod Paths
 pub mod Priority
 pub mod Retries
+pub mod Tables
 pub mod Threads
 pub mod Timeouts
 pub mod Values

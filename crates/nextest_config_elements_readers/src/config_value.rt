@@ -82,9 +82,9 @@ pub fn defaulted<Rule, T: ConfigValue<Rule>>(
     }
 }
 
-// What stands under a key of a table.
+/// What stands under a key of a table.
 #[tactic(auto, using(toml::proofs::Views::table_get))]
-pub(crate) fn member<'a>(table: &'a Table, key: &str) -> Option<&'a Value>
+pub fn member<'a>(table: &'a Table, key: &str) -> Option<&'a Value>
     ensures { option_map (λ it. view it.now) result ≡ get_member key.now (table_view table.now) }
 {
     table.get(key)

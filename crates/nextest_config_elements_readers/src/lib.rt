@@ -6,6 +6,7 @@
 
 mod backoff;
 mod config_value;
+mod deserialize_value;
 mod fail_fast;
 mod junit;
 pub mod laws;
@@ -14,12 +15,14 @@ mod limit;
 mod names;
 mod priority;
 mod retries;
+mod text_values;
 mod threads;
 mod timeouts;
 mod values;
 mod words;
 
-pub use config_value::{ConfigValue, defaulted, optional, required, whole};
+pub use config_value::{ConfigValue, defaulted, member, optional, required, whole};
+pub use deserialize_value::DeserializeValue;
 pub use fail_fast::deserialize_fail_fast;
 pub use junit::{deserialize_junit_flaky_fail_status, deserialize_report_skip_policy};
 pub use levels::{
@@ -29,6 +32,7 @@ pub use levels::{
 pub use names::{deserialize_config_identifier, deserialize_test_group, deserialize_tool_name};
 pub use priority::deserialize_test_priority;
 pub use retries::deserialize_retry_policy;
+pub use text_values::{deserialize_texts, optional_text};
 pub use threads::{
     deserialize_test_group_config, deserialize_test_threads, deserialize_threads_required,
 };

@@ -12,18 +12,23 @@ pub use nextest_config_resolution_inheritance::{
     InheritanceError, InheritanceFault, Inherits, chain_of, check_inheritance,
 };
 pub use nextest_config_resolution_load::{
-    LoadError, LoadFault, LoadKind, LoadedConfig, NamedProfile, ReadFilters, load,
+    CompiledOverride, FileConfig, FilterPurpose, Languages, LoadError, LoadFault, LoadKind,
+    LoadedConfig, LoadedOverride, NamedProfile, PlatformSide, ProfileOverrides, load,
     load_with_warnings,
 };
+pub use nextest_config_resolution_overrides::{
+    NamedGroup, OverrideConfig, OverrideId, OverrideJunit, OverridePlatforms, PlacedOverride,
+    deserialize_overrides, deserialize_test_groups,
+};
 pub use nextest_config_resolution_profiles::{
-    BuildPlatforms, DEFAULT_CONFIG, DefaultFilters, EarlyProfile, NextestConfig, ProfileError,
-    ProfileNotFound, built_in,
+    BuildPlatforms, ConfigLanguages, DEFAULT_CONFIG, EarlyProfile, EvaluatableProfile,
+    NextestConfig, PrecomputedGroupMembership, ProfileError, ProfileNotFound, built_in,
 };
 pub use nextest_config_resolution_settings::{
-    CompiledDefaultFilter, CompiledDefaultFilterSection, EvaluatableProfile, ListSettings,
-    OverrideId, Rule, ScriptCommand, ScriptCommandEnvMap, ScriptCommandRelativeTo, Sets, Setting,
-    SettingSource, TestGroupRef, TestSettings, TrackSource, WrapperScriptConfig,
-    WrapperScriptTargetRunner, fallbacks, find_in_profiles, find_setting, keys, nearest,
+    CompiledDefaultFilter, CompiledDefaultFilterSection, ListSettings, Rule, ScriptCommand,
+    ScriptCommandEnvMap, ScriptCommandRelativeTo, Sets, Setting, SettingSource, TestGroupRef,
+    TestSettings, TrackSource, WrapperScriptConfig, WrapperScriptTargetRunner, fallbacks,
+    find_in_profiles, find_setting, keys, nearest, settings_by,
 };
 pub use nextest_config_resolution_sources::{
     CONFIG_PATH, ConfigFileSelection, ConfigPaths, ConfigSource, ConfigSourceOutcome,
@@ -31,7 +36,7 @@ pub use nextest_config_resolution_sources::{
 };
 pub use nextest_config_resolution_tree::MergedTree;
 pub use nextest_config_resolution_values::{
-    ProfileBench, ProfileConfig, ProfileJunit, ProfileOutput, ProfileRun, ProfileTest, check_file,
+    ProfileBench, ProfileConfig, ProfileJunit, ProfileOutput, ProfileRun, ProfileTest,
     deserialize_profile, deserialize_profile_value, deserialize_store_dir,
 };
 pub use nextest_config_resolution_warnings::{

@@ -14,14 +14,16 @@ use Rattle.nextest_config_resolution_inheritance.specs.Refusals.{IsFirstFault, I
 use Rattle.nextest_config_resolution_inheritance.specs.declared.inheritance_error.InheritanceError.{InheritanceError}
 use Rattle.nextest_config_resolution_inheritance.specs.declared.inheritance_error.InheritanceError.TheVariants as inheritance
 use Rattle.nextest_config_resolution_inheritance.specs.declared.inheritance_fault.InheritanceFault.{InheritanceFault}
-use Rattle.nextest_config_resolution_load.specs.Checks.{config_in, members_of, parents_of, raised}
+use Rattle.nextest_config_resolution_load.specs.Checks.{MergedConfig, config_in, members_of, parents_of, raised}
 use Rattle.nextest_config_resolution_load.specs.Load.{named}
 use Rattle.nextest_config_resolution_load.specs.Reading.{GivesSeen, values_of}
 use Rattle.nextest_config_resolution_load.specs.declared.loaded_config.NamedProfile.{NamedProfile}
 use Rattle.nextest_config_resolution_tree.specs.Nesting.{OfSorted}
 use Rattle.nextest_config_resolution_tree.specs.Tree.{merge, AreSorted}
 use Rattle.nextest_config_resolution_tree.proofs.Looked.{sorted_path}
-use Rattle.nextest_config_resolution_values.specs.File.{FileConfig, Named, profiles_at, store_dir_at}
+use Rattle.nextest_config_resolution_overrides.specs.Groups.{groups_at}
+use Rattle.nextest_config_resolution_overrides.specs.declared.groups.NamedGroup.{NamedGroup}
+use Rattle.nextest_config_resolution_values.specs.File.{Named, profiles_at, store_dir_at}
 use Rattle.nextest_config_resolution_load.proofs.Profiles.{profiles_rise}
 use Rattle.nextest_config_resolution_load.proofs.Tops.{only_some}
 
@@ -32,6 +34,11 @@ profiles_refused top value_error.OutOfMemory e = tt
 pub store_refused : (top : Members) (all : List Named) (told : ValueError) → profiles_at top ≡ Ok all → GivesSeen {A = Option (List ℕ)} (λ it. it) (Err told) (store_dir_at top) → GivesSeen values_of (Err told) (config_in top)
 store_refused top all (value_error.Refused bad) e f = rw (e, f) refl
 store_refused top all value_error.OutOfMemory e f = tt
+
+pub groups_refused : (top : Members) (all : List Named) (dir : Option (List ℕ)) (told : ValueError) → profiles_at top ≡ Ok all → store_dir_at top ≡ Ok dir
+    → GivesSeen {A = List NamedGroup} (λ it. it) (Err told) (groups_at top) → GivesSeen values_of (Err told) (config_in top)
+groups_refused top all dir (value_error.Refused bad) e f g = rw (e, f, g) refl
+groups_refused top all dir value_error.OutOfMemory e f g = tt
 
 pub seen_refused : {A B : Type 0} (view : A → B) (reading : Reading B) (told : ValueError) (bad : BadValue) → told ≡ value_error.Refused bad → GivesSeen view (Err told) reading → reading ≡ Err bad.path.keys
 seen_refused view reading told bad e given = subst (λ it. GivesSeen view (Err it) reading) e given
@@ -53,24 +60,28 @@ pub raised_table : (built_in : Members) (files : List Members) → raised (table
 raised_table built_in [] = refl
 raised_table built_in (file ∷ files) = raised_table (merge file built_in) files
 
-abbrev profiles_or : List Named → Reading FileConfig → List Named
+abbrev profiles_or : List Named → Reading MergedConfig → List Named
 profiles_or otherwise (Ok it) = it.profiles
 profiles_or otherwise (Err path) = otherwise
 
-pub profiles_of_config : (top : Members) (config : FileConfig) → config_in top ≡ Ok config → profiles_at top ≡ Ok config.profiles
-profiles_of_config top config e = by_parts (profiles_at top) refl (store_dir_at top) refl e where
-  by_parts : (first : Reading (List Named)) → profiles_at top ≡ first → (second : Reading (Option (List ℕ))) → store_dir_at top ≡ second → config_in top ≡ Ok config → first ≡ Ok config.profiles
-  by_parts (Ok all) f (Ok dir) g e =
-      let is : config_in top ≡ Ok (record { profiles = all; store_dir = dir }) = rw (f, g) refl in
+pub profiles_of_config : (top : Members) (config : MergedConfig) → config_in top ≡ Ok config → profiles_at top ≡ Ok config.profiles
+profiles_of_config top config e = by_parts (profiles_at top) refl (store_dir_at top) refl (groups_at top) refl e where
+  by_parts : (first : Reading (List Named)) → profiles_at top ≡ first → (second : Reading (Option (List ℕ))) → store_dir_at top ≡ second
+      → (third : Reading (List NamedGroup)) → groups_at top ≡ third → config_in top ≡ Ok config → first ≡ Ok config.profiles
+  by_parts (Ok all) f (Ok dir) g (Ok groups) h e =
+      let is : config_in top ≡ Ok (record { profiles = all; store_dir = dir; groups = groups }) = rw (f, g, h) refl in
       ap (λ it. Ok it) (ap (profiles_or all) (sym is ∙ e))
-  by_parts (Ok all) f (Err path) g e =
+  by_parts (Ok all) f (Ok dir) g (Err path) h e =
+      let is : config_in top ≡ Err path = rw (f, g, h) refl in
+      absurd (false≢true (ap is_ok (sym is ∙ e)))
+  by_parts (Ok all) f (Err path) g third h e =
       let is : config_in top ≡ Err path = rw (f, g) refl in
       absurd (false≢true (ap is_ok (sym is ∙ e)))
-  by_parts (Err path) f second g e =
+  by_parts (Err path) f second g third h e =
       let is : config_in top ≡ Err path = rw f refl in
       absurd (false≢true (ap is_ok (sym is ∙ e)))
 
-pub config_rises : (top : Members) (config : FileConfig) → AreSorted top → config_in top ≡ Ok config → Rise (parents_of config.profiles)
+pub config_rises : (top : Members) (config : MergedConfig) → AreSorted top → config_in top ≡ Ok config → Rise (parents_of config.profiles)
 config_rises top config sorted e =
     let there : OfSorted (get_member (codes "profile") top) = subst OfSorted (only_some (get_member (codes "profile") top)) (sorted_path (codes "profile" ∷ []) (table top) sorted) in
     subst (IsStrictlySortedBy (slice_cmp nat_cmp)) (sym (same_names config.profiles)) (profiles_rise top config.profiles there (profiles_of_config top config e))

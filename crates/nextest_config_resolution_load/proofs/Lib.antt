@@ -1,9 +1,12 @@
-pub mod Completed
+pub mod Completing
 pub mod Configs
-pub mod Defaults
+pub mod Downward
+pub mod FilesRead
+pub mod GroupChecks
 pub mod Kept
 pub mod LaterFiles
 pub mod Loads
+pub mod Passing
 pub mod Profiles
 pub mod SomeLoad
 pub mod Sources

@@ -6,10 +6,9 @@ use Rattle.toml.specs.Data.{Data, table, Members}
 use Rattle.nextest_config_elements_reading.specs.Reading.{Reading}
 use Rattle.nextest_config_resolution_tree.proofs.Standings.{merged_by_over}
 use Rattle.nextest_config_resolution_tree.specs.Merged.{IsMerged, merged}
-use Rattle.nextest_config_resolution_values.specs.File.{FileConfig}
-use Rattle.nextest_config_resolution_load.specs.Checks.{checks_of, raised}
+use Rattle.nextest_config_resolution_load.specs.Checks.{MergedConfig, checks_of, raised}
 use Rattle.nextest_config_resolution_load.specs.Laws.{MergedFiles, NoFault, OneLoad, OneReason}
-use Rattle.nextest_config_resolution_load.specs.Load.{reason_of, seen}
+use Rattle.nextest_config_resolution_load.specs.Load.{IsFilterBy, IsSpecBy, reason_of, seen}
 use Rattle.nextest_config_resolution_load.proofs.Kept.{none_breaks, one_first}
 
 -- files over others that are merged already
@@ -25,17 +24,17 @@ pub merged_files : MergedFiles
 merged_files built_in files = merged_behind files (table built_in) []
 
 -- what a reading gives
-abbrev config_or : FileConfig → Reading FileConfig → FileConfig
+abbrev config_or : MergedConfig → Reading MergedConfig → MergedConfig
 config_or otherwise (Ok config) = config
 config_or otherwise (Err keys) = otherwise
 
-pub one_load : {F : Type 0} (Is : List ℕ → F → Type 0) (IsTooDeep : List ℕ → Type 0) → OneLoad Is IsTooDeep
-one_load Is IsTooDeep built_in sources one other a b = ap (config_or (seen one)) (sym a.values ∙ b.values)
+pub one_load : {F S : Type 0} (Is : IsFilterBy F) (IsSpec : IsSpecBy S) (IsTooDeep : List ℕ → Type 0) → OneLoad Is IsSpec IsTooDeep
+one_load Is IsSpec IsTooDeep built_in sources one other a b = ap (config_or (seen one)) (sym a.values ∙ b.values)
 
-pub none_refused : {F : Type 0} (Is : List ℕ → F → Type 0) (IsTooDeep : List ℕ → Type 0) → NoFault Is IsTooDeep
-none_refused Is IsTooDeep none_too_deep built_in sources config fault loaded refused =
-    none_breaks Is IsTooDeep none_too_deep (checks_of built_in sources) (reason_of fault) loaded.kept refused
+pub none_refused : {F S : Type 0} (Is : IsFilterBy F) (IsSpec : IsSpecBy S) (IsTooDeep : List ℕ → Type 0) → NoFault Is IsSpec IsTooDeep
+none_refused Is IsSpec IsTooDeep none_too_deep built_in sources config fault loaded refused =
+    none_breaks Is IsSpec IsTooDeep none_too_deep (checks_of built_in sources) (reason_of fault) loaded.kept refused
 
-pub one_reason : {F : Type 0} (Is : List ℕ → F → Type 0) (IsTooDeep : List ℕ → Type 0) → OneReason Is IsTooDeep
-one_reason Is IsTooDeep none_too_deep built_in sources one other a b =
-    one_first Is IsTooDeep none_too_deep (checks_of built_in sources) (reason_of one) (reason_of other) a b
+pub one_reason : {F S : Type 0} (Is : IsFilterBy F) (IsSpec : IsSpecBy S) (IsTooDeep : List ℕ → Type 0) → OneReason Is IsSpec IsTooDeep
+one_reason Is IsSpec IsTooDeep none_too_deep built_in sources one other a b =
+    one_first Is IsSpec IsTooDeep none_too_deep (checks_of built_in sources) (reason_of one) (reason_of other) a b

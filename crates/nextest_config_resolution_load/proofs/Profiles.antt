@@ -1,6 +1,7 @@
 -- The profiles of a merged tree, one after another.
-use Rattle.std.proofs.Common.{◌≡◌, ◌==◌, ℕ, Bool, true, false, List, [], ◌∷◌, ◌++◌, map, codes, length, Bor, Option, None, Some, Ok, Err, refl, sym, ap, ◌∙◌, subst, append_assoc, append-nil, arith, nat_cmp, Less}
+use Rattle.std.proofs.Common.{◌≡◌, ◌==◌, ◌<◌, ◌≤◌, get_or, ℕ, Bool, true, false, List, [], ◌∷◌, ◌++◌, map, codes, length, Bor, Option, None, Some, Ok, Err, refl, sym, ap, ◌∙◌, subst, append_assoc, append-nil, arith, nat_cmp, Less}
 use Rattle.std.proofs.lemmas.Bool.{false≢true, true≢false}
+use Rattle.std.proofs.lemmas.List.{get_or-map, length-map}
 use Rattle.std.specs.Bool.{⊤}
 use Rattle.std.proofs.lemmas.Bool.Decides.{nat_tests}
 use Rattle.std.specs.Cmp.Lexicographic.{slice_cmp}
@@ -14,12 +15,13 @@ use Rattle.nextest_config_elements_reading.specs.declared.value_error.ValueError
 use Rattle.nextest_config_elements_reading.specs.declared.value_error.ValueError.TheVariants as value_error
 use Rattle.nextest_config_resolution_load.specs.Load.{named}
 use Rattle.nextest_config_resolution_load.specs.Reading.{GivesSeen, profile_at}
+use Rattle.nextest_config_resolution_load.specs.declared.loaded_config.NamedProfile.{NamedProfile}
 use Rattle.nextest_config_resolution_tree.specs.Nesting.{OfSorted}
 use Rattle.nextest_config_resolution_tree.specs.Tree.{get_path, keys, keys_in, IsBefore, AreSorted}
 use Rattle.nextest_config_resolution_tree.proofs.Keys.{same_key, turned}
 use Rattle.nextest_config_resolution_tree.proofs.Nested.{no_texts}
 use Rattle.nextest_config_resolution_values.specs.File.{Named, profiles_at, profiles_in, profiles_of}
-use Rattle.nextest_config_resolution_values.specs.Paths.{profile_path}
+use Rattle.nextest_config_elements_readers.specs.Paths.{profile_path}
 use Rattle.nextest_config_resolution_values.specs.Profile.{profile_of}
 use Rattle.nextest_config_resolution_values.specs.declared.profile_config.ProfileConfig.{ProfileConfig}
 use Rattle.nextest_config_resolution_load.proofs.Tops.{only_some}
@@ -258,3 +260,15 @@ under_ok key (Err path) all e = absurd (false≢true (ap is_ok e))
 pub profiles_rise : (top : Members) (all : List Named) → OfSorted (get_member (codes "profile") top) → profiles_at top ≡ Ok all → IsStrictlySortedBy (slice_cmp nat_cmp) (map (λ it. it.0) all)
 profiles_rise top all sorted e =
     names_rise (get_member (codes "profile") top) all sorted (under_ok (codes "profile") (profiles_of (get_member (codes "profile") top)) all e)
+
+-- ---- profiles by their places
+
+pub named_at : (profiles : List NamedProfile) (place : ℕ) (profile : NamedProfile) → place < length profiles → profile ≡ get_or profiles place profile
+    → named profile ≡ get_or (map named profiles) place (named profile)
+named_at profiles place profile within is = sym (get_or-map named profiles place profile (named profile) within ∙ ap named (sym is))
+
+pub named_within : (profiles : List NamedProfile) (place : ℕ) → place < length profiles → place < length (map named profiles)
+named_within profiles place within = omega (arith, length-map profiles named)
+
+pub named_over : (profiles : List NamedProfile) (place : ℕ) → length profiles ≤ place → length (map named profiles) ≤ place
+named_over profiles place over = omega (arith, length-map profiles named)

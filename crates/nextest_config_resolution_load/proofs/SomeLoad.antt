@@ -1,21 +1,41 @@
 -- It can't be that sources are neither loaded nor refused.
-use Rattle.std.proofs.Common.{◌≡◌, ℕ, List, [], ◌∷◌, map, Option, None, Some, Ok, Err, option_map, refl, sym, ap, ◌∙◌, subst, ◌⊎◌, inl, inr}
-use Rattle.std.specs.List.{AllByRecursion, cons_option}
+use Rattle.std.proofs.Common.{◌≡◌, ℕ, List, [], ◌∷◌, ◌++◌, map, Option, None, Some, Ok, Err, option_map, refl, sym, ap, ◌∙◌, subst, ◌⊎◌, inl, inr}
+use Rattle.std.specs.List.{AllByRecursion, flat_map}
+use Rattle.std.specs.Prelude.{reverse}
+use Rattle.std.specs.Option.{option_to_list}
 use Rattle.toml.specs.Data.{Members}
+use Rattle.toml.specs.Parse.{parse_document}
+use Rattle.nextest_config_elements_identifiers.specs.declared.source_kind.ConfigSourceKind.{ConfigSourceKind}
 use Rattle.nextest_config_elements_reading.specs.Reading.{Path, Reading}
 use Rattle.nextest_config_elements_reading.specs.declared.bad_value.BadValue.{BadValue}
 use Rattle.nextest_config_resolution_inheritance.proofs.Verdict.{one_verdict}
-use Rattle.nextest_config_resolution_load.specs.Checks.{Check, broken, inheritance, default_filter, Refusal, unread, no_toml, bad_value, bad_merged, inherits_badly, bad_filter, checks_of, config_in, filter_checks, merged_checks, merged_in}
-use Rattle.nextest_config_resolution_load.specs.Defaults.{AreReadFor}
+use Rattle.nextest_config_resolution_load.specs.Checks.{Check, broken, is_filter, is_spec, inheritance, Refusal, unread, no_toml, bad_value, bad_name, no_constraint, filter_and_default_filter, bad_spec, bad_override_filter, bad_merged, unknown_group, inherits_badly, bad_filter, MergedConfig, checks_of, config_in, default_check, default_checks, file_checks, merged_checks, document_checks, document_of, merged_in, name_checks, outcome_checks, rules_in, rules_in_file, rules_of_source, rules_upward, source_checks}
+use Rattle.nextest_config_resolution_load.specs.File.{file_in}
 use Rattle.nextest_config_resolution_load.specs.Laws.{SomeLoad}
-use Rattle.nextest_config_resolution_load.specs.Load.{Breaks, BreaksFirst, IsKept, IsLoaded, IsReadAs, named, reason_of, sets_later_keys}
+use Rattle.nextest_config_resolution_load.specs.Load.{AreReadRules, Breaks, BreaksFirst, IsCompiledOverride, IsFilterBy, IsKept, IsLoaded, IsReadAs, IsReadRule, IsSpecBy, named, reason_of, sets_later_keys}
+use Rattle.nextest_config_resolution_load.specs.Reading.{AreReadDefaults, AreRulesOf, downward}
+use Rattle.nextest_config_resolution_load.specs.Rules.{both_checks, constraint_checks, filter_checks, host_of, rule_checks, rules_at, spec_checks, target_of, text_checks}
+use Rattle.nextest_config_resolution_load.specs.declared.file_config.FileConfig.{FileConfig}
+use Rattle.nextest_config_resolution_load.specs.declared.languages.FilterPurpose.{FilterPurpose}
+use Rattle.nextest_config_resolution_load.specs.declared.languages.FilterPurpose.TheVariants as purpose
 use Rattle.nextest_config_resolution_load.specs.declared.load_fault.LoadFault.{LoadFault}
 use Rattle.nextest_config_resolution_load.specs.declared.load_fault.LoadFault.TheVariants as fault
+use Rattle.nextest_config_resolution_load.specs.declared.load_fault.PlatformSide.{PlatformSide}
+use Rattle.nextest_config_resolution_load.specs.declared.load_fault.PlatformSide.TheVariants as side
 use Rattle.nextest_config_resolution_load.specs.declared.loaded_config.LoadedConfig.{LoadedConfig}
 use Rattle.nextest_config_resolution_load.specs.declared.loaded_config.NamedProfile.{NamedProfile}
-use Rattle.nextest_config_resolution_load.proofs.Kept.{kept_merged}
+use Rattle.nextest_config_resolution_load.specs.declared.loaded_override.CompiledOverride.{CompiledOverride}
+use Rattle.nextest_config_resolution_load.specs.declared.loaded_override.LoadedOverride.{LoadedOverride}
+use Rattle.nextest_config_resolution_load.proofs.Kept.{kept_before, kept_behind, kept_merged, kept_profiles, kept_sources}
+use Rattle.nextest_config_resolution_load.proofs.Downward.{read_downward}
+use Rattle.nextest_config_resolution_overrides.specs.declared.override_config.OverrideConfig.{OverrideConfig}
+use Rattle.nextest_config_resolution_overrides.specs.declared.override_id.OverrideId.{OverrideId}
+use Rattle.nextest_config_resolution_overrides.specs.declared.placed_override.PlacedOverride.{PlacedOverride}
+use Rattle.nextest_config_resolution_sources.specs.Counting.{counted}
 use Rattle.nextest_config_resolution_sources.specs.declared.source.ConfigSource.{ConfigSource}
-use Rattle.nextest_config_resolution_values.specs.File.{FileConfig, Named}
+use Rattle.nextest_config_resolution_sources.specs.declared.source.ConfigSourceOutcome.{ConfigSourceOutcome}
+use Rattle.nextest_config_resolution_sources.specs.declared.source.ConfigSourceOutcome.TheVariants as outcome
+use Rattle.nextest_config_resolution_values.specs.File.{Named}
 
 -- ---- a fault for each reason
 
@@ -27,7 +47,13 @@ told_of : (refusal : Refusal) → (told : LoadFault) × (reason_of told ≡ refu
 told_of (unread path) = (fault.Unread path [], refl)
 told_of (no_toml path) = (fault.Toml path [], refl)
 told_of (bad_value path keys) = (fault.BadValue path (bad_at keys), refl)
+told_of (bad_name path name) = (fault.BadName path name, refl)
+told_of (no_constraint rule) = (fault.NoConstraint rule, refl)
+told_of (filter_and_default_filter rule) = (fault.FilterAndDefaultFilter rule, refl)
+told_of (bad_spec rule of_side) = (fault.BadSpec rule of_side [], refl)
+told_of (bad_override_filter rule of_purpose) = (fault.BadOverrideFilter rule of_purpose [], refl)
 told_of (bad_merged keys) = (fault.BadMergedValue (bad_at keys), refl)
+told_of (unknown_group rule group) = (fault.UnknownGroup rule group, refl)
 told_of (inherits_badly told) = (fault.Inheritance told, refl)
 told_of (bad_filter profile) = (fault.BadFilter profile [], refl)
 
@@ -40,79 +66,150 @@ profiles_again : (profiles : List Named) → map named (map profile_from profile
 profiles_again [] = refl
 profiles_again (it ∷ profiles) = ap (λ (more : List Named). it ∷ more) (profiles_again profiles)
 
-abbrev config_from : {F : Type 0} → List ConfigSource → FileConfig → List (Option F) → LoadedConfig F
-config_from sources it found =
-    record { profiles = map profile_from it.profiles; default_filters = found; store_dir = it.store_dir; sets_later_keys = sets_later_keys sources }
+abbrev config_from : {F S : Type 0} → List ConfigSource → MergedConfig → List (Option F) → List (LoadedOverride F S) → LoadedConfig F S
+config_from sources it found rules =
+    record { profiles = map profile_from it.profiles; default_filters = found; rules = rules; groups = it.groups; store_dir = it.store_dir; sets_later_keys = sets_later_keys sources }
 
-module _ {F : Type 0} (Is : List ℕ → F → Type 0) where
+module _ {F S : Type 0} (Is : IsFilterBy F) (IsSpec : IsSpecBy S) where
   -- the filter of a check that is kept
-  filter_from : (profile : List ℕ) (text : Option (List ℕ)) (more : List Check) → AllByRecursion (IsKept Is) (cons_option (option_map (default_filter profile) text) more)
-      → ((found : Option F) × IsReadAs Is text found) × AllByRecursion (IsKept Is) more
-  filter_from profile None more kept = ((None, tt), kept)
-  filter_from profile (Some text) more kept = ((Some kept.0.0, kept.0.1), kept.1)
+  filter_from : (profile : List ℕ) (text : Option (List ℕ)) → AllByRecursion (IsKept Is IsSpec) (default_check profile text) → (found : Option F) × IsReadAs (Is purpose.Default) text found
+  filter_from profile None kept = (None, tt)
+  filter_from profile (Some text) kept = (Some kept.0.0, kept.0.1)
 
-  filters_from : (profiles : List Named) → AllByRecursion (IsKept Is) (filter_checks profiles) → (found : List (Option F)) × AreReadFor Is profiles found
+  filters_from : (profiles : List Named) → AllByRecursion (IsKept Is IsSpec) (default_checks profiles) → (found : List (Option F)) × AreReadDefaults Is profiles found
   filters_from [] kept = ([], tt)
   filters_from (profile ∷ profiles) kept =
-      let here = filter_from profile.0 profile.1.default_filter (filter_checks profiles) kept in
-      let more = filters_from profiles here.1 in
-      (here.0.0 ∷ more.0, (here.0.1, more.1))
+      let checks = default_check profile.0 profile.1.default_filter in
+      let here = filter_from profile.0 profile.1.default_filter (kept_before Is IsSpec checks (default_checks profiles) kept) in
+      let more = filters_from profiles (kept_behind Is IsSpec checks (default_checks profiles) kept) in
+      (here.0 ∷ more.0, (here.1, more.1))
+
+  -- the texts of an override
+  spec_from : (id : OverrideId) (of_side : PlatformSide) (text : Option (List ℕ)) → AllByRecursion (IsKept Is IsSpec) (spec_checks id of_side text) → (found : Option S) × IsReadAs IsSpec text found
+  spec_from id of_side None kept = (None, tt)
+  spec_from id of_side (Some text) kept = (Some kept.0.0, kept.0.1)
+
+  text_from : (id : OverrideId) (of_purpose : FilterPurpose) (text : Option (List ℕ)) → AllByRecursion (IsKept Is IsSpec) (filter_checks id of_purpose text) → (found : Option F) × IsReadAs (Is of_purpose) text found
+  text_from id of_purpose None kept = (None, tt)
+  text_from id of_purpose (Some text) kept = (Some kept.0.0, kept.0.1)
+
+  rule_from : (rule : PlacedOverride) → AllByRecursion (IsKept Is IsSpec) (rule_checks rule) → (it : LoadedOverride F S) × IsReadRule Is IsSpec rule it
+  rule_from rule kept =
+      let id = rule.id in
+      let config = rule.config in
+      let texts = kept_behind Is IsSpec (both_checks id config) (text_checks id config)
+      (kept_behind Is IsSpec (constraint_checks id config) (both_checks id config ++ text_checks id config) kept) in
+      let specs = spec_checks id side.Target (target_of config) in
+      let filters = filter_checks id purpose.Override config.filter in
+      let defaults = filter_checks id purpose.Default config.default_filter in
+      let behind = kept_behind Is IsSpec (spec_checks id side.Host (host_of config)) (specs ++ (filters ++ defaults)) texts in
+      let further = kept_behind Is IsSpec specs (filters ++ defaults) behind in
+      let host = spec_from id side.Host (host_of config) (kept_before Is IsSpec (spec_checks id side.Host (host_of config)) (specs ++ (filters ++ defaults)) texts) in
+      let target = spec_from id side.Target (target_of config) (kept_before Is IsSpec specs (filters ++ defaults) behind) in
+      let own = text_from id purpose.Override config.filter (kept_before Is IsSpec filters defaults further) in
+      let default = text_from id purpose.Default config.default_filter (kept_behind Is IsSpec filters defaults further) in (
+        record { placed = rule; compiled = record { host = host.0; target = target.0; filter = own.0; default_filter = default.0 } },
+        record { same = refl; compiled = record { host = host.1; target = target.1; filter = own.1; default_filter = default.1 } },
+      )
+
+  rules_from : (rules : List PlacedOverride) → AllByRecursion (IsKept Is IsSpec) (flat_map rule_checks rules) → (it : List (LoadedOverride F S)) × AreReadRules Is IsSpec rules it
+  rules_from [] kept = ([], tt)
+  rules_from (rule ∷ rules) kept =
+      let one = rule_from rule (kept_before Is IsSpec (rule_checks rule) (flat_map rule_checks rules) kept) in
+      let more = rules_from rules (kept_behind Is IsSpec (rule_checks rule) (flat_map rule_checks rules) kept) in
+      (one.0 ∷ more.0, (one.1, more.1))
+
+  -- the overrides of a source
+  file_from : (path : List ℕ) (kind : ConfigSourceKind) (given : Reading FileConfig) → AllByRecursion (IsKept Is IsSpec) (file_checks path kind given)
+      → (it : List (LoadedOverride F S)) × AreReadRules Is IsSpec (rules_in_file path given) it
+  file_from path kind (Err keys) kept = ([], tt)
+  file_from path kind (Ok config) kept =
+      rules_from (rules_at path config.profiles) (kept_behind Is IsSpec (flat_map (name_checks path kind) config.groups) (flat_map rule_checks (rules_at path config.profiles)) kept)
+
+  document_from : (path : List ℕ) (kind : ConfigSourceKind) (given : Option Members) → AllByRecursion (IsKept Is IsSpec) (document_checks path kind given)
+      → (it : List (LoadedOverride F S)) × AreReadRules Is IsSpec (rules_in path given) it
+  document_from path kind None kept = ([], tt)
+  document_from path kind (Some file) kept = file_from path kind (file_in file) kept
+
+  outcome_from : (path : List ℕ) (kind : ConfigSourceKind) (given : ConfigSourceOutcome) → AllByRecursion (IsKept Is IsSpec) (outcome_checks path kind given)
+      → (it : List (LoadedOverride F S)) × AreReadRules Is IsSpec (rules_in path (document_of given)) it
+  outcome_from path kind (outcome.Text text) kept = document_from path kind (parse_document text) kept
+  outcome_from path kind outcome.NotFound kept = ([], tt)
+  outcome_from path kind (outcome.Failed cause) kept = ([], tt)
+
+  source_from : (source : ConfigSource) → AllByRecursion (IsKept Is IsSpec) (source_checks source) → (it : List (LoadedOverride F S)) × AreReadRules Is IsSpec (rules_of_source source) it
+  source_from source kept = outcome_from source.path source.kind source.outcome kept
+
+  -- those of all sources, the highest first
+  each_from : (sources : List ConfigSource) → AllByRecursion (IsKept Is IsSpec) (flat_map source_checks sources) → (all : List (List (LoadedOverride F S))) × AreRulesOf Is IsSpec sources all
+  each_from [] kept = ([], tt)
+  each_from (source ∷ sources) kept =
+      let one = source_from source (kept_before Is IsSpec (source_checks source) (flat_map source_checks sources) kept) in
+      let more = each_from sources (kept_behind Is IsSpec (source_checks source) (flat_map source_checks sources) kept) in
+      (one.0 ∷ more.0, (one.1, more.1))
+
+  sources_from : (sources : List ConfigSource) → AllByRecursion (IsKept Is IsSpec) (flat_map source_checks sources)
+      → (it : List (LoadedOverride F S)) × AreReadRules Is IsSpec (flat_map rules_of_source (reverse sources)) it
+  sources_from sources kept = let each = each_from sources kept in (downward each.0, read_downward Is IsSpec sources each.0 each.1)
 
   -- what all checks of sources come to, where they are kept
-  config_at : (reading : Reading FileConfig) → AllByRecursion (IsKept Is) (merged_checks reading)
-      → (config : FileConfig) × (reading ≡ Ok config) × ((found : List (Option F)) × AreReadFor Is config.profiles found)
-  config_at (Err keys) kept = absurd kept.0
-  config_at (Ok config) kept = (config, refl, filters_from config.profiles kept.1)
+  config_at : (rules : List PlacedOverride) (reading : Reading MergedConfig) → AllByRecursion (IsKept Is IsSpec) (merged_checks rules reading)
+      → (config : MergedConfig) × (reading ≡ Ok config) × ((found : List (Option F)) × AreReadDefaults Is config.profiles found)
+  config_at rules (Err keys) kept = absurd kept.0
+  config_at rules (Ok config) kept = (config, refl, filters_from config.profiles (kept_profiles Is IsSpec rules config kept).1)
 
-  config_of : (IsTooDeep : List ℕ → Type 0) (built_in : Members) (sources : List ConfigSource) → AllByRecursion (IsKept Is) (checks_of built_in sources)
-      → (it : LoadedConfig F) × IsLoaded Is IsTooDeep built_in sources (Ok it)
+  config_of : (IsTooDeep : List ℕ → Type 0) (built_in : Members) (sources : List ConfigSource) → AllByRecursion (IsKept Is IsSpec) (checks_of built_in sources)
+      → (it : LoadedConfig F S) × IsLoaded Is IsSpec IsTooDeep built_in sources (Ok it)
   config_of IsTooDeep built_in sources kept =
-      let given = config_at (config_in (merged_in built_in sources)) (kept_merged Is built_in sources kept) in
+      let given = config_at (rules_upward sources) (config_in (merged_in built_in sources)) (kept_merged Is IsSpec built_in sources kept) in
+      let rules = sources_from (counted sources) (kept_sources Is IsSpec built_in sources kept) in
       let config = given.0 in
       let found = given.2.0 in
       let again = sym (profiles_again config.profiles) in (
-        config_from sources config found,
+        config_from sources config found rules.0,
         record {
           kept = kept;
           values = given.1 ∙ ap (λ (all : List Named). Ok (record config { profiles = all })) again;
-          filters = subst (λ (all : List Named). AreReadFor Is all found) again given.2.1;
+          filters = subst (λ (all : List Named). AreReadDefaults Is all found) again given.2.1;
+          rules = rules.1;
           later = refl;
         },
       )
 
 -- ---- each check is kept or broken, though no law decides which
 
-abbrev AreDecided : {F : Type 0} → (List ℕ → F → Type 0) → (List ℕ → Type 0) → List Check → Type 0
-AreDecided Is IsTooDeep checks = AllByRecursion (IsKept Is) checks ⊎ ((told : Refusal) × BreaksFirst Is IsTooDeep checks told)
+abbrev AreDecided : {F S : Type 0} → IsFilterBy F → IsSpecBy S → (List ℕ → Type 0) → List Check → Type 0
+AreDecided Is IsSpec IsTooDeep checks = AllByRecursion (IsKept Is IsSpec) checks ⊎ ((told : Refusal) × BreaksFirst Is IsSpec IsTooDeep checks told)
 
-module _ {F : Type 0} (Is : List ℕ → F → Type 0) (IsTooDeep : List ℕ → Type 0) where
-  one_decided : (check : Check) → ¬ ¬ (IsKept Is check ⊎ ((told : Refusal) × Breaks Is IsTooDeep check told))
+module _ {F S : Type 0} (Is : IsFilterBy F) (IsSpec : IsSpecBy S) (IsTooDeep : List ℕ → Type 0) where
+  one_decided : (check : Check) → ¬ ¬ (IsKept Is IsSpec check ⊎ ((told : Refusal) × Breaks Is IsSpec IsTooDeep check told))
   one_decided (broken refusal) neither = neither (inr (refusal, refl))
   one_decided (inheritance parents) neither =
       neither (elim (one_verdict parents) [
         | inl accepted ↦ inl accepted
         | inr (told, first) ↦ inr (inherits_badly told, (told, refl, first))
       ])
-  one_decided (default_filter profile text) neither = neither (inr (bad_filter profile, (refl, inl (λ it is. neither (inl (it, is))))))
+  one_decided (is_filter of_purpose text refusal) neither = neither (inr (refusal, (refl, inl (λ it is. neither (inl (it, is))))))
+  one_decided (is_spec text refusal) neither = neither (inr (refusal, (refl, λ it is. neither (inl (it, is)))))
 
   -- a check, and those behind it
-  kept_first : (check : Check) (checks : List Check) → ¬ AreDecided Is IsTooDeep (check ∷ checks) → IsKept Is check → ¬ AreDecided Is IsTooDeep checks
+  kept_first : (check : Check) (checks : List Check) → ¬ AreDecided Is IsSpec IsTooDeep (check ∷ checks) → IsKept Is IsSpec check → ¬ AreDecided Is IsSpec IsTooDeep checks
   kept_first check checks neither kept (inl all) = neither (inl (kept, all))
   kept_first check checks neither kept (inr (told, breaks)) = neither (inr (told, inr (kept, breaks)))
 
-  first_decided : (check : Check) (checks : List Check) → ¬ ¬ AreDecided Is IsTooDeep checks → ¬ AreDecided Is IsTooDeep (check ∷ checks)
-      → ¬ (IsKept Is check ⊎ ((told : Refusal) × Breaks Is IsTooDeep check told))
+  first_decided : (check : Check) (checks : List Check) → ¬ ¬ AreDecided Is IsSpec IsTooDeep checks → ¬ AreDecided Is IsSpec IsTooDeep (check ∷ checks)
+      → ¬ (IsKept Is IsSpec check ⊎ ((told : Refusal) × Breaks Is IsSpec IsTooDeep check told))
   first_decided check checks more neither (inl kept) = more (kept_first check checks neither kept)
   first_decided check checks more neither (inr (told, breaks)) = neither (inr (told, inl breaks))
 
-  all_decided : (checks : List Check) → ¬ ¬ AreDecided Is IsTooDeep checks
+  all_decided : (checks : List Check) → ¬ ¬ AreDecided Is IsSpec IsTooDeep checks
   all_decided [] neither = neither (inl tt)
   all_decided (check ∷ checks) neither = one_decided check (first_decided check checks (all_decided checks) neither)
 
-  pub some_load : SomeLoad Is IsTooDeep
+  pub some_load : SomeLoad Is IsSpec IsTooDeep
   some_load built_in sources neither = all_decided (checks_of built_in sources) decided where
-    decided : AreDecided Is IsTooDeep (checks_of built_in sources) → ⊥
-    decided (inl kept) = neither (inl (config_of Is IsTooDeep built_in sources kept))
+    decided : AreDecided Is IsSpec IsTooDeep (checks_of built_in sources) → ⊥
+    decided (inl kept) = neither (inl (config_of Is IsSpec IsTooDeep built_in sources kept))
     decided (inr (refusal, breaks)) =
         let told = told_of refusal in
-        neither (inr (told.0, subst (λ (reason : Refusal). BreaksFirst Is IsTooDeep (checks_of built_in sources) reason) (sym told.1) breaks))
+        neither (inr (told.0, subst (λ (reason : Refusal). BreaksFirst Is IsSpec IsTooDeep (checks_of built_in sources) reason) (sym told.1) breaks))

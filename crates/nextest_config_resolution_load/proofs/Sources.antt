@@ -1,57 +1,61 @@
 -- The files of some sources, one after another.
-use Rattle.std.proofs.Common.{◌≡◌, ℕ, ◌+◌, ◌<◌, length, get_or, drop, map, List, [], ◌∷◌, ◌++◌, Option, None, Some, flat_map, filter_map, refl, sym, ap, ◌∙◌, subst, append_assoc}
-use Rattle.std.proofs.lemmas.List.{drop_more}
+use Rattle.std.proofs.Common.{◌≡◌, ℕ, ◌+◌, ◌<◌, ◌≤◌, length, get_or, take, map, List, [], ◌∷◌, ◌++◌, Option, None, Some, flat_map, filter_map, refl, sym, ap, ◌∙◌, subst, append-nil, arith}
+use Rattle.std.proofs.lemmas.List.{take_all}
+use Rattle.std.proofs.lemmas.List.Elements.{filter_map-append}
+use Rattle.std.proofs.lemmas.Grind.{flat_map-append}
 use Rattle.std.specs.Borrow.{Bor}
-use Rattle.std.specs.List.{cons_option}
+use Rattle.std.specs.List.{AllByRecursion, cons_option}
 use Rattle.std.specs.Option.{option_to_list}
 use Rattle.toml.specs.Data.{Members}
-use Rattle.nextest_config_resolution_load.specs.Checks.{Check, file_of, source_checks}
-use Rattle.nextest_config_resolution_load.specs.Refusing.{IsToldFirst}
+use Rattle.nextest_config_resolution_load.specs.Checks.{file_of, source_checks}
+use Rattle.nextest_config_resolution_load.specs.Files.{members_in, told_in}
+use Rattle.nextest_config_resolution_load.specs.Load.{IsFilterBy, IsKept, IsSpecBy}
+use Rattle.nextest_config_resolution_load.specs.Reading.{AreReadFiles, AreRulesOf, IsReadFile}
 use Rattle.nextest_config_resolution_load.specs.Telling.{told_at, told_of}
-use Rattle.nextest_config_resolution_load.specs.declared.load_error.LoadError.{LoadError}
+use Rattle.nextest_config_resolution_load.specs.declared.placed_file.PlacedFile.{PlacedFile}
+use Rattle.nextest_config_resolution_load.specs.declared.placed_file.ReadFiles.{ReadFiles}
+use Rattle.nextest_config_resolution_load.proofs.Passing.{taken_more}
 use Rattle.nextest_config_resolution_sources.specs.declared.source.ConfigSource.{ConfigSource}
 use Rattle.nextest_config_resolution_warnings.specs.declared.config_warning.ConfigWarning.{ConfigWarning}
-use Rattle.nextest_config_resolution_load.proofs.Tops.{told_before}
 
--- the sources that are ahead, one of which is read
-pub source_ahead : (sources : List (Bor ConfigSource)) (place : ℕ) (source : Bor ConfigSource) → place < length sources → source ≡ get_or sources place source
-    → map (λ it. it.now) (drop place sources) ≡ source.now ∷ map (λ it. it.now) (drop (place + 1) sources)
-source_ahead sources place source within is =
-    ap (map (λ it. it.now)) (drop_more sources place source within ∙ ap (λ (it : Bor ConfigSource). it ∷ drop (place + 1) sources) (sym is))
+abbrev pub now_of : List (Bor ConfigSource) → List ConfigSource
+now_of sources = map (λ it. it.now) sources
 
--- nothing is broken in it
-pub checks_more : (source : ConfigSource) (ahead more : List ConfigSource) → ahead ≡ source ∷ more → source_checks source ≡ []
-    → flat_map source_checks ahead ≡ flat_map source_checks more
-checks_more source ahead more here none =
-    ap (flat_map source_checks) here ∙ ap (λ (checks : List Check). checks ++ flat_map source_checks more) none
-
--- or something is
-pub checks_stop : (source : ConfigSource) (all : List Check) (ahead more : List ConfigSource) (told : LoadError) → ahead ≡ source ∷ more → all ≡ flat_map source_checks ahead
-    → IsToldFirst (source_checks source) told → IsToldFirst all told
-checks_stop source all ahead more told here same first =
-    subst (λ (checks : List Check). IsToldFirst checks told) (sym (same ∙ ap (flat_map source_checks) here)) (told_before (source_checks source) (flat_map source_checks more) told first)
+listed_is : {A : Type 0} (found : Option A) → cons_option found [] ≡ option_to_list found
+listed_is None = refl
+listed_is (Some it) = refl
 
 -- its file, if there is one
-listed_is : {A : Type 0} (found : Option A) (rest : List A) → option_to_list found ++ rest ≡ cons_option found rest
-listed_is None rest = refl
-listed_is (Some it) rest = refl
-
-pub files_more : (done added : List Members) (source : ConfigSource) (file : Option Members) (ahead more : List ConfigSource)
-    → ahead ≡ source ∷ more → file_of source ≡ file → added ≡ done ++ option_to_list file → added ++ filter_map file_of more ≡ done ++ filter_map file_of ahead
-files_more done added source file ahead more here is adds =
-    ap (λ (files : List Members). files ++ filter_map file_of more) adds
-    ∙ append_assoc done (option_to_list file) (filter_map file_of more)
-    ∙ ap (λ (files : List Members). done ++ files)
-    (listed_is file (filter_map file_of more)
-    ∙ ap (λ (found : Option Members). cons_option found (filter_map file_of more)) (sym is)
-    ∙ ap (filter_map file_of) (sym here))
+pub files_more : (done added : List Members) (all : List ConfigSource) (place : ℕ) (source : ConfigSource) (file : Option Members) → place < length all → source ≡ get_or all place source
+    → file_of source ≡ file → done ≡ filter_map file_of (take place all) → added ≡ done ++ option_to_list file → added ≡ filter_map file_of (take (place + 1) all)
+files_more done added all place source file within is here so adds =
+    adds
+    ∙ ap (λ (front : List Members). front ++ option_to_list file) so
+    ∙ ap (λ (found : Option Members). filter_map file_of (take place all) ++ option_to_list found) (sym here)
+    ∙ ap (λ (last : List Members). filter_map file_of (take place all) ++ last) (sym (listed_is (file_of source)))
+    ∙ sym (filter_map-append file_of (take place all) (source ∷ []))
+    ∙ ap (filter_map file_of) (sym (taken_more all place source within is))
 
 -- and what is told of it
-pub told_more : (told added : List ConfigWarning) (path : List ℕ) (source : ConfigSource) (file : Option Members) (ahead more : List ConfigSource)
-    → ahead ≡ source ∷ more → file_of source ≡ file → path ≡ source.path → added ≡ told ++ told_at path file
-    → added ++ flat_map told_of more ≡ told ++ flat_map told_of ahead
-told_more told added path source file ahead more here is stands adds =
-    ap (λ (warnings : List ConfigWarning). warnings ++ flat_map told_of more) adds
-    ∙ append_assoc told (told_at path file) (flat_map told_of more)
-    ∙ ap (λ (warnings : List ConfigWarning). told ++ (warnings ++ flat_map told_of more)) (ap (λ (at : List ℕ). told_at at file) stands ∙ ap (told_at source.path) (sym is))
-    ∙ ap (λ (sources : List ConfigSource). told ++ flat_map told_of sources) (sym here)
+pub told_more : (told added : List ConfigWarning) (all : List ConfigSource) (place : ℕ) (path : List ℕ) (source : ConfigSource) (file : Option Members) → place < length all
+    → source ≡ get_or all place source → file_of source ≡ file → path ≡ source.path → told ≡ flat_map told_of (take place all) → added ≡ told ++ told_at path file
+    → added ≡ flat_map told_of (take (place + 1) all)
+told_more told added all place path source file within is here stands so adds =
+    adds
+    ∙ ap (λ (front : List ConfigWarning). front ++ told_at path file) so
+    ∙ ap (λ (last : List ConfigWarning). flat_map told_of (take place all) ++ last)
+    (ap (λ (at : List ℕ). told_at at file) stands ∙ ap (told_at source.path) (sym here) ∙ sym (append-nil (told_of source)))
+    ∙ sym (flat_map-append told_of (take place all) (source ∷ []))
+    ∙ ap (flat_map told_of) (sym (taken_more all place source within is))
+
+-- all of them
+pub files_read : {F S : Type 0} (Is : IsFilterBy F) (IsSpec : IsSpecBy S) (all : List ConfigSource) (place : ℕ) (it : ReadFiles F S) → length all ≤ place
+    → map members_in it.files.items ≡ filter_map file_of (take place all) → flat_map told_in it.files.items ≡ flat_map told_of (take place all)
+    → AreRulesOf Is IsSpec (take place all) it.rules.items → AreReadFiles Is IsSpec all it
+files_read Is IsSpec all place it over files told rules =
+    let whole = take_all place all over in
+    record {
+      files = files ∙ ap (filter_map file_of) whole;
+      told = told ∙ ap (flat_map told_of) whole;
+      rules = subst (λ (sources : List ConfigSource). AreRulesOf Is IsSpec sources it.rules.items) whole rules;
+    }

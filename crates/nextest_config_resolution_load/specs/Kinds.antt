@@ -9,7 +9,13 @@ abbrev pub kind_of : LoadFault → LoadKind
 kind_of (fault.Unread path cause) = kind.Unread
 kind_of (fault.Toml path message) = kind.Toml
 kind_of (fault.BadValue path value) = kind.BadValue
+kind_of (fault.BadName path name) = kind.BadName
+kind_of (fault.NoConstraint rule) = kind.NoConstraint
+kind_of (fault.FilterAndDefaultFilter rule) = kind.FilterAndDefaultFilter
+kind_of (fault.BadSpec rule side spec) = kind.BadSpec
+kind_of (fault.BadOverrideFilter rule purpose filter) = kind.BadFilter
 kind_of (fault.BadMergedValue value) = kind.BadValue
+kind_of (fault.UnknownGroup rule group) = kind.UnknownGroup
 kind_of (fault.Inheritance (inheritance.InheritsInDefault profile)) = kind.InheritsInDefault
 kind_of (fault.Inheritance (inheritance.UnknownParent profile parent)) = kind.UnknownParent
 kind_of (fault.Inheritance (inheritance.Cycle profile)) = kind.Cycle

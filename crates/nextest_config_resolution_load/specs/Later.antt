@@ -6,11 +6,11 @@ use Rattle.toml.specs.Data.{Data, table, Members, no_members, member, get_member
 
 -- keys of the top table
 abbrev pub later_keys : List (List ℕ)
-later_keys = codes "script" ∷ codes "scripts" ∷ codes "test-groups" ∷ []
+later_keys = codes "script" ∷ codes "scripts" ∷ []
 
 -- keys of a profile's table
 abbrev pub later_profile_keys : List (List ℕ)
-later_profile_keys = codes "overrides" ∷ codes "scripts" ∷ []
+later_profile_keys = codes "scripts" ∷ []
 
 -- a table that has something at one of some keys
 abbrev pub has_one_of : List (List ℕ) → Data → Bool

@@ -1,11 +1,13 @@
 pub mod Checks
-pub mod Defaults
+pub mod File
 pub mod Files
-pub mod Filters
 pub mod Kinds
+pub mod Languages
 pub mod Later
 pub mod Laws
 pub mod Load
 pub mod Reading
+pub mod Refusal
 pub mod Refusing
+pub mod Rules
 pub mod Telling

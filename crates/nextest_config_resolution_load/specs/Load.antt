@@ -1,4 +1,5 @@
--- What a configuration comes to, or why it is refused. A text is a filter by `Is`; the reader may also refuse one for which `IsTooDeep` holds.
+-- What a configuration comes to, or why it is refused. A text is a filter by `Is`, for what filters are for, and a platform spec by
+-- `IsSpec`; the reader may also refuse a filter for which `IsTooDeep` holds.
 use Rattle.std.specs.Prelude.{◌≡◌, ◌⊎◌, ℕ, Bool, false, List, [], ◌∷◌, map, Option, None, Some, Result, Ok, Err, ⊤}
 use Rattle.std.specs.List.{AllByRecursion, AllZip, list_any}
 use Rattle.std.specs.Option.{option_map_or}
@@ -6,35 +7,52 @@ use Rattle.toml.specs.Data.{Members}
 use Rattle.nextest_config_resolution_inheritance.specs.Inheritance.{IsAccepted}
 use Rattle.nextest_config_resolution_inheritance.specs.Refusals.{IsFirstFault}
 use Rattle.nextest_config_resolution_inheritance.specs.declared.inheritance_fault.InheritanceFault.{InheritanceFault}
+use Rattle.nextest_config_resolution_overrides.specs.declared.override_config.OverrideConfig.{OverrideConfig}
+use Rattle.nextest_config_resolution_overrides.specs.declared.placed_override.PlacedOverride.{PlacedOverride}
 use Rattle.nextest_config_resolution_sources.specs.Counting.{counted}
 use Rattle.nextest_config_resolution_sources.specs.declared.source.ConfigSource.{ConfigSource}
-use Rattle.nextest_config_resolution_values.specs.File.{FileConfig, Named}
-use Rattle.nextest_config_resolution_load.specs.Checks.{Check, broken, inheritance, default_filter, Refusal, unread, no_toml, bad_value, bad_merged, inherits_badly, bad_filter, checks_of, config_in, file_of, merged_in}
+use Rattle.nextest_config_resolution_values.specs.File.{Named}
+use Rattle.nextest_config_resolution_load.specs.Checks.{Check, broken, is_filter, is_spec, inheritance, Refusal, unread, no_toml, bad_value, bad_name, no_constraint, filter_and_default_filter, bad_spec, bad_override_filter, bad_merged, unknown_group, inherits_badly, bad_filter, MergedConfig, checks_of, config_in, file_of, merged_in, rules_downward}
 use Rattle.nextest_config_resolution_load.specs.Later.{is_later}
+use Rattle.nextest_config_resolution_load.specs.Rules.{host_of, target_of}
+use Rattle.nextest_config_resolution_load.specs.declared.languages.FilterPurpose.{FilterPurpose}
+use Rattle.nextest_config_resolution_load.specs.declared.languages.FilterPurpose.TheVariants as purpose
 use Rattle.nextest_config_resolution_load.specs.declared.load_error.LoadError.{LoadError}
 use Rattle.nextest_config_resolution_load.specs.declared.load_error.LoadError.TheVariants as error
 use Rattle.nextest_config_resolution_load.specs.declared.load_fault.LoadFault.{LoadFault}
 use Rattle.nextest_config_resolution_load.specs.declared.load_fault.LoadFault.TheVariants as fault
 use Rattle.nextest_config_resolution_load.specs.declared.loaded_config.LoadedConfig.{LoadedConfig}
 use Rattle.nextest_config_resolution_load.specs.declared.loaded_config.NamedProfile.{NamedProfile}
+use Rattle.nextest_config_resolution_load.specs.declared.loaded_override.CompiledOverride.{CompiledOverride}
+use Rattle.nextest_config_resolution_load.specs.declared.loaded_override.LoadedOverride.{LoadedOverride}
+
+-- which filter a text is, by what it is for, and which platform spec
+abbrev pub IsFilterBy : Type 0 → Type 1
+IsFilterBy F = FilterPurpose → List ℕ → F → Type 0
+
+abbrev pub IsSpecBy : Type 0 → Type 1
+IsSpecBy S = List ℕ → S → Type 0
 
 -- ---- checks that are kept, and the first that is broken
 
-abbrev pub IsKept : {F : Type 0} → (List ℕ → F → Type 0) → Check → Type 0
-IsKept {F} Is (broken refusal) = ⊥
-IsKept {F} Is (inheritance parents) = IsAccepted parents
-IsKept {F} Is (default_filter profile text) = (it : F) × Is text it
+abbrev pub IsKept : {F S : Type 0} → IsFilterBy F → IsSpecBy S → Check → Type 0
+IsKept {F} {S} Is IsSpec (broken refusal) = ⊥
+IsKept {F} {S} Is IsSpec (is_filter of_purpose text refusal) = (it : F) × Is of_purpose text it
+IsKept {F} {S} Is IsSpec (is_spec text refusal) = (it : S) × IsSpec text it
+IsKept {F} {S} Is IsSpec (inheritance parents) = IsAccepted parents
 
 -- a check is broken, for this
-abbrev pub Breaks : {F : Type 0} → (List ℕ → F → Type 0) → (List ℕ → Type 0) → Check → Refusal → Type 0
-Breaks {F} Is IsTooDeep (broken refusal) told = told ≡ refusal
-Breaks {F} Is IsTooDeep (inheritance parents) told = (fault : InheritanceFault) × (told ≡ inherits_badly fault) × IsFirstFault parents fault
-Breaks {F} Is IsTooDeep (default_filter profile text) told = (told ≡ bad_filter profile) × (((it : F) → Is text it → ⊥) ⊎ IsTooDeep text)
+abbrev pub Breaks : {F S : Type 0} → IsFilterBy F → IsSpecBy S → (List ℕ → Type 0) → Check → Refusal → Type 0
+Breaks {F} {S} Is IsSpec IsTooDeep (broken refusal) told = told ≡ refusal
+Breaks {F} {S} Is IsSpec IsTooDeep (is_filter of_purpose text refusal) told = (told ≡ refusal) × (((it : F) → Is of_purpose text it → ⊥) ⊎ IsTooDeep text)
+Breaks {F} {S} Is IsSpec IsTooDeep (is_spec text refusal) told = (told ≡ refusal) × ((it : S) → IsSpec text it → ⊥)
+Breaks {F} {S} Is IsSpec IsTooDeep (inheritance parents) told = (fault : InheritanceFault) × (told ≡ inherits_badly fault) × IsFirstFault parents fault
 
 -- it is, and those before it are kept
-abbrev pub BreaksFirst : {F : Type 0} → (List ℕ → F → Type 0) → (List ℕ → Type 0) → List Check → Refusal → Type 0
-BreaksFirst {F} Is IsTooDeep [] told = ⊥
-BreaksFirst {F} Is IsTooDeep (check ∷ checks) told = Breaks Is IsTooDeep check told ⊎ (IsKept Is check × BreaksFirst Is IsTooDeep checks told)
+abbrev pub BreaksFirst : {F S : Type 0} → IsFilterBy F → IsSpecBy S → (List ℕ → Type 0) → List Check → Refusal → Type 0
+BreaksFirst Is IsSpec IsTooDeep [] told = ⊥
+BreaksFirst Is IsSpec IsTooDeep (check ∷ checks) told =
+    Breaks Is IsSpec IsTooDeep check told ⊎ (IsKept Is IsSpec check × BreaksFirst Is IsSpec IsTooDeep checks told)
 
 -- ---- configurations
 
@@ -42,15 +60,30 @@ BreaksFirst {F} Is IsTooDeep (check ∷ checks) told = Breaks Is IsTooDeep check
 abbrev pub named : NamedProfile → Named
 named it = (it.name, it.config)
 
-abbrev pub seen : {F : Type 0} → LoadedConfig F → FileConfig
-seen it = record { profiles = map named it.profiles; store_dir = it.store_dir }
+abbrev pub seen : {F S : Type 0} → LoadedConfig F S → MergedConfig
+seen it = record { profiles = map named it.profiles; store_dir = it.store_dir; groups = it.groups }
 
--- the filter that a text is, where there is a text
-abbrev pub IsReadAs : {F : Type 0} → (List ℕ → F → Type 0) → Option (List ℕ) → Option F → Type 0
-IsReadAs {F} Is None None = ⊤
-IsReadAs {F} Is None (Some it) = ⊥
-IsReadAs {F} Is (Some text) None = ⊥
-IsReadAs {F} Is (Some text) (Some it) = Is text it
+-- what a text is, where there is a text
+abbrev pub IsReadAs : {A : Type 0} → (List ℕ → A → Type 0) → Option (List ℕ) → Option A → Type 0
+IsReadAs {A} Is None None = ⊤
+IsReadAs {A} Is None (Some it) = ⊥
+IsReadAs {A} Is (Some text) None = ⊥
+IsReadAs {A} Is (Some text) (Some it) = Is text it
+
+-- what the texts of an override are
+pub record IsCompiledOverride {F S : Type 0} (Is : IsFilterBy F) (IsSpec : IsSpecBy S) (config : OverrideConfig) (it : CompiledOverride F S) : Type 0 where
+  pub host : IsReadAs IsSpec (host_of config) it.host
+  pub target : IsReadAs IsSpec (target_of config) it.target
+  pub filter : IsReadAs (Is purpose.Override) config.filter it.filter
+  pub default_filter : IsReadAs (Is purpose.Default) config.default_filter it.default_filter
+
+-- an override, with what its texts are
+pub record IsReadRule {F S : Type 0} (Is : IsFilterBy F) (IsSpec : IsSpecBy S) (rule : PlacedOverride) (it : LoadedOverride F S) : Type 0 where
+  pub same : it.placed ≡ rule
+  pub compiled : IsCompiledOverride Is IsSpec rule.config it.compiled
+
+abbrev pub AreReadRules : {F S : Type 0} → IsFilterBy F → IsSpecBy S → List PlacedOverride → List (LoadedOverride F S) → Type 0
+AreReadRules Is IsSpec rules loaded = AllZip (IsReadRule Is IsSpec) rules loaded
 
 -- some source that counts has a file that sets a key that isn't read yet; what is built in is no source
 abbrev pub is_later_source : ConfigSource → Bool
@@ -59,11 +92,12 @@ is_later_source source = option_map_or is_later (file_of source) false
 abbrev pub sets_later_keys : List ConfigSource → Bool
 sets_later_keys sources = list_any is_later_source (counted sources)
 
--- a configuration is what sources come to: all checks are kept, and these are its values and filters
-pub record IsLoadedAs {F : Type 0} (Is : List ℕ → F → Type 0) (built_in : Members) (sources : List ConfigSource) (it : LoadedConfig F) : Type 0 where
-  pub kept : AllByRecursion (IsKept Is) (checks_of built_in sources)
+-- a configuration is what sources come to: all checks are kept, and these are its values, filters and rules
+pub record IsLoadedAs {F S : Type 0} (Is : IsFilterBy F) (IsSpec : IsSpecBy S) (built_in : Members) (sources : List ConfigSource) (it : LoadedConfig F S) : Type 0 where
+  pub kept : AllByRecursion (IsKept Is IsSpec) (checks_of built_in sources)
   pub values : config_in (merged_in built_in sources) ≡ Ok (seen it)
-  pub filters : AllZip (λ profile found. IsReadAs Is profile.1.default_filter found) (seen it).profiles it.default_filters
+  pub filters : AllZip (λ profile found. IsReadAs (Is purpose.Default) profile.1.default_filter found) (seen it).profiles it.default_filters
+  pub rules : AreReadRules Is IsSpec (rules_downward sources) it.rules
   pub later : it.sets_later_keys ≡ sets_later_keys sources
 
 -- what a fault tells, without its words
@@ -71,12 +105,18 @@ abbrev pub reason_of : LoadFault → Refusal
 reason_of (fault.Unread path cause) = unread path
 reason_of (fault.Toml path message) = no_toml path
 reason_of (fault.BadValue path value) = bad_value path value.path.keys
+reason_of (fault.BadName path name) = bad_name path name
+reason_of (fault.NoConstraint rule) = no_constraint rule
+reason_of (fault.FilterAndDefaultFilter rule) = filter_and_default_filter rule
+reason_of (fault.BadSpec rule side text) = bad_spec rule side
+reason_of (fault.BadOverrideFilter rule of_purpose text) = bad_override_filter rule of_purpose
 reason_of (fault.BadMergedValue value) = bad_merged value.path.keys
+reason_of (fault.UnknownGroup rule group) = unknown_group rule group
 reason_of (fault.Inheritance told) = inherits_badly told
 reason_of (fault.BadFilter profile text) = bad_filter profile
 
 -- sources are loaded, or refused for the first check that is broken; want of memory says nothing of them
-abbrev pub IsLoaded : {F : Type 0} → (List ℕ → F → Type 0) → (List ℕ → Type 0) → Members → List ConfigSource → Result (LoadedConfig F) LoadError → Type 0
-IsLoaded Is IsTooDeep built_in sources (Ok it) = IsLoadedAs Is built_in sources it
-IsLoaded Is IsTooDeep built_in sources (Err (error.Refused told)) = BreaksFirst Is IsTooDeep (checks_of built_in sources) (reason_of told)
-IsLoaded Is IsTooDeep built_in sources (Err error.OutOfMemory) = ⊤
+abbrev pub IsLoaded : {F S : Type 0} → IsFilterBy F → IsSpecBy S → (List ℕ → Type 0) → Members → List ConfigSource → Result (LoadedConfig F S) LoadError → Type 0
+IsLoaded Is IsSpec IsTooDeep built_in sources (Ok it) = IsLoadedAs Is IsSpec built_in sources it
+IsLoaded Is IsSpec IsTooDeep built_in sources (Err (error.Refused told)) = BreaksFirst Is IsSpec IsTooDeep (checks_of built_in sources) (reason_of told)
+IsLoaded Is IsSpec IsTooDeep built_in sources (Err error.OutOfMemory) = ⊤

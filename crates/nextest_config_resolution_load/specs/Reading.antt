@@ -1,23 +1,96 @@
--- How a merged tree is read.
-use Rattle.std.specs.Prelude.{◌≡◌, ℕ, List, ◌++◌, codes, map, Result, Ok, Err, ⊤}
-use Rattle.std.specs.List.{flat_map}
+-- What calls of this crate give on their way to a configuration.
+use Rattle.std.specs.Prelude.{◌≡◌, ℕ, Bool, List, [], ◌∷◌, ◌++◌, codes, get_or, map, reverse, filter_map, Option, None, Some, option_map, Result, Ok, Err, ⊤}
+use Rattle.std.specs.BTreeSet.{BTreeSet, contains_by}
+use Rattle.std.specs.Cmp.Lexicographic.{slice_cmp}
+use Rattle.std.specs.List.{AllZip, flat_map}
+use Rattle.std.specs.Ordering.{nat_cmp}
+use denote.Ref.{Bor}
 use Rattle.toml.specs.Data.{Data, Members}
-use Rattle.nextest_config_elements_reading.specs.Reading.{Reading, ◌>>=◌, under}
+use Rattle.toml.specs.View.{table_view}
+use Rattle.nextest_config_elements_reading.specs.Reading.{Path, Reading, ◌>>=◌, under}
 use Rattle.nextest_config_elements_reading.specs.declared.value_error.ValueError.{ValueError}
 use Rattle.nextest_config_elements_reading.specs.declared.value_error.ValueError.TheVariants as error
-use Rattle.nextest_config_resolution_load.specs.Checks.{Check, bad_merged, config_in, merged_in, source_checks, value_checks}
-use Rattle.nextest_config_resolution_load.specs.Load.{named}
+use Rattle.nextest_config_resolution_inheritance.specs.Inheritance.{Rise}
+use Rattle.nextest_config_resolution_load.specs.Checks.{Check, MergedConfig, bad_merged, config_in, file_of, merged_in, no_toml, parents_of, rules_in, rules_of_source, source_checks, value_checks}
+use Rattle.nextest_config_resolution_load.specs.Files.{members_in, told_in}
+use Rattle.nextest_config_resolution_load.specs.Load.{AreReadRules, IsFilterBy, IsReadAs, IsSpecBy, named, reason_of, seen, sets_later_keys}
+use Rattle.nextest_config_resolution_load.specs.Telling.{told_of, warnings_in}
+use Rattle.nextest_config_resolution_load.specs.declared.languages.FilterPurpose.TheVariants as purpose
+use Rattle.nextest_config_resolution_load.specs.declared.load_error.LoadError.{LoadError}
+use Rattle.nextest_config_resolution_load.specs.declared.load_error.LoadError.TheVariants as told_error
+use Rattle.nextest_config_resolution_load.specs.declared.loaded_config.LoadedConfig.{LoadedConfig}
 use Rattle.nextest_config_resolution_load.specs.declared.loaded_config.ReadConfig.{ReadConfig}
+use Rattle.nextest_config_resolution_load.specs.declared.loaded_override.LoadedOverride.{LoadedOverride}
+use Rattle.nextest_config_resolution_load.specs.declared.placed_file.ReadFile.{ReadFile}
+use Rattle.nextest_config_resolution_load.specs.declared.placed_file.ReadFiles.{ReadFiles}
+use Rattle.nextest_config_resolution_load.specs.declared.placed_file.ReadSources.{ReadSources}
+use Rattle.nextest_config_resolution_overrides.specs.declared.placed_override.PlacedOverride.{PlacedOverride}
 use Rattle.nextest_config_resolution_sources.specs.Counting.{counted}
 use Rattle.nextest_config_resolution_sources.specs.declared.source.ConfigSource.{ConfigSource}
-use Rattle.nextest_config_resolution_values.specs.File.{FileConfig, Named}
+use Rattle.nextest_config_resolution_values.specs.File.{Named}
 use Rattle.nextest_config_resolution_values.specs.Profile.{profile_of}
+use Rattle.nextest_config_resolution_values.specs.declared.profile_config.ProfileConfig.{ProfileConfig}
 
 -- a call gives what reading gives, seen as such; want of memory says nothing
 abbrev pub GivesSeen : {A B : Type 0} → (A → B) → Result A ValueError → Reading B → Type 0
 GivesSeen view (Ok x) reading = reading ≡ Ok (view x)
 GivesSeen view (Err (error.Refused bad)) reading = reading ≡ Err bad.path.keys
 GivesSeen view (Err error.OutOfMemory) reading = ⊤
+
+-- ---- the overrides of sources
+
+-- those of each of some sources
+abbrev pub AreRulesOf : {F S : Type 0} → IsFilterBy F → IsSpecBy S → List ConfigSource → List (List (LoadedOverride F S)) → Type 0
+AreRulesOf Is IsSpec sources all = AllZip (λ source own. AreReadRules Is IsSpec (rules_of_source source) own) sources all
+
+-- what overrides say, of one source and of all
+abbrev pub placed_in : {F S : Type 0} → LoadedOverride F S → PlacedOverride
+placed_in it = it.placed
+
+abbrev pub placed_of : {F S : Type 0} → List (LoadedOverride F S) → List PlacedOverride
+placed_of own = map placed_in own
+
+abbrev pub all_placed : {F S : Type 0} → List (List (LoadedOverride F S)) → List PlacedOverride
+all_placed all = flat_map placed_of all
+
+-- overrides of sources one after another, the last source first
+abbrev pub downward : {F S : Type 0} → List (List (LoadedOverride F S)) → List (LoadedOverride F S)
+downward all = flat_map (λ own. own) (reverse all)
+
+-- ---- a file
+
+-- the key of a profile's table below which a value stands
+abbrev pub third : Path → List ℕ
+third keys = get_or keys 2 []
+
+-- the values of a profile are refused at a path
+abbrev pub refused_values : Path → Reading ProfileConfig
+refused_values path = Err path
+
+-- a call parses the text of a file, or it is no TOML; want of memory says nothing
+abbrev pub ParsesText : {T : Type 0} → (T → Members) → List ℕ → Option Members → Result T LoadError → Type 0
+ParsesText view path given (Ok table) = given ≡ Some (view table)
+ParsesText view path given (Err (told_error.Refused told)) = (given ≡ None) × (reason_of told ≡ no_toml path)
+ParsesText view path given (Err told_error.OutOfMemory) = ⊤
+
+-- what was read of the file at a path, if there is one: its members, and its overrides
+pub record IsReadFile {F S : Type 0} (Is : IsFilterBy F) (IsSpec : IsSpecBy S) (path : List ℕ) (given : Option Members) (it : ReadFile F S) : Type 0 where
+  pub table : given ≡ option_map table_view it.table
+  pub rules : AreReadRules Is IsSpec (rules_in path given) it.rules
+
+-- what was read of some sources
+pub record AreReadFiles {F S : Type 0} (Is : IsFilterBy F) (IsSpec : IsSpecBy S) (sources : List ConfigSource) (it : ReadFiles F S) : Type 0 where
+  pub files : map members_in it.files.items ≡ filter_map file_of sources
+  pub told : flat_map told_in it.files.items ≡ flat_map told_of sources
+  pub rules : AreRulesOf Is IsSpec sources it.rules.items
+
+-- ---- the names of groups
+
+-- a set has a name
+abbrev pub has_name : BTreeSet (Bor (List ℕ)) → List ℕ → Bool
+has_name names name = contains_by (λ key. slice_cmp nat_cmp name key.now) names
+
+-- ---- the profiles and groups of a merged tree
 
 -- the profile of a name, by what stands there
 abbrev pub profile_at : List ℕ → Data → Reading Named
@@ -26,12 +99,33 @@ profile_at name given = do
   Ok (name, config)
 
 -- what was read, as its values
-abbrev pub values_of : ReadConfig → FileConfig
-values_of it = record { profiles = map named it.profiles; store_dir = it.store_dir }
+abbrev pub values_of : ReadConfig → MergedConfig
+values_of it = record { profiles = map named it.profiles; store_dir = it.store_dir; groups = it.groups }
 
-abbrev pub read_as : ReadConfig → Reading FileConfig
+abbrev pub read_as : ReadConfig → Reading MergedConfig
 read_as it = Ok (values_of it)
 
--- what is checked of sources, and of what they come to, before it is asked how profiles inherit
+-- the default filters that profiles set
+abbrev pub AreReadDefaults : {F : Type 0} → IsFilterBy F → List Named → List (Option F) → Type 0
+AreReadDefaults Is profiles found = AllZip (λ profile filter. IsReadAs (Is purpose.Default) profile.1.default_filter filter) profiles found
+
+-- ---- all of it
+
+-- what is checked of sources, and of what they come to, before it is asked which groups there are and how profiles inherit
 abbrev pub early_checks : Members → List ConfigSource → List Check
 early_checks built_in sources = flat_map source_checks (counted sources) ++ value_checks bad_merged (config_in (merged_in built_in sources))
+
+-- what was read of the sources that count
+pub record AreReadSources {F S : Type 0} (Is : IsFilterBy F) (IsSpec : IsSpecBy S) (built_in : Members) (sources : List ConfigSource) (it : ReadSources F S) : Type 0 where
+  pub values : config_in (merged_in built_in sources) ≡ read_as it.config
+  pub rises : Rise (parents_of (values_of it.config).profiles)
+  pub later : it.config.sets_later_keys ≡ sets_later_keys sources
+  pub told : flat_map told_in it.files.items ≡ warnings_in sources
+  pub rules : AreRulesOf Is IsSpec (counted sources) it.rules.items
+
+-- a configuration is what was read, with its default filters and the overrides of all sources
+pub record IsCompleted {F S : Type 0} (Is : IsFilterBy F) (read : ReadConfig) (of_sources : List (List (LoadedOverride F S))) (it : LoadedConfig F S) : Type 0 where
+  pub same : seen it ≡ values_of read
+  pub filters : AreReadDefaults Is (seen it).profiles it.default_filters
+  pub rules : it.rules ≡ downward of_sources
+  pub later : it.sets_later_keys ≡ read.sets_later_keys

@@ -1,25 +1,22 @@
--- How a configuration is refused, and how it is read where it isn't.
-use Rattle.std.specs.Prelude.{◌≡◌, List, [], ◌∷◌, Option, None, Some, Result, Ok, Err, ⊤}
-use Rattle.nextest_config_resolution_load.specs.Checks.{Check, broken, Refusal}
-use Rattle.nextest_config_resolution_load.specs.Load.{reason_of}
+-- How checks are gone through: all are kept, or the first that is broken is told.
+use Rattle.std.specs.Prelude.{◌≡◌, ℕ, List, [], ◌∷◌, Result, Ok, Err, ⊤}
+use Rattle.std.specs.List.{AllByRecursion}
+use Rattle.nextest_config_resolution_load.specs.Checks.{Check, Refusal}
+use Rattle.nextest_config_resolution_load.specs.Load.{BreaksFirst, IsFilterBy, IsKept, IsSpecBy, reason_of}
 use Rattle.nextest_config_resolution_load.specs.declared.load_error.LoadError.{LoadError}
 use Rattle.nextest_config_resolution_load.specs.declared.load_error.LoadError.TheVariants as error
 
--- the first of some checks
-abbrev pub first_check : List Check → Option Check
-first_check [] = None
-first_check (check ∷ checks) = Some check
-
--- a fault is told for the first of some checks, which is broken; want of memory says nothing
-abbrev pub IsToldFirst : List Check → LoadError → Type 0
-IsToldFirst checks (error.Refused told) = first_check checks ≡ Some (broken (reason_of told))
-IsToldFirst checks error.OutOfMemory = ⊤
-
--- a fault is told for this
+-- a fault is told for this; want of memory says nothing
 abbrev pub IsRefused : Refusal → LoadError → Type 0
-IsRefused refusal told = IsToldFirst (broken refusal ∷ []) told
+IsRefused refusal (error.Refused told) = reason_of told ≡ refusal
+IsRefused refusal error.OutOfMemory = ⊤
 
--- a call reads what these checks are of: none is broken, and this is it; or the first broken one is told
-abbrev pub ReadsAs : {A B : Type 0} → (A → B) → List Check → B → Result A LoadError → Type 0
-ReadsAs view checks given (Ok x) = (checks ≡ []) × (given ≡ view x)
-ReadsAs view checks given (Err told) = IsToldFirst checks told
+-- a fault is told for the first of some checks that is broken
+abbrev pub RefusesFor : {F S : Type 0} → IsFilterBy F → IsSpecBy S → (List ℕ → Type 0) → List Check → LoadError → Type 0
+RefusesFor Is IsSpec IsTooDeep checks (error.Refused told) = BreaksFirst Is IsSpec IsTooDeep checks (reason_of told)
+RefusesFor Is IsSpec IsTooDeep checks error.OutOfMemory = ⊤
+
+-- a call keeps some checks and gives such a value, or tells the first of them that is broken
+abbrev pub Passes : {F S A : Type 0} → IsFilterBy F → IsSpecBy S → (List ℕ → Type 0) → List Check → (A → Type 0) → Result A LoadError → Type 0
+Passes Is IsSpec IsTooDeep checks IsIt (Ok x) = AllByRecursion (IsKept Is IsSpec) checks × IsIt x
+Passes Is IsSpec IsTooDeep checks IsIt (Err told) = RefusesFor Is IsSpec IsTooDeep checks told

@@ -1,43 +1,50 @@
 // The files of sources.
-ghost use Rattle.std.specs.Prelude.{◌≡◌, ◌++◌, None, Some, filter_map, map, option_map, option_to_list, IfOk};
+ghost use Rattle.std.specs.Prelude.{◌≡◌, ◌++◌, None, Some, Ok, map, option_map, option_to_list, IfOk};
 ghost use Rattle.std.specs.List.{flat_map};
 ghost use Rattle.toml.specs.Parse.{parse_document};
 ghost use Rattle.toml.specs.View.{table_view};
-ghost use Rattle.nextest_config_resolution_load.specs.Checks.{document_checks, file_of, missing_checks, source_checks, value_checks};
-ghost use Rattle.nextest_config_resolution_load.specs.Checks as words;
+ghost use Rattle.nextest_config_resolution_load.specs.Checks.{document_checks, file_checks, file_of, missing_checks, rules_in_file, source_checks};
+ghost use Rattle.nextest_config_resolution_load.specs.File.{file_in};
 ghost use Rattle.nextest_config_resolution_load.specs.Files.{members_in, told_in};
-ghost use Rattle.nextest_config_resolution_load.specs.Telling.{told_at, told_of};
-ghost use Rattle.nextest_config_resolution_load.specs.Refusing.{ReadsAs};
-ghost use Rattle.nextest_config_resolution_values.specs.File.{file_in};
+ghost use Rattle.nextest_config_resolution_load.specs.Load.{AreReadRules};
+ghost use Rattle.nextest_config_resolution_load.specs.Reading.{AreReadFiles, IsReadFile, ParsesText};
+ghost use Rattle.nextest_config_resolution_load.specs.Refusing.{Passes};
+ghost use Rattle.nextest_config_resolution_load.specs.Rules.{rules_at};
+ghost use Rattle.nextest_config_resolution_load.specs.Telling.{told_at};
 
+use crate::file_config::FileConfig;
+use crate::file_reading::read_file;
+use crate::groups::check_names;
+use crate::languages::Languages;
 use crate::load_error::LoadError;
-use crate::placed_file::PlacedFile;
+use crate::loaded_override::LoadedOverride;
+use crate::placed_file::{PlacedFile, ReadFile, ReadFiles};
 use crate::refusing::{bad_value, no_toml, unread};
+use crate::rules::{load_rules, placed_rules};
 use nextest_config_elements_identifiers::ConfigSourceKind;
 use nextest_config_elements_reading::ValueError;
 use nextest_config_resolution_sources::{ConfigSource, ConfigSourceOutcome};
-use nextest_config_resolution_values::check_file;
-use nextest_text::Text;
+use nextest_text::{Listing, Text};
 use std::alloc::{AllocError, Global};
 use toml::Table;
 
-// The files of some sources, in their order, each at the path of its source.
-pub(crate) fn read_files<'s>(
+// The files of some sources, in their order, each at the path of its source, and the overrides of each source.
+pub(crate) fn read_files<'s, R: Languages>(
     alloc: Global,
+    cx: &R::Cx,
     sources: &[&'s ConfigSource],
-) -> Result<Vec<PlacedFile<'s>>, LoadError>
-    ensures files { let all = map (λ it. it.now) sources.now in
-        ReadsAs (λ it. map members_in it.items) (flat_map source_checks all) (filter_map file_of all) result }
-    ensures told { IfOk result (λ it. flat_map told_in it.items ≡ flat_map told_of (map (λ it. it.now) sources.now)) }
+) -> Result<ReadFiles<'s, R::Filter, R::Spec>, LoadError>
+    ensures { let all = map (λ it. it.now) sources.now in
+        Passes (R.is_filter cx.now) R.is_spec R.is_too_deep (flat_map source_checks all) (AreReadFiles (R.is_filter cx.now) R.is_spec all) result }
 {
     let mut files = Vec::new(alloc);
+    let mut rules = Vec::new(alloc);
     for source in sources {
-        match read_file(alloc, source) {
-            Ok(file) => push_file(&mut files, source.path.as_str(), file)?,
-            Err(error) => return Err(error),
-        }
+        let read = read_source::<R>(alloc, cx, source)?;
+        push_file(&mut files, source.path.as_str(), read.table)?;
+        rules.push(read.rules)?;
     }
-    Ok(files)
+    Ok(ReadFiles { files, rules })
 }
 
 // Adds a file, if there is one.
@@ -55,41 +62,72 @@ fn push_file<'s>(
     }
 }
 
-// The file of a source, if there is one.
-fn read_file(alloc: Global, source: &ConfigSource) -> Result<Option<Table>, LoadError>
-    ensures { ReadsAs (option_map table_view) (source_checks source.now) (file_of source.now) result }
+// The file of a source, if there is one, and its overrides.
+fn read_source<R: Languages>(
+    alloc: Global,
+    cx: &R::Cx,
+    source: &ConfigSource,
+) -> Result<ReadFile<R::Filter, R::Spec>, LoadError>
+    ensures { Passes (R.is_filter cx.now) R.is_spec R.is_too_deep (source_checks source.now)
+        (IsReadFile (R.is_filter cx.now) R.is_spec source.now.path (file_of source.now)) result }
 {
     let path = source.path.as_str();
     match &source.outcome {
-        ConfigSourceOutcome::Text(text) => Ok(Some(read_text(alloc, path, text.as_str())?)),
-        ConfigSourceOutcome::NotFound => read_missing(alloc, path, &source.kind),
+        ConfigSourceOutcome::Text(text) => {
+            read_text::<R>(alloc, cx, path, &source.kind, text.as_str())
+        }
+        ConfigSourceOutcome::NotFound => read_missing::<R>(alloc, cx, path, &source.kind),
         ConfigSourceOutcome::Failed(cause) => Err(unread(alloc, path, cause.as_str())),
     }
 }
 
 // A source that isn't there: a file that was looked for may be missing.
-fn read_missing(
+fn read_missing<R: Languages>(
     alloc: Global,
+    cx: &R::Cx,
     path: &str,
     kind: &ConfigSourceKind,
-) -> Result<Option<Table>, LoadError>
-    ensures { ReadsAs (option_map table_view) (missing_checks path.now kind.now) None result }
+) -> Result<ReadFile<R::Filter, R::Spec>, LoadError>
+    ensures { Passes (R.is_filter cx.now) R.is_spec R.is_too_deep (missing_checks path.now kind.now)
+        (IsReadFile (R.is_filter cx.now) R.is_spec path.now None) result }
 {
     match kind {
-        ConfigSourceKind::DiscoveredRepository => Ok(None),
+        ConfigSourceKind::DiscoveredRepository => Ok(ReadFile {
+            table: None,
+            rules: Listing::new(alloc),
+        }),
         ConfigSourceKind::Tool(_) | ConfigSourceKind::ExplicitRepository => {
             Err(unread(alloc, path, "there is no such file"))
         }
     }
 }
 
-// The file of a text.
-fn read_text(alloc: Global, path: &str, text: &str) -> Result<Table, LoadError>
+// The file of a text, and its overrides.
+fn read_text<R: Languages>(
+    alloc: Global,
+    cx: &R::Cx,
+    path: &str,
+    kind: &ConfigSourceKind,
+    text: &str,
+) -> Result<ReadFile<R::Filter, R::Spec>, LoadError>
     ensures { let given = parse_document text.now in
-        ReadsAs (λ it. Some (table_view it)) (document_checks path.now given) given result }
+        Passes (R.is_filter cx.now) R.is_spec R.is_too_deep (document_checks path.now kind.now given)
+        (IsReadFile (R.is_filter cx.now) R.is_spec path.now given) result }
+{
+    let table = parse_text(alloc, path, text)?;
+    let rules = read_rules::<R>(alloc, cx, path, kind, &table)?;
+    Ok(ReadFile {
+        table: Some(table),
+        rules,
+    })
+}
+
+// The file of a text.
+fn parse_text(alloc: Global, path: &str, text: &str) -> Result<Table, LoadError>
+    ensures { ParsesText table_view path.now (parse_document text.now) result }
 {
     match toml::table_from_str(alloc, text) {
-        Ok(table) => with_values(alloc, path, table),
+        Ok(table) => Ok(table),
         Err(error) if error.is_memory() => Err(LoadError::OutOfMemory),
         Err(error) => {
             let message = Text::from(format!(in alloc; "{error}")?);
@@ -98,14 +136,38 @@ fn read_text(alloc: Global, path: &str, text: &str) -> Result<Table, LoadError>
     }
 }
 
-// A file whose values are all such as their keys can have.
-fn with_values(alloc: Global, path: &str, file: Table) -> Result<Table, LoadError>
-    ensures { let given = table_view file in
-        ReadsAs (λ it. Some (table_view it)) (value_checks (words.bad_value path.now) (file_in given)) (Some given) result }
+// The overrides of a file, whose values are all such as their keys can have.
+fn read_rules<R: Languages>(
+    alloc: Global,
+    cx: &R::Cx,
+    path: &str,
+    kind: &ConfigSourceKind,
+    table: &Table,
+) -> Result<Listing<LoadedOverride<R::Filter, R::Spec>>, LoadError>
+    ensures { let given = file_in (table_view table.now) in
+        Passes (R.is_filter cx.now) R.is_spec R.is_too_deep (file_checks path.now kind.now given)
+        (λ it. AreReadRules (R.is_filter cx.now) R.is_spec (rules_in_file path.now given) it) result }
 {
-    match check_file(alloc, &file) {
-        Ok(()) => Ok(file),
+    match read_file(alloc, table) {
+        Ok(config) => rules_of::<R>(alloc, cx, path, kind, config),
         Err(ValueError::Refused(bad)) => Err(bad_value(alloc, path, bad)),
         Err(ValueError::OutOfMemory) => Err(LoadError::OutOfMemory),
     }
+}
+
+// The overrides of a file that says this.
+fn rules_of<R: Languages>(
+    alloc: Global,
+    cx: &R::Cx,
+    path: &str,
+    kind: &ConfigSourceKind,
+    config: FileConfig,
+) -> Result<Listing<LoadedOverride<R::Filter, R::Spec>>, LoadError>
+    ensures { Passes (R.is_filter cx.now) R.is_spec R.is_too_deep (file_checks path.now kind.now (Ok config))
+        (λ it. AreReadRules (R.is_filter cx.now) R.is_spec (rules_at path.now config.profiles) it) result }
+{
+    let FileConfig { profiles, groups } = config;
+    check_names::<R>(alloc, cx, path, kind, groups.as_slice())?;
+    let rules = placed_rules(alloc, path, profiles)?;
+    load_rules::<R>(alloc, cx, rules)
 }

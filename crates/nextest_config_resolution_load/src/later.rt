@@ -1,5 +1,5 @@
 // Keys of files that aren't read yet.
-ghost use Rattle.std.specs.Prelude.{◌≡◌, map, option_map};
+ghost use Rattle.std.specs.Prelude.{◌≡◌, map};
 ghost use Rattle.std.specs.List.{list_any};
 ghost use Rattle.std.specs.Option.{is_some};
 ghost use Rattle.toml.specs.Data.{get_member, table};
@@ -8,13 +8,14 @@ ghost use Rattle.nextest_config_resolution_load.specs.Files.{members_in};
 ghost use Rattle.nextest_config_resolution_load.specs.Later as later;
 
 use crate::placed_file::PlacedFile;
+use nextest_config_elements_readers::member;
 use toml::{Table, Value};
 
 // Such keys of the top table.
-const LATER_KEYS: &[&str] = &["script", "scripts", "test-groups"];
+const LATER_KEYS: &[&str] = &["script", "scripts"];
 
 // Such keys of a profile's table.
-const LATER_PROFILE_KEYS: &[&str] = &["overrides", "scripts"];
+const LATER_PROFILE_KEYS: &[&str] = &["scripts"];
 
 // Whether one of some files sets such a key.
 pub(crate) fn set_later_keys(files: &[PlacedFile]) -> bool
@@ -93,12 +94,4 @@ fn has(members: &Table, key: &str) -> bool
         Some(_) => true,
         None => false,
     }
-}
-
-// What stands at a key.
-#[tactic(auto, using(toml::proofs::Views::table_get))]
-fn member<'a>(members: &'a Table, key: &str) -> Option<&'a Value>
-    ensures { option_map (λ it. view it.now) result ≡ get_member key.now (table_view members.now) }
-{
-    members.get(key)
 }

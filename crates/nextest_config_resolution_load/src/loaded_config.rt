@@ -1,5 +1,7 @@
 // What a configuration comes to.
+use crate::loaded_override::LoadedOverride;
 use nextest_config_resolution_inheritance::Inherits;
+use nextest_config_resolution_overrides::NamedGroup;
 use nextest_config_resolution_values::ProfileConfig;
 use nextest_text::{Listing, Text};
 
@@ -36,34 +38,41 @@ impl Inherits for NamedProfile {
 }
 
 /// What the files of a configuration come to, each over the lower ones.
-pub struct LoadedConfig<Filter> {
+pub struct LoadedConfig<Filter, Spec> {
     /// The profiles, by the bytes of their names.
     pub profiles: Listing<NamedProfile>,
     /// The default filter of each profile as it was read, where it sets one, in the order of `profiles`.
     pub default_filters: Listing<Option<Filter>>,
+    /// The overrides of all files: the highest file first, in a file by the bytes of the profiles' names, and those of a profile in
+    /// their order.
+    pub rules: Listing<LoadedOverride<Filter, Spec>>,
+    /// The groups of tests, by the bytes of their keys. Of several with one name the last holds.
+    pub groups: Listing<NamedGroup>,
     /// The directory of the store, if one is set.
     pub store_dir: Option<Text>,
-    /// Whether a file that counts sets a key that isn't read yet: `script`, `scripts` or `test-groups`, or, in a profile,
-    /// `overrides` or `scripts`.
+    /// Whether a file that counts sets a key that isn't read yet: `script` or `scripts`, or, in a profile, `scripts`.
     pub sets_later_keys: bool,
 }
 
 // One call drops it, whoever holds it.
-impl<Filter: Drop> Drop for LoadedConfig<Filter> {
+impl<Filter: Drop, Spec: Drop> Drop for LoadedConfig<Filter, Spec> {
     fn drop(self) {
         let Self {
             profiles: _,
             default_filters: _,
+            rules: _,
+            groups: _,
             store_dir: _,
             sets_later_keys: _,
         } = self;
     }
 }
 
-// What the files of a configuration come to, before its default filters are read.
+// What the files of a configuration come to, before its default filters are read and its rules are looked at.
 #[derive(Drop)]
 pub(crate) struct ReadConfig {
     pub(crate) profiles: Listing<NamedProfile>,
+    pub(crate) groups: Listing<NamedGroup>,
     pub(crate) store_dir: Option<Text>,
     pub(crate) sets_later_keys: bool,
 }

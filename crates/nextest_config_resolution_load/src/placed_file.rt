@@ -1,5 +1,7 @@
 // A file at its path.
 use crate::loaded_config::ReadConfig;
+use crate::loaded_override::LoadedOverride;
+use nextest_text::Listing;
 use toml::Table;
 
 // A file that is there, at the path of its source.
@@ -15,8 +17,24 @@ impl<'s> Drop for PlacedFile<'s> {
     }
 }
 
-// What sources come to, and the files that are there.
-pub(crate) struct ReadSources<'s> {
+// What was read of a source: its file, if there is one, and the overrides in it.
+#[derive(Drop)]
+pub(crate) struct ReadFile<Filter, Spec> {
+    pub(crate) table: Option<Table>,
+    pub(crate) rules: Listing<LoadedOverride<Filter, Spec>>,
+}
+
+// What was read of sources: the files that are there, and the overrides of each source.
+#[derive(Drop)]
+pub(crate) struct ReadFiles<'s, Filter, Spec> {
+    pub(crate) files: Vec<PlacedFile<'s>>,
+    pub(crate) rules: Vec<Listing<LoadedOverride<Filter, Spec>>>,
+}
+
+// What sources come to, before it is asked how profiles inherit.
+#[derive(Drop)]
+pub(crate) struct ReadSources<'s, Filter, Spec> {
     pub(crate) config: ReadConfig,
     pub(crate) files: Vec<PlacedFile<'s>>,
+    pub(crate) rules: Vec<Listing<LoadedOverride<Filter, Spec>>>,
 }

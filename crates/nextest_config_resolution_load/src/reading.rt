@@ -3,23 +3,25 @@ ghost use Rattle.std.specs.Prelude.{◌≡◌, [], ◌∷◌, codes, map, option
 ghost use Rattle.toml.specs.Data.{Data, table, Members};
 ghost use Rattle.toml.specs.View.{table_view, view};
 ghost use Rattle.nextest_config_elements_reading.specs.Reading.{under};
+ghost use Rattle.nextest_config_resolution_overrides.specs.Groups.{groups_at};
 ghost use Rattle.nextest_config_resolution_tree.specs.Tree.{get_path, keys, keys_in};
 ghost use Rattle.nextest_config_resolution_tree.specs.Whole.{IsTree};
 ghost use Rattle.nextest_config_resolution_values.specs.File.{profiles_at, profiles_in, profiles_of, store_dir_at};
-ghost use Rattle.nextest_config_resolution_values.specs.Paths.{profile_path};
+ghost use Rattle.nextest_config_elements_readers.specs.Paths.{profile_path};
 ghost use Rattle.nextest_config_resolution_load.specs.Checks.{config_in};
 ghost use Rattle.nextest_config_resolution_load.specs.Load.{named};
 ghost use Rattle.nextest_config_resolution_load.specs.Reading.{GivesSeen, profile_at, values_of};
 
 use crate::loaded_config::{NamedProfile, ReadConfig};
 use nextest_config_elements_reading::{ValueError, refused};
+use nextest_config_resolution_overrides::{NamedGroup, deserialize_test_groups};
 use nextest_config_resolution_tree::MergedTree;
 use nextest_config_resolution_values::{deserialize_profile_value, deserialize_store_dir};
 use nextest_text::{Listing, Text};
 use std::alloc::Global;
 use toml::{Table, Value};
 
-// What a tree says of profiles and the store, beside what its files say of keys that aren't read yet.
+// What a tree says of profiles, groups and the store, beside what its files say of keys that aren't read yet.
 pub(crate) fn read_config(
     alloc: Global,
     tree: &MergedTree<'_>,
@@ -32,14 +34,27 @@ pub(crate) fn read_config(
         Ok(profiles) => profiles,
         Err(error) => return Err(error),
     };
-    match read_store_dir(alloc, tree) {
-        Ok(store_dir) => Ok(ReadConfig {
+    let store_dir = match read_store_dir(alloc, tree) {
+        Ok(store_dir) => store_dir,
+        Err(error) => return Err(error),
+    };
+    match read_groups(alloc, tree) {
+        Ok(groups) => Ok(ReadConfig {
             profiles,
+            groups,
             store_dir,
             sets_later_keys,
         }),
         Err(error) => Err(error),
     }
+}
+
+// The groups of tests.
+fn read_groups(alloc: Global, tree: &MergedTree<'_>) -> Result<Listing<NamedGroup>, ValueError>
+    ensures { (top : Members) → IsTree tree.now (table top) → GivesSeen (λ it. it) result (groups_at top) }
+{
+    let groups = tree.value_at(alloc, &["test-groups"])?;
+    deserialize_test_groups(alloc, groups.as_ref())
 }
 
 // The directory of the store.

@@ -1,10 +1,13 @@
 // How a configuration is refused.
+ghost use Rattle.std.specs.Prelude.{◌≡◌, IfOk};
 ghost use Rattle.nextest_config_resolution_load.specs.Refusing.{IsRefused};
 ghost use Rattle.nextest_config_resolution_load.specs.Checks as words;
 
+use crate::languages::FilterPurpose;
 use crate::load_error::LoadError;
-use crate::load_fault::LoadFault;
+use crate::load_fault::{LoadFault, PlatformSide};
 use nextest_config_elements_reading::BadValue;
+use nextest_config_resolution_overrides::OverrideId;
 use nextest_text::Text;
 use std::alloc::{AllocError, Global};
 
@@ -35,6 +38,87 @@ pub(crate) fn bad_value(alloc: Global, path: &str, value: BadValue) -> LoadError
     match Text::from_str(alloc, path) {
         Ok(path) => LoadError::Refused(LoadFault::BadValue { path, value }),
         Err(AllocError) => LoadError::OutOfMemory,
+    }
+}
+
+// Refuses the name of a group that a file may not define.
+pub(crate) fn bad_name(alloc: Global, path: &str, name: &str) -> LoadError
+    ensures { IsRefused (words.bad_name path.now name.now) result }
+{
+    match (Text::from_str(alloc, path), Text::from_str(alloc, name)) {
+        (Ok(path), Ok(name)) => LoadError::Refused(LoadFault::BadName { path, name }),
+        _ => LoadError::OutOfMemory,
+    }
+}
+
+// An override by where it is written, once more.
+fn copied(rule: &OverrideId) -> Result<OverrideId, AllocError>
+    ensures { IfOk result (λ it. it ≡ rule.now) }
+{
+    Ok(rule.clone()?)
+}
+
+// Refuses an override that says neither on which platforms nor on which tests it holds.
+pub(crate) fn no_constraint(rule: &OverrideId) -> LoadError
+    ensures { IsRefused (words.no_constraint rule.now) result }
+{
+    match copied(rule) {
+        Ok(rule) => LoadError::Refused(LoadFault::NoConstraint { rule }),
+        Err(AllocError) => LoadError::OutOfMemory,
+    }
+}
+
+// Refuses an override with a filter and a default filter.
+pub(crate) fn both_filters(rule: &OverrideId) -> LoadError
+    ensures { IsRefused (words.filter_and_default_filter rule.now) result }
+{
+    match copied(rule) {
+        Ok(rule) => LoadError::Refused(LoadFault::FilterAndDefaultFilter { rule }),
+        Err(AllocError) => LoadError::OutOfMemory,
+    }
+}
+
+// Refuses what an override has as a platform spec.
+pub(crate) fn bad_spec(
+    alloc: Global,
+    rule: &OverrideId,
+    side: PlatformSide,
+    spec: &str,
+) -> LoadError
+    ensures { IsRefused (words.bad_spec rule.now side) result }
+{
+    match (copied(rule), Text::from_str(alloc, spec)) {
+        (Ok(rule), Ok(spec)) => LoadError::Refused(LoadFault::BadSpec { rule, side, spec }),
+        _ => LoadError::OutOfMemory,
+    }
+}
+
+// Refuses what an override has as a filter.
+pub(crate) fn bad_override_filter(
+    alloc: Global,
+    rule: &OverrideId,
+    purpose: FilterPurpose,
+    filter: &str,
+) -> LoadError
+    ensures { IsRefused (words.bad_override_filter rule.now purpose) result }
+{
+    match (copied(rule), Text::from_str(alloc, filter)) {
+        (Ok(rule), Ok(filter)) => LoadError::Refused(LoadFault::BadOverrideFilter {
+            rule,
+            purpose,
+            filter,
+        }),
+        _ => LoadError::OutOfMemory,
+    }
+}
+
+// Refuses a group that an override names and nothing defines.
+pub(crate) fn unknown_group(alloc: Global, rule: &OverrideId, group: &str) -> LoadError
+    ensures { IsRefused (words.unknown_group rule.now group.now) result }
+{
+    match (copied(rule), Text::from_str(alloc, group)) {
+        (Ok(rule), Ok(group)) => LoadError::Refused(LoadFault::UnknownGroup { rule, group }),
+        _ => LoadError::OutOfMemory,
     }
 }
 

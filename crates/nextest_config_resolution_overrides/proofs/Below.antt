@@ -7,7 +7,7 @@ use Rattle.nextest_config_elements_reading.specs.Paths.{at}
 use Rattle.nextest_config_elements_reading.specs.Reading.{Path, Reading, under}
 use Rattle.nextest_config_elements_reading.specs.declared.value_error.ValueError.{ValueError}
 use Rattle.nextest_config_elements_reading.specs.declared.value_error.ValueError.TheVariants as error
-use Rattle.nextest_config_resolution_values.specs.Paths.{GivesAt}
+use Rattle.nextest_config_elements_readers.specs.Paths.{GivesAt}
 
 -- a reading at a key's own path is one of what is under it
 at_under : {A : Type 0} (path : Path) (key : List ℕ) (reading : Reading A) → at (path ++ key ∷ []) reading ≡ at path (under key reading)

@@ -20,9 +20,9 @@ use Rattle.nextest_config_elements_readers.specs.Retries.{retry_policy_in}
 use Rattle.nextest_config_elements_readers.specs.Threads.{threads_required}
 use Rattle.nextest_config_elements_readers.specs.Timeouts.{leak_timeout_in, slow_timeout_in}
 use Rattle.nextest_config_elements_readers.specs.Words.{flaky_result, output_display}
-use Rattle.nextest_config_resolution_values.proofs.Parts.{by_has, has_by, read_so, so_read, table_is, is_table}
-use Rattle.nextest_config_resolution_values.specs.Accepted.{MayBe, Reads, IsTable}
-use Rattle.nextest_config_resolution_values.specs.Keys.{optional_by, table_by, texts_of}
+use Rattle.nextest_config_elements_readers.proofs.Parts.{by_has, has_by, read_so, so_read, table_is, is_table}
+use Rattle.nextest_config_elements_readers.specs.Tables.{MayBe, Reads, IsTable}
+use Rattle.nextest_config_elements_readers.specs.Keys.{optional_by, table_by, texts_of}
 use Rattle.nextest_config_resolution_overrides.proofs.TableLaws.{bench_has, has_bench, platforms_is, is_platforms, read_junit, junit_read}
 use Rattle.nextest_config_resolution_overrides.specs.Accepted.{IsJunit, IsPlatforms, MayHaveBench}
 use Rattle.nextest_config_resolution_overrides.specs.Overrides.{args_to_threads, bench_at, bench_to_flaky, junit_in, junit_to_retries, platforms_of}

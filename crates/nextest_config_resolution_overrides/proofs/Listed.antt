@@ -17,7 +17,7 @@ abbrev ahead : {A : Type 0} → List ℕ → Reading (List A) → Reading A → 
 ahead key rest one = under key one >>= (λ first. rest >>= (λ more. Ok (first ∷ more)))
 
 -- one more value
-value_more : {A : Type 0} (key : List ℕ) (values : List A) (value : A) (one : Reading A) (rest : Reading (List A)) → one ≡ Ok value
+pub value_more : {A : Type 0} (key : List ℕ) (values : List A) (value : A) (one : Reading A) (rest : Reading (List A)) → one ≡ Ok value
     → joined values (ahead key rest one) ≡ joined (values ++ value ∷ []) rest
 value_more key values value one (Ok more) is =
     ap (λ it. joined values (ahead key (Ok more) it)) is ∙ ap Ok (sym (append_assoc values (value ∷ []) more))

@@ -12,7 +12,7 @@ use Rattle.nextest_config_elements_readers.specs.Accepted.{IsSlowTimeout}
 use Rattle.nextest_config_elements_readers.specs.Junit.{report_skip_policy, flaky_fail_status}
 use Rattle.nextest_config_elements_readers.specs.Timeouts.{slow_timeout_in}
 use Rattle.nextest_config_elements_readers.specs.Values.{truth}
-use Rattle.nextest_config_resolution_values.proofs.Parts.{by_has, has_by}
+use Rattle.nextest_config_elements_readers.proofs.Parts.{by_has, has_by}
 use Rattle.nextest_config_resolution_overrides.specs.Accepted.{IsJunit, IsPlatforms, IsPlatformTable, MayHaveBench, only_target}
 use Rattle.nextest_config_resolution_overrides.specs.Overrides.{bench_at, bench_in, bench_of, junit_in, platforms_in, platforms_of}
 use Rattle.nextest_config_resolution_overrides.specs.declared.junit.OverrideJunit.{OverrideJunit}

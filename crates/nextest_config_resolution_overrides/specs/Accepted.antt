@@ -10,8 +10,8 @@ use Rattle.nextest_config_elements_readers.specs.Threads.{threads_required}
 use Rattle.nextest_config_elements_readers.specs.Timeouts.{leak_timeout_in}
 use Rattle.nextest_config_elements_readers.specs.Values.{truth}
 use Rattle.nextest_config_elements_readers.specs.Words.{flaky_result, output_display}
-use Rattle.nextest_config_resolution_values.specs.Accepted.{IsTable, MayBe, Reads}
-use Rattle.nextest_config_resolution_values.specs.Keys.{texts_of}
+use Rattle.nextest_config_elements_readers.specs.Tables.{IsTable, MayBe, Reads}
+use Rattle.nextest_config_elements_readers.specs.Keys.{texts_of}
 use Rattle.nextest_config_resolution_overrides.specs.declared.junit.OverrideJunit.{OverrideJunit}
 use Rattle.nextest_config_resolution_overrides.specs.declared.override_config.OverrideConfig.{OverrideConfig}
 use Rattle.nextest_config_resolution_overrides.specs.declared.platforms.OverridePlatforms.{OverridePlatforms}

@@ -6,7 +6,7 @@ use Rattle.nextest_config_elements_identifiers.specs.declared.invalid_identifier
 use Rattle.nextest_config_elements_reading.specs.Reading.{Path, Reading, ◌>>=◌, under}
 use Rattle.nextest_config_elements_readers.specs.Threads.{test_group_config_in}
 use Rattle.nextest_config_resolution_overrides.specs.declared.groups.NamedGroup.{NamedGroup}
-use Rattle.nextest_config_resolution_values.specs.Keys.{table_by}
+use Rattle.nextest_config_elements_readers.specs.Keys.{table_by}
 
 -- where the groups stand
 abbrev pub groups_path : Path

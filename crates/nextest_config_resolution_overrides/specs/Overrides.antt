@@ -17,7 +17,7 @@ use Rattle.nextest_config_resolution_overrides.specs.declared.platforms.Override
 use Rattle.nextest_config_resolution_overrides.specs.declared.spans.ArgsToThreads.{ArgsToThreads}
 use Rattle.nextest_config_resolution_overrides.specs.declared.spans.BenchToFlaky.{BenchToFlaky}
 use Rattle.nextest_config_resolution_overrides.specs.declared.spans.JunitToRetries.{JunitToRetries}
-use Rattle.nextest_config_resolution_values.specs.Keys.{optional_by, table_by, texts_of}
+use Rattle.nextest_config_elements_readers.specs.Keys.{optional_by, table_by, texts_of}
 
 -- `bench`: when a benchmark is slow
 abbrev pub bench_in : Members → Reading (Option SlowTimeout)

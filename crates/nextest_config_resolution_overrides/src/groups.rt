@@ -1,11 +1,10 @@
 // The groups of tests that a configuration defines.
-ghost use Rattle.std.specs.Prelude.{◌≡◌, [], IfOk, option_map};
+ghost use Rattle.std.specs.Prelude.{◌≡◌, IfOk, option_map};
 ghost use Rattle.toml.specs.View.{table_view, view};
 ghost use Rattle.nextest_config_elements_identifiers.specs.Config.{identifier};
-ghost use Rattle.nextest_config_resolution_overrides.specs.Groups.{group_of, group_path, groups_at, groups_in, groups_of, groups_path, named};
-ghost use Rattle.nextest_config_resolution_values.specs.Paths.{GivesAt};
+ghost use Rattle.nextest_config_resolution_overrides.specs.Groups.{group_of, group_path, groups_in, groups_of, groups_path, named};
+ghost use Rattle.nextest_config_elements_readers.specs.Paths.{GivesAt};
 
-use crate::found::member;
 use nextest_config_elements_counts::TestGroupConfig;
 use nextest_config_elements_identifiers::{CustomTestGroup, InvalidIdentifier};
 use nextest_config_elements_readers::deserialize_test_group_config;
@@ -34,15 +33,8 @@ impl Drop for NamedGroup {
 /// are read past. An `Err` names the first key or value, by the order of the keys, that is none, and a key before its value.
 pub fn deserialize_test_groups(
     alloc: Global,
-    top: &Table,
+    found: Option<&Value>,
 ) -> Result<Listing<NamedGroup>, ValueError>
-    ensures { GivesAt [] result (groups_at (table_view top.now)) }
-{
-    groups_of(alloc, member(top, "test-groups"))
-}
-
-// A table of groups, or nothing.
-fn groups_of(alloc: Global, found: Option<&Value>) -> Result<Listing<NamedGroup>, ValueError>
     ensures { GivesAt groups_path result (groups_of (option_map (λ it. view it.now) found.entry)) }
 {
     match found {

@@ -5,15 +5,15 @@
 //! table before what comes behind it, and reads past all others; the first value that is none is refused with its path.
 #![tactic(auto)]
 
-mod arguments;
 mod bench;
-mod found;
 mod groups;
 mod junit;
 pub mod laws;
 mod list;
 mod override_config;
+mod override_id;
 mod override_value;
+mod placed_override;
 mod platforms;
 mod spans;
 
@@ -21,4 +21,6 @@ pub use groups::{NamedGroup, deserialize_test_groups};
 pub use junit::OverrideJunit;
 pub use list::deserialize_overrides;
 pub use override_config::OverrideConfig;
+pub use override_id::OverrideId;
+pub use placed_override::PlacedOverride;
 pub use platforms::OverridePlatforms;

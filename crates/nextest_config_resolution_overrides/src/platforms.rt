@@ -3,7 +3,7 @@ ghost use Rattle.toml.specs.View.{table_view, view};
 ghost use Rattle.nextest_config_elements_reading.specs.Paths.{Gives};
 ghost use Rattle.nextest_config_resolution_overrides.specs.Overrides.{platforms_in, platforms_of};
 
-use crate::found::optional_text;
+use nextest_config_elements_readers::optional_text;
 use nextest_config_elements_reading::{ValueError, refused};
 use nextest_text::Text;
 use std::alloc::Global;

@@ -2,10 +2,9 @@
 ghost use Rattle.toml.specs.View.{table_view};
 ghost use Rattle.nextest_config_resolution_overrides.specs.Overrides as read;
 ghost use Rattle.nextest_config_resolution_overrides.specs.Paths.{override_path};
-ghost use Rattle.nextest_config_resolution_values.specs.Paths.{GivesAt};
+ghost use Rattle.nextest_config_elements_readers.specs.Paths.{GivesAt};
 
 use crate::bench::bench_at;
-use crate::found::optional_text;
 use crate::junit::OverrideJunit;
 use crate::override_value::optional_value;
 use crate::platforms::OverridePlatforms;
@@ -14,7 +13,7 @@ use nextest_config_elements_counts::{
 };
 use nextest_config_elements_identifiers::TestGroup;
 use nextest_config_elements_plain::{FlakyResult, TestOutputDisplay};
-use nextest_config_elements_readers::{Any, optional};
+use nextest_config_elements_readers::{Any, optional, optional_text};
 use nextest_config_elements_reading::ValueError;
 use nextest_text::{Listing, Text};
 use std::alloc::Global;

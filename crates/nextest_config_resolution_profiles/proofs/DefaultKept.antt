@@ -6,8 +6,8 @@ use Rattle.std.specs.Ordering.{is_eq, match_ordering}
 use Rattle.toml.specs.Data.{Data, table, Members, no_members, member, get_member}
 use Rattle.nextest_config_elements_reading.specs.Reading.{Reading, ◌>>=◌, under}
 use Rattle.nextest_config_resolution_inheritance.specs.Inheritance.{default}
-use Rattle.nextest_config_resolution_load.specs.Checks.{config_in, merged_in}
-use Rattle.nextest_config_resolution_load.specs.Load.{IsLoadedAs}
+use Rattle.nextest_config_resolution_load.specs.Checks.{MergedConfig, config_in, merged_in}
+use Rattle.nextest_config_resolution_load.specs.Load.{IsFilterBy, IsLoadedAs, IsSpecBy}
 use Rattle.nextest_config_resolution_load.specs.declared.loaded_config.LoadedConfig.{LoadedConfig}
 use Rattle.nextest_config_resolution_profiles.specs.BuiltIn.{bench_members, built_in_members, default_members, junit_members, profiles_members, store_members}
 use Rattle.nextest_config_resolution_profiles.specs.Config.{values_of}
@@ -18,8 +18,9 @@ use Rattle.nextest_config_resolution_sources.specs.declared.source.ConfigSource.
 use Rattle.nextest_config_resolution_tree.specs.Nesting.{inside}
 use Rattle.nextest_config_resolution_tree.specs.Tree.{merge}
 use Rattle.nextest_config_resolution_tree.proofs.Keys.{key_cmp}
-use Rattle.nextest_config_resolution_values.specs.Accepted.{IsBench, IsJunit, IsProfile, IsTable, MayBe}
-use Rattle.nextest_config_resolution_values.specs.File.{FileConfig, Named, profiles_in, profiles_of, store_dir_in, store_dir_of}
+use Rattle.nextest_config_elements_readers.specs.Tables.{IsTable, MayBe}
+use Rattle.nextest_config_resolution_values.specs.Accepted.{IsBench, IsJunit, IsProfile}
+use Rattle.nextest_config_resolution_values.specs.File.{Named, profiles_in, profiles_of, store_dir_in, store_dir_of}
 use Rattle.nextest_config_resolution_values.specs.Profile.{profile_in, profile_of}
 use Rattle.nextest_config_resolution_values.specs.declared.profile_config.ProfileConfig.{ProfileConfig}
 use Rattle.nextest_config_resolution_values.proofs.Accepting.{accepted_profile}
@@ -128,14 +129,14 @@ built_in_has = record {
 
 merged_has : (file lower : Members) → IsRead file → HasBuiltIn lower → HasBuiltIn (merge file lower)
 merged_has file lower (config, read) it =
-    let parts = file_parts file config read in
+    let (all, dir, parts) = file_parts file config read in
     let profiles = below (codes "profile") file in
     let values = below default profiles in
     let bench = below (codes "bench") values in
     let junit = below (codes "junit") values in
     let store = below (codes "store") file in
-    let listed = profiles_table (get_member (codes "profile") file) config.profiles parts.0 in
-    let fits = profile_fits default profiles config.profiles listed.1 in
+    let listed = profiles_table (get_member (codes "profile") file) all parts.profiles_read in
+    let fits = profile_fits default profiles all listed.1 in
     record {
       profiles = merge profiles it.profiles;
       values = merge values it.values;
@@ -146,7 +147,7 @@ merged_has file lower (config, read) it =
       at_values = table_kept default profiles it.profiles it.values fits.itself it.at_values;
       at_bench = table_kept (codes "bench") values it.values it.bench fits.bench it.at_bench;
       at_junit = table_kept (codes "junit") values it.values it.junit fits.junit it.at_junit;
-      at_store = table_kept (codes "store") file lower it.store (store_table (get_member (codes "store") file) config.store_dir parts.1) it.at_store;
+      at_store = table_kept (codes "store") file lower it.store (store_table (get_member (codes "store") file) dir parts.store_read) it.at_store;
       has_values = λ key there. key_kept key values it.values (it.has_values key there);
       has_bench = λ key there. key_kept key bench it.bench (it.has_bench key there);
       has_junit = λ key there. key_kept key junit it.junit (it.has_junit key there);
@@ -154,20 +155,20 @@ merged_has file lower (config, read) it =
     }
 
 -- in what sources come to
-pub loaded_has : {F : Type 0} (Is : List ℕ → F → Type 0) (sources : List ConfigSource) (loaded : LoadedConfig F) → IsLoadedAs Is built_in_members sources loaded
+pub loaded_has : {F S : Type 0} (Is : IsFilterBy F) (IsSpec : IsSpecBy S) (sources : List ConfigSource) (loaded : LoadedConfig F S) → IsLoadedAs Is IsSpec built_in_members sources loaded
     → HasBuiltIn (merged_in built_in_members sources)
-loaded_has Is sources loaded it = kept_in Is built_in_members sources loaded HasBuiltIn merged_has it built_in_has
+loaded_has Is IsSpec sources loaded it = kept_in Is IsSpec built_in_members sources loaded HasBuiltIn merged_has it built_in_has
 
 -- ---- as it is read
 
 -- the table of `default` is read as its values
-pub values_read : (top : Members) (config : FileConfig) (it : HasBuiltIn top) → config_in top ≡ Ok config
+pub values_read : (top : Members) (config : MergedConfig) (it : HasBuiltIn top) → config_in top ≡ Ok config
     → (value : ProfileConfig) × (values_of config.profiles default ≡ Some value) × IsProfile it.values value
 values_read top config it e =
-    let read : profiles_in it.profiles ≡ Ok config.profiles = ap profiles_of (sym it.at_profiles) ∙ (config_parts top config e).0 in
+    let read : profiles_in it.profiles ≡ Ok config.profiles = ap profiles_of (sym it.at_profiles) ∙ (config_parts top config e).profiles_read in
     let (value, found, read_as) = profile_at default it.profiles (table it.values) config.profiles it.at_values read in
     (value, found, (accepted_profile it.values value).0 read_as)
 
 -- and the one of the store as its directory
-pub store_read : (top : Members) (config : FileConfig) (it : HasBuiltIn top) → config_in top ≡ Ok config → store_dir_in it.store ≡ Ok config.store_dir
-store_read top config it e = ap store_dir_of (sym it.at_store) ∙ (config_parts top config e).1
+pub store_read : (top : Members) (config : MergedConfig) (it : HasBuiltIn top) → config_in top ≡ Ok config → store_dir_in it.store ≡ Ok config.store_dir
+store_read top config it e = ap store_dir_of (sym it.at_store) ∙ (config_parts top config e).store_read

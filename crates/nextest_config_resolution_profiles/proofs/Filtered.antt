@@ -4,7 +4,8 @@ use Rattle.std.proofs.Math.Seq.{get_or-append_seam}
 use Rattle.std.proofs.lemmas.List.{length-append, length-map}
 use Rattle.std.proofs.lemmas.Option.{none-some, slice_get-get_or, slice_get-map, slice_get_read, slice_get_within}
 use Rattle.std.specs.List.{All, AllZip, slice_get}
-use Rattle.nextest_config_resolution_load.specs.Load.{IsReadAs, named}
+use Rattle.nextest_config_resolution_load.specs.Load.{IsFilterBy, IsReadAs, IsSpecBy, named}
+use Rattle.nextest_config_resolution_load.specs.declared.languages.FilterPurpose.TheVariants as purpose
 use Rattle.nextest_config_resolution_load.specs.declared.loaded_config.NamedProfile.{NamedProfile}
 use Rattle.nextest_config_resolution_profiles.specs.Chains.{AreAt}
 use Rattle.nextest_config_resolution_profiles.specs.Laws.{DefaultIsRead}
@@ -63,14 +64,14 @@ all_filtered Is (profile ∷ profiles) [] all = absurd all
 all_filtered Is (profile ∷ profiles) (found ∷ filters) all = (shape Is profile.config.default_filter found all.0, all_filtered Is profiles filters all.1)
 
 -- a filter is the one of its text
-pub default_is_read : {F : Type 0} (Is : List ℕ → F → Type 0) (IsTooDeep : List ℕ → Type 0) → DefaultIsRead Is IsTooDeep
-default_is_read {F} Is IsTooDeep root sources config names chain it loaded of =
+pub default_is_read : {F S : Type 0} (Is : IsFilterBy F) (IsSpec : IsSpecBy S) (IsTooDeep : List ℕ → Type 0) → DefaultIsRead Is IsSpec IsTooDeep
+default_is_read {F} {S} Is IsSpec IsTooDeep root sources config names chain it loaded of =
     let profiles = config.loaded.profiles in
     let stands : slice_get (map named profiles) of.at ≡ Some (named of.from) = slice_get-map named profiles of.at ∙ ap (option_map named) of.stands in
-    let found = zip_at (λ (profile : Named) (found : Option F). IsReadAs Is profile.1.default_filter found) (map named profiles) config.loaded.default_filters of.at (named of.from) loaded.1.filters stands in
+    let found = zip_at (λ (profile : Named) (found : Option F). IsReadAs (Is purpose.Default) profile.1.default_filter found) (map named profiles) config.loaded.default_filters of.at (named of.from) loaded.1.filters stands in
     let same : found.0 ≡ Some it.filter.now = (let f : Some found.0 ≡ Some (Some it.filter.now) = sym found.1 ∙ of.read in cc) in
-    subst (λ (text : Option (List ℕ)). IsReadAs Is text (Some it.filter.now)) of.sets
-    (subst (λ (filter : Option F). IsReadAs Is of.from.config.default_filter filter) same found.2)
+    subst (λ (text : Option (List ℕ)). IsReadAs (Is purpose.Default) text (Some it.filter.now)) of.sets
+    (subst (λ (filter : Option F). IsReadAs (Is purpose.Default) of.from.config.default_filter filter) same found.2)
 
 -- ---- the default filter of a chain
 

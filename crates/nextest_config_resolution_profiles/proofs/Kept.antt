@@ -1,17 +1,19 @@
 -- A profile that is built in stays, since no file that is accepted has anything but tables in its place.
-use Rattle.std.proofs.Common.{◌≡◌, ℕ, suc, List, [], ◌∷◌, ◌++◌, codes, Option, None, Some, Ok, Err, refl, sym, ap, ◌∙◌, subst, Ordering, Less, Equal, Greater, arith, Bool, true, false, is_some}
+use Rattle.std.proofs.Common.{◌≡◌, ℕ, suc, List, [], ◌∷◌, codes, Option, None, Some, Ok, Err, refl, sym, ap, ◌∙◌, subst, Ordering, Less, Equal, Greater, arith, is_some}
 use Rattle.std.proofs.lemmas.Bool.{false≢true}
 use Rattle.std.specs.List.{Contains, AllByRecursion, cons_option, filter_map, flat_map}
 use Rattle.std.specs.Ordering.{match_ordering}
 use Rattle.toml.specs.Data.{Data, table, Members, no_members, member, get_member}
 use Rattle.toml.specs.Parse.{parse_document}
 use Rattle.nextest_config_elements_identifiers.specs.declared.source_kind.ConfigSourceKind.{ConfigSourceKind}
-use Rattle.nextest_config_elements_reading.specs.Reading.{Path, Reading}
+use Rattle.nextest_config_elements_reading.specs.Reading.{Reading}
 use Rattle.nextest_config_resolution_inheritance.specs.Inheritance.{names}
-use Rattle.nextest_config_resolution_load.specs.Checks.{Check, Refusal, bad_value, config_in, document_checks, document_of, file_of, members_of, merged_in, outcome_checks, parents_of, raised, source_checks, value_checks}
-use Rattle.nextest_config_resolution_load.specs.Load.{IsLoadedAs, seen}
+use Rattle.nextest_config_resolution_load.specs.Checks.{MergedConfig, config_in, document_checks, document_of, file_checks, file_of, members_of, merged_in, outcome_checks, parents_of, raised, source_checks}
+use Rattle.nextest_config_resolution_load.specs.File.{file_in}
+use Rattle.nextest_config_resolution_load.specs.Load.{IsFilterBy, IsKept, IsLoadedAs, IsSpecBy, seen}
+use Rattle.nextest_config_resolution_load.specs.declared.file_config.FileConfig.{FileConfig}
 use Rattle.nextest_config_resolution_load.specs.declared.loaded_config.LoadedConfig.{LoadedConfig}
-use Rattle.nextest_config_resolution_load.proofs.Kept.{kept_sources}
+use Rattle.nextest_config_resolution_load.proofs.Kept.{kept_before, kept_behind, kept_sources}
 use Rattle.nextest_config_resolution_load.proofs.Configs.{same_names}
 use Rattle.nextest_config_resolution_load.proofs.Profiles.{names_read}
 use Rattle.nextest_config_resolution_profiles.specs.Kept.{HasProfile, KeptProfile}
@@ -23,7 +25,7 @@ use Rattle.nextest_config_resolution_sources.specs.declared.source.ConfigSourceO
 use Rattle.nextest_config_resolution_tree.specs.Tree.{keys, over, merge}
 use Rattle.nextest_config_resolution_tree.proofs.Keys.{key_cmp, equal_keys}
 use Rattle.nextest_config_resolution_tree.proofs.Standings.{get_merge}
-use Rattle.nextest_config_resolution_values.specs.File.{FileConfig, file_in, profiles_in, profiles_of}
+use Rattle.nextest_config_resolution_values.specs.File.{profiles_in, profiles_of}
 
 -- ---- keys
 
@@ -44,37 +46,35 @@ key_there name (member other value more) given e = by_order (key_cmp name other)
 
 -- ---- files
 
-abbrev is_empty : List Check → Bool
-is_empty [] = true
-is_empty (check ∷ checks) = false
+module _ {F S : Type 0} (Is : IsFilterBy F) (IsSpec : IsSpecBy S) where
+  -- what is read without a fault
+  read_ok : (path : List ℕ) (kind : ConfigSourceKind) (reading : Reading FileConfig) → AllByRecursion (IsKept Is IsSpec) (file_checks path kind reading)
+      → (config : FileConfig) × (reading ≡ Ok config)
+  read_ok path kind (Ok config) kept = (config, refl)
+  read_ok path kind (Err keys) kept = absurd kept.0
 
-nil_parts : (first more : List Check) → first ++ more ≡ [] → (first ≡ []) × (more ≡ [])
-nil_parts [] more e = (refl, e)
-nil_parts (check ∷ first) more e = absurd (false≢true (ap is_empty e))
+  document_has : (path : List ℕ) (kind : ConfigSourceKind) (found : Option Members) → AllByRecursion (IsKept Is IsSpec) (document_checks path kind found)
+      → AllByRecursion IsRead (cons_option found [])
+  document_has path kind None kept = tt
+  document_has path kind (Some file) kept = (read_ok path kind (file_in file) kept, tt)
 
--- what is read without a fault
-read_ok : (refusal : Path → Refusal) (reading : Reading FileConfig) → value_checks refusal reading ≡ [] → (config : FileConfig) × (reading ≡ Ok config)
-read_ok refusal (Ok config) e = (config, refl)
-read_ok refusal (Err keys) e = absurd (false≢true (ap is_empty e))
-
-document_has : (path : List ℕ) (found : Option Members) → document_checks path found ≡ [] → AllByRecursion IsRead (cons_option found [])
-document_has path None e = tt
-document_has path (Some file) e = (read_ok (bad_value path) (file_in file) e, tt)
-
-outcome_has : (path : List ℕ) (kind : ConfigSourceKind) (outcome : ConfigSourceOutcome) → outcome_checks path kind outcome ≡ [] → AllByRecursion IsRead (cons_option (document_of outcome) [])
-outcome_has path kind (outcome.Text text) e = document_has path (parse_document text) e
-outcome_has path kind outcome.NotFound e = tt
-outcome_has path kind (outcome.Failed cause) e = tt
+  outcome_has : (path : List ℕ) (kind : ConfigSourceKind) (outcome : ConfigSourceOutcome) → AllByRecursion (IsKept Is IsSpec) (outcome_checks path kind outcome)
+      → AllByRecursion IsRead (cons_option (document_of outcome) [])
+  outcome_has path kind (outcome.Text text) kept = document_has path kind (parse_document text) kept
+  outcome_has path kind outcome.NotFound kept = tt
+  outcome_has path kind (outcome.Failed cause) kept = tt
 
 one_more : (file : Option Members) (files : List Members) → AllByRecursion IsRead (cons_option file []) → AllByRecursion IsRead files → AllByRecursion IsRead (cons_option file files)
 one_more None files here more = more
 one_more (Some file) files here more = (here.0, more)
 
-files_have : (sources : List ConfigSource) → flat_map source_checks sources ≡ [] → AllByRecursion IsRead (filter_map file_of sources)
-files_have [] e = tt
-files_have (source ∷ more) e =
-    let parts = nil_parts (source_checks source) (flat_map source_checks more) e in
-    one_more (file_of source) (filter_map file_of more) (outcome_has source.path source.kind source.outcome parts.0) (files_have more parts.1)
+files_have : {F S : Type 0} (Is : IsFilterBy F) (IsSpec : IsSpecBy S) (sources : List ConfigSource) → AllByRecursion (IsKept Is IsSpec) (flat_map source_checks sources)
+    → AllByRecursion IsRead (filter_map file_of sources)
+files_have Is IsSpec [] kept = tt
+files_have Is IsSpec (source ∷ more) kept =
+    let here = kept_before Is IsSpec (source_checks source) (flat_map source_checks more) kept in
+    let behind = kept_behind Is IsSpec (source_checks source) (flat_map source_checks more) kept in
+    one_more (file_of source) (filter_map file_of more) (outcome_has Is IsSpec source.path source.kind source.outcome here) (files_have Is IsSpec more behind)
 
 -- what each file that is read leaves over what is below it stays through all of them
 raised_keeps : (Keeps : Members → Type 0) → ((file lower : Members) → IsRead file → Keeps lower → Keeps (merge file lower))
@@ -82,10 +82,10 @@ raised_keeps : (Keeps : Members → Type 0) → ((file lower : Members) → IsRe
 raised_keeps Keeps one [] lower read it = it
 raised_keeps Keeps one (file ∷ files) lower read it = raised_keeps Keeps one files (merge file lower) read.1 (one file lower read.0 it)
 
-pub kept_in : {F : Type 0} (Is : List ℕ → F → Type 0) (built_in : Members) (sources : List ConfigSource) (config : LoadedConfig F) (Keeps : Members → Type 0)
-    → ((file lower : Members) → IsRead file → Keeps lower → Keeps (merge file lower)) → IsLoadedAs Is built_in sources config → Keeps built_in → Keeps (merged_in built_in sources)
-kept_in Is built_in sources config Keeps one loaded it =
-    raised_keeps Keeps one (filter_map file_of (counted sources)) built_in (files_have (counted sources) (kept_sources Is built_in sources loaded.kept)) it
+pub kept_in : {F S : Type 0} (Is : IsFilterBy F) (IsSpec : IsSpecBy S) (built_in : Members) (sources : List ConfigSource) (config : LoadedConfig F S) (Keeps : Members → Type 0)
+    → ((file lower : Members) → IsRead file → Keeps lower → Keeps (merge file lower)) → IsLoadedAs Is IsSpec built_in sources config → Keeps built_in → Keeps (merged_in built_in sources)
+kept_in Is IsSpec built_in sources config Keeps one loaded it =
+    raised_keeps Keeps one (filter_map file_of (counted sources)) built_in (files_have Is IsSpec (counted sources) (kept_sources Is IsSpec built_in sources loaded.kept)) it
 
 -- ---- one file over what is below it
 
@@ -97,7 +97,8 @@ profile_kept name higher lower given there = by_found (get_member name higher) r
 
 merged_has : (name : List ℕ) (file lower : Members) → IsRead file → HasProfile name lower → HasProfile name (merge file lower)
 merged_has name file lower (config, read) it =
-    let may = profiles_table (get_member (codes "profile") file) config.profiles (file_parts file config read).0 in
+    let (profiles, store_dir, parts) = file_parts file config read in
+    let may = profiles_table (get_member (codes "profile") file) profiles parts.profiles_read in
     let kept = profile_kept name (below (codes "profile") file) it.profiles it.given it.there in
     record {
       profiles = merge (below (codes "profile") file) it.profiles;
@@ -108,11 +109,11 @@ merged_has name file lower (config, read) it =
 
 -- ---- the whole
 
-read_has : (name : List ℕ) (top : Members) (config : FileConfig) → HasProfile name top → config_in top ≡ Ok config → Contains (names (parents_of config.profiles)) name
+read_has : (name : List ℕ) (top : Members) (config : MergedConfig) → HasProfile name top → config_in top ≡ Ok config → Contains (names (parents_of config.profiles)) name
 read_has name top config it e =
-    let there : profiles_in it.profiles ≡ Ok config.profiles = sym (ap profiles_of it.listed) ∙ (config_parts top config e).0 in
+    let there : profiles_in it.profiles ≡ Ok config.profiles = sym (ap profiles_of it.listed) ∙ (config_parts top config e).profiles_read in
     subst (λ all. Contains all name) (sym (names_read it.profiles config.profiles there) ∙ sym (same_names config.profiles)) (key_there name it.profiles it.given it.there)
 
-pub kept_profile : {F : Type 0} (Is : List ℕ → F → Type 0) (IsTooDeep : List ℕ → Type 0) → KeptProfile Is IsTooDeep
-kept_profile Is IsTooDeep built_in sources config name has loaded =
-    read_has name (merged_in built_in sources) (seen config) (kept_in Is built_in sources config (HasProfile name) (merged_has name) loaded has) loaded.values
+pub kept_profile : {F S : Type 0} (Is : IsFilterBy F) (IsSpec : IsSpecBy S) (IsTooDeep : List ℕ → Type 0) → KeptProfile Is IsSpec IsTooDeep
+kept_profile Is IsSpec IsTooDeep built_in sources config name has loaded =
+    read_has name (merged_in built_in sources) (seen config) (kept_in Is IsSpec built_in sources config (HasProfile name) (merged_has name) loaded has) loaded.values

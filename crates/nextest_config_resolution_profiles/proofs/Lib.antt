@@ -1,3 +1,4 @@
+pub mod Askable
 pub mod Chained
 pub mod DefaultKept
 pub mod Ending
@@ -5,12 +6,20 @@ pub mod Filtered
 pub mod Inheriting
 pub mod Putting
 pub mod Found
+pub mod HeldRules
+pub mod Keeping
 pub mod Kept
+pub mod Leasts
 pub mod Names
 pub mod OneProfile
+pub mod PutOn
+pub mod Ruled
+pub mod RulesRead
 pub mod SameChain
 pub mod SetsAll
 pub mod SomeChain
 pub mod SomeConfig
+pub mod SomeSettings
+pub mod Sound
 pub mod Tables
 pub mod Values

@@ -1,31 +1,25 @@
 -- The names of profiles at their places.
-use Rattle.std.proofs.Common.{◌≡◌, ◌≢◌, ℕ, ◌<◌, ◌≤◌, ◌+◌, List, [], ◌∷◌, ◌++◌, length, get_or, map, take, Bor, Option, None, Some, Ok, option_map, refl, ap, sym, ◌∙◌, subst, arith, ◌⊎◌, inl, inr}
+use Rattle.std.proofs.Common.{◌≡◌, ◌≢◌, ℕ, ◌<◌, ◌≤◌, ◌+◌, List, [], ◌∷◌, ◌++◌, length, get_or, map, take, Bor, Option, None, Some, option_map, refl, ap, sym, ◌∙◌, subst, arith, ◌⊎◌, inl, inr}
 use Rattle.std.proofs.lemmas.Bool.{cases_lt}
 use Rattle.std.specs.List.{Contains, slice_get}
 use Rattle.std.proofs.lemmas.Option.{slice_get-map, slice_get_read}
 use Rattle.std.proofs.lemmas.List.{get_or-map, length-map, map_push, take_more}
 use Rattle.std.proofs.lemmas.List.Elements.{All-nil, All-push}
-use Rattle.nextest_config_resolution_inheritance.specs.Inheritance.{Name, Profile, Parents, IsChain, Rise, default, names, name_at, names_at}
+use Rattle.nextest_config_resolution_inheritance.specs.Inheritance.{Name, Profile, Parents, IsChain, Rise, names, name_at, names_at}
 use Rattle.nextest_config_resolution_load.specs.Checks.{parents_of}
-use Rattle.nextest_config_resolution_load.specs.Load.{IsLoaded, IsLoadedAs, named, seen}
-use Rattle.nextest_config_resolution_load.proofs.Kept.{kept_inherits}
+use Rattle.nextest_config_resolution_load.specs.Load.{named}
 use Rattle.nextest_config_resolution_load.specs.declared.loaded_config.NamedProfile.{NamedProfile}
+use Rattle.nextest_config_resolution_load.specs.declared.loaded_override.LoadedOverride.{LoadedOverride}
 use Rattle.nextest_config_resolution_load.proofs.Configs.{same_names, same_parents}
 use Rattle.nextest_config_resolution_values.specs.File.{Named}
 use Rattle.nextest_config_resolution_values.specs.declared.profile_config.ProfileConfig.{ProfileConfig}
-use Rattle.toml.specs.Data.{table, Members}
-use Rattle.nextest_config_resolution_profiles.specs.BuiltIn.{built_in_members, default_members, profiles_members}
-use Rattle.nextest_config_resolution_load.specs.declared.loaded_config.LoadedConfig.{LoadedConfig}
 use Rattle.nextest_config_resolution_settings.specs.Nearest.{lent}
-use Rattle.nextest_config_resolution_sources.specs.declared.source.ConfigSource.{ConfigSource}
+use Rattle.nextest_config_resolution_settings.specs.Rules.{rules_of}
+use Rattle.nextest_config_resolution_profiles.specs.ChainRules.{rules_in}
 use Rattle.nextest_config_resolution_profiles.specs.Chains.{AreAt, IsChained}
 use Rattle.nextest_config_resolution_profiles.specs.Config.{IsDefaultFilterOf, IsChainOf, values_of}
+use Rattle.nextest_config_resolution_profiles.specs.Early.{id_of}
 use Rattle.nextest_config_resolution_profiles.specs.declared.chains.Chained.{Chained}
-use Rattle.nextest_config_resolution_profiles.specs.Kept.{HasProfile}
-use Rattle.nextest_config_resolution_profiles.specs.Whole.{IsSound}
-use Rattle.nextest_config_resolution_profiles.proofs.Kept.{kept_profile}
-use Rattle.nextest_config_resolution_profiles.proofs.SetsAll.{default_sets, store_sets}
-use Rattle.nextest_config_resolution_profiles.proofs.Filtered.{all_filtered}
 use Rattle.nextest_config_resolution_profiles.proofs.Values.{values_in}
 
 abbrev pub all_of : List NamedProfile → Parents
@@ -109,27 +103,12 @@ chained all place places given values rise same chain at = record {
       ∙ ap (map Some) (sym at.valued);
 }
 
--- with its default filter
-pub is_chained : {F : Type 0} (all : List NamedProfile) (filters : List (Option F)) (place : ℕ) (places given : List ℕ) (it : Chained F) → Rise (all_of all) → given ≡ places
+-- with its default filter and its rules
+pub is_chained : {F S : Type 0} (all : List NamedProfile) (filters : List (Option F)) (rules : List (LoadedOverride F S)) (place : ℕ) (places given : List ℕ) (it : Chained F S) → Rise (all_of all) → given ≡ places
     → IsChain (map (λ it. (it.name, it.config.inherits)) all) (name_at (map (λ it. (it.name, it.config.inherits)) all) place) (names_at (map (λ it. (it.name, it.config.inherits)) all) places)
     → AreAt (map named all) given (lent it.values.items) → IsDefaultFilterOf all filters (names_at (all_of all) places) (lent it.values.items) it.default_filter
-    → IsChained all filters (name_at (all_of all) place) it
+    → rules_in it.rules.items ≡ rules_of id_of rules (names_at (all_of all) places)
+    → IsChained all filters rules (name_at (all_of all) place) it
 unfolding chained
-is_chained all filters place places given it rise same chain at filtered = record { chained = chained all place places given (lent it.values.items) rise same chain at; filtered = filtered }
-
--- a configuration that is loaded over what is built in is sound
-pub sound : {F : Type 0} (Is : List ℕ → F → Type 0) (IsTooDeep : List ℕ → Type 0) (members : Members) (sources : List ConfigSource) (it : LoadedConfig F)
-    → members ≡ built_in_members → IsLoaded Is IsTooDeep members sources (Ok it) → Rise (parents_of (seen it).profiles) → IsSound it
-sound Is IsTooDeep members sources it same loaded rises =
-    let over = subst (λ (ms : Members). IsLoadedAs Is ms sources it) same loaded in
-    let set = default_sets Is sources it over in record {
-      accepted = kept_inherits Is members sources (seen it) loaded.kept loaded.values;
-      rises = rises;
-      has_default = kept_profile Is IsTooDeep members sources it default (subst (HasProfile default) (sym same) built_in_has) loaded;
-      sets_filter = record { values = set.0; text = set.2.0; there = set.1; sets = set.2.1 };
-      filtered = all_filtered Is it.profiles it.default_filters loaded.filters;
-      stored = store_sets Is sources it over;
-    }
-  where
-    built_in_has : HasProfile default built_in_members
-    built_in_has = record { profiles = profiles_members; given = table default_members; listed = refl; there = refl }
+is_chained all filters rules place places given it rise same chain at filtered ruled =
+    record { chained = chained all place places given (lent it.values.items) rise same chain at; filtered = filtered; ruled = ruled }

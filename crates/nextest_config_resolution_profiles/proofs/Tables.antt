@@ -1,16 +1,25 @@
 -- Tables over others, and what is read of a file and of a merged tree.
-use Rattle.std.proofs.Common.{◌≡◌, ℕ, true, List, [], codes, Option, None, Some, Ok, Err, is_some, refl, ap, ◌∙◌, ◌⊎◌, inl, inr}
-use Rattle.toml.specs.Data.{Data, string, integer, float, boolean, datetime, array, table, Members, get_member}
+use Rattle.std.proofs.Common.{◌≡◌, ℕ, true, List, [], ◌∷◌, codes, Option, None, Some, Ok, Err, is_some, refl, ap, ◌∙◌, ◌⊎◌, inl, inr}
+use Rattle.toml.specs.Data.{Data, string, integer, float, boolean, datetime, array, table, Members, no_members, member, get_member}
 use Rattle.nextest_config_elements_reading.specs.Reading.{Reading, ◌>>=◌, under}
 use Rattle.nextest_config_elements_versions.specs.Demand.{experimental_in, nextest_version_in}
-use Rattle.nextest_config_resolution_load.specs.Checks.{config_in}
+use Rattle.nextest_config_resolution_load.specs.Checks.{MergedConfig, config_in}
+use Rattle.nextest_config_resolution_load.specs.File.{by_keys, checked, file_in, overrides_in_file, overrides_of_profile, profiles_at_file, profiles_in_file, profiles_of_file}
+use Rattle.nextest_config_resolution_load.specs.declared.file_config.FileConfig.{FileConfig}
+use Rattle.nextest_config_resolution_load.specs.declared.file_config.ProfileOverrides.{ProfileOverrides}
+use Rattle.nextest_config_resolution_overrides.specs.Groups.{groups_at}
+use Rattle.nextest_config_resolution_overrides.specs.Overrides.{overrides_at}
+use Rattle.nextest_config_resolution_overrides.specs.declared.groups.NamedGroup.{NamedGroup}
+use Rattle.nextest_config_resolution_overrides.specs.declared.override_config.OverrideConfig.{OverrideConfig}
 use Rattle.nextest_config_resolution_tree.specs.Nesting.{inside}
 use Rattle.nextest_config_resolution_tree.specs.Tree.{merge}
 use Rattle.nextest_config_resolution_tree.proofs.Standings.{joint, get_merge}
-use Rattle.nextest_config_resolution_values.specs.Accepted.{IsTable}
-use Rattle.nextest_config_resolution_values.specs.File.{FileConfig, Named, file_in, profiles_at, profiles_in, profiles_of, store_dir_at, store_dir_in, store_dir_of}
-use Rattle.nextest_config_resolution_values.specs.Keys.{table_by}
-use Rattle.nextest_config_resolution_values.proofs.Parts.{table_is}
+use Rattle.nextest_config_elements_readers.specs.Tables.{IsTable}
+use Rattle.nextest_config_resolution_values.specs.File.{Named, profiles_at, profiles_in, profiles_of, store_dir_at, store_dir_in, store_dir_of}
+use Rattle.nextest_config_resolution_values.specs.Profile.{profile_in, profile_of}
+use Rattle.nextest_config_resolution_values.specs.declared.profile_config.ProfileConfig.{ProfileConfig}
+use Rattle.nextest_config_elements_readers.specs.Keys.{table_by}
+use Rattle.nextest_config_elements_readers.proofs.Parts.{table_is}
 
 -- ---- a table over another
 
@@ -74,35 +83,114 @@ store_table (Some given) dir e = let it = read_table store_dir_in given dir e in
 abbrev pub IsRead : Members → Type 0
 IsRead file = (config : FileConfig) × (file_in file ≡ Ok config)
 
--- a file, by the readings of its parts
-abbrev whole : {A B : Type 0} → Reading A → Reading B → Reading (List Named) → Reading (Option (List ℕ)) → Reading FileConfig
-whole names versions profiles store_dir =
-    names >>= (λ a. versions >>= (λ b. profiles >>= (λ c. store_dir >>= (λ d. Ok (record { profiles = c; store_dir = d })))))
+-- what stands under `profile` and `store` is read as these
+pub record AreRead (top : Members) (profiles : List Named) (store_dir : Option (List ℕ)) : Type 0 where
+  pub profiles_read : profiles_of (get_member (codes "profile") top) ≡ Ok profiles
+  pub store_read : store_dir_of (get_member (codes "store") top) ≡ Ok store_dir
 
--- its profiles and its store
-abbrev AreRead : Members → FileConfig → Type 0
-AreRead file config =
-    (profiles_of (get_member (codes "profile") file) ≡ Ok config.profiles) × (store_dir_of (get_member (codes "store") file) ≡ Ok config.store_dir)
+both_read : (top : Members) (profiles : List Named) (store_dir : Option (List ℕ)) → profiles_at top ≡ Ok profiles → store_dir_at top ≡ Ok store_dir → AreRead top profiles store_dir
+both_read top profiles store_dir first second = record {
+  profiles_read = under_read (codes "profile") (profiles_of (get_member (codes "profile") top)) profiles first;
+  store_read = under_read (codes "store") (store_dir_of (get_member (codes "store") top)) store_dir second;
+}
 
-parts_read : {A B : Type 0} (names : Reading A) (versions : Reading B) (profiles : Reading (List Named)) (store_dir : Reading (Option (List ℕ))) (config : FileConfig)
-    → whole names versions profiles store_dir ≡ Ok config → (profiles ≡ Ok config.profiles) × (store_dir ≡ Ok config.store_dir)
-parts_read (Ok a) (Ok b) (Ok all) (Ok dir) config e = (cc, cc)
-parts_read (Ok a) (Ok b) (Ok all) (Err path) config e = absurd (cc)
-parts_read (Ok a) (Ok b) (Err path) store_dir config e = absurd (cc)
-parts_read (Ok a) (Err path) profiles store_dir config e = absurd (cc)
-parts_read (Err path) versions profiles store_dir config e = absurd (cc)
+-- the values of profiles whose overrides are read are read, too
+values_too : (first : Reading ProfileConfig) (second : Reading (List OverrideConfig)) (found : List OverrideConfig) → by_keys first second ≡ Ok found
+    → (values : ProfileConfig) × (first ≡ Ok values)
+values_too (Ok values) second found e = (values, refl)
+values_too (Err path) (Ok others) found e = absurd (cc)
+values_too (Err path) (Err other) found e = absurd (cc)
 
-both_read : (file : Members) (config : FileConfig) → (profiles_at file ≡ Ok config.profiles) × (store_dir_at file ≡ Ok config.store_dir) → AreRead file config
-both_read file config parts = (
-  under_read (codes "profile") (profiles_of (get_member (codes "profile") file)) config.profiles parts.0,
-  under_read (codes "store") (store_dir_of (get_member (codes "store") file)) config.store_dir parts.1,
-)
+-- a profile, and those behind it, by what is read of each
+with_others : (name : List ℕ) (first : Reading ProfileOverrides) (more : Reading (List ProfileOverrides)) (all : List ProfileOverrides)
+    → (under name first >>= (λ one. more >>= (λ others. Ok (one ∷ others)))) ≡ Ok all
+    → ((one : ProfileOverrides) × (first ≡ Ok one)) × ((others : List ProfileOverrides) × (more ≡ Ok others))
+with_others name (Ok one) (Ok others) all e = ((one, refl), (others, refl))
+with_others name (Ok one) (Err path) all e = absurd (cc)
+with_others name (Err path) more all e = absurd (cc)
 
-pub file_parts : (file : Members) (config : FileConfig) → file_in file ≡ Ok config → AreRead file config
+-- the table of a profile, by its overrides
+of_table : (name : List ℕ) (reading : Reading (List OverrideConfig)) (one : ProfileOverrides)
+    → (reading >>= (λ found. Ok (record { profile = name; overrides = found }))) ≡ Ok one
+    → (found : List OverrideConfig) × (reading ≡ Ok found)
+of_table name (Ok found) one e = (found, refl)
+of_table name (Err path) one e = absurd (cc)
+
+-- a profile and those behind it are read, where each is
+listed : (name : List ℕ) (first : Reading ProfileConfig) (more : Reading (List Named)) (value : ProfileConfig) (others : List Named) → first ≡ Ok value → more ≡ Ok others
+    → (under name first >>= (λ value. more >>= (λ others. Ok ((name, value) ∷ others)))) ≡ Ok ((name, value) ∷ others)
+listed name first more value others e f = rw (e, f) refl
+
+profile_value : (name : List ℕ) (given : Data) (one : ProfileOverrides) → overrides_of_profile name given ≡ Ok one → (value : ProfileConfig) × (profile_of given ≡ Ok value)
+profile_value name given one e =
+    let found = of_table name (table_by overrides_in_file given) one e in
+    let (members, same, read) = read_table overrides_in_file given found.0 found.1 in
+    let it = values_too (profile_in members) (overrides_at members) found.0 read in
+    (it.0, ap profile_of same ∙ it.1)
+
+profiles_too : (members : Members) (all : List ProfileOverrides) → profiles_in_file members ≡ Ok all → (profiles : List Named) × (profiles_in members ≡ Ok profiles)
+profiles_too no_members all e = ([], refl)
+profiles_too (member name given more) all e =
+    let parts = with_others name (overrides_of_profile name given) (profiles_in_file more) all e in
+    let value = profile_value name given parts.0.0 parts.0.1 in
+    let others = profiles_too more parts.1.0 parts.1.1 in
+    ((name, value.0) ∷ others.0, listed name (profile_of given) (profiles_in more) value.0 others.0 value.1 others.1)
+
+all_too : (found : Option Data) (all : List ProfileOverrides) → profiles_of_file found ≡ Ok all → (profiles : List Named) × (profiles_of found ≡ Ok profiles)
+all_too None all e = ([], refl)
+all_too (Some given) all e =
+    let (members, same, read) = read_table profiles_in_file given all e in
+    let it = profiles_too members all read in
+    (it.0, ap (λ given. profiles_of (Some given)) same ∙ it.1)
+
+-- what is checked has a value
+value_checked : {A : Type 0} (reading : Reading A) (done : Unit {0}) → checked reading ≡ Ok done → (x : A) × (reading ≡ Ok x)
+value_checked (Ok x) done e = (x, refl)
+value_checked (Err path) done e = absurd (cc)
+
+-- the parts of a file, by its readings
+record HasParts {A : Type 0} (profiles : Reading A) (store : Reading (Unit {0})) : Type 0 where
+  all : A
+  profiles_are : profiles ≡ Ok all
+  done : Unit {0}
+  store_is : store ≡ Ok done
+
+parts_of : {A B C : Type 0} (features versions : Reading (Unit {0})) (profiles : Reading A) (store : Reading (Unit {0})) (groups : Reading B) (made : A → B → C) (it : C)
+    → (features >>= (λ a. versions >>= (λ b. profiles >>= (λ c. store >>= (λ d. groups >>= (λ e. Ok (made c e))))))) ≡ Ok it → HasParts profiles store
+parts_of (Ok a) (Ok b) (Ok all) (Ok done) groups made it e = record { all = all; profiles_are = refl; done = done; store_is = refl }
+parts_of (Ok a) (Ok b) (Ok all) (Err path) groups made it e = absurd (cc)
+parts_of (Ok a) (Ok b) (Err path) store groups made it e = absurd (cc)
+parts_of (Ok a) (Err path) profiles store groups made it e = absurd (cc)
+parts_of (Err path) versions profiles store groups made it e = absurd (cc)
+
+-- the values of the profiles of a file that is read are read, and so is where it stores
+pub file_parts : (file : Members) (config : FileConfig) → file_in file ≡ Ok config
+    → (profiles : List Named) × (store_dir : Option (List ℕ)) × AreRead file profiles store_dir
+unfolding file_in
 file_parts file config e =
-    both_read file config (parts_read (experimental_in file) (nextest_version_in file) (profiles_at file) (store_dir_at file) config e)
+    let parts = parts_of (checked (experimental_in file)) (checked (nextest_version_in file)) (profiles_at_file file) (checked (store_dir_at file)) (groups_at file)
+    (λ profiles groups. record { profiles = profiles; groups = groups }) config e in
+    let found = get_member (codes "profile") file in
+    let all = all_too found parts.all (under_read (codes "profile") (profiles_of_file found) parts.all parts.profiles_are) in
+    let store = value_checked (store_dir_at file) parts.done parts.store_is in (
+      all.0,
+      store.0,
+      record {
+        profiles_read = all.1;
+        store_read = under_read (codes "store") (store_dir_of (get_member (codes "store") file)) store.0 store.1;
+      },
+    )
 
--- and those of a merged tree
-pub config_parts : (top : Members) (config : FileConfig) → config_in top ≡ Ok config → AreRead top config
+-- what a merged tree says of profiles and the store, by its readings
+merged_parts : (profiles : Reading (List Named)) (store_dir : Reading (Option (List ℕ))) (groups : Reading (List NamedGroup)) (config : MergedConfig)
+    → (profiles >>= (λ a. store_dir >>= (λ b. groups >>= (λ c. Ok (record { profiles = a; store_dir = b; groups = c }))))) ≡ Ok config
+    → (profiles ≡ Ok config.profiles) × (store_dir ≡ Ok config.store_dir)
+merged_parts (Ok all) (Ok dir) (Ok groups) config e = (cc, cc)
+merged_parts (Ok all) (Ok dir) (Err path) config e = absurd (cc)
+merged_parts (Ok all) (Err path) groups config e = absurd (cc)
+merged_parts (Err path) store_dir groups config e = absurd (cc)
+
+pub config_parts : (top : Members) (config : MergedConfig) → config_in top ≡ Ok config → AreRead top config.profiles config.store_dir
 config_parts top config e =
-    both_read top config (parts_read {A = List ℕ} {B = List ℕ} (Ok []) (Ok []) (profiles_at top) (store_dir_at top) config e)
+    let parts = merged_parts (profiles_at top) (store_dir_at top) (groups_at top) config e in
+    both_read top config.profiles config.store_dir parts.0 parts.1

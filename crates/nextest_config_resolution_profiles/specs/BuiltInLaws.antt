@@ -2,25 +2,27 @@
 use Rattle.std.specs.Prelude.{◌≡◌, ℕ, List, [], ◌∷◌, ◌++◌, Some, Ok}
 use Rattle.toml.specs.Parse.{parse_document}
 use Rattle.nextest_config_resolution_profiles.specs.BuiltIn.{built_in_members}
-use Rattle.nextest_config_resolution_profiles.specs.Profiles.{built_in_file, default_profile}
+use Rattle.nextest_config_resolution_profiles.specs.Profiles.{built_in_config, built_in_file, default_profile}
 use Rattle.nextest_config_resolution_inheritance.specs.Inheritance.{IsAccepted}
 use Rattle.nextest_config_resolution_inheritance.specs.Inherits.{parents_in}
+use Rattle.nextest_config_resolution_load.specs.Checks.{config_in}
+use Rattle.nextest_config_resolution_load.specs.File.{file_in}
 use Rattle.nextest_config_resolution_settings.specs.Keys as key
 use Rattle.nextest_config_resolution_settings.specs.Nearest.{SetsNone}
-use Rattle.nextest_config_resolution_values.specs.File.{file_in}
 use Rattle.nextest_config_resolution_values.specs.declared.profile_config.ProfileConfig.{ProfileConfig}
 
 -- a text is written as this tree
 abbrev pub WrittenAs : List ℕ → Type 0
 WrittenAs text = parse_document text ≡ Some built_in_members
 
--- it is read as these values
-abbrev pub ReadAs : Type 0
-ReadAs = file_in built_in_members ≡ Ok built_in_file
+-- it is read as these values, and has neither rules nor groups
+pub record ReadAs : Type 0 where
+  pub values : config_in built_in_members ≡ Ok built_in_config
+  pub file : file_in built_in_members ≡ Ok built_in_file
 
 -- its profiles may inherit as they do
 abbrev pub Accepted : Type 0
-Accepted = IsAccepted (parents_in (λ named. named.0) (λ named. named.1.inherits) built_in_file.profiles)
+Accepted = IsAccepted (parents_in (λ named. named.0) (λ named. named.1.inherits) built_in_config.profiles)
 
 -- each setting that has a fallback is set by a profile of a chain, and so is the default filter
 pub record SetsEach (chain : List ProfileConfig) : Type 0 where

@@ -4,10 +4,14 @@ use Rattle.nextest_config_resolution_inheritance.specs.Inheritance.{Name, names_
 use Rattle.nextest_config_resolution_load.specs.Checks.{parents_of}
 use Rattle.nextest_config_resolution_load.specs.Load.{named}
 use Rattle.nextest_config_resolution_load.specs.declared.loaded_config.NamedProfile.{NamedProfile}
+use Rattle.nextest_config_resolution_load.specs.declared.loaded_override.LoadedOverride.{LoadedOverride}
 use Rattle.nextest_config_resolution_settings.specs.Nearest.{lent}
+use Rattle.nextest_config_resolution_settings.specs.Rules.{rules_of}
 use Rattle.nextest_config_resolution_values.specs.File.{Named}
 use Rattle.nextest_config_resolution_values.specs.declared.profile_config.ProfileConfig.{ProfileConfig}
+use Rattle.nextest_config_resolution_profiles.specs.ChainRules.{rules_in}
 use Rattle.nextest_config_resolution_profiles.specs.Config.{IsChainOf, IsDefaultFilterOf}
+use Rattle.nextest_config_resolution_profiles.specs.Early.{id_of}
 use Rattle.nextest_config_resolution_profiles.specs.declared.chains.Chained.{Chained}
 
 -- the values of the profiles at some places
@@ -18,7 +22,8 @@ pub record AreAt (profiles : List Named) (places : List ℕ) (values : List Prof
   pub valued : values ≡ map (λ profile. profile.1) chain
   pub stand : map Some values ≡ map (λ place. option_map (λ profile. profile.1) (slice_get profiles place)) places
 
--- the chain of the profile of a name, and its default filter
-pub record IsChained {F : Type 0} (profiles : List NamedProfile) (filters : List (Option F)) (name : Name) (it : Chained F) : Type 0 where
+-- the chain of the profile of a name, its default filter, and its rules
+pub record IsChained {F S : Type 0} (profiles : List NamedProfile) (filters : List (Option F)) (all : List (LoadedOverride F S)) (name : Name) (it : Chained F S) : Type 0 where
   pub chained : IsChainOf (map named profiles) name (lent it.values.items)
   pub filtered : IsDefaultFilterOf profiles filters chained.names (lent it.values.items) it.default_filter
+  pub ruled : rules_in it.rules.items ≡ rules_of id_of all chained.names

@@ -1,33 +1,31 @@
 -- A whole configuration, and its profiles.
 use Rattle.std.specs.Prelude.{◌≡◌, ℕ, ◌==◌, Bool, ◌||◌, List, ◌++◌, Option, Some, Result, Ok, Err, ⊤, Contains, codes, length, map, nat_eq, slice_get, if◌then◌else◌}
 use Rattle.std.specs.List.{starts_with}
-use Rattle.nextest_filtering_arguments.specs.declared.ban.FiltersetKind.{FiltersetKind}
-use Rattle.nextest_filtering_arguments.specs.declared.ban.FiltersetKind.TheVariants as purpose
-use Rattle.nextest_filtering_filters.specs.declared.known_groups.KnownGroups.{KnownGroups}
-use Rattle.nextest_filtering_filters.specs.declared.known_groups.KnownGroups.TheVariants as groups
 use Rattle.nextest_config_resolution_profiles.specs.BuiltIn.{built_in_members}
 use Rattle.nextest_config_resolution_inheritance.specs.Inheritance.{Name}
-use Rattle.nextest_config_resolution_load.specs.Load.{IsLoaded, seen}
+use Rattle.nextest_config_resolution_load.specs.Load.{IsFilterBy, IsLoaded, IsSpecBy, seen}
 use Rattle.nextest_config_resolution_load.specs.declared.load_error.LoadError.{LoadError}
 use Rattle.nextest_config_resolution_load.specs.declared.loaded_config.NamedProfile.{NamedProfile}
 use Rattle.nextest_config_resolution_settings.specs.Keys as key
-use Rattle.nextest_config_resolution_settings.specs.Nearest.{IsNearest, lent}
+use Rattle.nextest_config_resolution_settings.specs.Nearest.{IsNearest}
+use Rattle.nextest_config_resolution_settings.specs.Rules.{rules_of}
 use Rattle.nextest_config_resolution_sources.specs.declared.source.ConfigSource.{ConfigSource}
 use Rattle.nextest_config_resolution_values.specs.File.{Named}
 use Rattle.nextest_config_resolution_values.specs.declared.profile_config.ProfileConfig.{ProfileConfig}
 use Rattle.nextest_config_resolution_settings.specs.declared.default_filter.CompiledDefaultFilter.{CompiledDefaultFilter}
 use Rattle.nextest_config_resolution_settings.specs.declared.default_filter.CompiledDefaultFilterSection.TheVariants as section
-use Rattle.nextest_config_resolution_profiles.specs.declared.early_profile.EarlyProfile.{EarlyProfile}
 use Rattle.nextest_config_resolution_profiles.specs.declared.profile_error.ProfileError.{ProfileError}
 use Rattle.nextest_config_resolution_profiles.specs.declared.profile_error.ProfileError.TheVariants as error
+use Rattle.nextest_config_resolution_profiles.specs.Early.{Early, id_of}
+pub use Rattle.nextest_config_resolution_profiles.specs.Languages.{IsDefaultIn, IsFilterIn}
 pub use Rattle.nextest_config_resolution_profiles.specs.Values.{IsChainOf, values_of}
 use Rattle.nextest_config_resolution_profiles.specs.Whole.{Whole}
 
 -- its profiles, by the bytes of their names, and the names themselves
-abbrev pub profiles_of : {F : Type 0} → Whole F → List Named
+abbrev pub profiles_of : {F S : Type 0} → Whole F S → List Named
 profiles_of config = (seen config.loaded).profiles
 
-abbrev pub names_of : {F : Type 0} → Whole F → List Name
+abbrev pub names_of : {F S : Type 0} → Whole F S → List Name
 names_of config = map (λ profile. profile.name) config.loaded.profiles
 
 -- a directory that doesn't stand below a workspace: it begins at the root, or there is no workspace
@@ -40,30 +38,13 @@ dir_in_store root dir name =
     if stands_alone root dir then dir ++ (codes "/" ++ name) else root ++ (codes "/" ++ (dir ++ (codes "/" ++ name)))
 
 -- the directory of a profile's files, in the store that a configuration sets
-abbrev pub IsStoreDir : {F : Type 0} → Whole F → Name → List ℕ → Type 0
+abbrev pub IsStoreDir : {F S : Type 0} → Whole F S → Name → List ℕ → Type 0
 IsStoreDir config name it = (dir : List ℕ) × (config.loaded.store_dir ≡ Some dir) × (it ≡ dir_in_store config.root dir name)
 
--- a text is this filter, as a default filter: it may ask for no group, so none is known
-abbrev pub IsDefaultIn : {F Cx : Type 0} → (Cx → FiltersetKind → KnownGroups → List ℕ → F → Type 0) → Cx → List ℕ → F → Type 0
-IsDefaultIn IsParsed cx text it = IsParsed cx purpose.DefaultFilter groups.Unavailable text it
-
--- what sources come to over what is built in, in the workspace at a root, where a text is a default filter by `Is`
-abbrev pub IsConfig : {F : Type 0} → (List ℕ → F → Type 0) → (List ℕ → Type 0) → List ℕ → List ConfigSource → Result (Whole F) LoadError → Type 0
-IsConfig Is IsTooDeep root sources (Ok config) = (config.root ≡ root) × IsLoaded Is IsTooDeep built_in_members sources (Ok config.loaded)
-IsConfig Is IsTooDeep root sources (Err refused) = IsLoaded Is IsTooDeep built_in_members sources (Err refused)
-
--- what an early profile shows of itself
-abbrev pub name_of : {F S : Type 0} → EarlyProfile F S → Name
-name_of profile = profile.name.now
-
-abbrev pub store_dir_of : {F S : Type 0} → EarlyProfile F S → List ℕ
-store_dir_of profile = profile.store_dir
-
-abbrev pub chain_of : {F S : Type 0} → EarlyProfile F S → List ProfileConfig
-chain_of profile = lent profile.chain.items
-
-abbrev pub default_of : {F S : Type 0} → EarlyProfile F S → CompiledDefaultFilter F
-default_of profile = profile.default_filter
+-- what sources come to over what is built in, in the workspace at a root, where a text is a filter by `Is`, and a platform spec by `IsSpec`
+abbrev pub IsConfig : {F S : Type 0} → IsFilterBy F → IsSpecBy S → (List ℕ → Type 0) → List ℕ → List ConfigSource → Result (Whole F S) LoadError → Type 0
+IsConfig Is IsSpec IsTooDeep root sources (Ok config) = (config.root ≡ root) × IsLoaded Is IsSpec IsTooDeep built_in_members sources (Ok config.loaded)
+IsConfig Is IsSpec IsTooDeep root sources (Err refused) = IsLoaded Is IsSpec IsTooDeep built_in_members sources (Err refused)
 
 -- the default filter of a chain is that of the nearest profile that sets one, as it was read; it stands at the same place as its profile
 pub record IsDefaultFilterOf {F : Type 0} (profiles : List NamedProfile) (filters : List (Option F)) (names : List Name) (chain : List ProfileConfig) (it : CompiledDefaultFilter F) : Type 0 where
@@ -80,14 +61,16 @@ pub record IsDefaultFilterOf {F : Type 0} (profiles : List NamedProfile) (filter
   pub section : it.section ≡ section.Profile
 
 -- the profile of a name, before anything is known of the platforms
-pub record IsEarly {F S : Type 0} (config : Whole F) (name : Name) (it : EarlyProfile F S) : Type 0 where
-  pub named : name_of it ≡ name
-  pub stored : IsStoreDir config name (store_dir_of it)
-  pub chained : IsChainOf (profiles_of config) name (chain_of it)
-  pub filtered : IsDefaultFilterOf config.loaded.profiles config.loaded.default_filters chained.names (chain_of it) (default_of it)
+pub record IsEarly {F S : Type 0} (config : Whole F S) (name : Name) (it : Early F S) : Type 0 where
+  pub named : it.name ≡ name
+  pub stored : IsStoreDir config name it.store_dir
+  pub chained : IsChainOf (profiles_of config) name it.chain
+  pub filtered : IsDefaultFilterOf config.loaded.profiles config.loaded.default_filters chained.names it.chain it.default_filter
+  pub ruled : it.rules ≡ rules_of id_of config.loaded.rules chained.names
+  pub grouped : it.groups ≡ config.loaded.groups
 
 -- the profile of a name, or that none has it, with the names of all; want of memory says nothing
-abbrev pub IsProfile : {F S : Type 0} → Whole F → Name → Result (EarlyProfile F S) ProfileError → Type 0
+abbrev pub IsProfile : {F S : Type 0} → Whole F S → Name → Result (Early F S) ProfileError → Type 0
 IsProfile config name (Ok it) = IsEarly config name it
 IsProfile config name (Err (error.NotFound told)) = (told.name ≡ name) × (told.known ≡ names_of config) × ¬ Contains (names_of config) name
 IsProfile config name (Err error.OutOfMemory) = ⊤

@@ -1,6 +1,8 @@
 -- What the laws say.
 use Rattle.std.specs.Prelude.{◌≡◌, ◌⊎◌, ℕ, List, Some, Ok, Err, All, Contains}
 use Rattle.nextest_config_resolution_inheritance.specs.Inheritance.{Name}
+use Rattle.nextest_config_resolution_load.specs.Load.{IsFilterBy, IsReadRule, IsSpecBy}
+use Rattle.nextest_config_resolution_load.specs.declared.languages.FilterPurpose.TheVariants as purpose
 use Rattle.nextest_config_resolution_load.specs.declared.load_error.LoadError.TheVariants.{Refused}
 use Rattle.nextest_config_resolution_load.specs.declared.load_fault.LoadFault.{LoadFault}
 use Rattle.nextest_config_resolution_sources.specs.declared.source.ConfigSource.{ConfigSource}
@@ -16,13 +18,13 @@ abbrev pub OneProfile : Type 0
 OneProfile = (profiles : List Named) (name : Name) (a b : List ProfileConfig) → IsChainOf profiles name a → IsChainOf profiles name b → a ≡ b
 
 -- It can't be that sources neither come to a configuration nor break a rule. No law decides whether a text is a filter, so it is said in this form.
-abbrev pub SomeConfig : {F : Type 0} → (List ℕ → F → Type 0) → (List ℕ → Type 0) → Type 0
-SomeConfig {F} Is IsTooDeep = (root : List ℕ) (sources : List ConfigSource)
-    → ¬ ¬ (((config : Whole F) × IsConfig Is IsTooDeep root sources (Ok config)) ⊎ ((fault : LoadFault) × IsConfig Is IsTooDeep root sources (Err (Refused fault))))
+abbrev pub SomeConfig : {F S : Type 0} → IsFilterBy F → IsSpecBy S → (List ℕ → Type 0) → Type 0
+SomeConfig {F} {S} Is IsSpec IsTooDeep = (root : List ℕ) (sources : List ConfigSource)
+    → ¬ ¬ (((config : Whole F S) × IsConfig Is IsSpec IsTooDeep root sources (Ok config)) ⊎ ((fault : LoadFault) × IsConfig Is IsSpec IsTooDeep root sources (Err (Refused fault))))
 
 -- a name has a chain in a configuration, or none of its profiles has the name
-abbrev pub SomeChain : {F : Type 0} → (List ℕ → F → Type 0) → (List ℕ → Type 0) → Type 0
-SomeChain {F} Is IsTooDeep = (root : List ℕ) (sources : List ConfigSource) (config : Whole F) (name : Name) → IsConfig Is IsTooDeep root sources (Ok config)
+abbrev pub SomeChain : {F S : Type 0} → IsFilterBy F → IsSpecBy S → (List ℕ → Type 0) → Type 0
+SomeChain {F} {S} Is IsSpec IsTooDeep = (root : List ℕ) (sources : List ConfigSource) (config : Whole F S) (name : Name) → IsConfig Is IsSpec IsTooDeep root sources (Ok config)
     → ((values : List ProfileConfig) × IsChainOf (profiles_of config) name values) ⊎ ¬ Contains (names_of config) name
 
 -- the chain of a profile hangs on the profiles in it alone
@@ -31,14 +33,19 @@ SameChain = (profiles others : List Named) (name : Name) (values : List ProfileC
     → All (λ it. values_of others it ≡ values_of profiles it) chain.names → IsChainOf others name values
 
 -- the default filter of a chain is the one of its text
-abbrev pub DefaultIsRead : {F : Type 0} → (List ℕ → F → Type 0) → (List ℕ → Type 0) → Type 0
-DefaultIsRead {F} Is IsTooDeep = (root : List ℕ) (sources : List ConfigSource) (config : Whole F) (names : List Name) (chain : List ProfileConfig) (it : CompiledDefaultFilter F)
-    → IsConfig Is IsTooDeep root sources (Ok config) → (of : IsDefaultFilterOf config.loaded.profiles config.loaded.default_filters names chain it) → Is of.text it.filter.now
+abbrev pub DefaultIsRead : {F S : Type 0} → IsFilterBy F → IsSpecBy S → (List ℕ → Type 0) → Type 0
+DefaultIsRead {F} {S} Is IsSpec IsTooDeep = (root : List ℕ) (sources : List ConfigSource) (config : Whole F S) (names : List Name) (chain : List ProfileConfig) (it : CompiledDefaultFilter F)
+    → IsConfig Is IsSpec IsTooDeep root sources (Ok config) → (of : IsDefaultFilterOf config.loaded.profiles config.loaded.default_filters names chain it) → Is purpose.Default of.text it.filter.now
 
 -- a configuration sets the directory of its store, and each of its chains sets each setting but the path of JUnit's report, whatever files say
-pub record SetsAll {F : Type 0} (config : Whole F) : Type 0 where
+pub record SetsAll {F S : Type 0} (config : Whole F S) : Type 0 where
   pub store : (dir : List ℕ) × (config.loaded.store_dir ≡ Some dir)
   pub each : (name : Name) (chain : List ProfileConfig) → IsChainOf (profiles_of config) name chain → SetsEach chain
 
-abbrev pub NeverFallsBack : {F : Type 0} → (List ℕ → F → Type 0) → (List ℕ → Type 0) → Type 0
-NeverFallsBack {F} Is IsTooDeep = (root : List ℕ) (sources : List ConfigSource) (config : Whole F) → IsConfig Is IsTooDeep root sources (Ok config) → SetsAll config
+abbrev pub NeverFallsBack : {F S : Type 0} → IsFilterBy F → IsSpecBy S → (List ℕ → Type 0) → Type 0
+NeverFallsBack {F} {S} Is IsSpec IsTooDeep = (root : List ℕ) (sources : List ConfigSource) (config : Whole F S) → IsConfig Is IsSpec IsTooDeep root sources (Ok config) → SetsAll config
+
+-- each rule of a configuration has the filters and specs of its texts
+abbrev pub RulesAreRead : {F S : Type 0} → IsFilterBy F → IsSpecBy S → (List ℕ → Type 0) → Type 0
+RulesAreRead {F} {S} Is IsSpec IsTooDeep = (root : List ℕ) (sources : List ConfigSource) (config : Whole F S) → IsConfig Is IsSpec IsTooDeep root sources (Ok config)
+    → All (λ rule. IsReadRule Is IsSpec rule.placed rule) config.loaded.rules

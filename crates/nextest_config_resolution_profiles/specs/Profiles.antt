@@ -1,8 +1,9 @@
 -- What the built-in configuration is read as.
 use Rattle.std.specs.Prelude.{[], ◌∷◌, codes, None, Some}
 use Rattle.nextest_config_elements_plain.specs.declared.run_mode.NextestRunMode.TheVariants as mode
+use Rattle.nextest_config_resolution_load.specs.Checks.{MergedConfig}
+use Rattle.nextest_config_resolution_load.specs.declared.file_config.FileConfig.{FileConfig}
 use Rattle.nextest_config_resolution_settings.specs.Fallbacks as fallback
-use Rattle.nextest_config_resolution_values.specs.File.{FileConfig}
 use Rattle.nextest_config_resolution_values.specs.declared.profile_config.ProfileConfig.{ProfileConfig}
 
 -- the profile `default` sets each setting that has a fallback, and to that
@@ -57,8 +58,16 @@ miri_profile = record {
 }
 
 -- both, and where files are stored
-abbrev pub built_in_file : FileConfig
-built_in_file = record {
+abbrev pub built_in_config : MergedConfig
+built_in_config = record {
   profiles = (codes "default", default_profile) ∷ (codes "default-miri", miri_profile) ∷ [];
   store_dir = Some (codes "target/nextest");
+  groups = [];
+}
+
+-- neither has an override
+abbrev pub built_in_file : FileConfig
+built_in_file = record {
+  profiles = record { profile = codes "default"; overrides = [] } ∷ record { profile = codes "default-miri"; overrides = [] } ∷ [];
+  groups = [];
 }

@@ -11,8 +11,10 @@ ghost use Rattle.nextest_config_resolution_profiles.specs.Values.{SetsFilter};
 ghost use Rattle.nextest_config_resolution_settings.specs.Keys as key;
 ghost use Rattle.nextest_config_resolution_settings.specs.Nearest.{SetsNone, lent};
 
+use crate::chain_rule::ChainRule;
+use crate::rules::rules_at;
 use nextest_config_resolution_inheritance::chain_of;
-use nextest_config_resolution_load::NamedProfile;
+use nextest_config_resolution_load::{LoadedOverride, NamedProfile};
 use nextest_config_resolution_settings::keys::DefaultFilterKey;
 use nextest_config_resolution_settings::{
     CompiledDefaultFilter, CompiledDefaultFilterSection, nearest,
@@ -57,34 +59,41 @@ pub(crate) fn all_names(
     Ok(all)
 }
 
-// The values of the chain of a profile, its own first, and its default filter.
+// The values of the chain of a profile, its own first, its default filter, and its rules.
 #[derive(Drop)]
-pub(crate) struct Chained<'c, F> {
+pub(crate) struct Chained<'c, F, S> {
     pub(crate) values: Vec<&'c ProfileConfig>,
     pub(crate) default_filter: CompiledDefaultFilter<'c, F>,
+    pub(crate) rules: Vec<ChainRule<'c, F, S>>,
 }
 
-// The chain of the profile at a place, where these are the default filters of all profiles.
-pub(crate) fn chain_at<'c, F>(
+// The chain of the profile at a place, where these are the default filters of all profiles, and these the rules of all.
+pub(crate) fn chain_at<'c, F: Drop, S: Drop>(
     alloc: Global,
     profiles: &'c [NamedProfile],
     filters: &'c [Option<F>],
+    all: &'c [LoadedOverride<F, S>],
     place: usize,
-) -> Result<Chained<'c, F>, AllocError>
+) -> Result<Chained<'c, F, S>, AllocError>
     requires accepted { IsAccepted (parents_of (map named profiles.now)) }
     requires rise { Rise (parents_of (map named profiles.now)) }
     requires has_default { Contains (names (parents_of (map named profiles.now))) default }
     requires sets_filter { SetsFilter (map named profiles.now) }
     requires filtered { AreFiltered profiles.now filters.now }
     requires place { place < length profiles.now }
-    ensures { IfOk result (IsChained profiles.now filters.now (name_at (parents_of (map named profiles.now)) place)) }
+    ensures { IfOk result (IsChained profiles.now filters.now all.now
+        (name_at (parents_of (map named profiles.now)) place)) }
 {
-    let places = chain_of(alloc, profiles, place)?;
-    let values = values_at(alloc, profiles, places.as_slice())?;
-    let default_filter = default_filter_of(profiles, filters, places.as_slice(), values.as_slice());
+    let found = chain_of(alloc, profiles, place)?;
+    let places = found.as_slice();
+    let values = values_at(alloc, profiles, places)?;
+    let rules = rules_at(alloc, profiles, places, all)?;
+    let layers = values.as_slice();
+    let default_filter = default_filter_of(profiles, filters, places, layers);
     Ok(Chained {
         values,
         default_filter,
+        rules,
     })
 }
 

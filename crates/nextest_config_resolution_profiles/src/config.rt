@@ -1,6 +1,6 @@
 // A whole configuration.
 use crate::chains::{Chained, all_names, chain_at, place_of};
-use crate::default_filters::DefaultFilters;
+use crate::config_languages::ConfigLanguages;
 use crate::early_profile::EarlyProfile;
 use crate::profile_error::{ProfileError, ProfileNotFound};
 use crate::selection::selected;
@@ -9,47 +9,43 @@ use crate::tree::built_in;
 use nextest_config_elements_versions::FeatureSet;
 use nextest_config_resolution_filters::{Filters, Specs};
 use nextest_config_resolution_load::{
-    ConfigWarnings, LoadError, LoadedConfig, load, load_with_warnings,
+    ConfigWarnings, LoadError, LoadedConfig, LoadedOverride, load, load_with_warnings,
 };
+use nextest_config_resolution_overrides::NamedGroup;
 use nextest_config_resolution_sources::{ConfigFileSelection, ConfigPaths, ConfigSource};
 use nextest_text::Text;
 use std::alloc::Global;
-use std::marker::{Model, PhantomData};
+use std::marker::Model;
 
 /// A whole configuration: what its sources come to, each over the lower ones and over what is built in. Tests are told apart by
-/// filters `F`, and builds by specs `S`, of which none is read yet.
+/// filters `F`, and builds by specs `S`.
 pub struct NextestConfig<F: Filters, S: Specs> {
     root: Text,
-    loaded: LoadedConfig<F>,
-    by: PhantomData<S>,
+    loaded: LoadedConfig<F, S>,
 }
 
 // One call drops it, whoever holds it.
 impl<F: Filters, S: Specs> Drop for NextestConfig<F, S> {
     fn drop(self) {
-        let Self {
-            root: _,
-            loaded: _,
-            by: _,
-        } = self;
+        let Self { root: _, loaded: _ } = self;
     }
 }
 
 impl<F: Filters, S: Specs> Model for NextestConfig<F, S> {
     ghost use Rattle.nextest_config_resolution_profiles.specs.Whole.{IsSound, Whole};
 
-    ghost Value = { Whole F };
+    ghost Value = { Whole F S };
 
     ghost view = { λ it. record { root = it.root; loaded = it.loaded } };
 
     // The profiles inherit as they may, their names rise, `default` is among them and sets a default filter, the default filters of
-    // all are read, and there is a directory of the store.
-    ghost invariant = { λ it. IsSound it.loaded };
+    // all are read and serve as such, no rule asks for groups, and there is a directory of the store.
+    ghost invariant = { λ it. IsSound F.serves_as_default F.asks_groups it.loaded };
 }
 
 impl<F: Filters, S: Specs> NextestConfig<F, S> {
     ghost use Rattle.nextest_config_resolution_load.specs.Telling.{TellsAs, warnings_in};
-    ghost use Rattle.nextest_config_resolution_profiles.specs.Config.{IsConfig, IsDefaultIn, IsProfile};
+    ghost use Rattle.nextest_config_resolution_profiles.specs.Config.{IsConfig, IsFilterIn, IsProfile};
     ghost use Rattle.nextest_config_resolution_profiles.specs.Selection.{selected_by};
     ghost use Rattle.std.specs.Prelude.{◌≡◌, Some};
 
@@ -58,8 +54,8 @@ impl<F: Filters, S: Specs> NextestConfig<F, S> {
     ///
     /// # Errors
     ///
-    /// `Refused` tells of the first rule that is broken, as `load` says; the last is that each default filter is a filter of
-    /// `cx`, in which no group is known. Want of memory says nothing of the sources.
+    /// `Refused` tells of the first rule that is broken, as `load` says, where filters are those of `cx`, in which no group is
+    /// known. Want of memory says nothing of the sources.
     pub fn from_sources(
         alloc: Global,
         root: &str,
@@ -67,14 +63,13 @@ impl<F: Filters, S: Specs> NextestConfig<F, S> {
         sources: &[ConfigSource],
         _experimental: FeatureSet,
     ) -> Result<NextestConfig<F, S>, LoadError>
-        ensures { IsConfig (IsDefaultIn F.is_parsed cx.now) F.is_too_deep root.now sources.now result }
+        ensures { IsConfig (IsFilterIn F.is_parsed cx.now) S.is_parsed F.is_too_deep root.now sources.now result }
     {
         let lowest = built_in(alloc)?;
-        match load::<DefaultFilters<F>>(alloc, &lowest, cx, sources) {
+        match load::<ConfigLanguages<F, S>>(alloc, &lowest, cx, sources) {
             Ok(loaded) => Ok(NextestConfig {
                 root: Text::from_str(alloc, root)?,
                 loaded,
-                by: PhantomData,
             }),
             Err(error) => Err(error),
         }
@@ -94,17 +89,15 @@ impl<F: Filters, S: Specs> NextestConfig<F, S> {
         _experimental: FeatureSet,
         warnings: &mut W,
     ) -> Result<NextestConfig<F, S>, LoadError>
-        ensures config { IsConfig (IsDefaultIn F.is_parsed cx.now) F.is_too_deep root.now sources.now result }
+        ensures config { IsConfig (IsFilterIn F.is_parsed cx.now) S.is_parsed F.is_too_deep root.now sources.now result }
         ensures told { TellsAs W.has_told warnings.old warnings.new (warnings_in sources.now) result }
     {
         let lowest = built_in(alloc)?;
         let root = Text::from_str(alloc, root)?;
-        match load_with_warnings::<DefaultFilters<F>, W>(alloc, &lowest, cx, sources, warnings) {
-            Ok(loaded) => Ok(NextestConfig {
-                root,
-                loaded,
-                by: PhantomData,
-            }),
+        match load_with_warnings::<ConfigLanguages<F, S>, W>(
+            alloc, &lowest, cx, sources, warnings,
+        ) {
+            Ok(loaded) => Ok(NextestConfig { root, loaded }),
             Err(error) => Err(error),
         }
     }
@@ -125,7 +118,8 @@ impl<F: Filters, S: Specs> NextestConfig<F, S> {
         experimental: FeatureSet,
         warnings: &mut W,
     ) -> Result<NextestConfig<F, S>, LoadError>
-        ensures config { IsConfig (IsDefaultIn F.is_parsed cx.now) F.is_too_deep root.now (selected_by selection.now sources.now) result }
+        ensures config { IsConfig (IsFilterIn F.is_parsed cx.now) S.is_parsed F.is_too_deep
+            root.now (selected_by selection.now sources.now) result }
         ensures told { TellsAs W.has_told warnings.old warnings.new (warnings_in (selected_by selection.now sources.now)) result }
     {
         let sources = selected(alloc, selection, sources)?;
@@ -153,7 +147,8 @@ impl<F: Filters, S: Specs> NextestConfig<F, S> {
         experimental: FeatureSet,
         warnings: &mut W,
     ) -> Result<NextestConfig<F, S>, LoadError>
-        ensures config { IsConfig (IsDefaultIn F.is_parsed cx.now) F.is_too_deep paths.now.workspace_root (selected_by selection.now sources.now) result }
+        ensures config { IsConfig (IsFilterIn F.is_parsed cx.now) S.is_parsed F.is_too_deep
+            paths.now.workspace_root (selected_by selection.now sources.now) result }
         ensures told { TellsAs W.has_told warnings.old warnings.new (warnings_in (selected_by selection.now sources.now)) result }
     {
         let root = paths.workspace_root.as_str();
@@ -175,6 +170,21 @@ impl<F: Filters, S: Specs> NextestConfig<F, S> {
         self.loaded.sets_later_keys
     }
 
+    /// The overrides of all files: the highest file first, in a file by the bytes of the profiles' names, and those of a profile in
+    /// their order.
+    pub fn rules(&self) -> &[LoadedOverride<F, S>]
+        ensures { result.now ≡ self.now.loaded.rules }
+    {
+        self.loaded.rules.as_slice()
+    }
+
+    /// The groups of tests, as they are defined. Of several with one name the last holds.
+    pub fn groups(&self) -> &[NamedGroup]
+        ensures { result.now ≡ self.now.loaded.groups }
+    {
+        self.loaded.groups.as_slice()
+    }
+
     /// The profile of a name, lent.
     ///
     /// # Errors
@@ -187,17 +197,21 @@ impl<F: Filters, S: Specs> NextestConfig<F, S> {
         match place_of(profiles, name) {
             Some(place) => {
                 let filters = self.loaded.default_filters.as_slice();
+                let all = self.loaded.rules.as_slice();
+                let groups = self.loaded.groups.as_slice();
                 let Chained {
                     values,
                     default_filter,
-                } = chain_at(alloc, profiles, filters, place)?;
+                    rules,
+                } = chain_at(alloc, profiles, filters, all, place)?;
                 let name = profiles[place].name.as_str();
                 Ok(EarlyProfile {
                     name,
                     store_dir: dir_in_store(alloc, self.root.as_str(), self.store(), name)?,
                     chain: values,
                     default_filter,
-                    by: PhantomData,
+                    rules,
+                    groups,
                 })
             }
             None => Err(ProfileError::NotFound(ProfileNotFound {

@@ -1,42 +1,77 @@
 // A profile before anything is known of the platforms.
-ghost use Rattle.std.specs.Prelude.{◌≡◌};
+ghost use Rattle.std.specs.Prelude.{◌≡◌, IfOk, map};
 ghost use Rattle.std.specs.Bool.{OnFalse, OnTrue};
-ghost use Rattle.nextest_config_resolution_profiles.specs.Config.{SetsJunit, chain_of, default_of, name_of, store_dir_of};
+ghost use Rattle.nextest_config_resolution_profiles.specs.Config.{SetsJunit};
+ghost use Rattle.nextest_config_resolution_profiles.specs.Evaluatable.{IsPutOn};
+ghost use Rattle.nextest_config_resolution_profiles.specs.Platforms.{built_for, built_on};
 ghost use Rattle.nextest_config_resolution_settings.specs.Keys as key;
 ghost use Rattle.nextest_config_resolution_settings.specs.Nearest.{SetsNone};
-ghost use Rattle.nextest_config_resolution_settings.specs.Profile as profile;
 
+use crate::chain_rule::ChainRule;
+use crate::evaluatable_profile::EvaluatableProfile;
+use crate::platforms::{BuildPlatforms, chosen_default, put_all_on};
 use nextest_config_resolution_filters::{Filters, Specs};
+use nextest_config_resolution_overrides::NamedGroup;
 use nextest_config_resolution_settings::keys::JunitPathKey;
-use nextest_config_resolution_settings::{CompiledDefaultFilter, EvaluatableProfile, nearest};
+use nextest_config_resolution_settings::{CompiledDefaultFilter, nearest};
 use nextest_config_resolution_values::ProfileConfig;
-use nextest_text::Text;
-use std::marker::PhantomData;
+use nextest_filtering_filters::KnownGroups;
+use nextest_text::{Listing, Text};
+use std::alloc::{AllocError, Global};
+use std::marker::Model;
 
-/// A profile before anything is known of the platforms: its chain, and where its files stand.
-#[derive(Drop)]
-pub struct EarlyProfile<'c, F, S> {
+/// A profile before anything is known of the platforms: its chain and the rules of that, and where its files stand.
+pub struct EarlyProfile<'c, F: Filters, S: Specs> {
     pub(crate) name: &'c str,
     pub(crate) store_dir: Text,
     // Its own values first, then those of its parents one after another, and those of `default` last.
     pub(crate) chain: Vec<&'c ProfileConfig>,
+    // That of the profiles alone.
     pub(crate) default_filter: CompiledDefaultFilter<'c, F>,
-    pub(crate) by: PhantomData<S>,
+    // By the chain, then by file from the highest, then by their index in the file.
+    pub(crate) rules: Vec<ChainRule<'c, F, S>>,
+    pub(crate) groups: &'c [NamedGroup],
 }
 
-/// What is known of the platform that is built on, and of the one that is built for where it is another.
-#[derive(Clone, Copy)]
-pub struct BuildPlatforms<'f, Facts> {
-    /// What is known of the platform that is built on.
-    pub host: &'f Facts,
-    /// What is known of the platform that is built for; `None` where it is the same.
-    pub target: Option<&'f Facts>,
+// One call drops it, whoever holds it.
+impl<'c, F: Filters, S: Specs> Drop for EarlyProfile<'c, F, S> {
+    fn drop(self) {
+        let Self {
+            name: _,
+            store_dir: _,
+            chain: _,
+            default_filter: _,
+            rules: _,
+            groups: _,
+        } = self;
+    }
+}
+
+impl<'c, F: Filters, S: Specs> Model for EarlyProfile<'c, F, S> {
+    ghost use Rattle.nextest_config_resolution_profiles.specs.Asking.{AreAskable};
+    ghost use Rattle.nextest_config_resolution_profiles.specs.ChainRules.{rules_in};
+    ghost use Rattle.nextest_config_resolution_profiles.specs.Early.{Early};
+    ghost use Rattle.nextest_config_resolution_settings.specs.Nearest.{lent};
+
+    ghost Value = { Early F S };
+
+    ghost view = { λ it. record {
+      name = it.name.now;
+      store_dir = it.store_dir;
+      chain = lent it.chain.items;
+      default_filter = it.default_filter;
+      rules = rules_in it.rules.items;
+      groups = it.groups.now;
+    } };
+
+    // The default filter and those of rules serve as such, and no rule asks for groups.
+    ghost invariant = { λ it. AreAskable F.serves_as_default F.asks_groups it.default_filter.filter.now (rules_in it.rules.items) };
 }
 
 impl<'c, F: Filters, S: Specs> EarlyProfile<'c, F, S> {
     /// Its name.
     pub fn name(&self) -> &'c str
-        ensures { result.now ≡ name_of self.now }
+        ensures { result.now ≡ self.now.name }
     {
         self.name
     }
@@ -44,15 +79,15 @@ impl<'c, F: Filters, S: Specs> EarlyProfile<'c, F, S> {
     /// The directory of its files: DIR/PROFILE where the store's directory begins at the root, or there is no workspace; and
     /// ROOT/DIR/PROFILE else.
     pub fn store_dir(&self) -> &str
-        ensures { result.now ≡ store_dir_of self.now }
+        ensures { result.now ≡ self.now.store_dir }
     {
         self.store_dir.as_str()
     }
 
     /// Whether there is a report in JUnit's form: exactly if a profile of the chain sets `junit.path`.
     pub fn has_junit(&self) -> bool
-        ensures yes { OnTrue result (SetsJunit (chain_of self.now)) }
-        ensures no { OnFalse result (SetsNone key.junit_path (chain_of self.now)) }
+        ensures yes { OnTrue result (SetsJunit self.now.chain) }
+        ensures no { OnFalse result (SetsNone key.junit_path self.now.chain) }
     {
         match nearest::<JunitPathKey, ProfileConfig>(self.chain.as_slice()) {
             Some(_) => true,
@@ -60,24 +95,61 @@ impl<'c, F: Filters, S: Specs> EarlyProfile<'c, F, S> {
         }
     }
 
-    /// The profile on these platforms, with the same name and chain, to be asked for its settings. Nothing asks of the platforms
-    /// yet.
+    /// The groups of tests that a filterset may name: those that are defined.
+    ///
+    /// # Errors
+    ///
+    /// It fails only on allocation.
+    pub fn known_groups(&self, alloc: Global) -> Result<KnownGroups, AllocError>
+        ensures { IfOk result (λ it. it ≡ KnownGroups.Known (map (λ group. group.name) self.now.groups)) }
+    {
+        Ok(KnownGroups::Known(group_names(alloc, self.groups)?))
+    }
+
+    /// The groups of tests, as they are defined. Of several with one name the last holds.
+    pub fn test_group_config(&self) -> &'c [NamedGroup]
+        ensures { result.now ≡ self.now.groups }
+    {
+        self.groups
+    }
+
+    /// The profile on these platforms, with the same name and chain, to be asked for its settings. A spec of which what is known
+    /// doesn't tell whether it holds does. The default filter is that of the first rule that holds for what is built for the
+    /// target and sets one; where there is none, it is that of the profiles.
     pub fn apply_build_platforms(
         self,
-        _platforms: &BuildPlatforms<'_, S::Facts>,
+        platforms: &BuildPlatforms<'_, S::Facts>,
     ) -> EvaluatableProfile<'c, F, S>
-        ensures name { profile.name_of result ≡ name_of self.entry }
-        ensures store_dir { profile.store_dir_of result ≡ store_dir_of self.entry }
-        ensures chain { profile.chain_of result ≡ chain_of self.entry }
-        ensures default_filter { profile.default_of result ≡ default_of self.entry }
+        ensures { IsPutOn S.value_on (built_on platforms.now) (built_for platforms.now) self.entry result }
     {
         let EarlyProfile {
             name,
             store_dir,
             chain,
-            default_filter,
-            by: _,
+            default_filter: early,
+            mut rules,
+            groups,
         } = self;
-        EvaluatableProfile::new(name, store_dir, chain, default_filter)
+        put_all_on(&mut rules, platforms);
+        let default_filter = chosen_default(early, rules.as_slice());
+        EvaluatableProfile {
+            name,
+            store_dir,
+            chain,
+            default_filter,
+            rules,
+            groups,
+        }
     }
+}
+
+// The names of groups.
+fn group_names(alloc: Global, groups: &[NamedGroup]) -> Result<Listing<Text>, AllocError>
+    ensures { IfOk result (λ it. it ≡ map (λ group. group.name) groups.now) }
+{
+    let mut names = Listing::new(alloc);
+    for group in groups {
+        names.push(Text::from_str(alloc, group.name.as_str())?)?;
+    }
+    Ok(names)
 }

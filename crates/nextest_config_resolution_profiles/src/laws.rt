@@ -1,15 +1,17 @@
 //! What holds of whole configurations. Each law is the contract of a function that does nothing.
-ghost use Rattle.nextest_config_resolution_profiles.specs.Config.{IsDefaultIn};
-ghost use Rattle.nextest_config_resolution_profiles.specs.Kept.{KeptProfile};
-ghost use Rattle.nextest_config_resolution_profiles.specs.Laws.{DefaultIsRead, NeverFallsBack, OneProfile, SameChain, SomeChain, SomeConfig};
 ghost use Rattle.nextest_config_resolution_profiles.specs.BuiltInLaws.{Accepted, NoFallback, ReadAs, WrittenAs};
+ghost use Rattle.nextest_config_resolution_profiles.specs.Kept.{KeptProfile};
+ghost use Rattle.nextest_config_resolution_profiles.specs.Languages.{IsFilterIn};
+ghost use Rattle.nextest_config_resolution_profiles.specs.Laws.{DefaultIsRead, NeverFallsBack, OneProfile, RulesAreRead, SameChain, SomeChain, SomeConfig};
+ghost use Rattle.nextest_config_resolution_profiles.specs.RuleLaws.{EarlyDefault, GroupOfSettings, NoRules, OneHeld, SameSettingsFor, SameSourcesFor, SomeGroupFor, SomeSettingsFor};
 
 use crate::default_config::DEFAULT_CONFIG;
-use nextest_config_resolution_filters::Filters;
+use nextest_config_resolution_filters::{Filters, Specs};
+use nextest_config_resolution_settings::TrackSource;
 
 /// A profile of what is built in is one of every configuration that is loaded over it.
-pub fn kept_profile<F: Filters>()
-    ensures { (cx : F.Cx) → KeptProfile (IsDefaultIn F.is_parsed cx) F.is_too_deep }
+pub fn kept_profile<F: Filters, S: Specs>()
+    ensures { (cx : F.Cx) → KeptProfile (IsFilterIn F.is_parsed cx) S.is_parsed F.is_too_deep }
 {}
 
 /// The chain of a profile has one list of values.
@@ -19,14 +21,19 @@ pub fn one_profile()
 
 /// It can't be that sources neither come to a configuration nor break a rule; and in a configuration a name has a chain, or no
 /// profile has that name.
-pub fn some_profile<F: Filters>()
-    ensures config { (cx : F.Cx) → SomeConfig (IsDefaultIn F.is_parsed cx) F.is_too_deep }
-    ensures chain { (cx : F.Cx) → SomeChain (IsDefaultIn F.is_parsed cx) F.is_too_deep }
+pub fn some_profile<F: Filters, S: Specs>()
+    ensures config { (cx : F.Cx) → SomeConfig (IsFilterIn F.is_parsed cx) S.is_parsed F.is_too_deep }
+    ensures chain { (cx : F.Cx) → SomeChain (IsFilterIn F.is_parsed cx) S.is_parsed F.is_too_deep }
 {}
 
 /// The default filter that a profile of a configuration tells is the one that its text is in the workspace.
-pub fn default_is_read<F: Filters>()
-    ensures { (cx : F.Cx) → DefaultIsRead (IsDefaultIn F.is_parsed cx) F.is_too_deep }
+pub fn default_is_read<F: Filters, S: Specs>()
+    ensures { (cx : F.Cx) → DefaultIsRead (IsFilterIn F.is_parsed cx) S.is_parsed F.is_too_deep }
+{}
+
+/// Each rule of a configuration has the filters and platform specs that its texts are in the workspace.
+pub fn rules_are_read<F: Filters, S: Specs>()
+    ensures { (cx : F.Cx) → RulesAreRead (IsFilterIn F.is_parsed cx) S.is_parsed F.is_too_deep }
 {}
 
 /// The chain of a profile hangs on the profiles in it alone: others that have the same values under their names have the same one.
@@ -40,7 +47,7 @@ pub fn written_as()
 {}
 
 /// It is read as the values of its two profiles: `default` sets each setting that has a fallback, and to that, and
-/// `default-miri` sets nothing.
+/// `default-miri` sets nothing. It has neither rules nor groups.
 pub fn read_as()
     ensures { ReadAs }
 {}
@@ -56,6 +63,36 @@ pub fn no_fallback()
 {}
 
 /// A configuration sets the directory of its store, and each of its chains sets each setting but the path of JUnit's report, so that no fallback is ever used.
-pub fn never_falls_back<F: Filters>()
-    ensures { (cx : F.Cx) → NeverFallsBack (IsDefaultIn F.is_parsed cx) F.is_too_deep }
+pub fn never_falls_back<F: Filters, S: Specs>()
+    ensures { (cx : F.Cx) → NeverFallsBack (IsFilterIn F.is_parsed cx) S.is_parsed F.is_too_deep }
+{}
+
+/// Where no rule holds for what is built for the target and sets a default filter, it is that of the profiles.
+pub fn early_default<F: Filters, S: Specs>()
+    ensures { EarlyDefault F S }
+{}
+
+/// The rules that hold on a test are one list, and so the test has one list of settings, each taken from one place.
+pub fn one_held<'p, F: Filters, S: Specs, T: TrackSource<'p>, U: TrackSource<'p>>()
+    ensures held { OneHeld F.on_test S }
+    ensures settings { SameSettingsFor F.on_test S T.tells U.tells }
+    ensures sources { SameSourcesFor F.on_test S T.tells }
+{}
+
+/// By each profile of a configuration, and on each platforms, each test has settings, and a group.
+pub fn some_settings<'p, F: Filters, S: Specs, T: TrackSource<'p>>()
+    ensures settings { (cx : F.Cx) → SomeSettingsFor (IsFilterIn F.is_parsed cx) S.is_parsed F.is_too_deep
+        S.value_on F.on_test T.tells }
+    ensures group { (cx : F.Cx) → SomeGroupFor (IsFilterIn F.is_parsed cx) S.is_parsed F.is_too_deep
+        S.value_on F.on_test }
+{}
+
+/// The group of a test is the one that its settings have.
+pub fn group_of_settings<'p, F: Filters, S: Specs, T: TrackSource<'p>>()
+    ensures { GroupOfSettings F.on_test S T.tells }
+{}
+
+/// A profile without rules has the settings of its chain, whatever the test.
+pub fn no_rules<'p, F: Filters, S: Specs, T: TrackSource<'p>>()
+    ensures { NoRules F.on_test S T.tells }
 {}

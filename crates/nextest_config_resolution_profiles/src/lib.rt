@@ -1,21 +1,30 @@
-//! A whole configuration: its profiles, and what the one that is asked for comes to.
+//! A whole configuration: its profiles and their rules, and what the profile that is asked for comes to.
 #![tactic(auto)]
 
+mod chain_rule;
 mod chains;
 mod config;
+mod config_languages;
 mod default_config;
-mod default_filters;
 mod early_profile;
+mod evaluatable_profile;
+mod held;
 pub mod laws;
+mod memberships;
+mod platforms;
 mod profile_error;
 mod rows;
+mod rules;
 mod selection;
 mod store_dir;
 mod tree;
 
 pub use config::NextestConfig;
+pub use config_languages::ConfigLanguages;
 pub use default_config::DEFAULT_CONFIG;
-pub use default_filters::DefaultFilters;
-pub use early_profile::{BuildPlatforms, EarlyProfile};
+pub use early_profile::EarlyProfile;
+pub use evaluatable_profile::EvaluatableProfile;
+pub use memberships::PrecomputedGroupMembership;
+pub use platforms::BuildPlatforms;
 pub use profile_error::{ProfileError, ProfileNotFound};
 pub use tree::built_in;

@@ -1,3 +1,4 @@
+pub mod Least
 pub mod Searching
 pub mod Some
 pub mod Sourced

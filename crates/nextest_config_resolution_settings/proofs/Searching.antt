@@ -2,8 +2,8 @@
 use Rattle.std.proofs.Common.{◌≡◌, ℕ, ◌+◌, ◌<◌, ◌≤◌, List, ◌∷◌, ◌++◌, Option, Some, None, length, get_or, take, drop, Bor, sym, ap, ◌∙◌, subst, arith}
 use Rattle.std.proofs.lemmas.List.{take-append-drop, drop_more, get_or-map, length-map, length-take-le, take_all}
 use Rattle.std.proofs.lemmas.List.Elements.{All-more}
-use Rattle.nextest_config_resolution_settings.specs.Nearest.{IsNearest, IsOfProfiles, IsSetting, SetsNone, Source, an_override, a_profile, no_layer, lent}
-use Rattle.nextest_config_resolution_settings.specs.declared.source.OverrideId.{OverrideId}
+use Rattle.nextest_config_resolution_settings.specs.Nearest.{IsNearest, IsSetting, SetsNone, Source, an_override, lent, of_rule}
+use Rattle.nextest_config_resolution_overrides.specs.declared.override_id.OverrideId.{OverrideId}
 use Rattle.nextest_config_resolution_settings.proofs.Unique.{layer_at, within}
 
 lent_at : {L : Type 0} (layers : List (Bor L)) (place : ℕ) (layer : Bor L) → place < length layers → layer ≡ get_or layers place layer
@@ -54,9 +54,12 @@ nearest_is set_by layers place value layer n is =
     let inside : place < length layers = omega (arith, within n, length-map layers (λ it. it.now)) in
     sym (layer_at n layer.now ∙ lent_at layers place layer inside is)
 
--- where no rule sets a setting, its value is that of profiles
-pub unset_by_rules : {R P V : Type 0} (id_of : R → OverrideId) (by_rule : R → Option V) (by_profile : P → Option V) (rules : List R) (profiles : List P) (fallback value : V) (from : Source)
-    → SetsNone by_rule rules → IsOfProfiles by_profile profiles fallback value from → IsSetting id_of by_rule by_profile rules profiles fallback value from
-unset_by_rules id_of by_rule by_profile rules profiles fallback value (an_override id) unset is = absurd is
-unset_by_rules id_of by_rule by_profile rules profiles fallback value (a_profile place) unset is = (unset, is)
-unset_by_rules id_of by_rule by_profile rules profiles fallback value no_layer unset is = (unset, is)
+-- the nearest rule that sets a value is the one that is lent at its place, and the value comes from there
+pub of_rule_at : {R P V : Type 0} (id_of : R → OverrideId) (by_rule : R → Option V) (by_profile : P → Option V)
+    (rules : List (Bor R)) (profiles : List P) (fallback value : V) (place : ℕ) (rule : Bor R) (from : Source)
+    → IsNearest by_rule (lent rules) place value → rule ≡ get_or rules place rule → from ≡ an_override (id_of rule.now)
+    → IsSetting id_of by_rule by_profile (lent rules) profiles fallback value from
+of_rule_at id_of by_rule by_profile rules profiles fallback value place rule from n at told =
+    let named = ap id_of (nearest_is by_rule rules place value rule n at) in
+    subst (λ (it : Source). IsSetting id_of by_rule by_profile (lent rules) profiles fallback value it) (sym told)
+    (of_rule value (id_of rule.now) (record { place = place; nearest = n; named = named }))

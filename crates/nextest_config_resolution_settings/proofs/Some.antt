@@ -1,14 +1,21 @@
--- A chain has a value of each setting, which it takes from some place.
-use Rattle.std.proofs.Common.{◌≡◌, ℕ, suc, List, [], ◌∷◌, Option, Some, None, refl, ap}
-use Rattle.std.specs.Prelude.{pos}
+-- There is a value of each setting, which is taken from some place.
+use Rattle.std.proofs.Common.{◌≡◌, ℕ, suc, List, [], ◌∷◌, Option, Some, None, refl, sym, ap, subst}
 use Rattle.std.proofs.lemmas.List.Elements.{All-nil, All-cons}
+use Rattle.nextest_config_elements_identifiers.specs.declared.test_group.TestGroup.{TestGroup}
+use Rattle.nextest_config_elements_identifiers.specs.declared.test_group.TestGroup.TheVariants as group
+use Rattle.nextest_config_resolution_overrides.specs.declared.override_id.OverrideId.{OverrideId}
 use Rattle.nextest_config_resolution_settings.specs.Fallbacks as fallback
 use Rattle.nextest_config_resolution_settings.specs.Keys as key
 use Rattle.nextest_config_resolution_settings.specs.Laws.{SomeSettings}
-use Rattle.nextest_config_resolution_settings.specs.Nearest.{IsNearest, SetsNone, Source, a_profile, no_layer}
-use Rattle.nextest_config_resolution_settings.specs.Profile.{IsTracked, OfProfiles}
-use Rattle.nextest_config_resolution_settings.specs.Tracking.{KeepsSome, TellsNothing, nothing_kept}
-use Rattle.nextest_config_resolution_settings.specs.declared.test_settings.TestGroupRef.TheVariants as group
+use Rattle.nextest_config_resolution_settings.specs.Nearest.{IsNearest, SetsNone, Source, a_profile, an_override, no_layer, of_fallback, of_profile, of_profiles, of_rule}
+use Rattle.nextest_config_resolution_settings.specs.Profile.{OfProfiles}
+use Rattle.nextest_config_resolution_settings.specs.RuleKeys as rule
+use Rattle.nextest_config_resolution_settings.specs.Rules.{id_of}
+use Rattle.nextest_config_resolution_settings.specs.TestSettings.{group_of}
+use Rattle.nextest_config_resolution_settings.specs.Tracked.{IsTracked}
+use Rattle.nextest_config_resolution_settings.specs.Tracking.{KeepsSome}
+use Rattle.nextest_config_resolution_settings.specs.declared.test_settings.TestGroupRef.{TestGroupRef}
+use Rattle.nextest_config_resolution_settings.specs.declared.test_settings.TestGroupRef.TheVariants as group_ref
 
 -- a list of layers has a nearest one that sets a value, or none does
 data Found {L V : Type 0} (set_by : L → Option V) (layers : List L) : Type 0 where
@@ -44,36 +51,53 @@ some_nearest set_by layers set = by_found (found set_by layers)
     by_found (nowhere unset) = absurd (set unset)
 
 -- profiles have a value of a setting
-pub some_tracked : {P V S : Type 0} (Tells : S → Source → Type 0) → KeepsSome Tells → (by_profile : P → Option V) (profiles : List P) (fallback : V)
-    → (it : V × S) × IsTracked Tells by_profile profiles fallback it
-some_tracked Tells keeps by_profile profiles fallback = by_found (found by_profile profiles)
-  where
-    by_found : Found by_profile profiles → (it : _ × _) × IsTracked Tells by_profile profiles fallback it
-    by_found (at place value is) = let kept = keeps (a_profile place) in ((value, kept.0), record { from = a_profile place; is = is; kept = kept.1 })
-    by_found (nowhere unset) = let kept = keeps no_layer in ((fallback, kept.0), record { from = no_layer; is = (unset, refl); kept = kept.1 })
-
 pub some_value : {P V : Type 0} (by_profile : P → Option V) (profiles : List P) (fallback : V) → (value : V) × OfProfiles by_profile profiles fallback value
-some_value by_profile profiles fallback =
-    let it = some_tracked TellsNothing nothing_kept by_profile profiles fallback in
-    (it.0.0, record { from = it.1.from; is = it.1.is })
+some_value by_profile profiles fallback = by_found (found by_profile profiles)
+  where
+    by_found : Found by_profile profiles → (value : _) × OfProfiles by_profile profiles fallback value
+    by_found (at place value is) = (value, record { from = a_profile place; is = of_profile place value is })
+    by_found (nowhere unset) = (fallback, record { from = no_layer; is = of_fallback unset })
+
+-- rules and profiles have a value of a setting
+some_tracked : {R P V S : Type 0} (Tells : S → Source → Type 0) → KeepsSome Tells
+    → (id_of : R → OverrideId) (by_rule : R → Option V) (by_profile : P → Option V) (rules : List R) (profiles : List P) (fallback : V)
+    → (it : V × S) × IsTracked Tells id_of by_rule by_profile rules profiles fallback it
+some_tracked Tells keeps id_of by_rule by_profile rules profiles fallback = by_found (found by_rule rules) (some_value by_profile profiles fallback)
+  where
+    by_found : Found by_rule rules → ((value : _) × OfProfiles by_profile profiles fallback value) → (it : _ × _) × IsTracked Tells id_of by_rule by_profile rules profiles fallback it
+    by_found (at place value is) other =
+        let id = id_of is.layer in
+        let kept = keeps (an_override id) in
+        ((value, kept.0), record { from = an_override id; is = of_rule value id (record { place = place; nearest = is; named = refl }); kept = kept.1 })
+    by_found (nowhere unset) (value, is) =
+        let kept = keeps is.from in
+        ((value, kept.0), record { from = is.from; is = of_profiles value is.from unset is.is; kept = kept.1 })
+
+-- a group can be lent
+some_lent : (it : TestGroup) → (lent : TestGroupRef) × (group_of lent ≡ it)
+some_lent group.Global = (group_ref.Global, refl)
+some_lent (group.Custom it) = (group_ref.Custom (record { ref_ptr = (0, 0); now = it }), refl)
 
 pub some_settings : {S : Type 0} (Tells : S → Source → Type 0) → KeepsSome Tells → SomeSettings Tells
-some_settings Tells keeps mode chain =
+some_settings Tells keeps mode held chain =
     let unset = keeps no_layer in
-    let threads_required = some_tracked Tells keeps key.threads_required chain fallback.threads_required in
-    let run_extra_args = some_tracked Tells keeps key.run_extra_args chain fallback.run_extra_args in
-    let retries = some_tracked Tells keeps key.retries chain fallback.retries in
-    let flaky_result = some_tracked Tells keeps key.flaky_result chain fallback.flaky_result in
-    let slow_timeout = some_tracked Tells keeps (key.slow_timeout mode) chain (fallback.slow_timeout mode) in
-    let leak_timeout = some_tracked Tells keeps key.leak_timeout chain fallback.leak_timeout in
-    let success_output = some_tracked Tells keeps key.success_output chain fallback.success_output in
-    let failure_output = some_tracked Tells keeps key.failure_output chain fallback.failure_output in
-    let junit_store_success_output = some_tracked Tells keeps key.junit_store_success_output chain fallback.junit_store_success_output in
-    let junit_store_failure_output = some_tracked Tells keeps key.junit_store_failure_output chain fallback.junit_store_failure_output in
-    let junit_report_skipped = some_tracked Tells keeps key.junit_report_skipped chain fallback.junit_report_skipped in
-    let junit_flaky_fail_status = some_tracked Tells keeps key.junit_flaky_fail_status chain fallback.junit_flaky_fail_status in (
+    let priority = some_tracked Tells keeps id_of rule.priority key.priority held chain fallback.priority in
+    let threads_required = some_tracked Tells keeps id_of rule.threads_required key.threads_required held chain fallback.threads_required in
+    let run_extra_args = some_tracked Tells keeps id_of rule.run_extra_args key.run_extra_args held chain fallback.run_extra_args in
+    let retries = some_tracked Tells keeps id_of rule.retries key.retries held chain fallback.retries in
+    let flaky_result = some_tracked Tells keeps id_of rule.flaky_result key.flaky_result held chain fallback.flaky_result in
+    let slow_timeout = some_tracked Tells keeps id_of (rule.slow_timeout mode) (key.slow_timeout mode) held chain (fallback.slow_timeout mode) in
+    let leak_timeout = some_tracked Tells keeps id_of rule.leak_timeout key.leak_timeout held chain fallback.leak_timeout in
+    let test_group = some_tracked Tells keeps id_of rule.test_group key.test_group held chain fallback.test_group in
+    let lent = some_lent test_group.0.0 in
+    let success_output = some_tracked Tells keeps id_of rule.success_output key.success_output held chain fallback.success_output in
+    let failure_output = some_tracked Tells keeps id_of rule.failure_output key.failure_output held chain fallback.failure_output in
+    let junit_store_success_output = some_tracked Tells keeps id_of rule.junit_store_success_output key.junit_store_success_output held chain fallback.junit_store_success_output in
+    let junit_store_failure_output = some_tracked Tells keeps id_of rule.junit_store_failure_output key.junit_store_failure_output held chain fallback.junit_store_failure_output in
+    let junit_report_skipped = some_tracked Tells keeps id_of rule.junit_report_skipped key.junit_report_skipped held chain fallback.junit_report_skipped in
+    let junit_flaky_fail_status = some_tracked Tells keeps id_of rule.junit_flaky_fail_status key.junit_flaky_fail_status held chain fallback.junit_flaky_fail_status in (
       record {
-        priority = (pos 0, unset.0);
+        priority = priority.0;
         threads_required = threads_required.0;
         run_wrapper = (None, unset.0);
         run_extra_args = (record { ref_ptr = (0, 0); now = run_extra_args.0.0 }, run_extra_args.0.1);
@@ -81,7 +105,7 @@ some_settings Tells keeps mode chain =
         flaky_result = flaky_result.0;
         slow_timeout = slow_timeout.0;
         leak_timeout = leak_timeout.0;
-        test_group = (group.Global, unset.0);
+        test_group = (lent.0, test_group.0.1);
         success_output = success_output.0;
         failure_output = failure_output.0;
         junit_store_success_output = junit_store_success_output.0;
@@ -90,7 +114,7 @@ some_settings Tells keeps mode chain =
         junit_flaky_fail_status = junit_flaky_fail_status.0;
       },
       record {
-        priority = (refl, unset.1);
+        priority = priority.1;
         threads_required = threads_required.1;
         run_wrapper = (refl, unset.1);
         run_extra_args = run_extra_args.1;
@@ -98,7 +122,7 @@ some_settings Tells keeps mode chain =
         flaky_result = flaky_result.1;
         slow_timeout = slow_timeout.1;
         leak_timeout = leak_timeout.1;
-        test_group = (refl, unset.1);
+        test_group = subst (λ (it : TestGroup). IsTracked Tells id_of rule.test_group key.test_group held chain fallback.test_group (it, test_group.0.1)) (sym lent.1) test_group.1;
         success_output = success_output.1;
         failure_output = failure_output.1;
         junit_store_success_output = junit_store_success_output.1;

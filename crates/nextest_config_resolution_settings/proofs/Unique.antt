@@ -3,9 +3,9 @@ use Rattle.std.proofs.Common.{◌≡◌, ℕ, ◌<◌, List, ◌∷◌, ◌++◌
 use Rattle.std.proofs.Math.Seq.{get_or-append_seam}
 use Rattle.std.proofs.lemmas.List.{get_or_append_left, length-append}
 use Rattle.std.proofs.lemmas.Option.{none-some, same_Some}
+use Rattle.nextest_config_resolution_overrides.specs.declared.override_id.OverrideId.{OverrideId}
 use Rattle.nextest_config_resolution_settings.specs.Laws.{OneSetting}
-use Rattle.nextest_config_resolution_settings.specs.Nearest.{IsNearest, IsOfProfiles, SetsNone, Source, an_override, a_profile, no_layer}
-use Rattle.nextest_config_resolution_settings.specs.declared.source.OverrideId.{OverrideId}
+use Rattle.nextest_config_resolution_settings.specs.Nearest.{IsNearest, IsOfProfiles, SetsNone, Source, an_override, a_profile, of_fallback, of_profile, of_profiles, of_rule}
 
 pub layer_at : {L V : Type 0} {set_by : L → Option V} {layers : List L} {place : ℕ} {value : V}
     → (n : IsNearest set_by layers place value) → (d : L) → n.layer ≡ get_or layers place d
@@ -53,27 +53,19 @@ one_layer {layers = layers} one two =
 -- profiles have one value of a setting, which comes from one place
 pub one_of_profiles : {P V : Type 0} (by_profile : P → Option V) (profiles : List P) (fallback one second : V) (from other : Source)
     → IsOfProfiles by_profile profiles fallback one from → IsOfProfiles by_profile profiles fallback second other → (one ≡ second) × (from ≡ other)
-one_of_profiles by_profile profiles fallback one second (an_override id) other this that = absurd this
-one_of_profiles by_profile profiles fallback one second (a_profile p) (an_override id) this that = absurd that
-one_of_profiles by_profile profiles fallback one second (a_profile p) (a_profile q) this that = let both = one_nearest this that in (both.0, ap a_profile both.1)
-one_of_profiles by_profile profiles fallback one second (a_profile p) no_layer this that = absurd (set_and_unset this that.0)
-one_of_profiles by_profile profiles fallback one second no_layer (an_override id) this that = absurd that
-one_of_profiles by_profile profiles fallback one second no_layer (a_profile q) this that = absurd (set_and_unset that this.0)
-one_of_profiles by_profile profiles fallback one second no_layer no_layer this that = (this.1 ∙ sym that.1, refl)
+one_of_profiles by_profile profiles fallback _ _ _ _ (of_profile p one this) (of_profile q second that) =
+    let both = one_nearest this that in (both.0, ap a_profile both.1)
+one_of_profiles by_profile profiles fallback _ _ _ _ (of_profile p one this) (of_fallback unset) = absurd (set_and_unset this unset)
+one_of_profiles by_profile profiles fallback _ _ _ _ (of_fallback unset) (of_profile q second that) = absurd (set_and_unset that unset)
+one_of_profiles by_profile profiles fallback _ _ _ _ (of_fallback unset) (of_fallback also) = (refl, refl)
 
 pub one_setting : {R P V : Type 0} (id_of : R → OverrideId) (by_rule : R → Option V) (by_profile : P → Option V) → OneSetting id_of by_rule by_profile
-one_setting id_of by_rule by_profile rules profiles fallback one second (an_override a) (an_override b) this that =
+one_setting id_of by_rule by_profile rules profiles fallback _ _ _ _ (of_rule one a this) (of_rule second b that) =
     let both = one_nearest this.nearest that.nearest in
     (both.0, ap an_override (this.named ∙ ap id_of (one_layer this.nearest that.nearest) ∙ sym that.named))
-one_setting id_of by_rule by_profile rules profiles fallback one second (an_override a) (a_profile q) this that = absurd (set_and_unset this.nearest that.0)
-one_setting id_of by_rule by_profile rules profiles fallback one second (an_override a) no_layer this that = absurd (set_and_unset this.nearest that.0)
-one_setting id_of by_rule by_profile rules profiles fallback one second (a_profile p) (an_override b) this that = absurd (set_and_unset that.nearest this.0)
-one_setting id_of by_rule by_profile rules profiles fallback one second no_layer (an_override b) this that = absurd (set_and_unset that.nearest this.0)
-one_setting id_of by_rule by_profile rules profiles fallback one second (a_profile p) (a_profile q) this that =
-    one_of_profiles by_profile profiles fallback one second (a_profile p) (a_profile q) this.1 that.1
-one_setting id_of by_rule by_profile rules profiles fallback one second (a_profile p) no_layer this that =
-    one_of_profiles by_profile profiles fallback one second (a_profile p) no_layer this.1 that.1
-one_setting id_of by_rule by_profile rules profiles fallback one second no_layer (a_profile q) this that =
-    one_of_profiles by_profile profiles fallback one second no_layer (a_profile q) this.1 that.1
-one_setting id_of by_rule by_profile rules profiles fallback one second no_layer no_layer this that =
-    one_of_profiles by_profile profiles fallback one second no_layer no_layer this.1 that.1
+one_setting id_of by_rule by_profile rules profiles fallback _ _ _ _ (of_rule one a this) (of_profiles second other unset that) =
+    absurd (set_and_unset this.nearest unset)
+one_setting id_of by_rule by_profile rules profiles fallback _ _ _ _ (of_profiles one from unset this) (of_rule second b that) =
+    absurd (set_and_unset that.nearest unset)
+one_setting id_of by_rule by_profile rules profiles fallback _ _ _ _ (of_profiles one from unset this) (of_profiles second other also that) =
+    one_of_profiles by_profile profiles fallback one second from other this that

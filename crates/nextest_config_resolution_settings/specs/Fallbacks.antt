@@ -1,5 +1,5 @@
 -- Which value a setting has that no layer sets.
-use Rattle.std.specs.Prelude.{ℕ, Bool, true, false, List, [], codes, None}
+use Rattle.std.specs.Prelude.{ℕ, ℤ, Bool, true, false, List, [], codes, None, pos}
 use Rattle.nextest_config_elements_counts.specs.Retries.{without_delay}
 use Rattle.nextest_config_elements_counts.specs.declared.junit.JunitFlakyFailStatus.{JunitFlakyFailStatus}
 use Rattle.nextest_config_elements_counts.specs.declared.junit.JunitFlakyFailStatus.TheVariants as status
@@ -14,6 +14,8 @@ use Rattle.nextest_config_elements_counts.specs.declared.timeouts.GlobalTimeout.
 use Rattle.nextest_config_elements_counts.specs.declared.timeouts.LeakTimeout.{LeakTimeout}
 use Rattle.nextest_config_elements_counts.specs.declared.timeouts.SlowTimeout.{SlowTimeout}
 use Rattle.nextest_config_elements_counts.specs.declared.config_duration.ConfigDuration.{ConfigDuration}
+use Rattle.nextest_config_elements_identifiers.specs.declared.test_group.TestGroup.{TestGroup}
+use Rattle.nextest_config_elements_identifiers.specs.declared.test_group.TestGroup.TheVariants as group
 use Rattle.nextest_config_elements_plain.specs.declared.max_fail.MaxFail.{MaxFail}
 use Rattle.nextest_config_elements_plain.specs.declared.max_fail.MaxFail.TheVariants.{Count}
 use Rattle.nextest_config_elements_plain.specs.declared.max_fail.TerminateMode.TheVariants.{Wait}
@@ -107,3 +109,10 @@ junit_report_skipped = skipped.None
 
 abbrev pub junit_flaky_fail_status : JunitFlakyFailStatus
 junit_flaky_fail_status = status.Failure
+
+-- what rules alone set
+abbrev pub priority : ℤ
+priority = pos 0
+
+abbrev pub test_group : TestGroup
+test_group = group.Global

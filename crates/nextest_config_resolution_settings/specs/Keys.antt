@@ -1,5 +1,5 @@
 -- Which value a profile sets for each setting.
-use Rattle.std.specs.Prelude.{ℕ, Bool, List, Option, option_and_then}
+use Rattle.std.specs.Prelude.{ℕ, ℤ, Bool, List, Option, None, option_and_then}
 use Rattle.nextest_config_elements_counts.specs.declared.junit.JunitFlakyFailStatus.{JunitFlakyFailStatus}
 use Rattle.nextest_config_elements_counts.specs.declared.junit.ReportSkipPolicy.{ReportSkipPolicy}
 use Rattle.nextest_config_elements_counts.specs.declared.retries.RetryPolicy.{RetryPolicy}
@@ -8,6 +8,7 @@ use Rattle.nextest_config_elements_counts.specs.declared.threads.ThreadsRequired
 use Rattle.nextest_config_elements_counts.specs.declared.timeouts.GlobalTimeout.{GlobalTimeout}
 use Rattle.nextest_config_elements_counts.specs.declared.timeouts.LeakTimeout.{LeakTimeout}
 use Rattle.nextest_config_elements_counts.specs.declared.timeouts.SlowTimeout.{SlowTimeout}
+use Rattle.nextest_config_elements_identifiers.specs.declared.test_group.TestGroup.{TestGroup}
 use Rattle.nextest_config_elements_plain.specs.declared.max_fail.MaxFail.{MaxFail}
 use Rattle.nextest_config_elements_plain.specs.declared.output_display.TestOutputDisplay.{TestOutputDisplay}
 use Rattle.nextest_config_elements_plain.specs.declared.run_mode.NextestRunMode.{NextestRunMode}
@@ -96,3 +97,10 @@ junit_report_skipped profile = option_and_then (λ junit. junit.report_skipped) 
 
 abbrev pub junit_flaky_fail_status : ProfileConfig → Option JunitFlakyFailStatus
 junit_flaky_fail_status profile = option_and_then (λ junit. junit.flaky_fail_status) profile.junit
+
+-- rules alone set these
+abbrev pub priority : ProfileConfig → Option ℤ
+priority profile = None
+
+abbrev pub test_group : ProfileConfig → Option TestGroup
+test_group profile = None

@@ -1,9 +1,10 @@
 -- What the laws say.
 use Rattle.std.specs.Prelude.{◌≡◌, List, Option}
 use Rattle.nextest_config_elements_plain.specs.declared.run_mode.NextestRunMode.{NextestRunMode}
+use Rattle.nextest_config_resolution_overrides.specs.declared.override_id.OverrideId.{OverrideId}
+use Rattle.nextest_config_resolution_overrides.specs.declared.placed_override.PlacedOverride.{PlacedOverride}
 use Rattle.nextest_config_resolution_settings.specs.Nearest.{IsSetting, Source}
 use Rattle.nextest_config_resolution_settings.specs.TestSettings.{AreSame, AreSettings, HaveSameSources}
-use Rattle.nextest_config_resolution_settings.specs.declared.source.OverrideId.{OverrideId}
 use Rattle.nextest_config_resolution_settings.specs.declared.test_settings.TestSettings.{TestSettings}
 use Rattle.nextest_config_resolution_values.specs.declared.profile_config.ProfileConfig.{ProfileConfig}
 
@@ -14,18 +15,23 @@ OneSetting {R} {P} {V} id_of by_rule by_profile =
     → IsSetting id_of by_rule by_profile rules profiles fallback one from → IsSetting id_of by_rule by_profile rules profiles fallback second other
     → (one ≡ second) × (from ≡ other)
 
--- a chain sets the same for each test, whatever is kept of where that is taken from
+-- rules and a chain set the same for each test, whatever is kept of where that is taken from
 abbrev pub SameSettings : {S T : Type 0} → (S → Source → Type 0) → (T → Source → Type 0) → Type 0
 SameSettings {S} {T} Tells Also =
-    (mode : NextestRunMode) (chain : List ProfileConfig) (one : TestSettings S) (other : TestSettings T)
-    → AreSettings Tells mode chain one → AreSettings Also mode chain other → AreSame one other
+    (mode : NextestRunMode) (held : List PlacedOverride) (chain : List ProfileConfig)
+    (one : TestSettings S) (other : TestSettings T)
+    → AreSettings Tells mode held chain one → AreSettings Also mode held chain other → AreSame one other
 
 -- and each setting is taken from one place
 abbrev pub SameSources : {S : Type 0} → (S → Source → Type 0) → Type 0
 SameSources {S} Tells =
-    (mode : NextestRunMode) (chain : List ProfileConfig) (one other : TestSettings S)
-    → AreSettings Tells mode chain one → AreSettings Tells mode chain other → HaveSameSources Tells one other
+    (mode : NextestRunMode) (held : List PlacedOverride) (chain : List ProfileConfig)
+    (one other : TestSettings S)
+    → AreSettings Tells mode held chain one → AreSettings Tells mode held chain other
+    → HaveSameSources Tells one other
 
--- a chain sets something for each test
+-- rules and a chain set something for each test
 abbrev pub SomeSettings : {S : Type 0} → (S → Source → Type 0) → Type 0
-SomeSettings {S} Tells = (mode : NextestRunMode) (chain : List ProfileConfig) → (settings : TestSettings S) × AreSettings Tells mode chain settings
+SomeSettings {S} Tells =
+    (mode : NextestRunMode) (held : List PlacedOverride) (chain : List ProfileConfig)
+    → (settings : TestSettings S) × AreSettings Tells mode held chain settings

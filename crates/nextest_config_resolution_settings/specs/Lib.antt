@@ -4,5 +4,9 @@ pub mod Keys
 pub mod Laws
 pub mod Nearest
 pub mod Profile
+pub mod RuleKeys
+pub mod RuleLaws
+pub mod Rules
 pub mod TestSettings
+pub mod Tracked
 pub mod Tracking

@@ -1,7 +1,7 @@
 -- Which value a setting has: that of the nearest layer of a list that sets it, else a fallback.
 use Rattle.std.specs.Prelude.{◌≡◌, ℕ, List, ◌∷◌, ◌++◌, Option, Some, None, All, length, map}
 use denote.Ref.{Bor}
-use Rattle.nextest_config_resolution_settings.specs.declared.source.OverrideId.{OverrideId}
+use Rattle.nextest_config_resolution_overrides.specs.declared.override_id.OverrideId.{OverrideId}
 use Rattle.nextest_config_resolution_settings.specs.declared.source.SettingSource.{SettingSource}
 use Rattle.nextest_config_resolution_settings.specs.declared.source.SettingSource.TheVariants as source
 
@@ -41,15 +41,17 @@ pub record IsOfRule {R V : Type 0} (id_of : R → OverrideId) (by_rule : R → O
   pub named : id ≡ id_of nearest.layer
 
 -- the value of a setting over profiles, then a fallback, and where it comes from
-abbrev pub IsOfProfiles : {P V : Type 0} → (P → Option V) → List P → V → V → Source → Type 0
-IsOfProfiles by_profile profiles fallback value (an_override id) = ⊥
-IsOfProfiles by_profile profiles fallback value (a_profile place) = IsNearest by_profile profiles place value
-IsOfProfiles by_profile profiles fallback value no_layer = SetsNone by_profile profiles × (value ≡ fallback)
+pub data IsOfProfiles {P V : Type 0} (by_profile : P → Option V) (profiles : List P) (fallback : V)
+    : V → Source → Type 0 where
+  of_profile : (place : ℕ) (value : V) → IsNearest by_profile profiles place value
+      → IsOfProfiles by_profile profiles fallback value (a_profile place)
+  of_fallback : SetsNone by_profile profiles → IsOfProfiles by_profile profiles fallback fallback no_layer
 
 -- the value of a setting over rules, then profiles, then a fallback, and where it comes from
-abbrev pub IsSetting : {R P V : Type 0} → (R → OverrideId) → (R → Option V) → (P → Option V) → List R → List P → V → V → Source → Type 0
-IsSetting id_of by_rule by_profile rules profiles fallback value (an_override id) = IsOfRule id_of by_rule rules value id
-IsSetting id_of by_rule by_profile rules profiles fallback value (a_profile place) =
-    SetsNone by_rule rules × IsOfProfiles by_profile profiles fallback value (a_profile place)
-IsSetting id_of by_rule by_profile rules profiles fallback value no_layer =
-    SetsNone by_rule rules × IsOfProfiles by_profile profiles fallback value no_layer
+pub data IsSetting {R P V : Type 0} (id_of : R → OverrideId) (by_rule : R → Option V) (by_profile : P → Option V)
+    (rules : List R) (profiles : List P) (fallback : V) : V → Source → Type 0 where
+  of_rule : (value : V) (id : OverrideId) → IsOfRule id_of by_rule rules value id
+      → IsSetting id_of by_rule by_profile rules profiles fallback value (an_override id)
+  of_profiles : (value : V) (from : Source) → SetsNone by_rule rules
+      → IsOfProfiles by_profile profiles fallback value from
+      → IsSetting id_of by_rule by_profile rules profiles fallback value from

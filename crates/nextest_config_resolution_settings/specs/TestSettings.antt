@@ -1,33 +1,62 @@
--- The settings of a test for which no rule holds.
-use Rattle.std.specs.Prelude.{◌≡◌, List, None, pos}
+-- The settings of a test.
+use Rattle.std.specs.Prelude.{◌≡◌, List, None}
+use Rattle.nextest_config_elements_identifiers.specs.declared.test_group.TestGroup.{TestGroup}
+use Rattle.nextest_config_elements_identifiers.specs.declared.test_group.TestGroup.TheVariants as group
 use Rattle.nextest_config_elements_plain.specs.declared.run_mode.NextestRunMode.{NextestRunMode}
+use Rattle.nextest_config_resolution_overrides.specs.declared.placed_override.PlacedOverride.{PlacedOverride}
 use Rattle.nextest_config_resolution_settings.specs.Fallbacks as fallback
 use Rattle.nextest_config_resolution_settings.specs.Keys as key
 use Rattle.nextest_config_resolution_settings.specs.Nearest.{Source, no_layer}
-use Rattle.nextest_config_resolution_settings.specs.Profile.{IsTracked}
+use Rattle.nextest_config_resolution_settings.specs.RuleKeys as rule
+use Rattle.nextest_config_resolution_settings.specs.Rules.{id_of}
+use Rattle.nextest_config_resolution_settings.specs.Tracked.{IsTracked}
 use Rattle.nextest_config_resolution_settings.specs.Tracking.{HaveOneSource}
-use Rattle.nextest_config_resolution_settings.specs.declared.test_settings.TestGroupRef.TheVariants as group
+use Rattle.nextest_config_resolution_settings.specs.declared.test_settings.TestGroupRef.{TestGroupRef}
+use Rattle.nextest_config_resolution_settings.specs.declared.test_settings.TestGroupRef.TheVariants as group_ref
 use Rattle.nextest_config_resolution_settings.specs.declared.test_settings.TestSettings.{TestSettings}
 use Rattle.nextest_config_resolution_values.specs.declared.profile_config.ProfileConfig.{ProfileConfig}
 
--- each is what the chain of a profile has, with what is kept of where it is taken from, but for what a rule alone sets: a priority, a
--- wrapper script and a group
-pub record AreSettings {S : Type 0} (Tells : S → Source → Type 0) (mode : NextestRunMode) (chain : List ProfileConfig) (settings : TestSettings S) : Type 0 where
-  pub priority : (settings.priority.0 ≡ pos 0) × Tells settings.priority.1 no_layer
-  pub threads_required : IsTracked Tells key.threads_required chain fallback.threads_required settings.threads_required
+-- a group that is lent
+abbrev pub group_of : TestGroupRef → TestGroup
+group_of group_ref.Global = group.Global
+group_of (group_ref.Custom it) = group.Custom it.now
+
+-- each is what the rules that hold on a test and the chain of its profile have, with what is kept of where it is taken from; no
+-- layer sets a wrapper script yet
+pub record AreSettings {S : Type 0} (Tells : S → Source → Type 0) (mode : NextestRunMode)
+    (held : List PlacedOverride) (chain : List ProfileConfig) (settings : TestSettings S) : Type 0 where
+  pub priority : IsTracked Tells id_of rule.priority key.priority held chain
+      fallback.priority settings.priority
+  pub threads_required : IsTracked Tells id_of rule.threads_required key.threads_required held chain
+      fallback.threads_required settings.threads_required
   pub run_wrapper : (settings.run_wrapper.0 ≡ None) × Tells settings.run_wrapper.1 no_layer
-  pub run_extra_args : IsTracked Tells key.run_extra_args chain fallback.run_extra_args (settings.run_extra_args.0.now, settings.run_extra_args.1)
-  pub retries : IsTracked Tells key.retries chain fallback.retries settings.retries
-  pub flaky_result : IsTracked Tells key.flaky_result chain fallback.flaky_result settings.flaky_result
-  pub slow_timeout : IsTracked Tells (key.slow_timeout mode) chain (fallback.slow_timeout mode) settings.slow_timeout
-  pub leak_timeout : IsTracked Tells key.leak_timeout chain fallback.leak_timeout settings.leak_timeout
-  pub test_group : (settings.test_group.0 ≡ group.Global) × Tells settings.test_group.1 no_layer
-  pub success_output : IsTracked Tells key.success_output chain fallback.success_output settings.success_output
-  pub failure_output : IsTracked Tells key.failure_output chain fallback.failure_output settings.failure_output
-  pub junit_store_success_output : IsTracked Tells key.junit_store_success_output chain fallback.junit_store_success_output settings.junit_store_success_output
-  pub junit_store_failure_output : IsTracked Tells key.junit_store_failure_output chain fallback.junit_store_failure_output settings.junit_store_failure_output
-  pub junit_report_skipped : IsTracked Tells key.junit_report_skipped chain fallback.junit_report_skipped settings.junit_report_skipped
-  pub junit_flaky_fail_status : IsTracked Tells key.junit_flaky_fail_status chain fallback.junit_flaky_fail_status settings.junit_flaky_fail_status
+  pub run_extra_args : IsTracked Tells id_of rule.run_extra_args key.run_extra_args held chain
+      fallback.run_extra_args (settings.run_extra_args.0.now, settings.run_extra_args.1)
+  pub retries : IsTracked Tells id_of rule.retries key.retries held chain fallback.retries settings.retries
+  pub flaky_result : IsTracked Tells id_of rule.flaky_result key.flaky_result held chain
+      fallback.flaky_result settings.flaky_result
+  pub slow_timeout : IsTracked Tells id_of (rule.slow_timeout mode) (key.slow_timeout mode) held chain
+      (fallback.slow_timeout mode) settings.slow_timeout
+  pub leak_timeout : IsTracked Tells id_of rule.leak_timeout key.leak_timeout held chain
+      fallback.leak_timeout settings.leak_timeout
+  pub test_group : IsTracked Tells id_of rule.test_group key.test_group held chain
+      fallback.test_group (group_of settings.test_group.0, settings.test_group.1)
+  pub success_output : IsTracked Tells id_of rule.success_output key.success_output held chain
+      fallback.success_output settings.success_output
+  pub failure_output : IsTracked Tells id_of rule.failure_output key.failure_output held chain
+      fallback.failure_output settings.failure_output
+  pub junit_store_success_output : IsTracked Tells id_of
+      rule.junit_store_success_output key.junit_store_success_output held chain
+      fallback.junit_store_success_output settings.junit_store_success_output
+  pub junit_store_failure_output : IsTracked Tells id_of
+      rule.junit_store_failure_output key.junit_store_failure_output held chain
+      fallback.junit_store_failure_output settings.junit_store_failure_output
+  pub junit_report_skipped : IsTracked Tells id_of
+      rule.junit_report_skipped key.junit_report_skipped held chain
+      fallback.junit_report_skipped settings.junit_report_skipped
+  pub junit_flaky_fail_status : IsTracked Tells id_of
+      rule.junit_flaky_fail_status key.junit_flaky_fail_status held chain
+      fallback.junit_flaky_fail_status settings.junit_flaky_fail_status
 
 -- each setting of the one is that of the other
 pub record AreSame {S T : Type 0} (one : TestSettings S) (other : TestSettings T) : Type 0 where
@@ -39,7 +68,7 @@ pub record AreSame {S T : Type 0} (one : TestSettings S) (other : TestSettings T
   pub flaky_result : one.flaky_result.0 ≡ other.flaky_result.0
   pub slow_timeout : one.slow_timeout.0 ≡ other.slow_timeout.0
   pub leak_timeout : one.leak_timeout.0 ≡ other.leak_timeout.0
-  pub test_group : one.test_group.0 ≡ other.test_group.0
+  pub test_group : group_of one.test_group.0 ≡ group_of other.test_group.0
   pub success_output : one.success_output.0 ≡ other.success_output.0
   pub failure_output : one.failure_output.0 ≡ other.failure_output.0
   pub junit_store_success_output : one.junit_store_success_output.0 ≡ other.junit_store_success_output.0

@@ -4,7 +4,7 @@ ghost use Rattle.nextest_config_resolution_settings.specs.Fallbacks as fallback;
 
 use nextest_config_elements_counts::{
     ConfigDuration, GlobalTimeout, JunitFlakyFailStatus, LeakTimeout, ReportSkipPolicy,
-    RetryPolicy, SlowTimeout, TestThreads, ThreadsRequired,
+    RetryPolicy, SlowTimeout, TestPriority, TestThreads, ThreadsRequired,
 };
 use nextest_config_elements_plain::{
     FinalStatusLevel, FlakyResult, LeakTimeoutResult, MaxFail, NextestRunMode, SlowTimeoutResult,
@@ -136,6 +136,13 @@ pub fn leak_timeout() -> LeakTimeout
         period: ConfigDuration::from_nanos(100_000_000),
         result: LeakTimeoutResult::Pass,
     }
+}
+
+/// `priority`: 0, behind tests of a greater one and ahead of tests of a smaller one.
+pub fn priority() -> TestPriority
+    ensures { result ≡ fallback.priority }
+{
+    TestPriority::default()
 }
 
 // Thirty years, of 365.25 days each.

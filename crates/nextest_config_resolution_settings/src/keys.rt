@@ -1,9 +1,10 @@
-// The settings of a profile, by their keys: one type for each, of which no value is made.
+// The settings, by their keys: one type for each, of which no value is made. And those of a profile.
 use crate::layers::{Sets, Setting};
 use nextest_config_elements_counts::{
     GlobalTimeout, JunitFlakyFailStatus, LeakTimeout, ReportSkipPolicy, RetryPolicy, SlowTimeout,
-    TestThreads, ThreadsRequired,
+    TestPriority, TestThreads, ThreadsRequired,
 };
+use nextest_config_elements_identifiers::TestGroup;
 use nextest_config_elements_plain::{
     FinalStatusLevel, FlakyResult, MaxFail, StatusLevel, TestOutputDisplay,
 };
@@ -405,5 +406,39 @@ impl Sets<JunitStoreSuccessOutputKey> for ProfileConfig {
             Some(junit) => junit.store_success_output.as_ref(),
             None => None,
         }
+    }
+}
+
+/// `priority`, which rules alone set.
+pub struct PriorityKey;
+
+impl Setting for PriorityKey {
+    type Value = TestPriority;
+}
+
+impl Sets<PriorityKey> for ProfileConfig {
+    ghost use Rattle.nextest_config_resolution_settings.specs.Keys.{priority};
+
+    ghost value = { priority };
+
+    fn value(&self) -> Option<&TestPriority> {
+        None
+    }
+}
+
+/// `test-group`, which rules alone set.
+pub struct TestGroupKey;
+
+impl Setting for TestGroupKey {
+    type Value = TestGroup;
+}
+
+impl Sets<TestGroupKey> for ProfileConfig {
+    ghost use Rattle.nextest_config_resolution_settings.specs.Keys.{test_group};
+
+    ghost value = { test_group };
+
+    fn value(&self) -> Option<&TestGroup> {
+        None
     }
 }

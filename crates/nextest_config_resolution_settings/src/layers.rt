@@ -1,9 +1,10 @@
 // The layers of a configuration, and what they set.
 ghost use Rattle.std.specs.Prelude.{◌≡◌, IfNone, IfSome, unwrap_or};
 ghost use Rattle.std.specs.Option.{option_copied};
-ghost use Rattle.nextest_config_resolution_settings.specs.Nearest.{IsNearest, IsOfProfiles, IsSetting, SetsNone, lent, seen};
+ghost use Rattle.nextest_config_resolution_settings.specs.Nearest.{IsNearest, IsOfProfiles, IsSetting, SetsNone, an_override, lent, seen};
 
-use crate::source::{OverrideId, SettingSource};
+use crate::source::SettingSource;
+use nextest_config_resolution_overrides::OverrideId;
 
 /// A setting, as the word for what is looked for.
 pub trait Setting {
@@ -40,7 +41,7 @@ pub fn nearest<'c, S: Setting, L: Sets<S>>(layers: &[&'c L]) -> Option<(usize, &
 /// A rule of a configuration, which is one of its overrides.
 pub trait Rule {
     ghost use Rattle.std.specs.Prelude.{◌≡◌};
-    ghost use Rattle.nextest_config_resolution_settings.specs.declared.source.OverrideId.{OverrideId};
+    ghost use Rattle.nextest_config_resolution_overrides.specs.declared.override_id.OverrideId.{OverrideId};
 
     ghost id: { Self → OverrideId };
 
@@ -59,9 +60,16 @@ pub fn find_setting<'c, S: Setting, R: Sets<S> + Rule, P: Sets<S>>(
         (unwrap_or (option_copied result.0) fallback) (seen result.1) }
 {
     match nearest::<S, R>(rules) {
-        Some((place, value)) => (Some(value), SettingSource::Override(rules[place].id())),
+        Some((place, value)) => (Some(value), source_of(rules[place])),
         None => find_in_profiles::<S, P>(profiles),
     }
+}
+
+// That a value comes from a rule.
+fn source_of<'c, R: Rule>(rule: &'c R) -> SettingSource<'c>
+    ensures { seen result ≡ an_override (R.id rule.now) }
+{
+    SettingSource::Override(rule.id())
 }
 
 /// The value of a setting over profiles, and where it comes from, where no rule sets it: that of the nearest profile that does.

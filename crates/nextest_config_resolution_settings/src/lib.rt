@@ -1,28 +1,34 @@
 //! Which value a setting has: that of the nearest layer that sets it, else a fallback.
 //!
-//! A layer says by `Sets` which value it sets for a setting. `nearest` finds the first of a list that sets one, and
-//! `find_setting` goes over two lists, rules and then profiles, and tells where the value comes from. An `EvaluatableProfile` is
-//! read from its chain of profiles alone.
+//! A layer says by `Sets` which value it sets for a setting: a rule, which is an override (`PlacedOverride`), or a profile
+//! (`ProfileConfig`). `nearest` finds the first of a list that sets one, and `find_setting` goes over two lists, rules and
+//! then profiles, and tells where the value comes from. `settings_by` finds the settings of a test so, each over the rules that
+//! hold on it, in their order, and then the chain of its profile. Which rules hold is asked elsewhere; of those that do, the
+//! nearest that sets a value is the least of all rules that holds and sets one (`laws::least_rule`). What profiles alone have
+//! is found by `set_by`, `of_profiles` and `value_or`.
 #![tactic(auto)]
 
 mod default_filter;
-mod evaluatable_profile;
 pub mod fallbacks;
 pub mod keys;
 pub mod laws;
 mod layers;
 mod list_settings;
 mod profiles;
+mod rule_keys;
 mod source;
 mod test_settings;
+mod tracking;
 mod wrapper_script;
 
 pub use default_filter::{CompiledDefaultFilter, CompiledDefaultFilterSection};
-pub use evaluatable_profile::EvaluatableProfile;
 pub use layers::{Rule, Sets, Setting, find_in_profiles, find_setting, nearest};
 pub use list_settings::ListSettings;
-pub use source::{OverrideId, SettingSource, TrackSource};
+pub use nextest_config_resolution_overrides::{OverrideId, PlacedOverride};
+pub use profiles::{of_profiles, set_by, value_or};
+pub use source::{SettingSource, TrackSource};
 pub use test_settings::{TestGroupRef, TestSettings};
+pub use tracking::settings_by;
 pub use wrapper_script::{
     ScriptCommand, ScriptCommandEnvMap, ScriptCommandRelativeTo, WrapperScriptConfig,
     WrapperScriptTargetRunner,

@@ -1,27 +1,5 @@
 // Where the value of a setting comes from.
-use nextest_text::Text;
-
-/// An override of a configuration, by where it is written.
-#[derive(Debug, PartialEq, Eq)]
-pub struct OverrideId {
-    /// The path of its file.
-    pub file: Text,
-    /// The name of its profile.
-    pub profile: Text,
-    /// Its place among the overrides of that profile in that file, from 0 on.
-    pub index: usize,
-}
-
-// One call drops it, whoever holds it.
-impl Drop for OverrideId {
-    fn drop(self) {
-        let Self {
-            file: _,
-            profile: _,
-            index: _,
-        } = self;
-    }
-}
+use nextest_config_resolution_overrides::OverrideId;
 
 /// Where the value of a setting comes from.
 #[derive(Clone, Copy, Debug, PartialEq, Eq)]

@@ -27,9 +27,10 @@ use Rattle.nextest_config_elements_readers.specs.Threads.{test_threads, threads_
 use Rattle.nextest_config_elements_readers.specs.Timeouts.{global_timeout_in, leak_timeout_in, slow_timeout_in}
 use Rattle.nextest_config_elements_readers.specs.Values.{truth}
 use Rattle.nextest_config_elements_readers.specs.Words.{flaky_result, final_status_level, output_display, status_level}
-use Rattle.nextest_config_resolution_values.proofs.Parts.{by_has, has_by, read_so, so_read}
-use Rattle.nextest_config_resolution_values.specs.Accepted.{MayBe, Reads, IsBench, IsJunit}
-use Rattle.nextest_config_resolution_values.specs.Keys.{optional_by, texts_of}
+use Rattle.nextest_config_elements_readers.proofs.Parts.{by_has, has_by, read_so, so_read}
+use Rattle.nextest_config_elements_readers.specs.Tables.{MayBe, Reads}
+use Rattle.nextest_config_resolution_values.specs.Accepted.{IsBench, IsJunit}
+use Rattle.nextest_config_elements_readers.specs.Keys.{optional_by, texts_of}
 use Rattle.nextest_config_resolution_values.specs.Profile.{bench_in, junit_in, default_to_final, flaky_to_inherits, leak_to_slow, status_to_threads}
 use Rattle.nextest_config_resolution_values.specs.declared.bench.ProfileBench.{ProfileBench}
 use Rattle.nextest_config_resolution_values.specs.declared.junit.ProfileJunit.{ProfileJunit}

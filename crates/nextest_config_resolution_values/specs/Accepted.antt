@@ -6,27 +6,14 @@ use Rattle.nextest_config_elements_readers.specs.Accepted.{IsLeftOut, MayHave, I
 use Rattle.nextest_config_elements_readers.specs.Junit.{report_skip_policy, flaky_fail_status}
 use Rattle.nextest_config_elements_readers.specs.Limits.{fail_fast_in}
 use Rattle.nextest_config_elements_readers.specs.Threads.{test_threads, threads_required}
+use Rattle.nextest_config_elements_readers.specs.Tables.{IsTable, MayBe, Reads}
 use Rattle.nextest_config_elements_readers.specs.Timeouts.{global_timeout_in, leak_timeout_in}
 use Rattle.nextest_config_elements_readers.specs.Values.{truth}
 use Rattle.nextest_config_elements_readers.specs.Words.{flaky_result, final_status_level, output_display, status_level}
-use Rattle.nextest_config_resolution_values.specs.Keys.{texts_of}
+use Rattle.nextest_config_elements_readers.specs.Keys.{texts_of}
 use Rattle.nextest_config_resolution_values.specs.declared.bench.ProfileBench.{ProfileBench}
 use Rattle.nextest_config_resolution_values.specs.declared.junit.ProfileJunit.{ProfileJunit}
 use Rattle.nextest_config_resolution_values.specs.declared.profile_config.ProfileConfig.{ProfileConfig}
-
--- a key has what is such a value, or is left out and has none
-abbrev pub MayBe : {A : Type 0} → Members → List ℕ → (Data → A → Type 0) → Option A → Type 0
-MayBe members key Is None = IsLeftOut members key
-MayBe members key Is (Some x) = (given : Data) × (get_member key members ≡ Some given) × Is given x
-
--- a value is read so
-abbrev pub Reads : {A : Type 0} → (Data → Reading A) → Data → A → Type 0
-Reads reading given x = reading given ≡ Ok x
-
--- a value is a table of this kind
-abbrev pub IsTable : {A : Type 0} → (Members → A → Type 0) → Data → A → Type 0
-IsTable Is (table members) x = Is members x
-IsTable Is given x = ⊥
 
 -- what holds of benchmarks
 pub record IsBench (members : Members) (config : ProfileBench) : Type 0 where

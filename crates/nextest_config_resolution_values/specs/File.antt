@@ -1,9 +1,8 @@
--- The values of a whole file.
+-- The profiles and the store of a configuration.
 use Rattle.std.specs.Prelude.{ℕ, List, [], ◌∷◌, codes, Option, None, Some, Ok, Err}
 use Rattle.toml.specs.Data.{Data, Members, no_members, member, as_str, get_member}
 use Rattle.nextest_config_elements_reading.specs.Reading.{Reading, ◌>>=◌, optional, under}
-use Rattle.nextest_config_elements_versions.specs.Demand.{experimental_in, nextest_version_in}
-use Rattle.nextest_config_resolution_values.specs.Keys.{table_by}
+use Rattle.nextest_config_elements_readers.specs.Keys.{table_by}
 use Rattle.nextest_config_resolution_values.specs.Profile.{profile_of}
 use Rattle.nextest_config_resolution_values.specs.declared.profile_config.ProfileConfig.{ProfileConfig}
 
@@ -33,28 +32,9 @@ abbrev pub store_dir_of : Option Data → Reading (Option (List ℕ))
 store_dir_of None = Ok None
 store_dir_of (Some given) = table_by store_dir_in given
 
--- the two keys of a file
+-- what stands at both
 abbrev pub profiles_at : Members → Reading (List Named)
 profiles_at top = under (codes "profile") (profiles_of (get_member (codes "profile") top))
 
 abbrev pub store_dir_at : Members → Reading (Option (List ℕ))
 store_dir_at top = under (codes "store") (store_dir_of (get_member (codes "store") top))
-
--- what a file says of profiles and the store
-pub record FileConfig : Type 0 where
-  pub profiles : List Named
-  pub store_dir : Option (List ℕ)
-
--- a file, by the bytes of its keys; what it asks for of features and versions is kept elsewhere
-abbrev pub file_in : Members → Reading FileConfig
-file_in top = do
-  names ← experimental_in top
-  versions ← nextest_version_in top
-  profiles ← profiles_at top
-  store_dir ← store_dir_at top
-  Ok (record { profiles = profiles; store_dir = store_dir })
-
--- whether each value is one, and else where the first stands that is none
-abbrev pub checked : {A : Type 0} → Reading A → Reading (Unit {0})
-checked (Ok x) = Ok tt
-checked (Err path) = Err path

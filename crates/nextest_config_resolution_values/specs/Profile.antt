@@ -9,7 +9,7 @@ use Rattle.nextest_config_elements_readers.specs.Threads.{test_threads, threads_
 use Rattle.nextest_config_elements_readers.specs.Timeouts.{global_timeout_in, leak_timeout_in, slow_timeout_in}
 use Rattle.nextest_config_elements_readers.specs.Values.{truth}
 use Rattle.nextest_config_elements_readers.specs.Words.{flaky_result, final_status_level, output_display, status_level}
-use Rattle.nextest_config_resolution_values.specs.Keys.{optional_by, table_by, texts_of}
+use Rattle.nextest_config_elements_readers.specs.Keys.{optional_by, table_by, texts_of}
 use Rattle.nextest_config_resolution_values.specs.declared.bench.ProfileBench.{ProfileBench}
 use Rattle.nextest_config_resolution_values.specs.declared.junit.ProfileJunit.{ProfileJunit}
 use Rattle.nextest_config_resolution_values.specs.declared.profile_config.ProfileConfig.{ProfileConfig}

@@ -1,7 +1,8 @@
 // What holds of benchmarks.
 ghost use Rattle.toml.specs.View.{table_view, view};
-ghost use Rattle.nextest_config_resolution_values.specs.Keys.{table_by};
-ghost use Rattle.nextest_config_resolution_values.specs.Paths.{GivesAt, bench_path};
+ghost use Rattle.nextest_config_elements_readers.specs.Keys.{table_by};
+ghost use Rattle.nextest_config_elements_readers.specs.Paths.{GivesAt};
+ghost use Rattle.nextest_config_resolution_values.specs.Paths.{bench_path};
 ghost use Rattle.nextest_config_resolution_values.specs.Profile.{bench_in};
 
 use crate::profile_value::optional_bench_value;

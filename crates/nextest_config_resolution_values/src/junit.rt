@@ -3,9 +3,8 @@ ghost use Rattle.toml.specs.View.{table_view};
 ghost use Rattle.nextest_config_elements_reading.specs.Paths.{Gives};
 ghost use Rattle.nextest_config_resolution_values.specs.Profile.{junit_in};
 
-use crate::found::optional_text;
 use nextest_config_elements_counts::{JunitFlakyFailStatus, ReportSkipPolicy};
-use nextest_config_elements_readers::{Any, optional};
+use nextest_config_elements_readers::{Any, optional, optional_text};
 use nextest_config_elements_reading::ValueError;
 use nextest_text::Text;
 use std::alloc::Global;

@@ -1,9 +1,8 @@
 // The values of a profile's keys that stand side by side.
 ghost use Rattle.toml.specs.View.{table_view};
-ghost use Rattle.nextest_config_resolution_values.specs.Paths.{GivesAt, profile_path};
+ghost use Rattle.nextest_config_elements_readers.specs.Paths.{GivesAt, profile_path};
 ghost use Rattle.nextest_config_resolution_values.specs.Profile as read;
 
-use crate::found::optional_text;
 use crate::profile_value::optional_value;
 use nextest_config_elements_counts::{
     GlobalTimeout, LeakTimeout, RetryPolicy, SlowTimeout, TestThreads, ThreadsRequired,
@@ -11,7 +10,7 @@ use nextest_config_elements_counts::{
 use nextest_config_elements_plain::{
     FinalStatusLevel, FlakyResult, MaxFail, StatusLevel, TestOutputDisplay,
 };
-use nextest_config_elements_readers::{Any, optional};
+use nextest_config_elements_readers::{Any, optional, optional_text};
 use nextest_config_elements_reading::ValueError;
 use nextest_text::{Listing, Text};
 use std::alloc::Global;

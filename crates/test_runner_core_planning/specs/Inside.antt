@@ -7,6 +7,7 @@ use Rattle.nextest_filtering_compiling.specs.declared.filterset.Filterset.{Filte
 use Rattle.nextest_filtering_filters.specs.Filter.{Compiled, filter_of}
 use Rattle.nextest_filtering_trees.specs.Tree.{Tree}
 use Rattle.test_runner_core_inputs.specs.declared.inputs.Inputs.{Inputs}
+use Rattle.test_runner_core_platforms.specs.declared.platform_spec.PlatformSpec.{PlatformSpec}
 use Rattle.test_runner_core_settings.specs.Sets.{IsDefault, Reads}
 use Rattle.test_runner_core_settings.specs.declared.configured.RunSettings.{RunSettings}
 use Rattle.test_runner_core_settings.specs.declared.pass.VersionPass.{VersionPass}
@@ -37,7 +38,7 @@ abbrev pub in_force : Option Compiled → Bool → Compiled → List Compiled
 in_force filterset ignored default = cons_option filterset (unless_ignored ignored default)
 
 -- inputs whose workspace and versions aren't refused have this configuration
-pub record IsConfigured (inputs : Inputs) (config : Whole Filterset) : Type 0 where
+pub record IsConfigured (inputs : Inputs) (config : Whole Filterset PlatformSpec) : Type 0 where
   pub passed : VersionPass
   pub passes : passed_of inputs ≡ Ok passed
   pub reads : Reads (context_of inputs.workspace) inputs config

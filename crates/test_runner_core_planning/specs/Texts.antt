@@ -11,10 +11,15 @@ abbrev pub name_of_load : LoadKind → List ℕ
 name_of_load load.Unread = codes "Load.Unread"
 name_of_load load.Toml = codes "Load.Toml"
 name_of_load load.BadValue = codes "Load.BadValue"
+name_of_load load.BadName = codes "Load.BadName"
+name_of_load load.NoConstraint = codes "Load.NoConstraint"
+name_of_load load.FilterAndDefaultFilter = codes "Load.FilterAndDefaultFilter"
+name_of_load load.BadSpec = codes "Load.BadSpec"
+name_of_load load.BadFilter = codes "Load.BadFilter"
+name_of_load load.UnknownGroup = codes "Load.UnknownGroup"
 name_of_load load.InheritsInDefault = codes "Load.InheritsInDefault"
 name_of_load load.UnknownParent = codes "Load.UnknownParent"
 name_of_load load.Cycle = codes "Load.Cycle"
-name_of_load load.BadFilter = codes "Load.BadFilter"
 
 abbrev pub name_of : PlanFault → List ℕ
 name_of fault.RepeatedPackage = codes "RepeatedPackage"

@@ -146,10 +146,15 @@ fn load_name(kind: LoadKind) -> &'static str
         LoadKind::Unread => "Load.Unread",
         LoadKind::Toml => "Load.Toml",
         LoadKind::BadValue => "Load.BadValue",
+        LoadKind::BadName => "Load.BadName",
+        LoadKind::NoConstraint => "Load.NoConstraint",
+        LoadKind::FilterAndDefaultFilter => "Load.FilterAndDefaultFilter",
+        LoadKind::BadSpec => "Load.BadSpec",
+        LoadKind::BadFilter => "Load.BadFilter",
+        LoadKind::UnknownGroup => "Load.UnknownGroup",
         LoadKind::InheritsInDefault => "Load.InheritsInDefault",
         LoadKind::UnknownParent => "Load.UnknownParent",
         LoadKind::Cycle => "Load.Cycle",
-        LoadKind::BadFilter => "Load.BadFilter",
     }
 }
 

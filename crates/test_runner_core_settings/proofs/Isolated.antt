@@ -3,23 +3,24 @@ use Rattle.std.proofs.Common.{◌≡◌, List, ap, subst}
 use Rattle.std.specs.List.{All}
 use Rattle.nextest_config_elements_plain.specs.declared.run_mode.NextestRunMode.{NextestRunMode}
 use Rattle.nextest_config_resolution_inheritance.specs.Inheritance.{Name}
-use Rattle.nextest_config_resolution_load.specs.Checks.{parents_of}
+use Rattle.nextest_config_resolution_load.specs.Checks.{MergedConfig, parents_of}
 use Rattle.nextest_config_resolution_profiles.specs.Config.{IsChainOf, profiles_of, values_of}
 use Rattle.nextest_config_resolution_profiles.specs.Whole.{Whole}
 use Rattle.nextest_config_resolution_profiles.proofs.OneProfile.{one_chain_of, one_order}
 use Rattle.nextest_config_resolution_profiles.proofs.SameChain.{same_chain}
-use Rattle.nextest_config_resolution_values.specs.File.{FileConfig, Named}
+use Rattle.nextest_config_resolution_values.specs.File.{Named}
 use Rattle.nextest_config_resolution_values.specs.declared.profile_config.ProfileConfig.{ProfileConfig}
 use Rattle.nextest_filtering_compiling.specs.Context.{Context}
 use Rattle.nextest_filtering_compiling.specs.declared.filterset.Filterset.{Filterset}
 use Rattle.test_runner_core_inputs.specs.declared.inputs.Inputs.{Inputs}
+use Rattle.test_runner_core_platforms.specs.declared.platform_spec.PlatformSpec.{PlatformSpec}
 use Rattle.test_runner_core_settings.specs.Laws.{Isolated}
 use Rattle.test_runner_core_settings.specs.Settings.{AreRunSettings}
 use Rattle.test_runner_core_settings.specs.Sets.{Reads}
 use Rattle.test_runner_core_settings.proofs.Once.{one_run, same_seen}
 
-same_profiles : (cx : Context) (inputs : Inputs) (one other : Whole Filterset) → Reads cx inputs one → Reads cx inputs other → profiles_of one ≡ profiles_of other
-same_profiles cx inputs one other a b = ap (λ (it : FileConfig). it.profiles) (same_seen cx inputs one other a.loaded b.loaded)
+same_profiles : (cx : Context) (inputs : Inputs) (one other : Whole Filterset PlatformSpec) → Reads cx inputs one → Reads cx inputs other → profiles_of one ≡ profiles_of other
+same_profiles cx inputs one other a b = ap (λ (it : MergedConfig). it.profiles) (same_seen cx inputs one other a.loaded b.loaded)
 
 pub isolated : Isolated
 isolated cx inputs other one second agree a b =

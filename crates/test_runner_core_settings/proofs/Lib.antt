@@ -1,5 +1,6 @@
 pub mod Chosen
 pub mod Passing
+pub mod NoRules
 mod Shown
 pub mod Isolated
 pub mod Limits

@@ -1,5 +1,5 @@
 -- A limit that inputs set is one at least.
-use Rattle.std.proofs.Common.{◌≡◌, ◌<◌, ℕ, Bool, true, false, List, [], ◌∷◌, ◌++◌, map, codes, Option, None, Some, Result, Ok, Err, refl, sym, subst, cond, arith, find}
+use Rattle.std.proofs.Common.{◌≡◌, ◌<◌, ℕ, Bool, true, false, List, [], ◌∷◌, ◌++◌, map, codes, Option, None, Some, Result, Ok, Err, refl, subst, cond, arith, find}
 use Rattle.std.specs.Prelude.{⊤, nat_lt, pos, negsuc, if◌then◌else◌}
 use Rattle.std.proofs.lemmas.Bool.Decides.{nat_tests}
 use Rattle.std.specs.List.{AllByRecursion}
@@ -13,14 +13,14 @@ use Rattle.nextest_config_elements_reading.specs.Reading.{Path, Reading, ◌>>=�
 use Rattle.nextest_config_elements_readers.specs.Limits.{fail_fast_in, limit, limit_in, stopped_at, switch_in, switched}
 use Rattle.nextest_config_elements_readers.specs.Values.{above_none, truth}
 use Rattle.nextest_config_elements_readers.specs.Words.{terminate_mode}
-use Rattle.nextest_config_resolution_load.specs.Checks.{config_in, merged_in}
+use Rattle.nextest_config_resolution_load.specs.Checks.{MergedConfig, config_in, merged_in}
+use Rattle.nextest_config_resolution_overrides.specs.Groups.{groups_at}
 use Rattle.nextest_config_resolution_profiles.specs.Config.{values_of}
 use Rattle.nextest_config_resolution_settings.specs.Fallbacks as fallback
 use Rattle.nextest_config_resolution_settings.specs.Keys as key
-use Rattle.nextest_config_resolution_settings.specs.Nearest.{IsOfProfiles, Source, an_override, a_profile, no_layer}
-use Rattle.nextest_config_resolution_settings.specs.Profile.{OfProfiles}
-use Rattle.nextest_config_resolution_values.specs.Accepted.{MayBe, Reads}
-use Rattle.nextest_config_resolution_values.specs.File.{FileConfig, Named, profiles_at, profiles_in, profiles_of, store_dir_at}
+use Rattle.nextest_config_resolution_settings.specs.Nearest.{IsOfProfiles, Source, of_fallback, of_profile}
+use Rattle.nextest_config_elements_readers.specs.Tables.{MayBe, Reads}
+use Rattle.nextest_config_resolution_values.specs.File.{Named, profiles_at, profiles_in, profiles_of, store_dir_at}
 use Rattle.nextest_config_resolution_values.specs.Profile.{profile_in, profile_of}
 use Rattle.nextest_config_resolution_values.specs.declared.profile_config.ProfileConfig.{ProfileConfig}
 use Rattle.nextest_config_resolution_values.proofs.Accepting.{accepted_profile}
@@ -151,14 +151,15 @@ found_have (Some (boolean holds)) = tt
 found_have (Some (datetime at)) = tt
 found_have (Some (array items)) = tt
 
-abbrev AreLimited : FileConfig → Type 0
+abbrev AreLimited : MergedConfig → Type 0
 AreLimited config = HaveLimits config.profiles
 
 tree_has : (top : Members) → Holds (config_in top) AreLimited
 tree_has top =
     next_holds (profiles_at top) _ HaveLimits AreLimited
     (under_holds (codes "profile") (profiles_of (get_member (codes "profile") top)) HaveLimits (found_have (get_member (codes "profile") top)))
-    (λ profiles have. next_holds (store_dir_at top) _ (λ dir. ⊤) AreLimited (anything (store_dir_at top)) (λ dir _. have))
+    (λ profiles have. next_holds (store_dir_at top) _ (λ dir. ⊤) AreLimited (anything (store_dir_at top))
+    (λ dir _. next_holds (groups_at top) _ (λ groups. ⊤) AreLimited (anything (groups_at top)) (λ groups _. have)))
 
 -- ---- a chain
 
@@ -187,17 +188,13 @@ one_of : (front back : List ProfileConfig) (config : ProfileConfig) → AllByRec
 one_of [] back config have = have.0
 one_of (first ∷ front) back config have = one_of front back config have.1
 
-has_limit : (chain : List ProfileConfig) (limit : MaxFail) → AllByRecursion HasLimit chain → OfProfiles key.fail_fast chain fallback.fail_fast limit → IsOneAtLeast limit
-has_limit chain limit have value = by_source value.from value.is
-  where
-    by_source : (from : Source) → IsOfProfiles key.fail_fast chain fallback.fail_fast limit from → IsOneAtLeast limit
-    by_source (an_override id) is = absurd is
-    by_source (a_profile place) is =
-        subst (λ (found : Option MaxFail). HoldsIfSome found IsOneAtLeast) is.sets
-        (one_of is.front is.back is.layer (subst (λ (all : List ProfileConfig). AllByRecursion HasLimit all) is.divided have))
-    by_source no_layer (unset, is) = subst IsOneAtLeast (sym is) (omega arith)
+has_limit : (chain : List ProfileConfig) (limit : MaxFail) (from : Source) → AllByRecursion HasLimit chain → IsOfProfiles key.fail_fast chain fallback.fail_fast limit from → IsOneAtLeast limit
+has_limit chain _ _ have (of_profile place limit is) =
+    subst (λ (found : Option MaxFail). HoldsIfSome found IsOneAtLeast) is.sets
+    (one_of is.front is.back is.layer (subst (λ (all : List ProfileConfig). AllByRecursion HasLimit all) is.divided have))
+has_limit chain _ _ have (of_fallback unset) = omega arith
 
 pub sets_limit : SetsLimit
 sets_limit cx inputs it by =
-    let have = subst (λ (given : Reading FileConfig). Holds given AreLimited) by.reads.loaded.1.values (tree_has (merged_in _ inputs.sources)) in
-    has_limit by.chain it.max_fail (chain_has _ by.chained.names by.chain have by.chained.valued) by.settings.max_fail
+    let have = subst (λ (given : Reading MergedConfig). Holds given AreLimited) by.reads.loaded.1.values (tree_has (merged_in _ inputs.sources)) in
+    has_limit by.chain it.max_fail by.settings.max_fail.from (chain_has _ by.chained.names by.chain have by.chained.valued) by.settings.max_fail.is

@@ -1,7 +1,7 @@
 -- Inputs set one thing, or are refused for one reason.
-use Rattle.std.proofs.Common.{◌≡◌, ℕ, suc, Bool, true, false, List, [], ◌∷◌, map, Some, Ok, Err, refl, sym, ap, ◌∙◌, subst, cond, arith, find}
-use Rattle.std.specs.Prelude.{is_some}
-use Rattle.std.specs.List.{Contains}
+use Rattle.std.proofs.Common.{◌≡◌, ℕ, suc, Bool, true, false, List, [], ◌∷◌, length, map, Some, Ok, Err, refl, sym, ap, ◌∙◌, subst, cond, arith, find}
+use Rattle.std.specs.Prelude.{◌||◌, is_some, nat_lt}
+use Rattle.std.specs.List.{AllZip, Contains}
 use Rattle.std.specs.Option.{option_map}
 use Rattle.std.specs.Str.{bytes_eq}
 use Rattle.std.proofs.lemmas.Bool.{false≢true}
@@ -13,8 +13,8 @@ use Rattle.nextest_config_elements_plain.specs.declared.status_level.StatusLevel
 use Rattle.nextest_config_resolution_inheritance.specs.Inheritance.{Name, IsChain, ends, goes_on}
 use Rattle.nextest_config_resolution_inheritance.specs.declared.inheritance_fault.InheritanceFault.TheVariants as inheritance
 use Rattle.nextest_config_resolution_load.specs.Kinds.{kind_of}
-use Rattle.nextest_config_resolution_load.specs.Checks.{Refusal, unread, no_toml, bad_value, bad_merged, inherits_badly, bad_filter, parents_of}
-use Rattle.nextest_config_resolution_load.specs.Load.{named, reason_of, seen}
+use Rattle.nextest_config_resolution_load.specs.Checks.{MergedConfig, Refusal, unread, no_toml, bad_value, bad_name, no_constraint, filter_and_default_filter, bad_spec, bad_override_filter, bad_merged, unknown_group, inherits_badly, bad_filter, parents_of}
+use Rattle.nextest_config_resolution_load.specs.Load.{IsReadRule, named, reason_of, seen}
 use Rattle.nextest_config_resolution_load.specs.declared.load_error.LoadError.TheVariants as load_error
 use Rattle.nextest_config_resolution_load.specs.declared.load_fault.LoadFault.{LoadFault}
 use Rattle.nextest_config_resolution_load.specs.declared.load_fault.LoadFault.TheVariants as load
@@ -22,6 +22,7 @@ use Rattle.nextest_config_resolution_load.specs.declared.load_fault.LoadKind.{Lo
 use Rattle.nextest_config_resolution_load.specs.declared.load_fault.LoadKind.TheVariants as kind
 use Rattle.nextest_config_resolution_load.specs.declared.loaded_config.NamedProfile.{NamedProfile}
 use Rattle.nextest_config_resolution_load.proofs.Loads.{none_refused, one_load, one_reason}
+use Rattle.nextest_config_resolution_overrides.specs.declared.groups.NamedGroup.{NamedGroup}
 use Rattle.nextest_config_resolution_profiles.specs.Config.{IsChainOf, names_of, profiles_of, values_of}
 use Rattle.nextest_config_resolution_profiles.specs.Whole.{Whole}
 use Rattle.nextest_config_resolution_profiles.specs.declared.profile_error.ProfileNotFound.{ProfileNotFound}
@@ -33,14 +34,15 @@ use Rattle.nextest_config_resolution_settings.specs.Tracking.{TellsNothing}
 use Rattle.nextest_config_resolution_settings.specs.declared.test_settings.TestSettings.{TestSettings}
 use Rattle.nextest_config_resolution_settings.proofs.Sourced.{one_value, same_settings}
 use Rattle.nextest_config_resolution_settings.proofs.Unique.{one_nearest}
-use Rattle.nextest_config_resolution_values.specs.File.{FileConfig, Named}
+use Rattle.nextest_config_resolution_values.specs.File.{Named}
 use Rattle.nextest_config_resolution_values.specs.declared.profile_config.ProfileConfig.{ProfileConfig}
 use Rattle.nextest_filtering_compiling.specs.Context.{Context}
 use Rattle.nextest_filtering_compiling.specs.declared.filterset.Filterset.{Filterset}
 use Rattle.test_runner_core_inputs.specs.declared.inputs.Inputs.{Inputs}
+use Rattle.test_runner_core_platforms.specs.declared.platform_spec.PlatformSpec.{PlatformSpec}
 use Rattle.test_runner_core_settings.specs.Laws.{OneSettings}
-use Rattle.test_runner_core_settings.specs.Settings.{AreRunSettings, owned_group, owned_of}
-use Rattle.test_runner_core_settings.specs.Sets.{HasNoProfile, IsDefault, IsTooDeep, Loads, Reads, SetsBy}
+use Rattle.test_runner_core_settings.specs.Settings.{AreRunSettings, owned_of}
+use Rattle.test_runner_core_settings.specs.Sets.{HasNoProfile, IsFilter, IsPlatformSpec, IsTooDeep, Loads, Reads, SetsBy, asks_for_later}
 use Rattle.test_runner_core_plan.specs.declared.plan_settings.PlanSettings.{PlanSettings}
 use Rattle.test_runner_core_settings.specs.declared.configured.RunSettings.{RunSettings}
 use Rattle.test_runner_core_settings.specs.declared.settings_fault.SettingsFault.TheVariants as fault
@@ -48,10 +50,10 @@ use Rattle.test_runner_core_settings.specs.declared.settings_fault.SettingsFault
 -- ---- the settings of a chain
 
 -- copies of the settings of a chain are one
-one_test : (mode : NextestRunMode) (chain : List ProfileConfig) (one other : TestSettings (Unit {0})) → AreSettings TellsNothing mode chain one → AreSettings TellsNothing mode chain other
+one_test : (mode : NextestRunMode) (chain : List ProfileConfig) (one other : TestSettings (Unit {0})) → AreSettings TellsNothing mode [] chain one → AreSettings TellsNothing mode [] chain other
     → owned_of one ≡ owned_of other
 one_test mode chain one other a b =
-    let same = same_settings TellsNothing TellsNothing mode chain one other a b in
+    let same = same_settings TellsNothing TellsNothing mode [] chain one other a b in
     let priority = same.priority in
     let threads = same.threads_required in
     let arguments = same.run_extra_args in
@@ -59,7 +61,7 @@ one_test mode chain one other a b =
     let flaky = same.flaky_result in
     let slow = same.slow_timeout in
     let leak = same.leak_timeout in
-    let group = ap owned_group same.test_group in
+    let group = same.test_group in
     let success = same.success_output in
     let failure = same.failure_output in
     let passing = same.junit_store_success_output in
@@ -87,7 +89,13 @@ abbrev kind_in : Refusal → LoadKind
 kind_in (unread path) = kind.Unread
 kind_in (no_toml path) = kind.Toml
 kind_in (bad_value path keys) = kind.BadValue
+kind_in (bad_name path name) = kind.BadName
+kind_in (no_constraint rule) = kind.NoConstraint
+kind_in (filter_and_default_filter rule) = kind.FilterAndDefaultFilter
+kind_in (bad_spec rule side) = kind.BadSpec
+kind_in (bad_override_filter rule use_for) = kind.BadFilter
 kind_in (bad_merged keys) = kind.BadValue
+kind_in (unknown_group rule group) = kind.UnknownGroup
 kind_in (inherits_badly (inheritance.InheritsInDefault profile)) = kind.InheritsInDefault
 kind_in (inherits_badly (inheritance.UnknownParent profile parent)) = kind.UnknownParent
 kind_in (inherits_badly (inheritance.Cycle profile)) = kind.Cycle
@@ -97,7 +105,13 @@ told_kind : (told : LoadFault) → kind_of told ≡ kind_in (reason_of told)
 told_kind (load.Unread path cause) = refl
 told_kind (load.Toml path message) = refl
 told_kind (load.BadValue path value) = refl
+told_kind (load.BadName path name) = refl
+told_kind (load.NoConstraint rule) = refl
+told_kind (load.FilterAndDefaultFilter rule) = refl
+told_kind (load.BadSpec rule side text) = refl
+told_kind (load.BadOverrideFilter rule use_for text) = refl
 told_kind (load.BadMergedValue value) = refl
+told_kind (load.UnknownGroup rule group) = refl
 told_kind (load.Inheritance (inheritance.InheritsInDefault profile)) = refl
 told_kind (load.Inheritance (inheritance.UnknownParent profile parent)) = refl
 told_kind (load.Inheritance (inheritance.Cycle profile)) = refl
@@ -105,27 +119,44 @@ told_kind (load.BadFilter profile text) = refl
 
 one_kind : (cx : Context) (inputs : Inputs) (one other : LoadFault) → Loads cx inputs (Err (load_error.Refused one)) → Loads cx inputs (Err (load_error.Refused other)) → kind_of one ≡ kind_of other
 one_kind cx inputs one other a b =
-    told_kind one ∙ ap kind_in (one_reason (IsDefault cx) IsTooDeep (λ text deep. deep) _ inputs.sources one other a b) ∙ sym (told_kind other)
+    told_kind one ∙ ap kind_in (one_reason (IsFilter cx) IsPlatformSpec IsTooDeep (λ text deep. deep) _ inputs.sources one other a b) ∙ sym (told_kind other)
 
 -- ---- configurations
 
-pub same_seen : (cx : Context) (inputs : Inputs) (one other : Whole Filterset) → Loads cx inputs (Ok one) → Loads cx inputs (Ok other) → seen one.loaded ≡ seen other.loaded
-same_seen cx inputs one other a b = one_load (IsDefault cx) IsTooDeep _ inputs.sources one.loaded other.loaded a.1 b.1
+pub same_seen : (cx : Context) (inputs : Inputs) (one other : Whole Filterset PlatformSpec) → Loads cx inputs (Ok one) → Loads cx inputs (Ok other) → seen one.loaded ≡ seen other.loaded
+same_seen cx inputs one other a b = one_load (IsFilter cx) IsPlatformSpec IsTooDeep _ inputs.sources one.loaded other.loaded a.1 b.1
 
-never_later : (cx : Context) (inputs : Inputs) (one other : Whole Filterset) → Reads cx inputs one → Loads cx inputs (Ok other) → other.loaded.sets_later_keys ≡ true → ⊥
-never_later cx inputs one other reads loaded later = false≢true (sym reads.later ∙ reads.loaded.1.later ∙ sym loaded.1.later ∙ later)
+-- lists side by side have one length
+same_length : {A B : Type 0} (R : A → B → Type 0) (xs : List A) (ys : List B) → AllZip R xs ys → length xs ≡ length ys
+same_length R [] [] zipped = refl
+same_length R [] (y ∷ ys) zipped = absurd zipped
+same_length R (x ∷ xs) [] zipped = absurd zipped
+same_length R (x ∷ xs) (y ∷ ys) zipped = ap suc (same_length R xs ys zipped.1)
 
-never_refused : (cx : Context) (inputs : Inputs) (config : Whole Filterset) (told : LoadFault) → Loads cx inputs (Ok config) → Loads cx inputs (Err (load_error.Refused told)) → ⊥
-never_refused cx inputs config told loaded refused = none_refused (IsDefault cx) IsTooDeep (λ text deep. deep) _ inputs.sources config.loaded told loaded.1 refused
+same_later : (cx : Context) (inputs : Inputs) (one other : Whole Filterset PlatformSpec) → Loads cx inputs (Ok one) → Loads cx inputs (Ok other) → asks_for_later one.loaded ≡ asks_for_later other.loaded
+same_later cx inputs one other a b =
+    let ReadAs = IsReadRule (IsFilter cx) IsPlatformSpec in
+    let keys : one.loaded.sets_later_keys ≡ other.loaded.sets_later_keys = a.1.later ∙ sym b.1.later in
+    let rules : length one.loaded.rules ≡ length other.loaded.rules = sym (same_length ReadAs _ _ a.1.rules) ∙ same_length ReadAs _ _ b.1.rules in
+    let groups : one.loaded.groups ≡ other.loaded.groups = ap (λ (it : MergedConfig). it.groups) (same_seen cx inputs one other a b) in
+    ap (λ (later : Bool). (later || nat_lt 0 (length one.loaded.rules)) || nat_lt 0 (length one.loaded.groups)) keys
+    ∙ ap (λ (n : ℕ). (other.loaded.sets_later_keys || nat_lt 0 n) || nat_lt 0 (length one.loaded.groups)) rules
+    ∙ ap (λ (all : List NamedGroup). (other.loaded.sets_later_keys || nat_lt 0 (length other.loaded.rules)) || nat_lt 0 (length all)) groups
+
+never_later : (cx : Context) (inputs : Inputs) (one other : Whole Filterset PlatformSpec) → Reads cx inputs one → Loads cx inputs (Ok other) → asks_for_later other.loaded ≡ true → ⊥
+never_later cx inputs one other reads loaded later = false≢true (sym reads.later ∙ same_later cx inputs one other reads.loaded loaded ∙ later)
+
+never_refused : (cx : Context) (inputs : Inputs) (config : Whole Filterset PlatformSpec) (told : LoadFault) → Loads cx inputs (Ok config) → Loads cx inputs (Err (load_error.Refused told)) → ⊥
+never_refused cx inputs config told loaded refused = none_refused (IsFilter cx) IsPlatformSpec IsTooDeep (λ text deep. deep) _ inputs.sources config.loaded told loaded.1 refused
 
 -- the names of profiles
 names_seen : (profiles : List NamedProfile) → map (λ (it : Named). it.0) (map named profiles) ≡ map (λ (it : NamedProfile). it.name) profiles
 names_seen [] = refl
 names_seen (first ∷ profiles) = ap (λ (names : List Name). first.name ∷ names) (names_seen profiles)
 
-same_names : (one other : Whole Filterset) → seen one.loaded ≡ seen other.loaded → names_of one ≡ names_of other
+same_names : (one other : Whole Filterset PlatformSpec) → seen one.loaded ≡ seen other.loaded → names_of one ≡ names_of other
 same_names one other same =
-    sym (names_seen one.loaded.profiles) ∙ ap (λ (it : FileConfig). map (λ (profile : Named). profile.0) it.profiles) same ∙ names_seen other.loaded.profiles
+    sym (names_seen one.loaded.profiles) ∙ ap (λ (it : MergedConfig). map (λ (profile : Named). profile.0) it.profiles) same ∙ names_seen other.loaded.profiles
 
 -- ---- a profile that has a chain is there
 
@@ -167,7 +198,7 @@ never_missing cx inputs it told by none =
 
 one_profile : (cx : Context) (inputs : Inputs) (one other : RunSettings) → SetsBy cx inputs one → SetsBy cx inputs other → one ≡ other
 one_profile cx inputs one other a b =
-    let same : profiles_of a.config ≡ profiles_of b.config = ap (λ (it : FileConfig). it.profiles) (same_seen cx inputs a.config b.config a.reads.loaded b.reads.loaded) in
+    let same : profiles_of a.config ≡ profiles_of b.config = ap (λ (it : MergedConfig). it.profiles) (same_seen cx inputs a.config b.config a.reads.loaded b.reads.loaded) in
     let chained = subst (λ (profiles : List Named). IsChainOf profiles inputs.profile a.chain) same a.chained in
     let chain : a.chain ≡ b.chain = one_chain_of (profiles_of b.config) inputs.profile a.chain b.chain chained b.chained in
     one_run inputs.mode b.chain one other (subst (λ (it : List ProfileConfig). AreRunSettings inputs.mode it one) chain a.settings) b.settings

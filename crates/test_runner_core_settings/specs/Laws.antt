@@ -10,6 +10,7 @@ use Rattle.nextest_config_resolution_profiles.specs.Whole.{Whole}
 use Rattle.nextest_filtering_compiling.specs.Context.{Context}
 use Rattle.nextest_filtering_compiling.specs.declared.filterset.Filterset.{Filterset}
 use Rattle.test_runner_core_inputs.specs.declared.inputs.Inputs.{Inputs}
+use Rattle.test_runner_core_platforms.specs.declared.platform_spec.PlatformSpec.{PlatformSpec}
 use Rattle.test_runner_core_settings.specs.Sets.{Reads, Sets}
 use Rattle.test_runner_core_settings.specs.declared.configured.RunSettings.{RunSettings}
 use Rattle.test_runner_core_settings.specs.declared.settings_fault.SettingsFault.{SettingsFault}
@@ -39,9 +40,9 @@ SomeSettings = (cx : Context) (inputs : Inputs) → ¬ ¬ ((given : Result RunSe
 pub record AgreeOnChain (cx : Context) (inputs other : Inputs) : Type 0 where
   pub profile : other.profile ≡ inputs.profile
   pub mode : other.mode ≡ inputs.mode
-  pub config : Whole Filterset
+  pub config : Whole Filterset PlatformSpec
   pub reads : Reads cx inputs config
-  pub second : Whole Filterset
+  pub second : Whole Filterset PlatformSpec
   pub reads_second : Reads cx other second
   pub names : List Name
   pub chain : IsChain (parents_of (profiles_of config)) inputs.profile names

@@ -1,9 +1,12 @@
 -- What inputs set for their run, or why they set nothing.
-use Rattle.std.specs.Prelude.{◌≡◌, ℕ, true, false, List, Result, Ok, Err, Contains, map}
+use Rattle.std.specs.Prelude.{◌≡◌, ℕ, Bool, true, false, ◌||◌, List, Result, Ok, Err, Contains, length, map, nat_lt}
+use Rattle.nextest_config_resolution_load.specs.Load.{IsFilterBy}
 use Rattle.nextest_config_resolution_load.specs.Telling.{warnings_in}
 use Rattle.nextest_config_resolution_load.specs.declared.load_error.LoadError.{LoadError}
 use Rattle.nextest_config_resolution_load.specs.declared.load_error.LoadError.TheVariants as load
-use Rattle.nextest_config_resolution_profiles.specs.Config.{IsChainOf, IsConfig, IsDefaultIn, names_of, profiles_of}
+use Rattle.nextest_config_resolution_load.specs.declared.languages.FilterPurpose.TheVariants as purpose
+use Rattle.nextest_config_resolution_load.specs.declared.loaded_config.LoadedConfig.{LoadedConfig}
+use Rattle.nextest_config_resolution_profiles.specs.Config.{IsChainOf, IsConfig, IsFilterIn, names_of, profiles_of}
 use Rattle.nextest_config_resolution_profiles.specs.Whole.{Whole}
 use Rattle.nextest_config_resolution_profiles.specs.declared.profile_error.ProfileNotFound.{ProfileNotFound}
 use Rattle.nextest_config_resolution_values.specs.declared.profile_config.ProfileConfig.{ProfileConfig}
@@ -12,45 +15,59 @@ use Rattle.nextest_filtering_compiling.specs.Context.{Context}
 use Rattle.nextest_filtering_compiling.specs.Filtersets.{IsFilterset}
 use Rattle.nextest_filtering_compiling.specs.declared.filterset.Filterset.{Filterset}
 use Rattle.test_runner_core_inputs.specs.declared.inputs.Inputs.{Inputs}
+use Rattle.test_runner_core_platforms.specs.Grammar.{IsSpec}
+use Rattle.test_runner_core_platforms.specs.Trees.{spec_of}
+use Rattle.test_runner_core_platforms.specs.declared.platform_spec.PlatformSpec.{PlatformSpec}
 use Rattle.test_runner_core_settings.specs.Settings.{AreRunSettings}
 use Rattle.test_runner_core_settings.specs.declared.configured.RunSettings.{RunSettings}
 use Rattle.test_runner_core_settings.specs.declared.settings_fault.SettingsFault.{SettingsFault}
 use Rattle.test_runner_core_settings.specs.declared.settings_fault.SettingsFault.TheVariants as fault
 
--- a text is this default filter in a workspace, as which filtersets take it
+-- which filterset a text is in a workspace, by what it is for, and which one as a default filter
+abbrev pub IsFilter : Context → IsFilterBy Filterset
+IsFilter cx = IsFilterIn IsFilterset cx
+
 abbrev pub IsDefault : Context → List ℕ → Filterset → Type 0
-IsDefault cx = IsDefaultIn IsFilterset cx
+IsDefault cx = IsFilter cx purpose.Default
 
 -- no text is too deep for filtersets
 abbrev pub IsTooDeep : List ℕ → Type 0
 IsTooDeep text = ⊥
 
--- what the sources of inputs come to, or why they are refused
-abbrev pub Loads : Context → Inputs → Result (Whole Filterset) LoadError → Type 0
-Loads cx inputs = IsConfig (IsDefault cx) IsTooDeep inputs.root inputs.sources
+-- which platform spec a text is
+abbrev pub IsPlatformSpec : List ℕ → PlatformSpec → Type 0
+IsPlatformSpec text it = IsSpec text (spec_of it)
 
--- the sources of inputs come to this configuration, and each key that they set is read
-pub record Reads (cx : Context) (inputs : Inputs) (config : Whole Filterset) : Type 0 where
+-- what the sources of inputs come to, or why they are refused
+abbrev pub Loads : Context → Inputs → Result (Whole Filterset PlatformSpec) LoadError → Type 0
+Loads cx inputs = IsConfig (IsFilter cx) IsPlatformSpec IsTooDeep inputs.root inputs.sources
+
+-- a configuration has what isn't read yet: a key of scripts, an override or a group of tests
+abbrev pub asks_for_later : LoadedConfig Filterset PlatformSpec → Bool
+asks_for_later it = (it.sets_later_keys || nat_lt 0 (length it.rules)) || nat_lt 0 (length it.groups)
+
+-- the sources of inputs come to this configuration, and all that it has is read
+pub record Reads (cx : Context) (inputs : Inputs) (config : Whole Filterset PlatformSpec) : Type 0 where
   pub loaded : Loads cx inputs (Ok config)
-  pub later : config.loaded.sets_later_keys ≡ false
+  pub later : asks_for_later config.loaded ≡ false
 
 -- the chosen profile sets this
 pub record SetsBy (cx : Context) (inputs : Inputs) (it : RunSettings) : Type 0 where
-  pub config : Whole Filterset
+  pub config : Whole Filterset PlatformSpec
   pub reads : Reads cx inputs config
   pub chain : List ProfileConfig
   pub chained : IsChainOf (profiles_of config) inputs.profile chain
   pub settings : AreRunSettings inputs.mode chain it
 
--- a file sets a key that isn't read yet
+-- the sources come to what isn't read yet
 pub record SetsLater (cx : Context) (inputs : Inputs) : Type 0 where
-  pub config : Whole Filterset
+  pub config : Whole Filterset PlatformSpec
   pub loaded : Loads cx inputs (Ok config)
-  pub later : config.loaded.sets_later_keys ≡ true
+  pub later : asks_for_later config.loaded ≡ true
 
 -- no profile has the chosen name; told are that name and those of all profiles
 pub record HasNoProfile (cx : Context) (inputs : Inputs) (told : ProfileNotFound) : Type 0 where
-  pub config : Whole Filterset
+  pub config : Whole Filterset PlatformSpec
   pub reads : Reads cx inputs config
   pub name : told.name ≡ inputs.profile
   pub known : told.known ≡ names_of config

@@ -1,25 +1,17 @@
 -- What the chain of a profile sets for a run.
-use Rattle.std.specs.Prelude.{◌≡◌, List}
-use Rattle.nextest_config_elements_identifiers.specs.declared.test_group.TestGroup.{TestGroup}
-use Rattle.nextest_config_elements_identifiers.specs.declared.test_group.TestGroup.TheVariants as group
+use Rattle.std.specs.Prelude.{◌≡◌, List, []}
 use Rattle.nextest_config_elements_plain.specs.declared.run_mode.NextestRunMode.{NextestRunMode}
 use Rattle.nextest_config_resolution_settings.specs.Fallbacks as fallback
 use Rattle.nextest_config_resolution_settings.specs.Keys as key
 use Rattle.nextest_config_resolution_settings.specs.Profile.{IsSetTo, OfProfiles}
-use Rattle.nextest_config_resolution_settings.specs.TestSettings.{AreSettings}
+use Rattle.nextest_config_resolution_settings.specs.TestSettings.{AreSettings, group_of}
 use Rattle.nextest_config_resolution_settings.specs.Tracking.{TellsNothing}
-use Rattle.nextest_config_resolution_settings.specs.declared.test_settings.TestGroupRef.{TestGroupRef}
-use Rattle.nextest_config_resolution_settings.specs.declared.test_settings.TestGroupRef.TheVariants as group_ref
 use Rattle.nextest_config_resolution_settings.specs.declared.test_settings.TestSettings.{TestSettings}
 use Rattle.nextest_config_resolution_values.specs.declared.profile_config.ProfileConfig.{ProfileConfig}
 use Rattle.test_runner_core_plan.specs.declared.plan_settings.PlanSettings.{PlanSettings}
 use Rattle.test_runner_core_settings.specs.declared.configured.RunSettings.{RunSettings}
 
--- a group, and settings of a test, that were lent
-abbrev pub owned_group : TestGroupRef → TestGroup
-owned_group group_ref.Global = group.Global
-owned_group (group_ref.Custom it) = group.Custom it.now
-
+-- settings of a test that were lent
 abbrev pub owned_of : TestSettings (Unit {0}) → PlanSettings
 owned_of it = record {
   priority = it.priority.0;
@@ -29,7 +21,7 @@ owned_of it = record {
   flaky_result = it.flaky_result.0;
   slow_timeout = it.slow_timeout.0;
   leak_timeout = it.leak_timeout.0;
-  test_group = owned_group it.test_group.0;
+  test_group = group_of it.test_group.0;
   success_output = it.success_output.0;
   failure_output = it.failure_output.0;
   junit_store_success_output = it.junit_store_success_output.0;
@@ -38,10 +30,10 @@ owned_of it = record {
   junit_flaky_fail_status = it.junit_flaky_fail_status.0;
 }
 
--- each setting of a test is what the chain has
+-- each setting of a test is what the chain has, since there is no rule
 pub record AreOfTests (mode : NextestRunMode) (chain : List ProfileConfig) (it : PlanSettings) : Type 0 where
   pub lent : TestSettings (Unit {0})
-  pub each : AreSettings TellsNothing mode chain lent
+  pub each : AreSettings TellsNothing mode [] chain lent
   pub owned : it ≡ owned_of lent
 
 -- and so is each of the run, with the text of the default filter

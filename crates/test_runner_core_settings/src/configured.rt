@@ -1,22 +1,22 @@
 // What the configuration of inputs sets for their run.
-ghost use Rattle.std.specs.Prelude.{◌≡◌, IfOk};
+ghost use Rattle.std.specs.Prelude.{◌≡◌, [], IfOk};
 ghost use Rattle.nextest_config_resolution_settings.specs.Keys as key;
 ghost use Rattle.nextest_config_resolution_settings.specs.Nearest.{SetsNone, lent};
-ghost use Rattle.nextest_config_resolution_settings.specs.Profile.{IsSetTo, chain_of};
+ghost use Rattle.nextest_config_resolution_settings.specs.Profile.{IsSetTo};
 ghost use Rattle.nextest_filtering_compiling.specs.Context.{Context};
 ghost use Rattle.test_runner_core_settings.specs.Calls.{Chooses, Configures};
-ghost use Rattle.test_runner_core_settings.specs.Sets.{Reads};
+ghost use Rattle.test_runner_core_settings.specs.Sets.{Reads, asks_for_later};
 ghost use Rattle.test_runner_core_settings.specs.Settings.{AreRunSettings};
 
-use crate::no_specs::NoSpecs;
 use crate::owned::settings_of_tests;
+use crate::platforms::no_facts;
 use crate::settings_error::SettingsError;
 use crate::settings_fault::SettingsFault;
 use nextest_config_elements_plain::{MaxFail, NextestRunMode};
 use nextest_config_elements_versions::FeatureSet;
-use nextest_config_resolution_profiles::{BuildPlatforms, NextestConfig};
+use nextest_config_resolution_profiles::{BuildPlatforms, EvaluatableProfile, NextestConfig};
 use nextest_config_resolution_settings::keys::DefaultFilterKey;
-use nextest_config_resolution_settings::{CompiledDefaultFilter, EvaluatableProfile, nearest};
+use nextest_config_resolution_settings::{CompiledDefaultFilter, nearest};
 use nextest_config_resolution_values::ProfileConfig;
 use nextest_config_resolution_warnings::DefaultConfigWarnings;
 use nextest_filtering_compiling::{Filterset, ParseContext};
@@ -25,9 +25,10 @@ use nextest_text::{Listing, Text};
 use std::alloc::{AllocError, Global};
 use test_runner_core_inputs::Inputs;
 use test_runner_core_plan::PlanSettings;
+use test_runner_core_platforms::PlatformSpec;
 
-/// A configuration of runs: tests are told apart by filtersets, and no platform spec is read yet.
-pub type RunConfig = NextestConfig<Filterset, NoSpecs>;
+/// A configuration of runs: tests are told apart by filtersets, and builds by platform specs.
+pub type RunConfig = NextestConfig<Filterset, PlatformSpec>;
 
 /// What a profile sets for a run.
 pub struct RunSettings {
@@ -76,8 +77,8 @@ pub struct ChosenRun<'c> {
 ///
 /// # Errors
 ///
-/// `Refused` tells, in this order, of the first rule of the load that is broken, as `load` says; or that a file sets a key that
-/// isn't read yet. Want of memory says nothing of the inputs.
+/// `Refused` tells, in this order, of the first rule of the load that is broken, as `load` says; or that a file has what isn't
+/// read yet: a key of scripts, an override or a group of tests. Want of memory says nothing of the inputs.
 pub fn configure(
     alloc: Global,
     cx: &ParseContext,
@@ -97,13 +98,20 @@ pub fn configure(
         experimental,
         &mut warnings,
     )?;
-    if config.sets_later_keys() {
+    if asks_for_later(&config) {
         return Err(SettingsError::Refused(SettingsFault::NotYet));
     }
     Ok(ConfiguredRun {
         config,
         warnings: warnings.into_lines(),
     })
+}
+
+// Whether a configuration asks for what isn't read yet.
+fn asks_for_later(config: &RunConfig) -> bool
+    ensures { result ≡ asks_for_later config.now.loaded }
+{
+    config.sets_later_keys() || !config.rules().is_empty() || !config.groups().is_empty()
 }
 
 /// What the chosen profile sets in the configuration of inputs, and its default filter, lent.
@@ -119,8 +127,10 @@ pub fn run_settings<'c>(
     ensures { (cx : Context) → Reads cx inputs.now config.now → Chooses cx inputs.now result }
 {
     let early = config.profile(alloc, inputs.profile.as_str())?;
+    // No rule is taken yet, so nothing is asked of the platforms.
+    let host = no_facts(alloc)?;
     let platforms = BuildPlatforms {
-        host: &(),
+        host: &host,
         target: None,
     };
     let profile = early.apply_build_platforms(&platforms);
@@ -132,14 +142,14 @@ pub fn run_settings<'c>(
     })
 }
 
-// What a profile sets, of which a profile of the chain sets a default filter.
+// What a profile sets, of which a profile of the chain sets a default filter, where it has no rule.
 fn evaluated(
     alloc: Global,
-    profile: &EvaluatableProfile<'_, Filterset, NoSpecs>,
+    profile: &EvaluatableProfile<'_, Filterset, PlatformSpec>,
     mode: NextestRunMode,
 ) -> Result<RunSettings, AllocError>
-    requires { ¬ SetsNone key.default_filter (chain_of profile.now) }
-    ensures { IfOk result (AreRunSettings mode (chain_of profile.now)) }
+    requires { ¬ SetsNone key.default_filter profile.now.chain }
+    ensures { profile.now.rules ≡ [] → IfOk result (AreRunSettings mode profile.now.chain) }
 {
     Ok(RunSettings {
         test: settings_of_tests(alloc, profile, mode)?,

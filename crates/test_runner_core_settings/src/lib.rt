@@ -4,10 +4,10 @@
 
 mod configured;
 pub mod laws;
-mod no_specs;
 mod owned;
 mod pass;
 mod pass_error;
+mod platforms;
 mod settings_error;
 mod settings_fault;
 mod shown_path;
@@ -15,7 +15,6 @@ mod sources;
 mod warning;
 
 pub use configured::{ChosenRun, ConfiguredRun, RunConfig, RunSettings, configure, run_settings};
-pub use no_specs::NoSpecs;
 pub use owned::owned_settings;
 pub use pass::{VersionPass, version_pass};
 pub use pass_error::{VersionPassError, VersionPassFault};

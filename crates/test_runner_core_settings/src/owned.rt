@@ -1,18 +1,19 @@
 // The settings of a test, owned.
-ghost use Rattle.std.specs.Prelude.{◌≡◌, IfOk};
-ghost use Rattle.nextest_config_resolution_settings.specs.Profile.{chain_of};
-ghost use Rattle.test_runner_core_settings.specs.Settings.{AreOfTests, owned_group, owned_of};
+ghost use Rattle.std.specs.Prelude.{◌≡◌, [], IfOk};
+ghost use Rattle.nextest_config_resolution_settings.specs.TestSettings.{group_of};
+ghost use Rattle.test_runner_core_settings.specs.Settings.{AreOfTests, owned_of};
 
-use crate::no_specs::NoSpecs;
 use nextest_config_elements_identifiers::TestGroup;
 use nextest_config_elements_plain::NextestRunMode;
-use nextest_config_resolution_settings::{EvaluatableProfile, TestGroupRef, TestSettings};
+use nextest_config_resolution_profiles::EvaluatableProfile;
+use nextest_config_resolution_settings::{TestGroupRef, TestSettings};
 use nextest_filtering_compiling::Filterset;
 use nextest_filtering_filters::{BinaryQuery, TestQuery};
 use nextest_filtering_trees::BuildPlatform;
 use nextest_text::{Listing, Text};
 use std::alloc::{AllocError, Global};
 use test_runner_core_plan::PlanSettings;
+use test_runner_core_platforms::PlatformSpec;
 
 /// The settings of a test as a plan keeps them: these, owned. It fails only on allocation.
 pub fn owned_settings(
@@ -31,7 +32,7 @@ fn with_group(
     settings: &TestSettings<'_>,
     test_group: TestGroup,
 ) -> Result<PlanSettings, AllocError>
-    ensures { test_group ≡ owned_group settings.now.test_group.0 → IfOk result (λ it. it ≡ owned_of settings.now) }
+    ensures { test_group ≡ group_of settings.now.test_group.0 → IfOk result (λ it. it ≡ owned_of settings.now) }
 {
     Ok(PlanSettings {
         priority: settings.priority(),
@@ -51,15 +52,15 @@ fn with_group(
     })
 }
 
-// The settings of each test by a profile, owned.
+// The settings of each test by a profile, owned, where it has no rule.
 pub(crate) fn settings_of_tests(
     alloc: Global,
-    profile: &EvaluatableProfile<'_, Filterset, NoSpecs>,
+    profile: &EvaluatableProfile<'_, Filterset, PlatformSpec>,
     mode: NextestRunMode,
 ) -> Result<PlanSettings, AllocError>
-    ensures { IfOk result (AreOfTests mode (chain_of profile.now)) }
+    ensures { profile.now.rules ≡ [] → IfOk result (AreOfTests mode profile.now.chain) }
 {
-    // No rule is read yet, so the settings of one test are those of each.
+    // Where there is no rule the settings of one test are those of each.
     let query = TestQuery {
         binary_query: BinaryQuery {
             package_id: "",
@@ -89,7 +90,7 @@ fn owned_texts(alloc: Global, texts: &[Text]) -> Result<Listing<Text>, AllocErro
 
 // A group, owned.
 fn owned_group(group: TestGroupRef<'_>) -> Result<TestGroup, AllocError>
-    ensures { IfOk result (λ it. it ≡ owned_group group.entry) }
+    ensures { IfOk result (λ it. it ≡ group_of group.entry) }
 {
     match group {
         TestGroupRef::Global => Ok(TestGroup::Global),

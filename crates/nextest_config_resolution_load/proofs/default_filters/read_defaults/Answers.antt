@@ -1,29 +1,37 @@
-use Rattle.std.proofs.Common.{◌+◌, List, drop, map, subst, take, take_all}
-use Rattle.nextest_config_resolution_load.specs.Defaults.{AreReadFor}
-use Rattle.nextest_config_resolution_load.specs.Load.{named}
-use Rattle.nextest_config_resolution_load.specs.declared.loaded_config.NamedProfile.{NamedProfile}
-use Rattle.nextest_config_resolution_load.proofs.Defaults.{default_refused, parted_at, read_more}
+use Rattle.std.proofs.Common.{map}
+use Rattle.nextest_config_resolution_load.specs.Checks.{default_check, default_checks}
+use Rattle.nextest_config_resolution_load.specs.Load.{IsReadAs, named}
+use Rattle.nextest_config_resolution_load.specs.Reading.{AreReadDefaults}
+use Rattle.nextest_config_resolution_load.specs.declared.languages.FilterPurpose.TheVariants as purpose
+use Rattle.nextest_config_resolution_load.proofs.Passing.{kept_all, kept_at, passes_on, refuses_at, seen_at, seen_over, seen_within, zip_at}
 use Rattle.nextest_config_resolution_load.proofs.default_filters.read_defaults.Goals as goal
 
-pub loop-profile-init : goal.loop-profile-init
-loop-profile-init g c = rw c.new-found.ensures tt
+pub returns-in_err-filter : goal.returns-in_err-filter
+returns-in_err-filter g c =
+    let Is = g.R.Languages.is_filter c.args.cx.now in
+    let IsSpec = g.R.Languages.is_spec in
+    let IsTooDeep = g.R.Languages.is_too_deep in
+    let given = c.args.profiles.now in
+    let place = c.loop-profile.profile-index in
+    let profile = c.profile-item.result in
+    passes_on Is IsSpec IsTooDeep (AreReadDefaults Is (map named given)) (default_checks (map named given)) c.in_err-filter.field-0.0 c.from_residual.result
+    (refuses_at Is IsSpec IsTooDeep (λ it. default_check it.0 it.1.default_filter) (map named given) place (named profile) c.in_err-filter.field-0.0
+    (seen_within named given place c.loop-profile-test.true) (seen_at named given place profile c.loop-profile-test.true c.profile-item.is) c.loop-profile.invariant.kept
+    (rw c.as_str-name.ensures at c.in_err-filter.ensures))
+    c.from_residual.ensures.1
 
 pub loop-profile-preserved : goal.loop-profile-preserved
 loop-profile-preserved g c =
-    rw c.in_ok-push-in-Ok.ensures.ok
-    (read_more (g.R.ReadFilters.is_filter c.args.cx.now) c.args.profiles.now c.loop-profile.profile-index c.profile-item.result c.loop-profile.found c.in-Ok.filter c.loop-profile-test.true
-    c.profile-item.is c.loop-profile.invariant c.in-Ok.ensures)
-
-pub returns-in-Err : goal.returns-in-Err
-returns-in-Err g c =
-    let profiles = c.args.profiles.now in
+    let Is = g.R.Languages.is_filter c.args.cx.now in
+    let IsSpec = g.R.Languages.is_spec in
+    let given = c.args.profiles.now in
     let place = c.loop-profile.profile-index in
     let profile = c.profile-item.result in
-    default_refused (g.R.ReadFilters.is_filter c.args.cx.now) g.R.ReadFilters.is_too_deep (map named (take place profiles)) c.loop-profile.found (named profile)
-    (map named (drop (place + 1) profiles)) (map named profiles) c.in-Err.error (parted_at profiles place profile c.loop-profile-test.true c.profile-item.is) c.loop-profile.invariant c.in-Err.ensures
-
-pub returns : goal.returns
-returns g c =
-    let Is = g.R.ReadFilters.is_filter c.args.cx.now in
-    subst (λ (front : List NamedProfile). AreReadFor Is (map named front) c.loop-profile.found)
-    (take_all c.loop-profile.profile-index c.args.profiles.now c.loop-profile-test.false) c.loop-profile.invariant
+    let within = seen_within named given place c.loop-profile-test.true in
+    let at = seen_at named given place profile c.loop-profile-test.true c.profile-item.is in
+    record {
+      kept = kept_at Is IsSpec g.R.Languages.is_too_deep (λ it. default_check it.0 it.1.default_filter) (map named given) place (named profile) within at c.loop-profile.invariant.kept
+          (rw c.as_str-name.ensures at c.in_ok-filter.ensures.0);
+      read = zip_at (λ profile filter. IsReadAs (Is purpose.Default) profile.1.default_filter filter) (map named given) c.loop-profile.found c.push.new.self place (named profile)
+          c.in_ok-filter.filter within at c.loop-profile.invariant.read c.in_ok-filter.ensures.1 c.in_ok-push.ensures.ok;
+    }

@@ -1,53 +1,54 @@
-use Rattle.std.proofs.Common.{◌+◌, ◌++◌, drop, filter_map, map, ◌∙◌, sym, append-nil, option_map}
-use Rattle.std.proofs.lemmas.List.{at_drop_all}
+use Rattle.std.proofs.Common.{get_or, map, option_map}
 use Rattle.std.specs.List.{flat_map}
 use Rattle.toml.specs.View.{table_view}
-use Rattle.nextest_config_resolution_load.specs.Checks.{file_of, source_checks}
+use Rattle.nextest_config_resolution_load.specs.Checks.{rules_of_source, source_checks}
 use Rattle.nextest_config_resolution_load.specs.Files.{members_in, told_in}
-use Rattle.nextest_config_resolution_load.specs.Telling.{told_of}
-use Rattle.nextest_config_resolution_load.proofs.Sources.{source_ahead, checks_more, checks_stop, files_more, told_more}
+use Rattle.nextest_config_resolution_load.specs.Load.{AreReadRules}
+use Rattle.nextest_config_resolution_load.specs.Reading.{AreReadFiles}
+use Rattle.nextest_config_resolution_load.proofs.Passing.{kept_all, kept_at, passes_on, refuses_at, seen_at, seen_over, seen_within, zip_at}
+use Rattle.nextest_config_resolution_load.proofs.Sources.{files_more, files_read, now_of, told_more}
 use Rattle.nextest_config_resolution_load.proofs.files.read_files.Goals as goal
 
+pub returns-in_err-read : goal.returns-in_err-read
+returns-in_err-read g c =
+    let Is = g.R.Languages.is_filter c.args.cx.now in
+    let IsSpec = g.R.Languages.is_spec in
+    let IsTooDeep = g.R.Languages.is_too_deep in
+    let all = now_of c.args.sources.now in
+    let place = c.loop-source.source-index in
+    let source = c.source-item.result in
+    passes_on Is IsSpec IsTooDeep (AreReadFiles Is IsSpec all) (flat_map source_checks all) c.in_err-read.field-0.0 c.from_residual.result
+    (refuses_at Is IsSpec IsTooDeep source_checks all place source.now c.in_err-read.field-0.0 (seen_within (λ it. it.now) c.args.sources.now place c.loop-source-test.true)
+    (seen_at (λ it. it.now) c.args.sources.now place source c.loop-source-test.true c.source-item.is) c.loop-source.invariant.kept c.in_err-read.ensures)
+    c.from_residual.ensures.1
+
 pub loop-source-preserved : goal.loop-source-preserved
-loop-source-preserved c =
-    let sources = c.args.sources.now in
+loop-source-preserved g c =
+    let Is = g.R.Languages.is_filter c.args.cx.now in
+    let IsSpec = g.R.Languages.is_spec in
+    let all = now_of c.args.sources.now in
     let place = c.loop-source.source-index in
     let source = c.source-item.result in
-    let file = option_map table_view c.in-Ok.file in
-    let old = c.loop-source.files.items in
-    let new = c.push_file.new.files.items in
-    let ahead = map (λ it. it.now) (drop place sources) in
-    let more = map (λ it. it.now) (drop (place + 1) sources) in
-    let here = source_ahead sources place source c.loop-source-test.true c.source-item.is in
-    let read = c.in-Ok.ensures in (
-      c.loop-source.invariant.0 ∙ checks_more source.now ahead more here read.0,
-      files_more (map members_in old) (map members_in new) source.now file ahead more here read.1 c.in_ok-push_file-in-Ok.ensures.files ∙ c.loop-source.invariant.1,
-      told_more (flat_map told_in old) (flat_map told_in new) c.as_str.result.now source.now file ahead more here read.1 c.as_str.ensures c.in_ok-push_file-in-Ok.ensures.told
-          ∙ c.loop-source.invariant.2,
-    )
+    let within = seen_within (λ it. it.now) c.args.sources.now place c.loop-source-test.true in
+    let at = seen_at (λ it. it.now) c.args.sources.now place source c.loop-source-test.true c.source-item.is in
+    let read = c.in_ok-read.ensures in
+    let file = option_map table_view c.in_ok-read.read.table in
+    record {
+      kept = kept_at Is IsSpec g.R.Languages.is_too_deep source_checks all place source.now within at c.loop-source.invariant.kept read.0;
+      files = files_more (map members_in c.loop-source.files.items) (map members_in c.push_file.new.files.items) all place source.now file within at read.1.table
+          c.loop-source.invariant.files c.in_ok-push_file.ensures.files;
+      told = told_more (flat_map told_in c.loop-source.files.items) (flat_map told_in c.push_file.new.files.items) all place c.as_str.result.now source.now file within at read.1.table
+          c.as_str.ensures c.loop-source.invariant.told c.in_ok-push_file.ensures.told;
+      rules = zip_at (λ source own. AreReadRules Is IsSpec (rules_of_source source) own) all c.loop-source.rules.items c.push.new.self.items place source.now c.in_ok-read.read.rules within at
+          c.loop-source.invariant.rules read.1.rules c.in_ok-push.ensures.items;
+    }
 
-pub returns-in-Err-clause-files : goal.returns-in-Err-clause-files
-returns-in-Err-clause-files c =
-    let sources = c.args.sources.now in
+pub returns : goal.returns
+returns g c =
+    let Is = g.R.Languages.is_filter c.args.cx.now in
+    let all = now_of c.args.sources.now in
     let place = c.loop-source.source-index in
-    let source = c.source-item.result in
-    let ahead = map (λ it. it.now) (drop place sources) in
-    let more = map (λ it. it.now) (drop (place + 1) sources) in
-    checks_stop source.now (flat_map source_checks (map (λ it. it.now) sources)) ahead more c.in-Err.error (source_ahead sources place source c.loop-source-test.true c.source-item.is)
-    c.loop-source.invariant.0 c.in-Err.ensures
-
-pub returns-clause-files : goal.returns-clause-files
-returns-clause-files c =
-    let sources = c.args.sources.now in
-    let place = c.loop-source.source-index in
-    let files = map members_in c.loop-source.files.items in (
-      c.loop-source.invariant.0 ∙ at_drop_all (λ left. flat_map source_checks (map (λ it. it.now) left)) sources place c.loop-source-test.false,
-      sym c.loop-source.invariant.1
-          ∙ at_drop_all (λ left. files ++ filter_map file_of (map (λ it. it.now) left)) sources place c.loop-source-test.false ∙ append-nil files,
+    let over = seen_over (λ it. it.now) c.args.sources.now place c.loop-source-test.false in (
+      kept_all Is g.R.Languages.is_spec g.R.Languages.is_too_deep source_checks all place over c.loop-source.invariant.kept,
+      files_read Is g.R.Languages.is_spec all place _ over c.loop-source.invariant.files c.loop-source.invariant.told c.loop-source.invariant.rules,
     )
-
-pub returns-clause-told : goal.returns-clause-told
-returns-clause-told c =
-    let told = flat_map told_in c.loop-source.files.items in
-    sym (append-nil told)
-    ∙ sym (at_drop_all (λ left. told ++ flat_map told_of (map (λ it. it.now) left)) c.args.sources.now c.loop-source.source-index c.loop-source-test.false) ∙ c.loop-source.invariant.2

@@ -1,11 +1,14 @@
-use Rattle.std.proofs.Common.{ℕ, List, map, subst, sym}
+use Rattle.std.proofs.Common.{ℕ, List, ◌≡◌, map, subst, sym}
 use Rattle.std.specs.List.{Contains}
 use Rattle.nextest_config_resolution_inheritance.specs.Inheritance.{IsAccepted, Rise, default, names, names_at}
 use Rattle.nextest_config_resolution_load.proofs.Configs.{same_parents}
 use Rattle.nextest_config_resolution_load.specs.Load.{named}
 use Rattle.nextest_config_resolution_settings.specs.Keys as key
 use Rattle.nextest_config_resolution_settings.specs.Nearest.{SetsNone, lent}
+use Rattle.nextest_config_resolution_settings.specs.Rules.{rules_of}
+use Rattle.nextest_config_resolution_profiles.specs.ChainRules.{rules_in}
 use Rattle.nextest_config_resolution_profiles.specs.Config.{IsDefaultFilterOf}
+use Rattle.nextest_config_resolution_profiles.specs.Early.{id_of}
 use Rattle.nextest_config_resolution_profiles.proofs.Names.{all_of, chained, is_chained}
 use Rattle.nextest_config_resolution_profiles.proofs.SetsAll.{chain_sets_filter}
 use Rattle.nextest_config_resolution_profiles.proofs.chains.chain_at.Goals as goal
@@ -22,11 +25,11 @@ chain_of-requires-clause-has_default g c = subst (λ ps. Contains (names ps) def
 pub default_filter_of-default_filter-requires-clause-set : goal.default_filter_of-default_filter-requires-clause-set
 default_filter_of-default_filter-requires-clause-set g c =
     let all = c.args.profiles.now in
-    let values = lent c.as_slice-3.result.now in
     let sets = c.requires.sets_filter in
     let at = c.in_ok-values.ensures in
-    let chain = chained all c.args.place c.in_ok-places.places.items c.as_slice.result.now (lent c.in_ok-values.values.items) c.requires.rise c.as_slice.ensures.value c.in_ok-places.ensures.chain at in
-    subst (λ vs. ¬ SetsNone key.default_filter (lent vs)) (sym c.as_slice-3.ensures.value)
+    let chain = chained all c.args.place c.in_ok-found.found.items c.as_slice-places.result.now (lent c.in_ok-values.values.items) c.requires.rise c.as_slice-places.ensures.value
+    c.in_ok-found.ensures.chain at in
+    subst (λ vs. ¬ SetsNone key.default_filter (lent vs)) (sym c.as_slice-layers.ensures.value)
     (chain_sets_filter (map named all) sets.values sets.text sets.there sets.sets _ (lent c.in_ok-values.values.items) chain)
 
 pub returns : goal.returns
@@ -35,6 +38,8 @@ returns g c =
     let filters = c.args.filters.now in
     let values = lent c.in_ok-values.values.items in
     let found = c.default_filter_of-default_filter.result in
-    let valued = subst (λ vs. IsDefaultFilterOf {F = g.row.F.Denot} all filters (names_at (all_of all) c.as_slice-2.result.now) (lent vs) found) c.as_slice-3.ensures.value c.default_filter_of-default_filter.ensures in
-    let filtered = subst (λ (ps : List ℕ). IsDefaultFilterOf {F = g.row.F.Denot} all filters (names_at (all_of all) ps) values found) c.as_slice-2.ensures.value valued in
-    is_chained all filters c.args.place c.in_ok-places.places.items c.as_slice.result.now _ c.requires.rise c.as_slice.ensures.value c.in_ok-places.ensures.chain c.in_ok-values.ensures filtered
+    let valued = subst (λ vs. IsDefaultFilterOf {F = g.row.F.Denot} all filters (names_at (all_of all) c.as_slice-places.result.now) (lent vs) found) c.as_slice-layers.ensures.value c.default_filter_of-default_filter.ensures in
+    let filtered = subst (λ (ps : List ℕ). IsDefaultFilterOf {F = g.row.F.Denot} all filters (names_at (all_of all) ps) values found) c.as_slice-places.ensures.value valued in
+    let ruled = subst (λ (ps : List ℕ). rules_in c.in_ok-rules.rules.items ≡ rules_of id_of c.args.all.now (names_at (all_of all) ps)) c.as_slice-places.ensures.value c.in_ok-rules.ensures in
+    is_chained all filters c.args.all.now c.args.place c.in_ok-found.found.items c.as_slice-places.result.now _ c.requires.rise c.as_slice-places.ensures.value c.in_ok-found.ensures.chain
+    c.in_ok-values.ensures filtered ruled

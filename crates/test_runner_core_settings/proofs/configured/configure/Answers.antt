@@ -3,7 +3,7 @@ use Rattle.nextest_config_resolution_load.specs.Telling.{warnings_in}
 use Rattle.nextest_config_resolution_profiles.specs.Config.{IsConfig}
 use Rattle.nextest_config_resolution_sources.specs.declared.source.ConfigSource.{ConfigSource}
 use Rattle.nextest_config_resolution_warnings.specs.Warnings.{text_of}
-use Rattle.test_runner_core_settings.specs.Sets.{IsDefault, IsTooDeep}
+use Rattle.test_runner_core_settings.specs.Sets.{IsFilter, IsPlatformSpec, IsTooDeep}
 use Rattle.test_runner_core_settings.proofs.configured.configure.Goals as goal
 
 pub returns : goal.returns
@@ -12,10 +12,10 @@ returns c =
     let cx = c.args.cx.now in
     let config = c.in_ok-config.config in
     let loaded =
-    subst (λ (root : List ℕ). IsConfig (IsDefault cx) IsTooDeep root inputs.sources (Ok config)) c.as_str-root.ensures
-    (subst (λ (sources : List ConfigSource). IsConfig (IsDefault cx) IsTooDeep c.as_str-root.result.now sources (Ok config)) c.as_slice-sources.ensures c.in_ok-config.ensures.config) in
+    subst (λ (root : List ℕ). IsConfig (IsFilter cx) IsPlatformSpec IsTooDeep root inputs.sources (Ok config)) c.as_str-root.ensures
+    (subst (λ (sources : List ConfigSource). IsConfig (IsFilter cx) IsPlatformSpec IsTooDeep c.as_str-root.result.now sources (Ok config)) c.as_slice-sources.ensures c.in_ok-config.ensures.config) in
     let told = c.in_ok-config.ensures.told [] c.new-warnings.ensures in
     let same = ap (λ (sources : List ConfigSource). map text_of (warnings_in sources)) c.as_slice-sources.ensures in (
-      record { loaded = loaded; later = sym c.sets_later_keys.ensures ∙ c.if-sets_later_keys.false },
+      record { loaded = loaded; later = sym c.asks_for_later.ensures ∙ c.if-asks_for_later.false },
       cc,
     )

@@ -1,0 +1,176 @@
+// How a file is read, key by key.
+ghost use Rattle.std.specs.Prelude.{◌≡◌, ◌++◌, [], ◌∷◌, codes};
+ghost use Rattle.std.specs.Cmp.Lexicographic.{slice_cmp};
+ghost use Rattle.std.specs.Ordering.{match_ordering, nat_cmp};
+ghost use Rattle.toml.specs.View.{table_view, view};
+ghost use Rattle.nextest_config_elements_reading.specs.Paths.{Gives};
+ghost use Rattle.nextest_config_elements_reading.specs.Reading.{Path};
+ghost use Rattle.nextest_config_resolution_load.specs.Reading.{refused_values, third};
+ghost use Rattle.nextest_config_elements_readers.specs.Keys.{table_by};
+ghost use Rattle.nextest_config_elements_readers.specs.Paths.{GivesAt, profile_path};
+ghost use Rattle.nextest_config_elements_versions.specs.Demand as demand;
+ghost use Rattle.nextest_config_resolution_load.specs.File.{by_keys, checked, file_in, overrides_in_file, overrides_of_profile, profiles_at_file, profiles_in_file};
+ghost use Rattle.nextest_config_resolution_overrides.specs.Groups.{groups_at};
+ghost use Rattle.nextest_config_resolution_overrides.specs.Overrides.{overrides_at};
+ghost use Rattle.nextest_config_resolution_values.specs.File.{store_dir_at};
+
+use crate::file_config::{FileConfig, ProfileOverrides};
+use nextest_config_elements_readers::member;
+use nextest_config_elements_reading::{BadValue, ValueError, refused};
+use nextest_config_elements_versions::{deserialize_experimental, deserialize_nextest_version};
+use nextest_config_resolution_overrides::{
+    NamedGroup, OverrideConfig, deserialize_overrides, deserialize_test_groups,
+};
+use nextest_config_resolution_values::{deserialize_profile, deserialize_store_dir};
+use nextest_text::{Listing, Text};
+use std::alloc::Global;
+use std::cmp::Ordering;
+use toml::{Table, Value};
+
+// What a file says, of which each value must be one that its key may have; other keys are read past. An `Err` names the first
+// value, by the bytes of the keys, that is none.
+#[tactic(auto, unfolding(crate::specs::File::file_in))]
+pub(crate) fn read_file(alloc: Global, table: &Table) -> Result<FileConfig, ValueError>
+    ensures { Gives [] result (file_in (table_view table.now)) }
+{
+    check_experimental(alloc, table)?;
+    check_nextest_version(alloc, table)?;
+    let profiles = read_profiles(alloc, table)?;
+    check_store(alloc, table)?;
+    let groups = read_groups(alloc, table)?;
+    Ok(FileConfig { profiles, groups })
+}
+
+// The features that a file asks for.
+fn check_experimental(alloc: Global, table: &Table) -> Result<(), ValueError>
+    ensures { Gives [] result (checked (demand.experimental_in (table_view table.now))) }
+{
+    if let Some(given) = member(table, "experimental") {
+        deserialize_experimental(alloc, given, &["experimental"])?;
+    }
+    Ok(())
+}
+
+// The versions that a file asks for.
+fn check_nextest_version(alloc: Global, table: &Table) -> Result<(), ValueError>
+    ensures { Gives [] result (checked (demand.nextest_version_in (table_view table.now))) }
+{
+    if let Some(given) = member(table, "nextest-version") {
+        deserialize_nextest_version(alloc, given, &["nextest-version"])?;
+    }
+    Ok(())
+}
+
+// What stands under `store`.
+fn check_store(alloc: Global, table: &Table) -> Result<(), ValueError>
+    ensures { Gives [] result (checked (store_dir_at (table_view table.now))) }
+{
+    deserialize_store_dir(alloc, member(table, "store"))?;
+    Ok(())
+}
+
+// The groups that a file defines.
+fn read_groups(alloc: Global, table: &Table) -> Result<Listing<NamedGroup>, ValueError>
+    ensures { Gives [] result (groups_at (table_view table.now)) }
+{
+    deserialize_test_groups(alloc, member(table, "test-groups"))
+}
+
+// What stands under `profile`.
+fn read_profiles(alloc: Global, table: &Table) -> Result<Listing<ProfileOverrides>, ValueError>
+    ensures { Gives [] result (profiles_at_file (table_view table.now)) }
+{
+    match member(table, "profile") {
+        None => Ok(Listing::new(alloc)),
+        Some(Value::Table(profiles)) => read_each(alloc, profiles),
+        Some(other) => Err(refused(alloc, &["profile"], Some(other), "a table")),
+    }
+}
+
+// Each profile of a table.
+fn read_each(alloc: Global, profiles: &Table) -> Result<Listing<ProfileOverrides>, ValueError>
+    ensures { GivesAt (codes "profile" ∷ []) result (profiles_in_file (table_view profiles.now)) }
+{
+    let mut found = Listing::new(alloc);
+    for (name, given) in profiles {
+        let one = read_profile(alloc, name.as_str(), given)?;
+        found.push(one)?;
+    }
+    Ok(found)
+}
+
+// The overrides of the profile of a name.
+fn read_profile(alloc: Global, name: &str, given: &Value) -> Result<ProfileOverrides, ValueError>
+    ensures { GivesAt (profile_path name.now) result (overrides_of_profile name.now (view given.now)) }
+{
+    let overrides = read_value(alloc, name, given)?;
+    Ok(ProfileOverrides {
+        profile: Text::from_str(alloc, name)?,
+        overrides,
+    })
+}
+
+// What stands under the name of a profile: a table.
+fn read_value(
+    alloc: Global,
+    name: &str,
+    given: &Value,
+) -> Result<Listing<OverrideConfig>, ValueError>
+    ensures { GivesAt (profile_path name.now) result (table_by overrides_in_file (view given.now)) }
+{
+    match given {
+        Value::Table(table) => read_table(alloc, name, table),
+        _ => Err(refused(alloc, &["profile", name], Some(given), "a table")),
+    }
+}
+
+// The overrides of a profile whose values can stand at their keys, or what is refused first.
+fn read_table(
+    alloc: Global,
+    name: &str,
+    table: &Table,
+) -> Result<Listing<OverrideConfig>, ValueError>
+    ensures { GivesAt (profile_path name.now) result (overrides_in_file (table_view table.now)) }
+{
+    match deserialize_profile(alloc, name, table) {
+        Ok(_) => deserialize_overrides(alloc, name, table),
+        Err(ValueError::Refused(value)) => refused_in(alloc, name, table, value),
+        Err(ValueError::OutOfMemory) => Err(ValueError::OutOfMemory),
+    }
+}
+
+// What is refused first of a profile, of which this value is refused.
+fn refused_in(
+    alloc: Global,
+    name: &str,
+    table: &Table,
+    value: BadValue,
+) -> Result<Listing<OverrideConfig>, ValueError>
+    ensures { (path : Path) → value.path.keys ≡ profile_path name.now ++ path → GivesAt (profile_path name.now) result (by_keys (refused_values path) (overrides_at (table_view table.now))) }
+{
+    match deserialize_overrides(alloc, name, table) {
+        Ok(_) => Err(ValueError::Refused(value)),
+        Err(ValueError::Refused(other)) => Err(ValueError::Refused(first_of(value, other))),
+        Err(ValueError::OutOfMemory) => Err(ValueError::OutOfMemory),
+    }
+}
+
+// Of two values that are refused in one profile the one whose key stands first, by its bytes.
+fn first_of(value: BadValue, other: BadValue) -> BadValue
+    ensures { result.path.keys ≡ match_ordering (slice_cmp nat_cmp (third value.path.keys) (third other.path.keys)) value.path.keys value.path.keys other.path.keys }
+{
+    match third(&value).cmp(third(&other)) {
+        Ordering::Less | Ordering::Equal => value,
+        Ordering::Greater => other,
+    }
+}
+
+// The key in a profile's table below which a value stands.
+fn third(value: &BadValue) -> &str
+    ensures { result.now ≡ third value.now.path.keys }
+{
+    match value.path.keys.as_slice().get(2) {
+        Some(key) => key.as_str(),
+        None => "",
+    }
+}

@@ -1,0 +1,46 @@
+-- The groups of tests, as they are kept for those who ask for them later.
+use Rattle.std.specs.Prelude.{◌≡◌, ◌⊎◌, ℕ, Bool, true, false, ◌&&◌, List, All, Contains, codes, unwrap_or}
+use Rattle.std.specs.BTreeMap.{get}
+use Rattle.std.specs.Cmp.Lexicographic.{slice_cmp}
+use Rattle.std.specs.Ordering.{nat_cmp, ordering_then}
+use Rattle.std.specs.Str.{bytes_eq}
+use Rattle.std.specs.declared.cmp.Ordering.{Ordering}
+use Rattle.nextest_config_elements_identifiers.specs.Groups.{text_of}
+use Rattle.nextest_config_elements_identifiers.specs.declared.test_group.TestGroup.{TestGroup}
+use Rattle.nextest_config_resolution_profiles.specs.Evaluatable.{Evaluatable}
+use Rattle.nextest_config_resolution_profiles.specs.Held.{IsGroupFor}
+use Rattle.nextest_config_resolution_profiles.specs.declared.memberships.PrecomputedGroupMembership.{PrecomputedGroupMembership}
+use Rattle.nextest_filtering_filters.specs.Query.{Test}
+
+-- a test by the id of its binary and its own name, which are compared in this order
+abbrev pub Key : Type 0
+Key = List ℕ × List ℕ
+
+abbrev pub key_of : Test → Key
+key_of test = (test.binary.id, test.name)
+
+abbrev pub key_cmp : Key → Key → Ordering
+key_cmp one other = ordering_then (slice_cmp nat_cmp one.0 other.0) (slice_cmp nat_cmp one.1 other.1)
+
+-- the name of the group that is kept of a test, which is the global one where none is
+abbrev pub group_name : PrecomputedGroupMembership → Test → List ℕ
+group_name it test = unwrap_or (get key_cmp it.groups (key_of test)) (codes "@global")
+
+-- two tests have one name, in binaries of one id
+abbrev pub have_one_name : Test → Test → Bool
+have_one_name one other = bytes_eq one.binary.id other.binary.id && bytes_eq one.name other.name
+
+-- it is the name of the group of one of these tests, which has the name of this one
+pub record IsOfHanded {F S : Type 0} (OnTest : F → F → Test → Bool → Type 0) (profile : Evaluatable F S) (tests : List Test) (test : Test) (name : List ℕ) : Type 0 where
+  pub handed : Test
+  pub among : Contains tests handed
+  pub one : have_one_name handed test ≡ true
+  pub group : TestGroup
+  pub is : IsGroupFor OnTest profile handed group
+  pub named : name ≡ text_of group
+
+-- what is kept of some tests: a test of the name of one of these has its group, and any other the global one
+abbrev pub ArePrecomputed : {F S : Type 0} → (F → F → Test → Bool → Type 0) → Evaluatable F S → List Test → PrecomputedGroupMembership → Type 0
+ArePrecomputed OnTest profile tests it = (test : Test)
+    → IsOfHanded OnTest profile tests test (group_name it test)
+    ⊎ (All (λ handed. have_one_name handed test ≡ false) tests × (group_name it test ≡ codes "@global"))

@@ -1,0 +1,61 @@
+-- What the laws say of rules.
+use Rattle.std.specs.Prelude.{◌≡◌, ℕ, Bool, List, [], Option, Ok}
+use Rattle.nextest_config_elements_identifiers.specs.declared.test_group.TestGroup.{TestGroup}
+use Rattle.nextest_config_elements_plain.specs.declared.run_mode.NextestRunMode.{NextestRunMode}
+use Rattle.nextest_config_resolution_load.specs.Load.{IsFilterBy, IsSpecBy}
+use Rattle.nextest_config_resolution_profiles.specs.Config.{IsConfig, IsEarly}
+use Rattle.nextest_config_resolution_profiles.specs.Early.{Early}
+use Rattle.nextest_config_resolution_profiles.specs.Evaluatable.{Evaluatable, IsPutOn}
+use Rattle.nextest_config_resolution_profiles.specs.Held.{AreHeldOn, AreSettingsFor, IsGroupFor}
+use Rattle.nextest_config_resolution_profiles.specs.Platforms.{ForTarget, IsChosenDefault, RuleOn, default_set}
+use Rattle.nextest_config_resolution_settings.specs.Nearest.{Source}
+use Rattle.nextest_config_resolution_settings.specs.Rules.{NoneHoldsAndSets}
+use Rattle.nextest_config_resolution_settings.specs.TestSettings.{AreSame, AreSettings, HaveSameSources, group_of}
+use Rattle.nextest_config_resolution_settings.specs.declared.default_filter.CompiledDefaultFilter.{CompiledDefaultFilter}
+use Rattle.nextest_config_resolution_settings.specs.declared.test_settings.TestSettings.{TestSettings}
+use Rattle.nextest_config_resolution_profiles.specs.Whole.{Whole}
+use Rattle.nextest_config_resolution_sources.specs.declared.source.ConfigSource.{ConfigSource}
+use Rattle.nextest_filtering_filters.specs.Query.{Test}
+
+-- where no rule holds for the target and sets a default filter, it is that of the profiles
+abbrev pub EarlyDefault : Type 0 → Type 0 → Type 0
+EarlyDefault F S = (early it : CompiledDefaultFilter F) (rules : List (RuleOn F S))
+    → NoneHoldsAndSets ForTarget default_set rules → IsChosenDefault early rules it → it ≡ early
+
+-- the rules that hold on a test are one list
+abbrev pub OneHeld : {F : Type 0} → (F → F → Test → Bool → Type 0) → Type 0 → Type 0
+OneHeld {F} OnTest S = (profile : Evaluatable F S) (test : Test) (one other : List (RuleOn F S))
+    → AreHeldOn OnTest profile test one → AreHeldOn OnTest profile test other → one ≡ other
+
+-- a test has the same settings, whatever is kept of where they are taken from
+abbrev pub SameSettingsFor : {F T U : Type 0} → (F → F → Test → Bool → Type 0) → Type 0 → (T → Source → Type 0) → (U → Source → Type 0) → Type 0
+SameSettingsFor {F} {T} {U} OnTest S Tells Also = (profile : Evaluatable F S) (mode : NextestRunMode) (test : Test) (one : TestSettings T) (other : TestSettings U)
+    → AreSettingsFor OnTest Tells profile mode test one → AreSettingsFor OnTest Also profile mode test other → AreSame one other
+
+-- and each is taken from one place
+abbrev pub SameSourcesFor : {F T : Type 0} → (F → F → Test → Bool → Type 0) → Type 0 → (T → Source → Type 0) → Type 0
+SameSourcesFor {F} {T} OnTest S Tells = (profile : Evaluatable F S) (mode : NextestRunMode) (test : Test) (one other : TestSettings T)
+    → AreSettingsFor OnTest Tells profile mode test one → AreSettingsFor OnTest Tells profile mode test other → HaveSameSources Tells one other
+
+-- the group of a test is the one that its settings have
+abbrev pub GroupOfSettings : {F T : Type 0} → (F → F → Test → Bool → Type 0) → Type 0 → (T → Source → Type 0) → Type 0
+GroupOfSettings {F} {T} OnTest S Tells = (profile : Evaluatable F S) (mode : NextestRunMode) (test : Test) (settings : TestSettings T) (group : TestGroup)
+    → AreSettingsFor OnTest Tells profile mode test settings → IsGroupFor OnTest profile test group → group_of settings.test_group.0 ≡ group
+
+-- a profile without rules has the settings of its chain
+abbrev pub NoRules : {F T : Type 0} → (F → F → Test → Bool → Type 0) → Type 0 → (T → Source → Type 0) → Type 0
+NoRules {F} {T} OnTest S Tells = (profile : Evaluatable F S) (mode : NextestRunMode) (test : Test) (settings : TestSettings T) → profile.rules ≡ []
+    → AreSettingsFor OnTest Tells profile mode test settings → AreSettings Tells mode [] profile.chain settings
+
+-- each test has settings, by each profile of a configuration and on each platforms, and so it has a group
+abbrev pub SomeSettingsFor : {F S Facts T : Type 0} → IsFilterBy F → IsSpecBy S → (List ℕ → Type 0) → (S → Facts → Option Bool) → (F → F → Test → Bool → Type 0) → (T → Source → Type 0) → Type 0
+SomeSettingsFor {F} {S} {Facts} {T} Is IsSpec IsTooDeep value_on OnTest Tells =
+    (root : List ℕ) (sources : List ConfigSource) (config : Whole F S) (name : List ℕ) (early : Early F S) (host target : Facts) (profile : Evaluatable F S) (mode : NextestRunMode) (test : Test)
+    → IsConfig Is IsSpec IsTooDeep root sources (Ok config) → IsEarly config name early → IsPutOn value_on host target early profile
+    → (it : TestSettings T) × AreSettingsFor OnTest Tells profile mode test it
+
+abbrev pub SomeGroupFor : {F S Facts : Type 0} → IsFilterBy F → IsSpecBy S → (List ℕ → Type 0) → (S → Facts → Option Bool) → (F → F → Test → Bool → Type 0) → Type 0
+SomeGroupFor {F} {S} {Facts} Is IsSpec IsTooDeep value_on OnTest =
+    (root : List ℕ) (sources : List ConfigSource) (config : Whole F S) (name : List ℕ) (early : Early F S) (host target : Facts) (profile : Evaluatable F S) (test : Test)
+    → IsConfig Is IsSpec IsTooDeep root sources (Ok config) → IsEarly config name early → IsPutOn value_on host target early profile
+    → (group : TestGroup) × IsGroupFor OnTest profile test group

@@ -1,0 +1,417 @@
+// A profile on platforms, and the values that it has.
+ghost use Rattle.std.specs.Prelude.{◌≡◌, IfOk, None};
+ghost use Rattle.std.specs.Option.{option_copied};
+ghost use Rattle.nextest_config_resolution_profiles.specs.Evaluatable.{MayHaveJunit, inherits_of};
+ghost use Rattle.nextest_config_resolution_profiles.specs.Finding.{FindsHeld};
+ghost use Rattle.nextest_config_resolution_profiles.specs.Held.{AreSettingsFor, Holds, IsGroupFor};
+ghost use Rattle.nextest_config_resolution_settings.specs.Fallbacks as fallback;
+ghost use Rattle.nextest_config_resolution_settings.specs.Keys as key;
+ghost use Rattle.nextest_config_resolution_settings.specs.Nearest.{lent};
+ghost use Rattle.nextest_config_resolution_settings.specs.Profile.{OfProfiles};
+ghost use Rattle.nextest_config_resolution_settings.specs.TestSettings.{group_of};
+ghost use Rattle.nextest_config_resolution_settings.specs.Tracking.{TellsAll, TellsNothing};
+ghost use Rattle.nextest_filtering_filters.specs.Query.{test_of};
+
+use crate::chain_rule::ChainRule;
+use crate::held::{group_on, held_on};
+use nextest_config_elements_counts::{
+    GlobalTimeout, JunitConfig, JunitFlakyFailStatus, LeakTimeout, ReportSkipPolicy, RetryPolicy,
+    SlowTimeout, TestThreads, ThreadsRequired,
+};
+use nextest_config_elements_plain::{
+    FinalStatusLevel, FlakyResult, MaxFail, NextestRunMode, StatusLevel, TestOutputDisplay,
+};
+use nextest_config_resolution_filters::{Filters, Specs};
+use nextest_config_resolution_overrides::{NamedGroup, PlacedOverride};
+use nextest_config_resolution_settings::keys::{
+    BenchGlobalTimeoutKey, BenchSlowTimeoutKey, FailFastKey, FailureOutputKey, FinalStatusLevelKey,
+    FlakyResultKey, GlobalTimeoutKey, JunitFlakyFailStatusKey, JunitPathKey, JunitReportNameKey,
+    JunitReportSkippedKey, JunitStoreFailureOutputKey, JunitStoreSuccessOutputKey, LeakTimeoutKey,
+    RetriesKey, RunExtraArgsKey, SlowTimeoutKey, StatusLevelKey, SuccessOutputKey, TestThreadsKey,
+    ThreadsRequiredKey,
+};
+use nextest_config_resolution_settings::{
+    CompiledDefaultFilter, ListSettings, SettingSource, TestGroupRef, TestSettings, fallbacks,
+    of_profiles, set_by, settings_by, value_or,
+};
+use nextest_config_resolution_values::ProfileConfig;
+use nextest_filtering_filters::{BinaryQuery, TestQuery};
+use nextest_text::Text;
+use std::alloc::{AllocError, Global};
+use std::marker::Model;
+
+/// A profile on platforms. Each of its settings has the value that the nearest profile of its chain sets, else a fallback; those of
+/// a test are also set by the rules that hold on it. Its configuration tells tests apart by filters `F`, and builds by specs `S`.
+pub struct EvaluatableProfile<'c, F: Filters, S: Specs> {
+    pub(crate) name: &'c str,
+    pub(crate) store_dir: Text,
+    // Its own values first, then those of its parents one after another, and those of `default` last.
+    pub(crate) chain: Vec<&'c ProfileConfig>,
+    pub(crate) default_filter: CompiledDefaultFilter<'c, F>,
+    // In the order in which they are asked.
+    pub(crate) rules: Vec<ChainRule<'c, F, S>>,
+    pub(crate) groups: &'c [NamedGroup],
+}
+
+// One call drops it, whoever holds it.
+impl<'c, F: Filters, S: Specs> Drop for EvaluatableProfile<'c, F, S> {
+    fn drop(self) {
+        let Self {
+            name: _,
+            store_dir: _,
+            chain: _,
+            default_filter: _,
+            rules: _,
+            groups: _,
+        } = self;
+    }
+}
+
+impl<'c, F: Filters, S: Specs> Model for EvaluatableProfile<'c, F, S> {
+    ghost use Rattle.nextest_config_resolution_profiles.specs.Asking.{AreAskable};
+    ghost use Rattle.nextest_config_resolution_profiles.specs.ChainRules.{rules_in, seen_rules};
+    ghost use Rattle.nextest_config_resolution_profiles.specs.Evaluatable.{Evaluatable};
+    ghost use Rattle.nextest_config_resolution_settings.specs.Nearest.{lent};
+
+    ghost Value = { Evaluatable F S };
+
+    ghost view = { λ it. record {
+      name = it.name.now;
+      store_dir = it.store_dir;
+      chain = lent it.chain.items;
+      default_filter = it.default_filter;
+      rules = seen_rules it.rules.items;
+      groups = it.groups.now;
+    } };
+
+    // The default filter serves as one, and no rule asks for groups.
+    ghost invariant = { λ it. AreAskable F.serves_as_default F.asks_groups it.default_filter.filter.now (rules_in it.rules.items) };
+}
+
+impl<'c, F: Filters, S: Specs> EvaluatableProfile<'c, F, S> {
+    /// The profiles that it is read from, lent: itself, its parents one after another, and `default`.
+    pub fn chain(&self) -> &[&'c ProfileConfig]
+        ensures { lent result.now ≡ self.now.chain }
+    {
+        self.chain.as_slice()
+    }
+
+    /// Its name.
+    pub fn name(&self) -> &'c str
+        ensures { result.now ≡ self.now.name }
+    {
+        self.name
+    }
+
+    /// The parent that it sets itself, if it sets one.
+    pub fn inherits(&self) -> Option<&'c str>
+        ensures { option_copied result ≡ inherits_of self.now.chain }
+    {
+        text_of(self.chain().first()?.inherits.as_ref())
+    }
+
+    /// The directory of its files.
+    pub fn store_dir(&self) -> &str
+        ensures { result.now ≡ self.now.store_dir }
+    {
+        self.store_dir.as_str()
+    }
+
+    /// `retries`: how a failing test is tried again.
+    pub fn retries(&self) -> RetryPolicy
+        ensures { OfProfiles key.retries self.now.chain fallback.retries result }
+    {
+        let otherwise = fallbacks::retries();
+        *value_or::<RetriesKey, ProfileConfig>(self.chain(), &otherwise)
+    }
+
+    /// `flaky-result`: what becomes of a test that passes on a later attempt than its first.
+    pub fn flaky_result(&self) -> FlakyResult
+        ensures { OfProfiles key.flaky_result self.now.chain fallback.flaky_result result }
+    {
+        let otherwise = fallbacks::flaky_result();
+        *value_or::<FlakyResultKey, ProfileConfig>(self.chain(), &otherwise)
+    }
+
+    /// `test-threads`: how many tests run at a time.
+    pub fn test_threads(&self) -> TestThreads
+        ensures { OfProfiles key.test_threads self.now.chain fallback.test_threads result }
+    {
+        let otherwise = fallbacks::test_threads();
+        *value_or::<TestThreadsKey, ProfileConfig>(self.chain(), &otherwise)
+    }
+
+    /// `threads-required`: how many threads a test takes.
+    pub fn threads_required(&self) -> ThreadsRequired
+        ensures { OfProfiles key.threads_required self.now.chain fallback.threads_required result }
+    {
+        let otherwise = fallbacks::threads_required();
+        *value_or::<ThreadsRequiredKey, ProfileConfig>(self.chain(), &otherwise)
+    }
+
+    /// `leak-timeout`: how long handles may stay open behind a test.
+    pub fn leak_timeout(&self) -> LeakTimeout
+        ensures { OfProfiles key.leak_timeout self.now.chain fallback.leak_timeout result }
+    {
+        let otherwise = fallbacks::leak_timeout();
+        *value_or::<LeakTimeoutKey, ProfileConfig>(self.chain(), &otherwise)
+    }
+
+    /// `status-level`: which statuses are shown while tests run.
+    pub fn status_level(&self) -> StatusLevel
+        ensures { OfProfiles key.status_level self.now.chain fallback.status_level result }
+    {
+        let otherwise = fallbacks::status_level();
+        *value_or::<StatusLevelKey, ProfileConfig>(self.chain(), &otherwise)
+    }
+
+    /// `final-status-level`: which statuses are shown at the end of a run.
+    pub fn final_status_level(&self) -> FinalStatusLevel
+        ensures { OfProfiles key.final_status_level self.now.chain fallback.final_status_level result }
+    {
+        let otherwise = fallbacks::final_status_level();
+        *value_or::<FinalStatusLevelKey, ProfileConfig>(self.chain(), &otherwise)
+    }
+
+    /// `failure-output`: when the output of a test is shown that fails.
+    pub fn failure_output(&self) -> TestOutputDisplay
+        ensures { OfProfiles key.failure_output self.now.chain fallback.failure_output result }
+    {
+        let otherwise = fallbacks::failure_output();
+        *value_or::<FailureOutputKey, ProfileConfig>(self.chain(), &otherwise)
+    }
+
+    /// `success-output`: when the output of a test is shown that passes.
+    pub fn success_output(&self) -> TestOutputDisplay
+        ensures { OfProfiles key.success_output self.now.chain fallback.success_output result }
+    {
+        let otherwise = fallbacks::success_output();
+        *value_or::<SuccessOutputKey, ProfileConfig>(self.chain(), &otherwise)
+    }
+
+    /// `fail-fast`: when failing tests stop a run.
+    pub fn max_fail(&self) -> MaxFail
+        ensures { OfProfiles key.fail_fast self.now.chain fallback.fail_fast result }
+    {
+        let otherwise = fallbacks::fail_fast();
+        *value_or::<FailFastKey, ProfileConfig>(self.chain(), &otherwise)
+    }
+
+    /// `slow-timeout`: when a test is slow, and when it is ended for that; of benchmarks `bench.slow-timeout`, and that alone.
+    pub fn slow_timeout(&self, mode: NextestRunMode) -> SlowTimeout
+        ensures { OfProfiles (key.slow_timeout mode) self.now.chain (fallback.slow_timeout mode) result }
+    {
+        let otherwise = fallbacks::slow_timeout(mode);
+        match mode {
+            NextestRunMode::Test => {
+                *value_or::<SlowTimeoutKey, ProfileConfig>(self.chain(), &otherwise)
+            }
+            NextestRunMode::Benchmark => {
+                *value_or::<BenchSlowTimeoutKey, ProfileConfig>(self.chain(), &otherwise)
+            }
+        }
+    }
+
+    /// `global-timeout`: how long a run may take; of benchmarks `bench.global-timeout`, and that alone.
+    pub fn global_timeout(&self, mode: NextestRunMode) -> GlobalTimeout
+        ensures { OfProfiles (key.global_timeout mode) self.now.chain fallback.global_timeout result }
+    {
+        let otherwise = fallbacks::global_timeout();
+        match mode {
+            NextestRunMode::Test => {
+                *value_or::<GlobalTimeoutKey, ProfileConfig>(self.chain(), &otherwise)
+            }
+            NextestRunMode::Benchmark => {
+                *value_or::<BenchGlobalTimeoutKey, ProfileConfig>(self.chain(), &otherwise)
+            }
+        }
+    }
+
+    /// `run-extra-args`: the arguments that tests are run with besides.
+    pub fn run_extra_args(&self) -> &'c [Text]
+        ensures { OfProfiles key.run_extra_args self.now.chain fallback.run_extra_args result.now }
+    {
+        match of_profiles::<RunExtraArgsKey, ProfileConfig>(self.chain()) {
+            Some(arguments) => arguments.as_slice(),
+            None => &[],
+        }
+    }
+
+    /// `default-filter`: the filter of the tests that are run where none is asked for.
+    pub fn default_filter(&self) -> CompiledDefaultFilter<'c, F>
+        ensures { result ≡ self.now.default_filter }
+    {
+        CompiledDefaultFilter {
+            filter: self.default_filter.filter,
+            profile: self.default_filter.profile,
+            section: self.default_filter.section,
+        }
+    }
+
+    /// The report in JUnit's form. There is one exactly if a profile of the chain sets `junit.path`.
+    pub fn junit(&self) -> Option<JunitConfig<'c>>
+        ensures { MayHaveJunit self.now.chain result }
+    {
+        match text_of(set_by::<JunitPathKey, ProfileConfig>(self.chain())) {
+            None => None,
+            Some(path) => Some(JunitConfig::new(
+                path,
+                self.junit_report_name(),
+                self.junit_store_success_output(),
+                self.junit_store_failure_output(),
+                self.junit_report_skipped(),
+                self.junit_flaky_fail_status(),
+            )),
+        }
+    }
+
+    /// The groups of tests, as they are defined. Of several with one name the last holds.
+    pub fn test_group_config(&self) -> &'c [NamedGroup]
+        ensures { result.now ≡ self.now.groups }
+    {
+        self.groups
+    }
+
+    /// The settings of a test: each is that of the nearest rule that holds on the test and sets it, else that of the nearest
+    /// profile of the chain that does, else a fallback.
+    ///
+    /// # Errors
+    ///
+    /// It fails only on allocation.
+    pub fn settings_for(
+        &self,
+        alloc: Global,
+        mode: NextestRunMode,
+        query: &TestQuery<'_>,
+    ) -> Result<TestSettings<'c>, AllocError>
+        ensures { IfOk result (AreSettingsFor F.on_test TellsNothing self.now mode (test_of query.now)) }
+    {
+        match self.held(alloc, query) {
+            Ok(held) => Ok(settings_by::<()>(held.as_slice(), self.chain(), mode)),
+            Err(error) => Err(error),
+        }
+    }
+
+    /// The settings of a test, as `settings_for` gives them, and where each of them is taken from.
+    ///
+    /// # Errors
+    ///
+    /// It fails only on allocation.
+    pub fn settings_with_source_for(
+        &self,
+        alloc: Global,
+        mode: NextestRunMode,
+        query: &TestQuery<'_>,
+    ) -> Result<TestSettings<'c, SettingSource<'c>>, AllocError>
+        ensures { IfOk result (AreSettingsFor F.on_test TellsAll self.now mode (test_of query.now)) }
+    {
+        match self.held(alloc, query) {
+            Ok(held) => Ok(settings_by::<SettingSource<'c>>(held.as_slice(), self.chain(), mode)),
+            Err(error) => Err(error),
+        }
+    }
+
+    /// The group of a test: that of the nearest rule that holds on the test and sets one, else the global one.
+    ///
+    /// # Errors
+    ///
+    /// It fails only on allocation.
+    pub fn group_for(
+        &self,
+        alloc: Global,
+        query: &TestQuery<'_>,
+    ) -> Result<TestGroupRef<'c>, AllocError>
+        ensures { IfOk result (λ it. IsGroupFor F.on_test self.now (test_of query.now) (group_of it)) }
+    {
+        group_on(
+            alloc,
+            self.rules.as_slice(),
+            self.default_filter.filter,
+            query,
+        )
+    }
+
+    /// The settings with which the tests of a binary are listed: nothing is set, since no wrapper script is read yet.
+    ///
+    /// # Errors
+    ///
+    /// It fails only on allocation.
+    pub fn list_settings_for(
+        &self,
+        _alloc: Global,
+        _query: &BinaryQuery<'_>,
+    ) -> Result<ListSettings<'c>, AllocError>
+        ensures { IfOk result (λ it. it.list_wrapper.0 ≡ None) }
+    {
+        Ok(ListSettings::debug_empty())
+    }
+
+    // The rules that hold on a test, in their order.
+    fn held(
+        &self,
+        alloc: Global,
+        query: &TestQuery<'_>,
+    ) -> Result<Vec<&'c PlacedOverride>, AllocError>
+        ensures { IfOk result (λ it. FindsHeld (Holds F.on_test self.now.default_filter.filter.now (test_of query.now))
+            self.now.rules (lent it.items)) }
+    {
+        held_on(
+            alloc,
+            self.rules.as_slice(),
+            self.default_filter.filter,
+            query,
+        )
+    }
+
+    // `junit.report-name`: the name that stands in the report.
+    fn junit_report_name(&self) -> &'c str
+        ensures { OfProfiles key.junit_report_name self.now.chain fallback.junit_report_name result.now }
+    {
+        match of_profiles::<JunitReportNameKey, ProfileConfig>(self.chain()) {
+            Some(name) => name.as_str(),
+            None => fallbacks::junit_report_name(),
+        }
+    }
+
+    // `junit.store-success-output`: whether the report has the outputs of tests that pass.
+    fn junit_store_success_output(&self) -> bool
+        ensures { OfProfiles key.junit_store_success_output self.now.chain fallback.junit_store_success_output result }
+    {
+        let otherwise = fallbacks::junit_store_success_output();
+        *value_or::<JunitStoreSuccessOutputKey, ProfileConfig>(self.chain(), &otherwise)
+    }
+
+    // `junit.store-failure-output`: whether it has the outputs of tests that fail.
+    fn junit_store_failure_output(&self) -> bool
+        ensures { OfProfiles key.junit_store_failure_output self.now.chain fallback.junit_store_failure_output result }
+    {
+        let otherwise = fallbacks::junit_store_failure_output();
+        *value_or::<JunitStoreFailureOutputKey, ProfileConfig>(self.chain(), &otherwise)
+    }
+
+    // `junit.report-skipped`: which skipped tests are reported.
+    fn junit_report_skipped(&self) -> ReportSkipPolicy
+        ensures { OfProfiles key.junit_report_skipped self.now.chain fallback.junit_report_skipped result }
+    {
+        let otherwise = fallbacks::junit_report_skipped();
+        *value_or::<JunitReportSkippedKey, ProfileConfig>(self.chain(), &otherwise)
+    }
+
+    // `junit.flaky-fail-status`: how a test is reported that fails since it is flaky.
+    fn junit_flaky_fail_status(&self) -> JunitFlakyFailStatus
+        ensures { OfProfiles key.junit_flaky_fail_status self.now.chain fallback.junit_flaky_fail_status result }
+    {
+        let otherwise = fallbacks::junit_flaky_fail_status();
+        *value_or::<JunitFlakyFailStatusKey, ProfileConfig>(self.chain(), &otherwise)
+    }
+}
+
+// A text that may be there, lent.
+fn text_of(text: Option<&Text>) -> Option<&str>
+    ensures { option_copied result ≡ option_copied text.entry }
+{
+    match text {
+        Some(text) => Some(text.as_str()),
+        None => None,
+    }
+}

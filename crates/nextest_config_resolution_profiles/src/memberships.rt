@@ -1,0 +1,124 @@
+// The groups of tests, found before they are asked for.
+ghost use Rattle.std.specs.Prelude.{◌≡◌, IfOk, OnOk, codes, if◌then◌else◌, map, unwrap_or};
+ghost use Rattle.std.specs.BTreeMap.{get};
+ghost use Rattle.nextest_config_elements_identifiers.specs.Groups.{text_of};
+ghost use Rattle.nextest_config_resolution_profiles.specs.Memberships as words;
+ghost use Rattle.nextest_config_resolution_settings.specs.TestSettings.{group_of};
+ghost use Rattle.nextest_filtering_filters.specs.Query.{Test, test_of};
+
+use crate::evaluatable_profile::EvaluatableProfile;
+use nextest_config_resolution_filters::{Filters, Specs};
+use nextest_config_resolution_settings::TestGroupRef;
+use nextest_filtering_filters::{GroupLookup, TestQuery};
+use nextest_filtering_trees::NameMatcher;
+use nextest_text::Text;
+use std::alloc::{AllocError, Global};
+use std::collections::BTreeMap;
+
+/// The groups of tests, found before they are asked for. Tests are told apart by the id of their binary and their name; those that
+/// weren't handed in are in the global group.
+pub struct PrecomputedGroupMembership {
+    alloc: Global,
+    groups: BTreeMap<(Text, Text), Text>,
+}
+
+// One call drops it, whoever holds it.
+impl Drop for PrecomputedGroupMembership {
+    fn drop(self) {
+        let Self {
+            alloc: _,
+            groups: _,
+        } = self;
+    }
+}
+
+impl PrecomputedGroupMembership {
+    /// Groups of no tests: each test is in the global one.
+    pub fn empty(alloc: Global) -> PrecomputedGroupMembership
+        ensures { (test : Test) → words.group_name result test ≡ codes "@global" }
+    {
+        PrecomputedGroupMembership {
+            alloc,
+            groups: BTreeMap::new(alloc),
+        }
+    }
+
+    // Keeps the group of a test, in place of what is kept of the test.
+    fn insert(&mut self, query: &TestQuery<'_>, group: TestGroupRef<'_>) -> Result<(), AllocError>
+        ensures { OnOk result ((test : Test) → words.group_name self.new test
+            ≡ (if words.have_one_name (test_of query.now) test
+            then text_of (group_of group.entry) else words.group_name self.old test)) }
+    {
+        let key = key_of(self.alloc, query)?;
+        let name = Text::from_str(self.alloc, name_of(group))?;
+        self.groups.insert(key, name)?;
+        Ok(())
+    }
+}
+
+impl GroupLookup for PrecomputedGroupMembership {
+    ghost use Rattle.nextest_config_resolution_profiles.specs.Memberships.{group_name};
+    ghost use Rattle.nextest_filtering_trees.specs.Meaning.{MatchesName};
+
+    ghost member = { λ groups test matcher. MatchesName matcher (group_name groups test) };
+
+    fn is_member_test(
+        &self,
+        test: &TestQuery<'_>,
+        matcher: &NameMatcher,
+    ) -> Result<bool, AllocError> {
+        let key = key_of(self.alloc, test)?;
+        matcher.is_match(self.alloc, name_at(&self.groups, &key))
+    }
+}
+
+// The name of the group that stands under a key, else that of the global one.
+fn name_at<'g>(groups: &'g BTreeMap<(Text, Text), Text>, key: &(Text, Text)) -> &'g str
+    ensures { result.now ≡ unwrap_or (get words.key_cmp groups.now key.now) (codes "@global") }
+{
+    match groups.get(key) {
+        Some(name) => name.as_str(),
+        None => "@global",
+    }
+}
+
+// The id of a test's binary, and its own name.
+fn key_of(alloc: Global, query: &TestQuery<'_>) -> Result<(Text, Text), AllocError>
+    ensures { IfOk result (λ key. key ≡ words.key_of (test_of query.now)) }
+{
+    let binary_id = Text::from_str(alloc, query.binary_query.binary_id)?;
+    Ok((binary_id, Text::from_str(alloc, query.test_name)?))
+}
+
+// The name of a group.
+fn name_of(group: TestGroupRef<'_>) -> &str
+    ensures { result.now ≡ text_of (group_of group.entry) }
+{
+    match group {
+        TestGroupRef::Global => "@global",
+        TestGroupRef::Custom(custom) => custom.as_str(),
+    }
+}
+
+impl<'c, F: Filters, S: Specs> EvaluatableProfile<'c, F, S> {
+    /// The groups of these tests, found now: each that of the nearest rule that holds on the test and sets one, else the global
+    /// one. Of several tests with one name the last counts.
+    ///
+    /// # Errors
+    ///
+    /// It fails only on allocation.
+    pub fn precompute_group_memberships(
+        &self,
+        alloc: Global,
+        tests: &[TestQuery<'_>],
+    ) -> Result<PrecomputedGroupMembership, AllocError>
+        ensures { IfOk result (words.ArePrecomputed F.on_test self.now (map test_of tests.now)) }
+    {
+        let mut found = PrecomputedGroupMembership::empty(alloc);
+        for test in tests {
+            let group = self.group_for(alloc, test)?;
+            found.insert(test, group)?;
+        }
+        Ok(found)
+    }
+}

@@ -1,6 +1,0 @@
-use Rattle.nextest_config_resolution_rules.specs.Laws.{Holding}
-use Rattle.nextest_config_resolution_rules.proofs.Least.{one_least}
-use Rattle.nextest_config_resolution_rules.proofs.laws.one_least.Goals as goal
-
-pub returns : goal.returns
-returns g c = λ holds. one_least (Holding holds) g.R.Sets.value
