@@ -7,9 +7,12 @@ It knows nothing of the program: a row has texts in TOML, which Python reads, an
 
 - Of the sources those of the tools count, of which the first handed in is the highest, and above them the repository's: the first explicit
   one, else the first discovered one. Each that counts, the lowest first, must have been read (a discovered one may be missing), must be TOML,
-  and must have only values that may stand at their keys: `experimental`, `nextest-version`, each profile, `store`, in the order of the bytes.
+  and must have only values that may stand at their keys: `experimental`, `nextest-version`, each profile with its overrides, `store`,
+  `test-groups`, in the order of the bytes. Then a tool's file defines groups that are its own alone, and the repository's none that is a
+  tool's. Then each override, by the names of the profiles and in their order: it has a platform or a filter; it has no filter beside a default
+  filter; its specs of host and target are some, then its filter, then its default filter. Here the empty text is no spec and no filter.
 - A file stands over the lower ones and over what is built in: tables join key by key, and anything else hides what is below it. Of what all
-  come to each profile and `store` is read again.
+  come to each profile, `store` and `test-groups` is read again. Then each group that an override names is defined, the lowest file first.
 - No profile with a reserved name (`default`, `default-..`) inherits, each parent is a profile, and parents come to `default`. Each rule is asked
   of all profiles, by the bytes of their names, before the next.
 - A setting is that of the nearest profile of the chain that sets it: the profile, its parents one after another, and `default`. There is a
@@ -60,6 +63,7 @@ class Bad(Exception):
 
     def __init__(self, keys, expected, value):
         super().__init__(f"{'.'.join(keys)}: expected {expected}, found {found(value)}")
+        self.keys = keys
 
 
 def by_kind(kind):
@@ -139,6 +143,86 @@ PROFILE = table_of(
 )
 
 
+def list_of(read):
+    def reads(value, keys):
+        if not isinstance(value, list):
+            raise Bad(keys, "an array of tables", value)
+        return [read(item, [*keys, str(place)]) for place, item in enumerate(value)]
+
+    return reads
+
+
+PLATFORMS = table_of({"host": a_text, "target": a_text})
+
+
+def platforms_of(value, keys):
+    if isinstance(value, dict):
+        return PLATFORMS(value, keys)
+    if not isinstance(value, str):
+        raise Bad(keys, "a string or a table", value)
+    return {"target": value}
+
+
+RULE = table_of(
+    {
+        "bench": table_of({"slow-timeout": by_kind("slow-timeout")}),
+        "junit": table_of(
+            {
+                "flaky-fail-status": by_kind("flaky-fail-status"),
+                "report-skipped": by_kind("report-skipped"),
+                "store-failure-output": a_truth,
+                "store-success-output": a_truth,
+            }
+        ),
+        "default-filter": a_text,
+        "filter": a_text,
+        "platform": platforms_of,
+        "run-extra-args": texts,
+        "failure-output": by_kind("output-display"),
+        "success-output": by_kind("output-display"),
+        **{key: by_kind(key) for key in "flaky-result leak-timeout priority retries slow-timeout test-group threads-required".split()},
+    }
+)
+RULES = list_of(RULE)
+
+
+def profile_of_file(value, keys):
+    """The overrides of a profile in a file, of which each value must be one."""
+    if not isinstance(value, dict):
+        raise Bad(keys, "a table", value)
+    faults, overrides = [], []
+    for read in (lambda: PROFILE(value, keys), lambda: overrides.extend(RULES(value.get("overrides", []), [*keys, "overrides"]))):
+        try:
+            read()
+        except Bad as bad:
+            faults.append(bad)
+    if faults:
+        raise min(faults, key=lambda bad: [key.encode() for key in bad.keys[len(keys) :][:1]])
+    return overrides
+
+
+def profiles_of_file(value, keys):
+    if not isinstance(value, dict):
+        raise Bad(keys, "a table", value)
+    return {name: profile_of_file(value[name], [*keys, name]) for name in in_order(value)}
+
+
+def groups_of(value, keys):
+    """The groups of tests by their names: of two keys that are one name the later holds."""
+    if not isinstance(value, dict):
+        raise Bad(keys, "a table", value)
+    groups = {}
+    for key in in_order(value):
+        try:
+            name, _ = elements.identifier(key)
+        except elements.NoName:
+            bad = Bad([*keys, key], "", key)
+            bad.args = (f"{'.'.join([*keys, key])}: expected the name of a test group, an identifier, found {elements.debug(key)}",)
+            raise bad from None
+        groups[name] = by_kind("test-group-config")(value[key], [*keys, key])
+    return groups
+
+
 def profiles_of(value, keys):
     if not isinstance(value, dict):
         raise Bad(keys, "a table", value)
@@ -178,8 +262,10 @@ def versions_of(value, keys):
 
 
 STORE = table_of({"dir": a_text})
-FILE = table_of({"experimental": features_of, "nextest-version": versions_of, "profile": profiles_of, "store": STORE})
-MERGED = table_of({"profile": profiles_of, "store": STORE})
+FILE = table_of(
+    {"experimental": features_of, "nextest-version": versions_of, "profile": profiles_of_file, "store": STORE, "test-groups": groups_of}
+)
+MERGED = table_of({"profile": profiles_of, "store": STORE, "test-groups": groups_of})
 
 # ---- loading
 
@@ -211,10 +297,46 @@ def file_of(source):
     except tomllib.TOMLDecodeError:
         raise Refusal(f"Toml {path}") from None
     try:
-        FILE(members, [])
+        file = FILE(members, [])
     except Bad as bad:
         raise Refusal(f"BadValue {path}: {bad}") from None
+    check_file(kind, path, file)
     return members
+
+
+def rules_of(path, file):
+    """The overrides of a file, each with where it is written."""
+    profiles = file.get("profile", {})
+    return [(f"{path}: profile.{name}.overrides.{index}", rule) for name in in_order(profiles) for index, rule in enumerate(profiles[name])]
+
+
+def check_file(kind, path, file):
+    for key in file.get("test-groups", {}):
+        tool = elements.identifier(key)[1]
+        if (tool is None or tool[0] != "t") if kind == "tool" else tool is not None:
+            raise Refusal(f"BadName {path}: the file may not define the group `{key}`")
+    for rule, it in rules_of(path, file):
+        platforms = it.get("platform", {})
+        if not platforms and "filter" not in it:
+            raise Refusal(f"NoConstraint {rule}: an override needs at least one of `filter` and `platform`")
+        if "filter" in it and "default-filter" in it:
+            raise Refusal(f"FilterAndDefaultFilter {rule}: an override can't have both `filter` and `default-filter`")
+        for side in ("host", "target"):
+            if platforms.get(side) == "":
+                raise Refusal(f"BadSpec {rule}: the {side} platform is no platform spec: ``")
+        for key in ("filter", "default-filter"):
+            if it.get(key) == "":
+                raise Refusal(f"BadFilter {rule}: this is no filter here: ``")
+
+
+def check_groups(sources, groups):
+    """That each group that an override names is defined, the lowest file first."""
+    for kind, path, outcome in sources:
+        if outcome.startswith("text "):
+            for rule, it in rules_of(path, FILE(tomllib.loads(outcome.removeprefix("text ")), [])):
+                custom = re.fullmatch(r"Custom\((.*)\)", str(it.get("test-group", "")))
+                if custom and custom[1] not in map(elements.debug, groups):
+                    raise Refusal(f"UnknownGroup {rule}: no group is named `{custom[1][1:-1]}`")
 
 
 def is_reserved(name):
@@ -258,6 +380,7 @@ def load(sources):
         config = MERGED(tree, [])
     except Bad as bad:
         raise Refusal(f"BadValue in all configuration files together: {bad}") from None
+    check_groups(counted(sources), config.get("test-groups", {}))
     accepted(config["profile"])
     filtered(config["profile"])
     return config
@@ -677,8 +800,87 @@ def filter_rows():
     yield "x", "default-filter,parents", [repository(f"[profile.x]\ninherits = 'y'\n[profile.y]\n{none}[profile.default]\n{some}")]
 
 
+OVERRIDE_RIGHT = {
+    "filter": ["x", "all()"],
+    "default-filter": ["x"],
+    "platform": ["p", {}, {"host": "p"}, {"target": "p"}, {"host": "p", "target": "q"}],
+    "priority": [-100, 100],
+    "threads-required": [2, "num-cpus", "num-test-threads"],
+    "run-extra-args": [[], ["--a"]],
+    "retries": [3, {"backoff": "fixed", "count": 2}],
+    "flaky-result": ["fail"],
+    "slow-timeout": ["5s", {"period": "5s", "terminate-after": 2}],
+    "leak-timeout": ["5s"],
+    "test-group": ["@global"],
+    "success-output": ["final"],
+    "failure-output": ["never"],
+    "bench": [{}, {"slow-timeout": "5s"}],
+    "junit": [{}, {"report-skipped": "all"}],
+}
+# for each kind of refusal something that a file may have for which it is refused
+REFUSED_FOR = {
+    "BadValue": "profile.a.retries = -1",
+    "BadOverride": "profile.a.overrides = [{ filter = 'x', priority = 101 }]",
+    "BadGroup": "test-groups.g = {}",
+    "BadName": "test-groups.'@tool:other:g'.max-threads = 1",
+    "NoConstraint": "profile.b.overrides = [{ retries = 1 }]",
+    "FilterAndDefaultFilter": "profile.h.overrides = [{ filter = 'x', default-filter = 'x' }]",
+    "BadSpec": "profile.c.overrides = [{ platform = '' }]",
+    "BadFilter": "profile.i.overrides = [{ filter = '' }]",
+    "BadDefaultFilter": "profile.d.overrides = [{ platform = 'p', default-filter = '' }]",
+    "UnknownGroup": "profile.j.overrides = [{ filter = 'x', test-group = 'nowhere' }]",
+    "InheritsInDefault": "profile.default-x.inherits = 'default'",
+    "UnknownParent": "profile.e.inherits = 'nowhere'",
+    "Cycle": "profile.f.inherits = 'f'",
+    "ProfileFilter": "profile.g.default-filter = ''",
+}
+
+
+def override_rows():
+    # the values of each key, and what may not stand there
+    for key, right in OVERRIDE_RIGHT.items():
+        constraint = {} if key in ("filter", "platform") else {"filter": "x"}
+        for value in [*right, *WRONG]:
+            yield one(f"profile.default.overrides = [{toml({**constraint, key: value})}]", keys="retries")
+    for table, key, value in [("bench", "slow-timeout", it) for it in WRONG] + [("junit", key, it) for key in JUNIT_KEYS for it in WRONG] + [("platform", side, it) for side in ("host", "target") for it in WRONG]:
+        yield one(f"profile.default.overrides = [{{ filter = 'x' }}, {toml({'filter': 'x', table: {key: value}})}]", keys="retries")
+    for value in [*WRONG, {}, [], [{}], [1], [{"filter": "x"}, []], [{"filter": "x"}, {"filter": "x", "zzz": 1}]]:
+        yield one(f"profile.a.overrides = {toml(value)}", keys="profiles")
+    # where a value of the profile and one of its overrides are bad, the key that comes first is told
+    for key in KEYS:
+        if key != "inherits":
+            yield one(f"profile.default.{key} = -1\nprofile.default.overrides = [{{ priority = 101 }}]", keys="retries")
+    # which overrides are constrained, and by which texts; the empty text is no filter and no spec
+    texts = {"filter": ["x", ""], "default-filter": ["x", ""], "platform": ["p", "", {}, {"host": ""}, {"host": "p", "target": ""}, {"host": "", "target": ""}]}
+    for chosen in itertools.product(*([None, *values] for values in texts.values())):
+        yield one(f"profile.default.overrides = [{toml({key: value for key, value in zip(texts, chosen) if value is not None})}]", keys="retries")
+    # names of groups, by where they are defined and where they are named
+    names = ["g", "@tool:t:g", "@tool:other:g", "@global", "", "1", "e\u0301", "\u00e9"]
+    for name in names:
+        for source in (repository, lambda text: tool("t", text)):
+            yield "default", "profiles", [source(f"test-groups.{elements.quoted(name)}.max-threads = 1")]
+    for defined, named in itertools.product(names[:2] + names[6:], names):
+        yield one(f"test-groups.{elements.quoted(defined)}.max-threads = 1\nprofile.a.overrides = [{{ filter = 'x', test-group = {elements.quoted(named)} }}]", keys="profiles")
+    for value in [*WRONG, {}, {"max-threads": 1}, {"max-threads": "num-cpus"}, {"max-threads": 0}, {"max-threads": 1, "zzz": 1}]:
+        yield one(f"test-groups.g = {toml(value)}", keys="profiles")
+    for value in [*WRONG, {}, []]:
+        yield one(f"test-groups = {toml(value)}", keys="profiles")
+    # a group may be defined in one file and named in another, and a lower file's fault comes first
+    use, define = "profile.a.overrides = [{ filter = 'x', test-group = 'g' }]", "test-groups.g.max-threads = 1"
+    for low, high in ((use, define), (use, ""), (use, use.replace("'g'", "'h'")), ("profile.default.overrides = [{ filter = 'x', test-group = '@tool:t0:g' }]", define)):
+        yield files(low, high, keys="profiles")
+    # every refusal before and after every other, in one file and in two
+    for (_, first), (_, second) in itertools.permutations(REFUSED_FOR.items(), 2):
+        yield one(f"{first}\n{second}", keys="profiles")
+        yield files(first, second, keys="profiles")
+    # by the names of profiles, and in a profile by the places of overrides
+    for order in itertools.permutations(("[{ }]", "[{ filter = '' }]", "[{ platform = '' }]")):
+        yield one("\n".join(f"profile.{name}.overrides = {rules}" for name, rules in zip("cab", order)), keys="profiles")
+        yield one(f"profile.a.overrides = [{', '.join(it[1:-1] for it in order)}]", keys="profiles")
+
+
 def load_rows():
-    for rows in (source_rows, value_rows, merge_rows, chain_rows, filter_rows):
+    for rows in (source_rows, value_rows, merge_rows, chain_rows, filter_rows, override_rows):
         yield from rows()
     yield "default", "profiles", [tool("t", "experimental = ['setup-scripts', 'zzz']")]
     yield from drawn_rows(range(200))

@@ -7,8 +7,8 @@
 It knows nothing of the program: each answer is reckoned here by the rules. What configurations come to, and what of them is unknown, is
 reckoned by scripts/config_rows.py, what versions they ask for by scripts/version_rows.py. Then, by the rules:
 
-- First come the faults of versions and features, then those of the load; then a file that sets what isn't taken yet, a profile that isn't
-  there, a platform, and retries that can't be counted.
+- First come the faults of versions and features, then those of the load; then a file that sets what isn't taken yet (scripts), or has an
+  override or a group, a profile that isn't there, a platform, and retries that can't be counted.
 - An attempt that ends finishes its test if it is a success, the last try, or the run is stopped; else the test is between two attempts. A
   finished test fails where its last attempt does, or where it passes late and the flaky rule is `fail`. As many of these as the limit stop
   a run that isn't stopped, and each stop finishes the tests between two attempts.
@@ -84,7 +84,7 @@ def versions_told(sources, inputs):
 
 def is_taken(file):
     profiles = file.get("profile", {}).values()
-    return not {"test-groups", "script", "scripts"} & set(file) and not any({"overrides", "scripts"} & set(it) for it in profiles)
+    return not {"script", "scripts"} & set(file) and not file.get("test-groups") and not any("scripts" in it or it.get("overrides") for it in profiles)
 
 
 def plan_of(inputs):

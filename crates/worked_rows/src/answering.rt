@@ -3,7 +3,8 @@
 use crate::table::{Table, rows_hold};
 use crate::{
     asking, attempts, compiled, configs, elements, ends, filter_texts, filter_trees, log_lines,
-    orders, outputs, platform_specs, stress, summaries, values, verdicts, visibility,
+    orders, outputs, platform_specs, stress, summaries, test_settings, values, verdicts,
+    visibility,
 };
 use anyhow::Result;
 use std::alloc::Global;
@@ -68,6 +69,7 @@ threads
 values
 verdicts
 loads
+test_settings
 warnings
 plain_filters
 filters
@@ -102,6 +104,7 @@ pub(crate) fn layers_hold<R: Files + Print + AllocGlobal>(rt: &R) -> Result<bool
 fn of_layers(name: &str, alloc: Global, input: &str) -> Option<String> {
     match name {
         "loads" => configs::loads(alloc, input),
+        "test_settings" => test_settings::test_settings(alloc, input),
         "warnings" => configs::warnings(alloc, input),
         "plain_filters" => asking::plain_filters(alloc, input),
         "filters" => asking::filters(alloc, input),

@@ -2,7 +2,7 @@
 ghost use Rattle.std.specs.Prelude.{◌≡◌, IfOk};
 ghost use Rattle.nextest_filtering_arguments.specs.declared.ban.FiltersetKind.TheVariants as purpose;
 ghost use Rattle.nextest_filtering_filters.specs.Query.{test_of};
-ghost use Rattle.nextest_config_resolution_profiles.specs.Config.{IsDefaultIn};
+ghost use Rattle.nextest_config_resolution_profiles.specs.Config.{IsFilterIn};
 ghost use Rattle.nextest_config_resolution_settings.specs.Nearest.{seen};
 ghost use Rattle.worked_rows.specs.Configs.{AreRetriesOf, place_of};
 
@@ -80,16 +80,19 @@ fn holds_on<S: Specs>(
     Ok(spec.eval(facts))
 }
 
-// How the profile of a name has failing tests tried again, and the place in its chain of the profile that sets that, whatever
-// filters and specs its configuration has. `None` where the sources are refused, or no profile has the name; want of memory says nothing of them.
+// How the profile of a name has a test tried again that fails, on these platforms, and the place in its chain of the profile that sets that,
+// if one does; whatever filters and specs its configuration has. `None` where the sources are refused, or no profile has the name; want of
+// memory says nothing of them.
 fn retries_of<F: Filters, S: Specs>(
     alloc: Global,
     cx: &F::Cx,
     sources: &[ConfigSource],
     name: &str,
     platforms: &BuildPlatforms<'_, S::Facts>,
+    query: &TestQuery<'_>,
 ) -> Result<Option<(RetryPolicy, Option<usize>)>, AllocError>
-    ensures { IfOk result (AreRetriesOf (IsDefaultIn F.is_parsed cx.now) F.is_too_deep sources.now name.now) }
+    ensures { IfOk result (AreRetriesOf (IsFilterIn F.is_parsed cx.now) S.is_parsed F.is_too_deep S.value_on F.on_test
+        sources.now name.now platforms.now (test_of query.now)) }
 {
     let config = match NextestConfig::<F, S>::from_sources(
         alloc,
@@ -107,8 +110,7 @@ fn retries_of<F: Filters, S: Specs>(
         Err(ProfileError::NotFound(_)) => return Ok(None),
         Err(ProfileError::OutOfMemory) => return Err(AllocError),
     };
-    let query = test_named("slow");
-    match profile.settings_with_source_for(alloc, NextestRunMode::Test, &query) {
+    match profile.settings_with_source_for(alloc, NextestRunMode::Test, query) {
         Ok(settings) => Ok(Some((settings.retries.0, place_of(settings.retries.1)))),
         Err(error) => Err(error),
     }
@@ -203,7 +205,9 @@ pub(crate) fn plain_configs(alloc: Global, input: &str) -> Option<String> {
         sources.as_slice(),
         name,
         &platforms,
-    ).ok()?
+        &test_named("slow"),
+    )
+    .ok()?
     {
         Some((retries, Some(place))) => format!(in alloc; "{retries:?} Profile({place})").ok(),
         Some((retries, None)) => format!(in alloc; "{retries:?} Default").ok(),

@@ -31,6 +31,7 @@ mod signs;
 mod stress;
 mod summaries;
 mod table;
+mod test_settings;
 mod values;
 mod verdicts;
 mod visibility;

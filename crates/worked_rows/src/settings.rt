@@ -28,7 +28,7 @@ pub(crate) fn setting(
 }
 
 // The text of a filter.
-fn filter_text(alloc: Global, filter: &PlainFilter) -> Option<String> {
+pub(crate) fn filter_text(alloc: Global, filter: &PlainFilter) -> Option<String> {
     let text = match filter {
         PlainFilter::Everything => "all()",
         PlainFilter::Nothing => "none()",
@@ -95,7 +95,7 @@ fn names(alloc: Global, config: &PlainConfig) -> Option<String> {
 }
 
 // Some arguments, each in brackets.
-fn arguments(alloc: Global, given: &[Text]) -> Option<String> {
+pub(crate) fn arguments(alloc: Global, given: &[Text]) -> Option<String> {
     let mut answer = String::new(alloc);
     for argument in given {
         push_part(
