@@ -63,12 +63,30 @@ fn of_config(alloc: Global, config: &PlainConfig, asked: &Asked<'_>) -> Option<S
         "none" => None,
         names => Some(names_of(alloc, names)?),
     };
+    on_platforms(alloc, config, &Known { host, target }, asked)
+}
+
+// What is known of the platforms: their names.
+#[derive(Drop)]
+struct Known {
+    host: Listing<Text>,
+    target: Option<Listing<Text>>,
+}
+
+fn on_platforms(
+    alloc: Global,
+    config: &PlainConfig,
+    known: &Known,
+    asked: &Asked<'_>,
+) -> Option<String> {
     let platforms = BuildPlatforms {
-        host: &host,
-        target: target.as_ref(),
+        host: &known.host,
+        target: known.target.as_ref(),
     };
-    let early = config.profile(alloc, asked.profile).ok()?;
-    of_profile(alloc, &early.apply_build_platforms(&platforms), asked)
+    match config.profile(alloc, asked.profile) {
+        Ok(early) => of_profile(alloc, &early.apply_build_platforms(&platforms), asked),
+        Err(_) => None,
+    }
 }
 
 // The names of a platform: `-` where nothing is known of it.
@@ -78,10 +96,10 @@ fn names_of(alloc: Global, names: &str) -> Option<Listing<Text>> {
 
 fn of_profile(alloc: Global, profile: &PlainProfile<'_>, asked: &Asked<'_>) -> Option<String> {
     let query = query_of(asked)?;
-    let settings = profile
-        .settings_with_source_for(alloc, mode_of(asked.mode)?, &query)
-        .ok()?;
-    each_told(alloc, profile, &settings, asked.keys)
+    match profile.settings_with_source_for(alloc, mode_of(asked.mode)?, &query) {
+        Ok(settings) => each_told(alloc, profile, &settings, asked.keys),
+        Err(_) => None,
+    }
 }
 
 fn mode_of(word: &str) -> Option<NextestRunMode> {
