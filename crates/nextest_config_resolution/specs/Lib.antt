@@ -18,6 +18,7 @@ pub use Rattle.nextest_config_resolution_profiles.specs.Config
 pub use Rattle.nextest_config_resolution_profiles.specs.Early
 pub use Rattle.nextest_config_resolution_profiles.specs.Evaluatable
 pub use Rattle.nextest_config_resolution_profiles.specs.Held
+pub use Rattle.nextest_config_resolution_profiles.specs.HeldRules
 pub use Rattle.nextest_config_resolution_profiles.specs.Languages as ConfigLanguages
 pub use Rattle.nextest_config_resolution_profiles.specs.Memberships
 pub use Rattle.nextest_config_resolution_profiles.specs.Platforms

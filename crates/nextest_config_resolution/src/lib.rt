@@ -21,7 +21,7 @@ pub use nextest_config_resolution_overrides::{
     deserialize_overrides, deserialize_test_groups,
 };
 pub use nextest_config_resolution_profiles::{
-    BuildPlatforms, ConfigLanguages, DEFAULT_CONFIG, EarlyProfile, EvaluatableProfile,
+    BuildPlatforms, ConfigLanguages, DEFAULT_CONFIG, EarlyProfile, EvaluatableProfile, HeldRules,
     NextestConfig, PrecomputedGroupMembership, ProfileError, ProfileNotFound, built_in,
 };
 pub use nextest_config_resolution_settings::{

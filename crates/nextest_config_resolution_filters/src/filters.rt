@@ -1,4 +1,5 @@
 // The filters by which a configuration tells tests apart.
+ghost use Rattle.std.specs.List.{AllZip};
 ghost use Rattle.std.specs.Prelude.{◌≡◌, ℕ, Bool, true, false, List, Option, IfOk};
 ghost use Rattle.nextest_filtering_arguments.specs.declared.ban.FiltersetKind as purposes;
 ghost use Rattle.nextest_filtering_filters.specs.declared.known_groups.KnownGroups as groups;
@@ -71,6 +72,20 @@ pub trait Filters: Drop {
         requires serves { serves_as_default default.now ≡ true }
         requires no_groups { asks_groups self.now ≡ false }
         ensures { IfOk result (on_test self.now default.now (test_of query.now)) };
+
+    /// Whether it, which asks for no groups, holds on each of some tests of a binary, by their names and in their order: what
+    /// its matchers take is made once. It fails only on allocation.
+    fn matches_tests(
+        &self,
+        alloc: Global,
+        binary: &BinaryQuery<'_>,
+        names: &[&str],
+        default: &Self,
+    ) -> Result<Vec<bool>, AllocError>
+        requires serves { serves_as_default default.now ≡ true }
+        requires no_groups { asks_groups self.now ≡ false }
+        ensures { IfOk result (λ values. AllZip (λ name value. on_test self.now default.now
+            (record { binary = binary_of binary.now; name = name.now }) value) names.now values.items) };
 
     /// Whether it asks for the groups of tests.
     fn has_groups(&self) -> bool

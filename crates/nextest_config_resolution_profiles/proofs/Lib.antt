@@ -1,12 +1,13 @@
 pub mod Askable
 pub mod Chained
+pub mod Columns
 pub mod DefaultKept
 pub mod Ending
 pub mod Filtered
 pub mod Inheriting
 pub mod Putting
 pub mod Found
-pub mod HeldRules
+pub mod Holding
 pub mod Keeping
 pub mod Kept
 pub mod Leasts

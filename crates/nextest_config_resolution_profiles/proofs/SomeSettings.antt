@@ -36,10 +36,10 @@ use Rattle.nextest_config_resolution_sources.specs.declared.source.ConfigSource.
 -- ---- rules of which each holds or doesn't
 
 module _ {R : Type 0} (Holding : R → Type 0) where
-  abbrev Decided : R → Type 0
+  abbrev pub Decided : R → Type 0
   Decided rule = Holding rule ⊎ ¬ Holding rule
 
-  some_held : (rules : List R) → AllByRecursion Decided rules → (held : List R) × AreHeld Holding rules held
+  pub some_held : (rules : List R) → AllByRecursion Decided rules → (held : List R) × AreHeld Holding rules held
   some_held [] each = ([], none_left)
   some_held (rule ∷ rules) each = by_rule each.0 (some_held rules each.1)
     where
@@ -98,14 +98,14 @@ module _ {F Cx : Type 0} {IsParsed : Cx → FiltersetKind → KnownGroups → Li
     {asks_groups has_runtime_leaves serves_as_default : F → Bool} (laws : FiltersLaws IsParsed OnBinary OnTest asks_groups has_runtime_leaves serves_as_default)
     (cx : Cx) where
   -- a default filter, as the text that it is
-  record IsDefaultRead (default : F) : Type 0 where
-    read : IsRead IsParsed default
-    serves : serves_as_default default ≡ true
+  pub record IsDefaultRead (default : F) : Type 0 where
+    pub read : IsRead IsParsed default
+    pub serves : serves_as_default default ≡ true
 
-  as_default : (text : List ℕ) (default : F) → IsFilterIn IsParsed cx purpose.Default text default → IsDefaultRead default
+  pub as_default : (text : List ℕ) (default : F) → IsFilterIn IsParsed cx purpose.Default text default → IsDefaultRead default
   as_default text default is = record { read = (cx, kind_of purpose.Default, groups.Unavailable, text, is); serves = laws.default_serves cx groups.Unavailable text default is }
 
-  set_default : (text : Option (List ℕ)) (set : Option F) (default : F) → set ≡ Some default → IsReadAs (IsFilterIn IsParsed cx purpose.Default) text set → IsDefaultRead default
+  pub set_default : (text : Option (List ℕ)) (set : Option F) (default : F) → set ≡ Some default → IsReadAs (IsFilterIn IsParsed cx purpose.Default) text set → IsDefaultRead default
   set_default text set default e is = by_text text (subst (IsReadAs (IsFilterIn IsParsed cx purpose.Default) text) e is)
     where
       by_text : (text : Option (List ℕ)) → IsReadAs (IsFilterIn IsParsed cx purpose.Default) text (Some default) → IsDefaultRead default
@@ -114,7 +114,7 @@ module _ {F Cx : Type 0} {IsParsed : Cx → FiltersetKind → KnownGroups → Li
 
   module _ (default : F) (default_read : IsDefaultRead default) (test : Test) where
     -- the filter of a rule holds on a test or doesn't
-    filter_decided : (text : Option (List ℕ)) (found : Option F) → IsReadAs (IsFilterIn IsParsed cx purpose.Override) text found
+    pub filter_decided : (text : Option (List ℕ)) (found : Option F) → IsReadAs (IsFilterIn IsParsed cx purpose.Override) text found
         → IfSome found (λ filter. OnTest filter default test true) ⊎ ¬ IfSome found (λ filter. OnTest filter default test true)
     filter_decided text None is = inl tt
     filter_decided None (Some filter) is = absurd is
@@ -128,7 +128,7 @@ module _ {F Cx : Type 0} {IsParsed : Cx → FiltersetKind → KnownGroups → Li
         by_value none false on = inr (λ other. false≢true (laws.one_on_test filter default test false true default_read.serves none on other))
 
     -- and so does the rule
-    rule_decided : {S : Type 0} (IsSpec : IsSpecBy S) (it : RuleOn F S) → IsReadRule (IsFilterIn IsParsed cx) IsSpec it.rule.placed it.rule → Decided (Holds OnTest default test) it
+    pub rule_decided : {S : Type 0} (IsSpec : IsSpecBy S) (it : RuleOn F S) → IsReadRule (IsFilterIn IsParsed cx) IsSpec it.rule.placed it.rule → Decided (Holds OnTest default test) it
     rule_decided IsSpec it read = by_platform (holds_for test.binary.platform it) refl (filter_decided it.rule.placed.config.filter it.rule.compiled.filter read.compiled.filter)
       where
         by_platform : (holds : Bool) → holds_for test.binary.platform it ≡ holds
@@ -138,7 +138,7 @@ module _ {F Cx : Type 0} {IsParsed : Cx → FiltersetKind → KnownGroups → Li
         by_platform true e (inr off) = inr (λ holds. off holds.filter)
         by_platform false e decided = inr (λ holds. false≢true (sym e ∙ holds.platform))
 
-    rules_decided : {S Facts : Type 0} (IsSpec : IsSpecBy S) (value_on : S → Facts → Option Bool) (host target : Facts) (rules : List (LoadedOverride F S))
+    pub rules_decided : {S Facts : Type 0} (IsSpec : IsSpecBy S) (value_on : S → Facts → Option Bool) (host target : Facts) (rules : List (LoadedOverride F S))
         → AllByRecursion (λ rule. IsReadRule (IsFilterIn IsParsed cx) IsSpec rule.placed rule) rules
         → AllByRecursion (Decided (Holds OnTest default test)) (map (on_platforms value_on host target) rules)
     rules_decided IsSpec value_on host target [] each = tt

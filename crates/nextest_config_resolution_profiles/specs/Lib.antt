@@ -8,6 +8,7 @@ pub mod Early
 pub mod Evaluatable
 pub mod Finding
 pub mod Held
+pub mod HeldRules
 pub mod Kept
 pub mod Languages
 pub mod Laws

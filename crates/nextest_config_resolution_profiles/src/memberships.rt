@@ -102,7 +102,7 @@ fn name_of(group: TestGroupRef<'_>) -> &str
 
 impl<'c, F: Filters, S: Specs> EvaluatableProfile<'c, F, S> {
     /// The groups of these tests, found now: each that of the nearest rule that holds on the test and sets one, else the global
-    /// one. Of several tests with one name the last counts.
+    /// one. Of several tests with one name one of them counts.
     ///
     /// # Errors
     ///

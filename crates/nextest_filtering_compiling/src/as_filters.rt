@@ -65,6 +65,17 @@ impl Filters for Filterset {
         Filterset::matches_test(self, alloc, query, &ecx)
     }
 
+    fn matches_tests(
+        &self,
+        alloc: Global,
+        binary: &BinaryQuery<'_>,
+        names: &[&str],
+        default: &Filterset,
+    ) -> Result<Vec<bool>, AllocError> {
+        let ecx = EvalContext::new(&default.compiled);
+        Filterset::matches_tests(self, alloc, binary, names, &ecx)
+    }
+
     fn has_groups(&self) -> bool {
         asks(self, Question::Group)
     }

@@ -1,6 +1,6 @@
 // Filtersets.
 ghost use Rattle.std.specs.Prelude.{◌≡◌, ◌↔◌, IfOk, Some, true, false, codes};
-ghost use Rattle.std.specs.List.{list_any};
+ghost use Rattle.std.specs.List.{AllZip, list_any};
 ghost use Rattle.std.specs.Str.Iter.{HasSubslice};
 ghost use Rattle.nextest_filtering_filters.specs.Formula.{IsValue};
 ghost use Rattle.nextest_filtering_filters.specs.Filter.{filter_of, is_group};
@@ -135,6 +135,24 @@ impl Filterset {
         ensures { IfOk result (λ value. IsValue (IsOn (filter_of self.now.compiled) (filter_of ecx.now) (test_of query.now) (λ matcher. ⊥)) (Some value)) }
     {
         self.compiled.matches_test(alloc, query, ecx)
+    }
+
+    /// Whether its filter, which asks for no group, holds on each of some tests of a binary, as `CompiledExpr::matches_tests`
+    /// tells it.
+    pub fn matches_tests(
+        &self,
+        alloc: Global,
+        binary: &BinaryQuery<'_>,
+        names: &[&str],
+        ecx: &EvalContext<'_>,
+    ) -> Result<Vec<bool>, AllocError>
+        requires no_group { list_any is_group self.now.compiled.leaves ≡ false }
+        ensures { IfOk result (λ values. AllZip (λ name value. IsValue (IsOn
+            (filter_of self.now.compiled) (filter_of ecx.now)
+            (record { binary = binary_of binary.now; name = name.now }) (λ matcher. ⊥)) (Some value))
+            names.now values.items) }
+    {
+        self.compiled.matches_tests(alloc, binary, names, ecx)
     }
 
     /// Whether its filter holds on a test, as `CompiledExpr::matches_test_with_groups` tells it.

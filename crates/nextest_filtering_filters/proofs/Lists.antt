@@ -1,6 +1,7 @@
 -- Lists side by side, and a loop over one of them.
 use Rattle.std.proofs.Common.{◌≡◌, ℕ, zero, suc, ◌+◌, ◌<◌, List, [], ◌∷◌, ◌++◌, length, take, get_or, refl, sym, ap, ◌∙◌, subst, arith, slice_set}
 use Rattle.std.specs.List.{All, AllZip}
+use Rattle.std.proofs.lemmas.List.{take_more}
 use Rattle.std.proofs.Math.Seq.{take-length, take-suc}
 
 -- one more of each
@@ -17,6 +18,13 @@ zip_more R xs ys news place x y less at is one all =
     let count : suc place ≡ place + 1 = omega arith in
     let front : take place xs ++ x ∷ [] ≡ take (place + 1) xs = ap (λ z. take place xs ++ z ∷ []) at ∙ (sym (take-suc xs place x less) ∙ ap (λ n. take n xs) count) in
     subst (λ l. AllZip R l news) front (subst (AllZip R (take place xs ++ x ∷ [])) (sym is) (push_both R (take place xs) ys x y all one))
+
+-- the same, of a list whose elements are read with another for places beyond its end
+pub zip_more_read : {A B : Type 0} (R : A → B → Type 0) (xs : List A) (ys news : List B) (place : ℕ) (other : A) (y : B) → place < length xs → news ≡ ys ++ y ∷ [] → R (get_or xs place other) y
+    → AllZip R (take place xs) ys → AllZip R (take (place + 1) xs) news
+zip_more_read R xs ys news place other y less is one all =
+    let x = get_or xs place other in
+    subst (λ l. AllZip R l news) (sym (take_more xs place other less)) (subst (AllZip R (take place xs ++ x ∷ [])) (sym is) (push_both R (take place xs) ys x y all one))
 
 pub zip_end : {A B : Type 0} (R : A → B → Type 0) (xs : List A) (ys : List B) (place : ℕ) → place ≡ length xs → AllZip R (take place xs) ys → AllZip R xs ys
 zip_end R xs ys place ended all = subst (λ l. AllZip R l ys) (ap (λ n. take n xs) ended ∙ take-length xs) all

@@ -1,6 +1,6 @@
 // Filters on one binary, and on one test.
 ghost use Rattle.std.specs.Prelude.{◌≡◌, false, Some, IfOk};
-ghost use Rattle.std.specs.List.{list_any};
+ghost use Rattle.std.specs.List.{AllZip, list_any};
 ghost use Rattle.nextest_filtering_filters.specs.Formula.{IsValue};
 ghost use Rattle.nextest_filtering_filters.specs.Filter.{filter_of, is_group};
 ghost use Rattle.nextest_filtering_filters.specs.Meaning.{CanBeOn, IsOn};
@@ -52,6 +52,29 @@ impl CompiledExpr {
         ensures { IfOk result (λ value. IsValue (IsOn (filter_of self.now) (filter_of ecx.now) (test_of query.now) (λ matcher. ⊥)) (Some value)) }
     {
         self.matches_test_with_groups(alloc, query, ecx, &NoGroups)
+    }
+
+    /// Whether the filter, which asks for no group, holds on each of some tests of a binary, by their names and in their
+    /// order: what its matchers take is made once. It fails only on allocation.
+    pub fn matches_tests(
+        &self,
+        alloc: Global,
+        binary: &BinaryQuery<'_>,
+        names: &[&str],
+        ecx: &EvalContext<'_>,
+    ) -> Result<Vec<bool>, AllocError>
+        requires no_group { list_any is_group self.now.leaves ≡ false }
+        ensures { IfOk result (λ values. AllZip (λ name value. IsValue (IsOn
+            (filter_of self.now) (filter_of ecx.now)
+            (record { binary = binary_of binary.now; name = name.now }) (λ matcher. ⊥)) (Some value))
+            names.now values.items) }
+    {
+        let mut evaluator = BinaryEvaluator::new(alloc, self, ecx, binary)?;
+        let mut values = Vec::with_capacity(alloc, names.len())?;
+        for name in names {
+            values.push(evaluator.matches_test_with_groups(name, &NoGroups)?)?;
+        }
+        Ok(values)
     }
 
     /// Whether the filter holds on a test, whose groups this look-up knows. It fails only on allocation. Who asks for many tests

@@ -28,10 +28,13 @@ binary_value plain.Everything = Some true
 binary_value plain.Nothing = Some false
 binary_value (plain.Named name) = None
 
+abbrev pub name_value : PlainFilter → List ℕ → Bool
+name_value plain.Everything name = true
+name_value plain.Nothing name = false
+name_value (plain.Named own) name = bytes_eq name own
+
 abbrev pub test_value : PlainFilter → Test → Bool
-test_value plain.Everything test = true
-test_value plain.Nothing test = false
-test_value (plain.Named name) test = bytes_eq test.name name
+test_value filter test = name_value filter test.name
 
 -- ---- the laws
 

@@ -1,6 +1,6 @@
 // Filters without a language.
 ghost use Rattle.std.specs.Prelude.{◌≡◌, true, false, Some};
-ghost use Rattle.worked_rows.specs.PlainFilters.{binary_value, is_named, plain_filter_laws, plain_of, test_value};
+ghost use Rattle.worked_rows.specs.PlainFilters.{binary_value, is_named, name_value, plain_filter_laws, plain_of, test_value};
 
 use nextest_config_resolution::{FilterError, Filters};
 use nextest_filtering::{BinaryQuery, FiltersetKind, KnownGroups, TestQuery};
@@ -16,6 +16,19 @@ pub enum PlainFilter {
     Nothing,
     /// The tests of this name.
     Named(Text),
+}
+
+impl PlainFilter {
+    // Whether the tests of this name are among them.
+    fn holds_on(&self, name: &str) -> bool
+        ensures { result ≡ name_value self.now name.now }
+    {
+        match self {
+            PlainFilter::Everything => true,
+            PlainFilter::Nothing => false,
+            PlainFilter::Named(own) => name == own.as_str(),
+        }
+    }
 }
 
 impl Filters for PlainFilter {
@@ -72,11 +85,21 @@ impl Filters for PlainFilter {
         query: &TestQuery<'_>,
         _: &PlainFilter,
     ) -> Result<bool, AllocError> {
-        match self {
-            PlainFilter::Everything => Ok(true),
-            PlainFilter::Nothing => Ok(false),
-            PlainFilter::Named(name) => Ok(query.test_name == name.as_str()),
+        Ok(self.holds_on(query.test_name))
+    }
+
+    fn matches_tests(
+        &self,
+        alloc: Global,
+        _: &BinaryQuery<'_>,
+        names: &[&str],
+        _: &PlainFilter,
+    ) -> Result<Vec<bool>, AllocError> {
+        let mut values = Vec::with_capacity(alloc, names.len())?;
+        for name in names {
+            values.push(self.holds_on(name))?;
         }
+        Ok(values)
     }
 
     fn has_groups(&self) -> bool {

@@ -1,7 +1,7 @@
 use Rattle.std.proofs.Common.{ap}
 use Rattle.nextest_config_resolution_profiles.specs.Asking.{IsAskable}
 use Rattle.nextest_config_resolution_profiles.specs.Held.{Holds}
-use Rattle.nextest_config_resolution_profiles.proofs.HeldRules.{found_more, found_none}
+use Rattle.nextest_config_resolution_profiles.proofs.Holding.{found_more, found_none}
 use Rattle.nextest_config_resolution_profiles.proofs.PutOn.{item_has}
 use Rattle.nextest_config_resolution_profiles.proofs.held.held_on.Goals as goal
 use Rattle.nextest_config_resolution_settings.specs.Nearest.{lent}

@@ -3,7 +3,7 @@ use Rattle.std.proofs.lemmas.Bool.{false≢true}
 use Rattle.std.proofs.lemmas.List.{map_push}
 use Rattle.nextest_config_resolution_profiles.specs.ChainRules.{seen_rule}
 use Rattle.nextest_config_resolution_profiles.specs.Held.{Holds}
-use Rattle.nextest_config_resolution_profiles.proofs.HeldRules.{adds_none, adds_one}
+use Rattle.nextest_config_resolution_profiles.proofs.Holding.{adds_none, adds_one}
 use Rattle.nextest_config_resolution_profiles.proofs.held.push_held.Goals as goal
 use Rattle.nextest_config_resolution_settings.specs.Nearest.{lent}
 use Rattle.nextest_filtering_filters.specs.Query.{test_of}

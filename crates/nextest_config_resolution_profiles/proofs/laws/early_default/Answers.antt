@@ -1,4 +1,4 @@
-use Rattle.nextest_config_resolution_profiles.proofs.HeldRules.{early_default}
+use Rattle.nextest_config_resolution_profiles.proofs.Holding.{early_default}
 use Rattle.nextest_config_resolution_profiles.proofs.laws.early_default.Goals as goal
 
 pub returns : goal.returns

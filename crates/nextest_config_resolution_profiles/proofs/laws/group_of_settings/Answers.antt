@@ -1,4 +1,4 @@
-use Rattle.nextest_config_resolution_profiles.proofs.HeldRules.{group_of_settings}
+use Rattle.nextest_config_resolution_profiles.proofs.Holding.{group_of_settings}
 use Rattle.nextest_config_resolution_profiles.proofs.laws.group_of_settings.Goals as goal
 
 pub returns : goal.returns

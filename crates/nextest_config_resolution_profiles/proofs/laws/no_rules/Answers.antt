@@ -1,4 +1,4 @@
-use Rattle.nextest_config_resolution_profiles.proofs.HeldRules.{no_rules}
+use Rattle.nextest_config_resolution_profiles.proofs.Holding.{no_rules}
 use Rattle.nextest_config_resolution_profiles.proofs.laws.no_rules.Goals as goal
 
 pub returns : goal.returns

@@ -1,4 +1,4 @@
-use Rattle.nextest_config_resolution_profiles.proofs.HeldRules.{one_held, same_settings_for, same_sources_for}
+use Rattle.nextest_config_resolution_profiles.proofs.Holding.{one_held, same_settings_for, same_sources_for}
 use Rattle.nextest_config_resolution_profiles.proofs.laws.one_held.Goals as goal
 
 pub returns : goal.returns
