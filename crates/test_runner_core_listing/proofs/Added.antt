@@ -1,7 +1,8 @@
--- The tests of a binary, with one more name.
-use Rattle.std.proofs.Common.{◌≡◌, ℕ, ◌∷◌, ◌++◌, [], List, Bool, true, false, cond, ap, sym, ◌∙◌, subst}
+-- The tests of a binary, with one more name, and those of binaries, with one more.
+use Rattle.std.proofs.Common.{◌≡◌, ℕ, ◌∷◌, ◌++◌, [], List, map, Bool, true, false, cond, ap, sym, ◌∙◌, subst}
 use Rattle.std.specs.List.{All, filter}
 use Rattle.std.proofs.lemmas.List.{append_assoc, append-nil, map-append}
+use Rattle.std.proofs.lemmas.List.Concat.{flat_map-append}
 use Rattle.std.proofs.lemmas.List.Elements.{filter-append}
 use Rattle.nextest_filtering_filters.specs.Asking.{Asking}
 use Rattle.nextest_filtering_filters.specs.Meaning.{Tells}
@@ -10,8 +11,10 @@ use Rattle.nextest_filtering_filters.proofs.Parts.{tells_one}
 use Rattle.nextest_filtering_trees.specs.Tree.{Matcher}
 use Rattle.nextest_run_events_results.specs.declared.instance.OwnedTestInstanceId.{OwnedTestInstanceId}
 use Rattle.test_runner_core_workspace.specs.declared.record.Binary.{Binary}
-use Rattle.test_runner_core_listing.specs.Answers.{Answers, AnswerOn, HoldsOn}
-use Rattle.test_runner_core_listing.specs.Listing.{tests_of}
+use Rattle.test_runner_core_listing.specs.Answers.{Answers, AnswerOn, HoldsOn, seen_test}
+use Rattle.test_runner_core_listing.specs.Listing.{selected_in, tests_of}
+use Rattle.test_runner_core_listing.specs.Selected.{tests_in, tests_of_one}
+use Rattle.test_runner_core_listing.specs.declared.selection.SelectedTests.{SelectedTests}
 
 -- the test as which a name stands
 abbrev test_of : Binary → List ℕ → OwnedTestInstanceId
@@ -53,3 +56,30 @@ none_added on binary names name initial before fails so_far =
     ∙ ap (λ (some : List OwnedTestInstanceId). initial ++ some) (sym (append-nil tests))
     ∙ ap (λ (b : Bool). initial ++ (tests ++ tests_of binary (cond b (name ∷ []) []))) (sym fails)
     ∙ ap (λ (some : List OwnedTestInstanceId). initial ++ some) (sym (tests_more on binary names name))
+
+-- the names on which a filter holds, with one more of them
+pub name_added : (on : List ℕ → Bool) (names : List (List ℕ)) (name : List ℕ) (before after : List (List ℕ))
+    → on name ≡ true → before ≡ filter on names → after ≡ before ++ name ∷ [] → after ≡ filter on (names ++ name ∷ [])
+name_added on names name before after holds so_far adds =
+    adds
+    ∙ ap (λ (some : List (List ℕ)). some ++ name ∷ []) so_far
+    ∙ ap (λ (b : Bool). filter on names ++ cond b (name ∷ []) []) (sym holds)
+    ∙ sym (filter-append on names (name ∷ []))
+
+-- and with one that isn't of them
+pub name_left : (on : List ℕ → Bool) (names : List (List ℕ)) (name : List ℕ) (before : List (List ℕ))
+    → on name ≡ false → before ≡ filter on names → before ≡ filter on (names ++ name ∷ [])
+name_left on names name before fails so_far =
+    so_far
+    ∙ sym (append-nil (filter on names))
+    ∙ ap (λ (b : Bool). filter on names ++ cond b (name ∷ []) []) (sym fails)
+    ∙ sym (filter-append on names (name ∷ []))
+
+-- the selected tests of one more binary
+pub binary_added : (chosen : Answers) (names : List (List ℕ)) (one : SelectedTests) (initial before after : List SelectedTests)
+    → before ≡ initial → one.names ≡ filter (chosen.selects one.binary.now) names → after ≡ before ++ one ∷ []
+    → tests_in after ≡ tests_in initial ++ selected_in chosen one.binary.now names
+binary_added chosen names one initial before after same selected adds =
+    ap tests_in (adds ∙ ap (λ (some : List SelectedTests). some ++ one ∷ []) same)
+    ∙ flat_map-append tests_of_one initial (one ∷ [])
+    ∙ ap (λ (some : List query.Test). tests_in initial ++ some) (append-nil (tests_of_one one) ∙ ap (map (seen_test one.binary.now)) selected)

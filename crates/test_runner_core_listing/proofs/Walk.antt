@@ -1,11 +1,13 @@
 -- Binaries, one after another.
 use Rattle.std.proofs.Common.{◌≡◌, ◌<◌, ℕ, Bool, true, false, cond, length, get_or, drop, drop-cons, add-one, ◌+◌, ◌∷◌, ◌++◌, [], List, Result, Ok, Err, ap, sym, ◌∙◌, subst, append_assoc}
 use Rattle.std.proofs.lemmas.List.{append-nil}
+use Rattle.nextest_filtering_filters.specs.Query as query
 use Rattle.nextest_run_events_results.specs.declared.instance.OwnedTestInstanceId.{OwnedTestInstanceId}
 use Rattle.test_runner_core_workspace.specs.Lister.{Answer}
 use Rattle.test_runner_core_workspace.specs.declared.record.Binary.{Binary}
 use Rattle.test_runner_core_listing.specs.Answers.{Answers}
 use Rattle.test_runner_core_listing.specs.Listing.{◌>>=◌, Found, accepted, asked_of, asked_after, ids_of, listing, selected_in, skipped_in, Adds, Asks, AsksFor}
+use Rattle.test_runner_core_listing.specs.Selected.{tests_in}
 use Rattle.test_runner_core_listing.specs.declared.selection.Selection.{Selection}
 use Rattle.test_runner_core_listing.specs.declared.listing_error.ListingError.{ListingError}
 use Rattle.test_runner_core_listing.specs.declared.listing_error.ListingError.TheVariants as errors
@@ -13,7 +15,7 @@ use Rattle.test_runner_core_listing.specs.declared.listing_fault.ListingFault.{L
 
 -- what was found so far, and then what the rest gives
 abbrev pub behind : Selection → Result Found ListingFault → Result Found ListingFault
-behind found read = read >>= λ rest. Ok (record { tests = found.tests ++ rest.tests; skipped = found.skipped ++ rest.skipped })
+behind found read = read >>= λ rest. Ok (record { tests = tests_in found.tests.items ++ rest.tests; skipped = found.skipped ++ rest.skipped })
 
 -- a walk over the listed binaries has these still ahead: what the others give was found, and they alone were asked
 pub record Walked (answer : Binary → Answer) (chosen : Answers) (all rest : List Binary) (found : Selection) (initial asked : List (List ℕ)) : Type 0 where
@@ -71,11 +73,13 @@ rest_of binaries i binary within is =
     drop-cons binaries i binary within ∙ ap (λ (n : ℕ). get_or binaries i binary ∷ drop n binaries) (sym (add-one i)) ∙ ap (λ (b : Binary). b ∷ drop (i + 1) binaries) (sym is)
 
 -- more was found, and then comes the same
-found_more : (found new : Selection) (tests skipped : List OwnedTestInstanceId) (read : Result Found ListingFault) → new.tests ≡ found.tests ++ tests → new.skipped ≡ found.skipped ++ skipped
+pub found_more : (found new : Selection) (tests : List query.Test) (skipped : List OwnedTestInstanceId) (read : Result Found ListingFault)
+    → tests_in new.tests.items ≡ tests_in found.tests.items ++ tests → new.skipped ≡ found.skipped ++ skipped
     → behind new read ≡ behind found (read >>= λ (rest : Found). Ok (record { tests = tests ++ rest.tests; skipped = skipped ++ rest.skipped }))
 found_more found new tests skipped (Err refusal) t s = λ i. Err refusal
 found_more found new tests skipped (Ok rest) t s =
-    let one : new.tests ++ rest.tests ≡ found.tests ++ (tests ++ rest.tests) = ap (λ (some : List OwnedTestInstanceId). some ++ rest.tests) t ∙ append_assoc found.tests tests rest.tests in
+    let before = tests_in found.tests.items in
+    let one : tests_in new.tests.items ++ rest.tests ≡ before ++ (tests ++ rest.tests) = ap (λ (some : List query.Test). some ++ rest.tests) t ∙ append_assoc before tests rest.tests in
     let other : new.skipped ++ rest.skipped ≡ found.skipped ++ (skipped ++ rest.skipped) =
     ap (λ (some : List OwnedTestInstanceId). some ++ rest.skipped) s ∙ append_assoc found.skipped skipped rest.skipped in
     λ i. Ok (record { tests = one i; skipped = other i })

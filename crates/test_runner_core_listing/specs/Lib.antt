@@ -1,3 +1,4 @@
 pub mod Answers
+pub mod Selected
 pub mod Listing
 pub mod Laws

@@ -1,12 +1,12 @@
 -- What the listed binaries answer, and which of their tests are selected.
 use Rattle.std.specs.Prelude.{◌≡◌, ℕ, ◌==◌, Bool, true, false, not, length, List, [], ◌∷◌, ◌++◌, Option, None, Some, Result, Ok, Err, ⊤, map, filter, if◌then◌else◌}
-use Rattle.std.specs.List.Sorted.{IsSorted, IsPermutation}
+use Rattle.nextest_filtering_filters.specs.Query as query
 use Rattle.nextest_run_events_results.specs.declared.instance.OwnedTestInstanceId.{OwnedTestInstanceId}
-use Rattle.test_runner_core_plan.specs.Order.{instance_cmp}
 use Rattle.test_runner_core_workspace.specs.Lister.{Answer}
 use Rattle.test_runner_core_workspace.specs.Workspace.{is_among, has_separator}
 use Rattle.test_runner_core_workspace.specs.declared.record.Binary.{Binary}
-use Rattle.test_runner_core_listing.specs.Answers.{Answers}
+use Rattle.test_runner_core_listing.specs.Answers.{Answers, seen_test}
+use Rattle.test_runner_core_listing.specs.Selected.{tests_in}
 use Rattle.test_runner_core_listing.specs.declared.listing_error.ListingError.{ListingError}
 use Rattle.test_runner_core_listing.specs.declared.listing_error.ListingError.TheVariants as error
 use Rattle.test_runner_core_listing.specs.declared.listing_fault.ListingFault.{ListingFault}
@@ -48,9 +48,9 @@ ids_of binaries = map (λ binary. binary.id) binaries
 abbrev pub tests_of : Binary → List (List ℕ) → List OwnedTestInstanceId
 tests_of binary names = map (λ name. record { binary_id = binary.id; test_name = name }) names
 
--- the tests of a binary that are selected
-abbrev pub selected_in : Answers → Binary → List (List ℕ) → List OwnedTestInstanceId
-selected_in chosen binary names = tests_of binary (filter (chosen.selects binary) names)
+-- the tests of a binary that are selected, as filters look at them
+abbrev pub selected_in : Answers → Binary → List (List ℕ) → List query.Test
+selected_in chosen binary names = map (seen_test binary) (filter (chosen.selects binary) names)
 
 -- the others
 abbrev pub skipped_in : Answers → Binary → List (List ℕ) → List OwnedTestInstanceId
@@ -58,7 +58,7 @@ skipped_in chosen binary names = tests_of binary (filter (λ name. not (chosen.s
 
 -- the tests that are found in binaries
 pub record Found : Type 0 where
-  pub tests : List OwnedTestInstanceId
+  pub tests : List query.Test
   pub skipped : List OwnedTestInstanceId
 
 infixl 10 ◌>>=◌
@@ -87,7 +87,8 @@ asked_of answer (binary ∷ binaries) = binary.id ∷ asked_after (accepted (ans
 abbrev pub AddsListed : {T : Type 0} → Result T ListingError → Result (List (List ℕ)) ListingFault → Answers → Binary → Selection → Selection → Type 0
 AddsListed (Ok done) answered chosen binary old new =
     (names : List (List ℕ)) × (answered ≡ Ok names) × (new.listed ≡ old.listed ++ binary.id ∷ [])
-    × (new.tests ≡ old.tests ++ selected_in chosen binary names) × (new.skipped ≡ old.skipped ++ skipped_in chosen binary names)
+    × (tests_in new.tests.items ≡ tests_in old.tests.items ++ selected_in chosen binary names)
+    × (new.skipped ≡ old.skipped ++ skipped_in chosen binary names)
 AddsListed (Err (error.Refused refusal)) answered chosen binary old new = answered ≡ Err refusal
 AddsListed (Err error.OutOfMemory) answered chosen binary old new = ⊤
 
@@ -102,24 +103,13 @@ abbrev pub Adds : {T : Type 0} → Bool → Result T ListingError → Result (Li
 Adds true result answered chosen binary old new = AddsListed result answered chosen binary old new
 Adds false result answered chosen binary old new = Stays result old new
 
--- a call lists these binaries; want of memory says nothing
+-- a call gives what these binaries give, and their ids; want of memory says nothing
 abbrev pub Lists : Result Selection ListingError → Result Found ListingFault → List Binary → Type 0
-Lists (Ok found) given listed = (given ≡ Ok (record { tests = found.tests; skipped = found.skipped })) × (found.listed ≡ ids_of listed)
+Lists (Ok it) given listed =
+    (given ≡ Ok (record { tests = tests_in it.tests.items; skipped = it.skipped }))
+    × (it.listed ≡ ids_of listed)
 Lists (Err (error.Refused refusal)) given listed = given ≡ Err refusal
 Lists (Err error.OutOfMemory) given listed = ⊤
-
--- a selection has the ids of the listed binaries, the selected tests in rising order, and leaves out the others as they were listed
-pub record Selects (binaries : List Binary) (found : Found) (selection : Selection) : Type 0 where
-  pub listed : selection.listed ≡ ids_of binaries
-  pub tests : IsPermutation found.tests selection.tests
-  pub order : IsSorted instance_cmp selection.tests
-  pub skipped : selection.skipped ≡ found.skipped
-
--- a call gives what these binaries give; want of memory says nothing
-abbrev pub Gives : Result Selection ListingError → Result Found ListingFault → List Binary → Type 0
-Gives (Ok selection) given listed = (found : Found) × (given ≡ Ok found) × Selects listed found selection
-Gives (Err (error.Refused refusal)) given listed = given ≡ Err refusal
-Gives (Err error.OutOfMemory) given listed = ⊤
 
 -- the list of ids asked for grows by these; where memory was wanting by a front of them
 abbrev pub AsksFor : Bool → List (List ℕ) → List (List ℕ) → List (List ℕ) → Type 0

@@ -12,4 +12,5 @@ mod selection;
 pub use listing::select;
 pub use listing_error::ListingError;
 pub use listing_fault::ListingFault;
-pub use selection::Selection;
+pub use query::query_of;
+pub use selection::{SelectedTests, Selection};

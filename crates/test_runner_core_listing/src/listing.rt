@@ -1,17 +1,16 @@
 // Which tests are selected.
 ghost use Rattle.std.specs.Prelude.{◌≡◌, ◌∷◌, [], ◌++◌, All, map, IfOk, OnOk};
-ghost use Rattle.std.specs.List.Sorted.{IsSorted, IsPermutation};
 ghost use Rattle.nextest_filtering_filters.specs.Meaning.{Tells};
 ghost use Rattle.test_runner_core_listing.specs.Answers as answers;
 ghost use Rattle.test_runner_core_listing.specs.Listing as words;
-ghost use Rattle.test_runner_core_plan.specs.Order.{instance_cmp};
+ghost use Rattle.test_runner_core_listing.specs.Selected.{tests_in};
 ghost use Rattle.test_runner_core_workspace.specs.declared.record.Binary.{Binary};
 
 use crate::listing_error::ListingError;
 use crate::listing_fault::ListingFault;
 use crate::names::refusal;
 use crate::query::query_of;
-use crate::selection::Selection;
+use crate::selection::{SelectedTests, Selection};
 use nextest_filtering_filters::{BinaryEvaluator, CompiledExpr, EvalContext, GroupLookup};
 use nextest_run_events_results::OwnedTestInstanceId;
 use nextest_text::{Listing, Text};
@@ -109,64 +108,85 @@ fn is_selected<G: GroupLookup>(
     Ok(true)
 }
 
-// Adds the tests of a binary: those on which all filters hold to the selected ones, and the others to those left out.
-fn add_tests<G: GroupLookup>(
-    binary: &Binary,
+// Adds the tests of a binary: those on which all filters hold to the selected ones, and the others
+// to those left out.
+fn add_tests<'w, G: GroupLookup>(
+    alloc: Global,
+    binary: &'w Binary,
     names: Listing<Text>,
     evaluators: &mut [BinaryEvaluator<'_>],
     groups: &G,
-    found: &mut Selection,
+    found: &mut Selection<'w>,
 ) -> Result<(), AllocError>
     ensures listed { OnOk result (found.new.listed ≡ found.old.listed) }
-    ensures tests { (chosen : answers.Answers) → answers.AnswerOn evaluators.old binary.now (G.member groups.now) chosen → OnOk result (found.new.tests ≡ found.old.tests ++ words.selected_in chosen binary.now names) }
-    ensures skipped { (chosen : answers.Answers) → answers.AnswerOn evaluators.old binary.now (G.member groups.now) chosen → OnOk result (found.new.skipped ≡ found.old.skipped ++ words.skipped_in chosen binary.now names) }
+    ensures tests { (chosen : answers.Answers)
+        → answers.AnswerOn evaluators.old binary.now (G.member groups.now) chosen
+        → let more = words.selected_in chosen binary.now names in
+        OnOk result (tests_in found.new.tests.items ≡ tests_in found.old.tests.items ++ more) }
+    ensures skipped { (chosen : answers.Answers)
+        → answers.AnswerOn evaluators.old binary.now (G.member groups.now) chosen
+        → let more = words.skipped_in chosen binary.now names in
+        OnOk result (found.new.skipped ≡ found.old.skipped ++ more) }
 {
+    let mut on_all = Listing::new(alloc);
     for name in Vec::from(names) {
         let selected = is_selected(evaluators, name.as_str(), groups)?;
-        let test = OwnedTestInstanceId {
-            binary_id: binary.id.clone()?,
-            test_name: name,
-        };
         if selected {
-            found.tests.push(test)?;
+            on_all.push(name)?;
         } else {
-            found.skipped.push(test)?;
+            found.skipped.push(OwnedTestInstanceId {
+                binary_id: binary.id.clone()?,
+                test_name: name,
+            })?;
         }
     }
+    found.tests.push(SelectedTests {
+        binary,
+        names: on_all,
+    })?;
     Ok(())
 }
 
 // Adds what a listed binary gives.
-fn list_one<L: Lister, G: GroupLookup>(
+fn list_one<'w, L: Lister, G: GroupLookup>(
     alloc: Global,
-    binary: &Binary,
+    binary: &'w Binary,
     evaluators: &mut [BinaryEvaluator<'_>],
     groups: &G,
     lister: &mut L,
-    found: &mut Selection,
+    found: &mut Selection<'w>,
 ) -> Result<(), ListingError>
-    ensures adds { (chosen : answers.Answers) → answers.AnswerOn evaluators.old binary.now (G.member groups.now) chosen → words.AddsListed result (words.accepted (L.answer lister.old binary.now)) chosen binary.now found.old found.new }
+    ensures adds { (chosen : answers.Answers)
+        → answers.AnswerOn evaluators.old binary.now (G.member groups.now) chosen
+        → let answered = words.accepted (L.answer lister.old binary.now) in
+        words.AddsListed result answered chosen binary.now found.old found.new }
     ensures stays { (other : Binary) → L.answer lister.new other ≡ L.answer lister.old other }
     ensures asks { words.Asks result (L.asked lister.old) (binary.now.id ∷ []) (L.asked lister.new) }
 {
     let names = names_of(alloc, binary, lister)?;
     found.listed.push(binary.id.clone()?)?;
-    add_tests(binary, names, evaluators, groups, found)?;
+    add_tests(alloc, binary, names, evaluators, groups, found)?;
     Ok(())
 }
 
 // Adds what one binary gives, where its filters list it.
-fn list_by<L: Lister, G: GroupLookup>(
+fn list_by<'w, L: Lister, G: GroupLookup>(
     alloc: Global,
-    binary: &Binary,
+    binary: &'w Binary,
     evaluators: &mut [BinaryEvaluator<'_>],
     groups: &G,
     lister: &mut L,
-    found: &mut Selection,
+    found: &mut Selection<'w>,
 ) -> Result<(), ListingError>
-    ensures adds { (chosen : answers.Answers) → answers.AnswerOn evaluators.old binary.now (G.member groups.now) chosen → words.Adds (chosen.lists binary.now) result (words.accepted (L.answer lister.old binary.now)) chosen binary.now found.old found.new }
+    ensures adds { (chosen : answers.Answers)
+        → answers.AnswerOn evaluators.old binary.now (G.member groups.now) chosen
+        → let answered = words.accepted (L.answer lister.old binary.now) in
+        words.Adds (chosen.lists binary.now) result answered chosen binary.now found.old found.new }
     ensures stays { (other : Binary) → L.answer lister.new other ≡ L.answer lister.old other }
-    ensures asks { (chosen : answers.Answers) → answers.AnswerOn evaluators.old binary.now (G.member groups.now) chosen → words.Asks result (L.asked lister.old) (words.ids_of (words.listed_of chosen (binary.now ∷ []))) (L.asked lister.new) }
+    ensures asks { (chosen : answers.Answers)
+        → answers.AnswerOn evaluators.old binary.now (G.member groups.now) chosen
+        → let ids = words.ids_of (words.listed_of chosen (binary.now ∷ [])) in
+        words.Asks result (L.asked lister.old) ids (L.asked lister.new) }
 {
     if is_listed(evaluators)? {
         list_one(alloc, binary, evaluators, groups, lister, found)?;
@@ -175,18 +195,24 @@ fn list_by<L: Lister, G: GroupLookup>(
 }
 
 // Adds what one binary gives, where it is listed.
-fn list_if<'f, L: Lister, G: GroupLookup>(
+fn list_if<'w, L: Lister, G: GroupLookup>(
     alloc: Global,
-    binary: &'f Binary,
-    filters: &[&'f CompiledExpr],
-    ecx: &EvalContext<'f>,
+    binary: &'w Binary,
+    filters: &[&CompiledExpr],
+    ecx: &EvalContext<'_>,
     groups: &G,
     lister: &mut L,
-    found: &mut Selection,
+    found: &mut Selection<'w>,
 ) -> Result<(), ListingError>
-    ensures adds { (chosen : answers.Answers) → answers.AnswerAs (answers.lent filters.now) ecx.now (G.member groups.now) chosen → words.Adds (chosen.lists binary.now) result (words.accepted (L.answer lister.old binary.now)) chosen binary.now found.old found.new }
+    ensures adds { (chosen : answers.Answers)
+        → answers.AnswerAs (answers.lent filters.now) ecx.now (G.member groups.now) chosen
+        → let answered = words.accepted (L.answer lister.old binary.now) in
+        words.Adds (chosen.lists binary.now) result answered chosen binary.now found.old found.new }
     ensures stays { (other : Binary) → L.answer lister.new other ≡ L.answer lister.old other }
-    ensures asks { (chosen : answers.Answers) → answers.AnswerAs (answers.lent filters.now) ecx.now (G.member groups.now) chosen → words.Asks result (L.asked lister.old) (words.ids_of (words.listed_of chosen (binary.now ∷ []))) (L.asked lister.new) }
+    ensures asks { (chosen : answers.Answers)
+        → answers.AnswerAs (answers.lent filters.now) ecx.now (G.member groups.now) chosen
+        → let ids = words.ids_of (words.listed_of chosen (binary.now ∷ [])) in
+        words.Asks result (L.asked lister.old) ids (L.asked lister.new) }
 {
     let mut evaluators = evaluators_of(alloc, filters, ecx, binary)?;
     list_by(
@@ -199,69 +225,39 @@ fn list_if<'f, L: Lister, G: GroupLookup>(
     )
 }
 
-// What the listed ones among binaries give one after another.
-fn list_each<L: Lister, G: GroupLookup>(
+/// The listed binaries, and the tests of each on which all filters in force hold: the binaries in
+/// their order, and each one's tests as it lists them. A binary is listed where each of the
+/// filters can hold on some of its tests, whatever these are; the listed ones alone are asked,
+/// each once, in their order, up to the first whose answer is refused. Where there is no filter,
+/// every binary is listed and every test selected. The groups of tests are those that the look-up
+/// knows. An `Err` says why: the binary can't list its tests, or a name is empty, has a tab or a
+/// line end in it, or stands twice, each name being looked at whole before the next; or that there
+/// was no memory, which says nothing of the binaries.
+pub fn select<'w, L: Lister, G: GroupLookup>(
     alloc: Global,
-    binaries: &[Binary],
+    binaries: &'w [Binary],
     filters: &[&CompiledExpr],
     ecx: &EvalContext<'_>,
     groups: &G,
     lister: &mut L,
-) -> Result<Selection, ListingError>
-    ensures lists { (chosen : answers.Answers) → answers.AnswerAs (answers.lent filters.now) ecx.now (G.member groups.now) chosen → words.Lists result (words.listing (L.answer lister.old) chosen (words.listed_of chosen binaries.now)) (words.listed_of chosen binaries.now) }
+) -> Result<Selection<'w>, ListingError>
+    ensures selects { (chosen : answers.Answers)
+        → answers.AnswerAs (answers.lent filters.now) ecx.now (G.member groups.now) chosen
+        → let listed = words.listed_of chosen binaries.now in
+        words.Lists result (words.listing (L.answer lister.old) chosen listed) listed }
     ensures stays { (other : Binary) → L.answer lister.new other ≡ L.answer lister.old other }
-    ensures asks { (chosen : answers.Answers) → answers.AnswerAs (answers.lent filters.now) ecx.now (G.member groups.now) chosen → words.Asks result (L.asked lister.old) (words.asked_of (L.answer lister.old) (words.listed_of chosen binaries.now)) (L.asked lister.new) }
+    ensures asks { (chosen : answers.Answers)
+        → answers.AnswerAs (answers.lent filters.now) ecx.now (G.member groups.now) chosen
+        → let ids = words.asked_of (L.answer lister.old) (words.listed_of chosen binaries.now) in
+        words.Asks result (L.asked lister.old) ids (L.asked lister.new) }
 {
     let mut found = Selection {
         listed: Listing::new(alloc),
-        tests: Listing::new(alloc),
+        tests: Vec::new(alloc),
         skipped: Listing::new(alloc),
     };
     for binary in binaries {
         list_if(alloc, binary, &*filters, &*ecx, groups, lister, &mut found)?;
     }
     Ok(found)
-}
-
-/// The tests of the binaries on which all filters in force hold, rising by binary id and then by name. A binary is listed where
-/// each of the filters can hold on some of its tests, whatever these are; the listed ones alone are asked, each once, in their
-/// order, up to the first whose answer is refused. Where there is no filter, every binary is listed and every test selected. The
-/// groups of tests are those that the look-up knows. An `Err` says why: the binary can't list its tests, or a name is empty, has
-/// a tab or a line end in it, or stands twice, each name being looked at whole before the next; or that there was no memory,
-/// which says nothing of the binaries.
-pub fn select<L: Lister, G: GroupLookup>(
-    alloc: Global,
-    binaries: &[Binary],
-    filters: &[&CompiledExpr],
-    ecx: &EvalContext<'_>,
-    groups: &G,
-    lister: &mut L,
-) -> Result<Selection, ListingError>
-    ensures selects { (chosen : answers.Answers) → answers.AnswerAs (answers.lent filters.now) ecx.now (G.member groups.now) chosen → words.Gives result (words.listing (L.answer lister.old) chosen (words.listed_of chosen binaries.now)) (words.listed_of chosen binaries.now) }
-    ensures stays { (other : Binary) → L.answer lister.new other ≡ L.answer lister.old other }
-    ensures asks { (chosen : answers.Answers) → answers.AnswerAs (answers.lent filters.now) ecx.now (G.member groups.now) chosen → words.Asks result (L.asked lister.old) (words.asked_of (L.answer lister.old) (words.listed_of chosen binaries.now)) (L.asked lister.new) }
-{
-    let Selection {
-        listed,
-        tests,
-        skipped,
-    } = list_each(alloc, binaries, filters, ecx, groups, lister)?;
-    Ok(Selection {
-        listed,
-        tests: sorted(tests),
-        skipped,
-    })
-}
-
-// Tests, rising by binary id and then by name.
-fn sorted(tests: Listing<OwnedTestInstanceId>) -> Listing<OwnedTestInstanceId>
-    ensures same { IsPermutation tests result }
-    ensures order { IsSorted instance_cmp result }
-{
-    if tests.as_slice().is_sorted() {
-        return tests;
-    }
-    let mut sorted = Vec::from(tests);
-    sorted.sort_unstable();
-    Listing::from(sorted)
 }

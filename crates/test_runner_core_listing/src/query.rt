@@ -31,8 +31,8 @@ fn platform_of(platform: BuildPlatform) -> FilteringPlatform
     }
 }
 
-// A binary, as filters look at it.
-pub(crate) fn query_of(binary: &Binary) -> BinaryQuery<'_>
+/// A binary, as filters look at it.
+pub fn query_of(binary: &Binary) -> BinaryQuery<'_>
     ensures { binary_of result ≡ words.seen binary.now }
 {
     BinaryQuery {

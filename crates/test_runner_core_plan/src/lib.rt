@@ -3,9 +3,13 @@
 #![tactic(auto)]
 
 mod keyed_state;
+mod order;
 mod plan;
 mod plan_settings;
+mod shared_settings;
 
 pub use keyed_state::{KeyedState, TextsDigest};
+pub use order::in_order;
 pub use plan::{Plan, PlanTest};
 pub use plan_settings::PlanSettings;
+pub use shared_settings::SharedSettings;

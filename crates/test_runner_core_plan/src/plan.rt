@@ -1,5 +1,5 @@
 // The plan of a run.
-use crate::plan_settings::PlanSettings;
+use crate::shared_settings::SharedSettings;
 use nextest_config_elements_plain::MaxFail;
 use nextest_run_events_results::OwnedTestInstanceId;
 use nextest_run_events_visibility::StatusLevels;
@@ -9,8 +9,8 @@ use nextest_text::{Listing, Text};
 pub struct PlanTest {
     /// Which test of which binary.
     pub instance: OwnedTestInstanceId,
-    /// Its settings.
-    pub settings: PlanSettings,
+    /// Its settings, whose memory tests may share.
+    pub settings: SharedSettings,
     /// How many attempts it has at most, from 1 on in a plan that was built.
     pub tries: u32,
 }

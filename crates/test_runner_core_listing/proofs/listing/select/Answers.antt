@@ -3,7 +3,7 @@ use Rattle.std.proofs.lemmas.Result.{err_from_is_err_and}
 use Rattle.test_runner_core_workspace.specs.declared.record.Binary.{Binary}
 use Rattle.test_runner_core_listing.specs.Listing.{listed_of}
 use Rattle.test_runner_core_listing.proofs.Walk.{Walked, asks_refused, one_walked, rest_of}
-use Rattle.test_runner_core_listing.proofs.listing.list_each.Goals as goal
+use Rattle.test_runner_core_listing.proofs.listing.select.Goals as goal
 
 pub returns-in_err-list_if-clause-asks : goal.returns-in_err-list_if-clause-asks
 returns-in_err-list_if-clause-asks g c = λ chosen are.

@@ -3,7 +3,7 @@ use Rattle.test_runner_core_workspace.specs.declared.record.Binary.{Binary}
 use Rattle.test_runner_core_listing.specs.Answers.{Answers, AnswerAs, lent}
 use Rattle.test_runner_core_listing.specs.Listing.{listed_of}
 use Rattle.test_runner_core_listing.proofs.Walk.{Walked}
-use Rattle.test_runner_core_listing.proofs.listing.list_each.Given as goal
+use Rattle.test_runner_core_listing.proofs.listing.select.Given as goal
 
 -- whatever the filters answer, the listed ones among the binaries so far were asked, and those of the rest are ahead
 abbrev pub invariant-loop-binary : goal.invariant-loop-binary

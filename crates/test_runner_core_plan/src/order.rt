@@ -1,0 +1,47 @@
+// In which order a plan has its tests.
+ghost use Rattle.std.specs.Prelude.{◌≡◌, IsTrue};
+ghost use Rattle.std.specs.List.Sorted.{IsPermutation, IsSorted};
+ghost use Rattle.std.specs.Ordering.{is_le};
+ghost use Rattle.test_runner_core_plan.specs.Order.{plan_cmp};
+
+use crate::plan::PlanTest;
+use nextest_text::Listing;
+use std::cmp::Ordering;
+
+/// Tests in the order in which a plan has them: by greater priority, then by binary id, then by
+/// name.
+pub fn in_order(mut tests: Vec<PlanTest>) -> Listing<PlanTest>
+    ensures same { IsPermutation tests.items result }
+    ensures order { IsSorted plan_cmp result }
+{
+    if stand_in_order(tests.as_slice()) {
+        return Listing::from(tests);
+    }
+    tests.sort_unstable_by(
+        |one: &PlanTest, other: &PlanTest| -> Ordering
+            ensures { result ≡ plan_cmp one.now other.now }
+        { compare(one, other) },
+    );
+    Listing::from(tests)
+}
+
+// Whether no test is greater than the next. Mostly they stand so already, and none is moved.
+fn stand_in_order(tests: &[PlanTest]) -> bool
+    ensures { IsTrue result → IsSorted plan_cmp tests.now }
+{
+    tests.is_sorted_by(
+        |one: &PlanTest, other: &PlanTest| -> bool
+            ensures { result ≡ is_le (plan_cmp one.now other.now) }
+        { compare(one, other).is_le() },
+    )
+}
+
+// Which of two tests comes first.
+fn compare(one: &PlanTest, other: &PlanTest) -> Ordering
+    ensures { result ≡ plan_cmp one.now other.now }
+{
+    one.settings
+        .priority
+        .cmp(&other.settings.priority)
+        .then_with(|| one.instance.cmp(&other.instance))
+}
