@@ -1,63 +1,174 @@
--- What the chosen profile of a configuration sets, and its default filter.
-use Rattle.std.proofs.Common.{◌≡◌, ℕ, List, Option, Ok, Err, sym, ◌∙◌, subst}
+-- What the chosen profile of a configuration sets for a run, and what it answers of tests.
+use Rattle.std.proofs.Common.{◌≡◌, ◌||◌, ℕ, Bool, true, false, List, Option, None, Some, map, Ok, Err, refl, sym, ap, ◌∙◌, subst}
 use Rattle.std.specs.List.{Contains}
-use Rattle.nextest_config_resolution_load.specs.declared.loaded_config.NamedProfile.{NamedProfile}
-use Rattle.nextest_config_resolution_profiles.specs.Config.{IsChainOf, IsDefaultFilterOf, IsEarly, IsProfile, names_of, profiles_of}
+use Rattle.std.specs.Option.{option_map, option_map_or, unwrap_or}
+use Rattle.nextest_config_elements_identifiers.specs.declared.test_group.TestGroup.{TestGroup}
+use Rattle.nextest_config_resolution_load.specs.declared.loaded_override.LoadedOverride.{LoadedOverride}
+use Rattle.nextest_config_resolution_overrides.specs.declared.groups.NamedGroup.{NamedGroup}
+use Rattle.nextest_config_resolution_overrides.specs.declared.placed_override.PlacedOverride.{PlacedOverride}
+use Rattle.nextest_config_resolution_profiles.specs.Config.{IsEarly, IsProfile, names_of}
 use Rattle.nextest_config_resolution_profiles.specs.Early.{Early}
+use Rattle.nextest_config_resolution_profiles.specs.Evaluatable.{Evaluatable, IsPutOn}
+use Rattle.nextest_config_resolution_profiles.specs.Held.{AreSettingsFor, Holds, IsGroupFor, placed_of}
+use Rattle.nextest_config_resolution_profiles.specs.Platforms.{IsChosenDefault, RuleOn}
 use Rattle.nextest_config_resolution_profiles.specs.Whole.{Whole}
-use Rattle.nextest_config_resolution_settings.specs.declared.default_filter.CompiledDefaultFilter.{CompiledDefaultFilter}
 use Rattle.nextest_config_resolution_profiles.specs.declared.profile_error.ProfileError.{ProfileError}
-use Rattle.nextest_config_resolution_profiles.specs.declared.profile_error.ProfileError.TheVariants as profile
-use Rattle.nextest_config_resolution_profiles.proofs.Filtered.{default_is_read}
-use Rattle.nextest_config_resolution_settings.specs.Keys as key
-use Rattle.nextest_config_resolution_settings.specs.Nearest.{SetsNone}
-use Rattle.nextest_config_resolution_settings.specs.Profile.{IsSetTo}
-use Rattle.nextest_config_resolution_settings.proofs.Unique.{one_nearest, set_and_unset}
+use Rattle.nextest_config_resolution_profiles.specs.declared.profile_error.ProfileError.TheVariants as profile_error
+use Rattle.nextest_config_resolution_profiles.proofs.Holding.{group_of_settings}
+use Rattle.nextest_config_resolution_profiles.proofs.SomeSettings.{some_group_for, some_settings_for}
+use Rattle.nextest_config_resolution_settings.specs.Rules.{AreHeld}
+use Rattle.nextest_config_resolution_settings.specs.TestSettings.{AreSettings}
+use Rattle.nextest_config_resolution_settings.specs.Tracking.{TellsNothing, nothing_kept}
+use Rattle.nextest_config_resolution_settings.specs.declared.test_settings.TestSettings.{TestSettings}
 use Rattle.nextest_config_resolution_values.specs.declared.profile_config.ProfileConfig.{ProfileConfig}
 use Rattle.nextest_filtering_compiling.specs.Context.{Context}
+use Rattle.nextest_filtering_compiling.specs.FiltersetLaws.{filterset_laws}
+use Rattle.nextest_filtering_compiling.specs.Filtersets.{HasOnTest}
 use Rattle.nextest_filtering_compiling.specs.declared.filterset.Filterset.{Filterset}
+use Rattle.nextest_filtering_filters.specs.Query.{Test}
+use Rattle.nextest_filtering_filters.specs.declared.known_groups.KnownGroups.{KnownGroups}
+use Rattle.nextest_filtering_filters.specs.declared.known_groups.KnownGroups.TheVariants.{Known}
+use Rattle.nextest_filtering_syntax.specs.Parsed.{tree_of}
 use Rattle.test_runner_core_inputs.specs.declared.inputs.Inputs.{Inputs}
+use Rattle.test_runner_core_inputs.specs.declared.platform.PlatformRecord.{PlatformRecord}
+use Rattle.test_runner_core_plan.specs.declared.plan_settings.PlanSettings.{PlanSettings}
+use Rattle.test_runner_core_platforms.specs.Facts.{Facts}
+use Rattle.test_runner_core_platforms.specs.declared.fact.PlatformFactsError.{PlatformFactsError}
+use Rattle.test_runner_core_platforms.specs.declared.fact.PlatformFactsError.TheVariants as facts_error
 use Rattle.test_runner_core_platforms.specs.declared.platform_spec.PlatformSpec.{PlatformSpec}
-use Rattle.test_runner_core_settings.specs.Calls.{Chooses, error_of_profile}
-use Rattle.test_runner_core_settings.specs.Sets.{IsDefault, IsFilter, IsPlatformSpec, IsTooDeep, Reads}
-use Rattle.test_runner_core_settings.specs.Settings.{AreRunSettings}
+use Rattle.test_runner_core_settings.specs.Calls.{AnswersTests, Chooses, KnowsPlatform, KnowsTarget, error_of_facts, error_of_profile}
+use Rattle.test_runner_core_settings.specs.Holding.{IsDefaultText, RuleHolds}
+use Rattle.test_runner_core_settings.specs.Platforms.{has_repeated_fact, platforms_of, repeats}
+use Rattle.test_runner_core_settings.specs.Settings.{AreOfRun, IsOfChain, owned_of}
+use Rattle.test_runner_core_settings.specs.Sets.{IsChosen, IsDefault, IsGroupOf, IsPlatformSpec, IsTooDeep, Reads, SetsTest, groups_in, rules_in}
 use Rattle.test_runner_core_settings.specs.declared.configured.ChosenRun.{ChosenRun}
+use Rattle.test_runner_core_settings.proofs.Alike.{put, rules_alike, value_on}
+use Rattle.test_runner_core_settings.proofs.Mapped.{held_mapped}
+use Rattle.test_runner_core_settings.proofs.Profile.{default_text, each_read, own, put_own, rules_placed}
 
 -- no profile has the chosen name, or there was no memory
 pub never_chosen : (cx : Context) (inputs : Inputs) (config : Whole Filterset PlatformSpec) (name : List ℕ) (error : ProfileError) → Reads cx inputs config → name ≡ inputs.profile
     → IsProfile config name (Err error) → Chooses cx inputs (Err (error_of_profile error))
-never_chosen cx inputs config name (profile.NotFound told) reads is missing = record {
+never_chosen cx inputs config name (profile_error.NotFound told) reads is missing = record {
   config = config;
   reads = reads;
   name = missing.0 ∙ is;
   known = missing.1;
   none = subst (λ (n : List ℕ). ¬ Contains (names_of config) n) is missing.2;
 }
-never_chosen cx inputs config name profile.OutOfMemory reads is missing = tt
+never_chosen cx inputs config name profile_error.OutOfMemory reads is missing = tt
 
--- a chain of which a default filter is told sets one
-pub tells_set : {F : Type 0} (profiles : List NamedProfile) (filters : List (Option F)) (names : List (List ℕ)) (chain : List ProfileConfig) (it : CompiledDefaultFilter F)
-    → IsDefaultFilterOf profiles filters names chain it → ¬ SetsNone key.default_filter chain
-tells_set profiles filters names chain it is unset = set_and_unset is.nearest unset
+module _ (cx : Context) (inputs : Inputs) (config : Whole Filterset PlatformSpec) (reads : Reads cx inputs config) (early : Early Filterset PlatformSpec) (is : IsEarly config inputs.profile early) where
+  -- the chosen profile, its overrides and its chain
+  abbrev pub chosen_early : IsChosen cx inputs (rules_in inputs is.chained.names) early.chain
+  chosen_early = record { config = config; reads = reads; chained = is.chained; ruled = refl }
 
--- the default filter that a profile tells is the one of the text that its chain sets
-filter_of_text : (cx : Context) (inputs : Inputs) (config : Whole Filterset PlatformSpec) (names : List (List ℕ)) (chain : List ProfileConfig) (text : List ℕ) (it : CompiledDefaultFilter Filterset)
-    → Reads cx inputs config → IsSetTo key.default_filter chain text → IsDefaultFilterOf config.loaded.profiles config.loaded.default_filters names chain it → IsDefault cx text it.filter.now
-filter_of_text cx inputs config names chain text it reads (place, is) has =
-    let same : has.text ≡ text = (one_nearest has.nearest is).0 in
-    subst (λ (t : List ℕ). IsDefault cx t it.filter.now) same (default_is_read (IsFilter cx) IsPlatformSpec IsTooDeep inputs.root inputs.sources config names chain it reads.loaded has)
+  -- two facts of a platform repeat, or there was no memory
+  pub repeats_or_lacks : (error : PlatformFactsError) → (error ≡ facts_error.RepeatedFact → has_repeated_fact inputs ≡ true) → Chooses cx inputs (Err (error_of_facts error))
+  repeats_or_lacks facts_error.RepeatedFact repeated = record { rules = rules_in inputs is.chained.names; chain = early.chain; chosen = chosen_early; repeated = repeated refl }
+  repeats_or_lacks facts_error.OutOfMemory repeated = tt
 
-pub chosen : (cx : Context) (inputs : Inputs) (config : Whole Filterset PlatformSpec) (name : List ℕ) (early : Early Filterset PlatformSpec) (chain : List ProfileConfig) (it : ChosenRun) → Reads cx inputs config
-    → name ≡ inputs.profile → IsEarly config name early → chain ≡ early.chain → it.default_filter ≡ early.default_filter → AreRunSettings inputs.mode chain it.settings → Chooses cx inputs (Ok it)
-chosen cx inputs config name early chain it reads is found same filter settings =
-    let set = subst (λ (values : List ProfileConfig). AreRunSettings inputs.mode values it.settings) same settings in (
-      record {
-        config = config;
-        reads = reads;
+  module _ (profile : Evaluatable Filterset PlatformSpec) (on : IsPutOn value_on (platforms_of inputs).host (platforms_of inputs).target early profile) where
+    abbrev filter : Filterset
+    filter = profile.default_filter.filter.now
+
+    -- its rules are those of its chain
+    own_rules : profile.rules ≡ put_own cx inputs config reads is.chained.names
+    own_rules = on.rules ∙ ap (map (put cx (platforms_of inputs))) is.ruled
+
+    -- its default filter is the one of the text that is set
+    pub default_set : IsDefaultText (platforms_of inputs) (rules_in inputs is.chained.names) early.chain filter.input × IsDefault cx filter.input filter
+    default_set =
+        default_text cx inputs config reads inputs.profile early is profile.default_filter
+        (subst (λ (rules : List (RuleOn Filterset PlatformSpec)). IsChosenDefault early.default_filter rules profile.default_filter) own_rules on.default_filter)
+
+    -- what it answers of a test is what the inputs set for it
+    settings_set : (test : Test) (it : TestSettings (Unit {0})) → AreSettingsFor HasOnTest TellsNothing profile inputs.mode test it → SetsTest cx inputs test (owned_of it)
+    settings_set test it are =
+        let platforms = platforms_of inputs in
+        let tree = tree_of filter.parsed in
+        let alike = rules_alike cx platforms filter tree default_set.1.3 test (own cx inputs config reads is.chained.names) (each_read cx inputs config reads is.chained.names) in
+        let here = subst (λ (rules : List (RuleOn Filterset PlatformSpec)). AreHeld (Holds HasOnTest filter test) rules are.held) own_rules are.are in
+        let held = held_mapped placed_of (Holds HasOnTest filter test) (RuleHolds cx platforms tree test) alike here in
+        record {
+          rules = rules_in inputs is.chained.names;
+          chain = early.chain;
+          chosen = chosen_early;
+          text = filter.input;
+          set = default_set.0;
+          default = tree;
+          read = default_set.1.1;
+          settings = record {
+            held = map placed_of are.held;
+            are = subst (λ (rules : List PlacedOverride). AreHeld (RuleHolds cx platforms tree test) rules (map placed_of are.held)) (rules_placed cx inputs config reads is.chained.names) held;
+            settings = record {
+              lent = it;
+              each = subst (λ (chain : List ProfileConfig). AreSettings TellsNothing inputs.mode (map placed_of are.held) chain it) on.chain are.settings;
+              owned = refl;
+            };
+          };
+        }
+
+    some_lent : (test : Test) → (it : TestSettings (Unit {0})) × AreSettingsFor HasOnTest TellsNothing profile inputs.mode test it
+    some_lent test =
+        some_settings_for filterset_laws cx IsPlatformSpec IsTooDeep value_on TellsNothing nothing_kept inputs.root inputs.sources config inputs.profile early (platforms_of inputs).host (platforms_of inputs).target
+        profile inputs.mode test reads.loaded is on
+
+    group_set : (test : Test) (it : TestGroup) → IsGroupFor HasOnTest profile test it → IsGroupOf cx inputs test it
+    group_set test it is_group =
+        let lent = some_lent test in
+        (owned_of lent.0, settings_set test lent.0 lent.1, sym (group_of_settings HasOnTest PlatformSpec TellsNothing profile inputs.mode test lent.0 it lent.1 is_group))
+
+    pub answers_tests : AnswersTests cx inputs profile
+    answers_tests = record {
+      settings = settings_set;
+      group = group_set;
+      some = λ test. let lent = some_lent test in (owned_of lent.0, settings_set test lent.0 lent.1);
+      some_group = λ test.
+          some_group_for filterset_laws cx IsPlatformSpec IsTooDeep value_on inputs.root inputs.sources config inputs.profile early (platforms_of inputs).host (platforms_of inputs).target
+          profile test reads.loaded is on;
+    }
+
+    -- what is chosen, where no fact repeats
+    pub chosen_run : (it : ChosenRun) → it.profile ≡ profile → has_repeated_fact inputs ≡ false → it.settings.default_filter ≡ filter.input → IsOfChain profile.chain it.settings
+        → it.settings.known_groups ≡ Known (map (λ (group : NamedGroup). group.name) early.groups) → Chooses cx inputs (Ok it)
+    chosen_run it same known text limits groups = record {
+      sets = record {
+        rules = rules_in inputs is.chained.names;
         chain = early.chain;
-        chained = subst (λ (n : List ℕ). IsChainOf (profiles_of config) n early.chain) is found.chained;
-        settings = set;
-      },
-      subst (λ (f : CompiledDefaultFilter Filterset). IsDefault cx it.settings.default_filter f.filter.now) (sym filter)
-          (filter_of_text cx inputs config found.chained.names early.chain it.settings.default_filter early.default_filter reads set.default_filter found.filtered),
-    )
+        chosen = chosen_early;
+        known = known;
+        settings = record {
+          default_filter = subst (IsDefaultText (platforms_of inputs) (rules_in inputs is.chained.names) early.chain) (sym text) default_set.0;
+          limits = subst (λ (chain : List ProfileConfig). IsOfChain chain it.settings) on.chain limits;
+        };
+        groups = groups ∙ ap (λ (all : List NamedGroup). Known (map (λ group. group.name) all)) is.grouped;
+      };
+      default =
+          subst (λ (p : Evaluatable Filterset PlatformSpec). IsDefault cx it.settings.default_filter p.default_filter.filter.now) (sym same)
+          (subst (λ (t : List ℕ). IsDefault cx t filter) (sym text) default_set.1);
+      answers = subst (AnswersTests cx inputs) (sym same) answers_tests;
+    }
+
+-- ---- what is known of platforms
+
+-- of the host two facts repeat
+pub host_repeats : (inputs : Inputs) → repeats inputs.host ≡ true → has_repeated_fact inputs ≡ true
+host_repeats inputs e = ap (λ (b : Bool). b || option_map_or repeats inputs.target false) e
+
+-- of the target
+pub target_repeats : (inputs : Inputs) → repeats inputs.host ≡ false → option_map_or repeats inputs.target false ≡ true → has_repeated_fact inputs ≡ true
+target_repeats inputs e f = ap (λ (b : Bool). b || option_map_or repeats inputs.target false) e ∙ f
+
+-- of neither
+pub none_repeats : (inputs : Inputs) → repeats inputs.host ≡ false → option_map_or repeats inputs.target false ≡ false → has_repeated_fact inputs ≡ false
+none_repeats inputs e f = ap (λ (b : Bool). b || option_map_or repeats inputs.target false) e ∙ f
+
+-- a call that refuses a platform does so since two facts repeat
+pub refused_host : (platform : PlatformRecord) (error : PlatformFactsError) → KnowsPlatform platform (Err error) → error ≡ facts_error.RepeatedFact → repeats platform ≡ true
+refused_host platform facts_error.RepeatedFact knows e = knows
+refused_host platform facts_error.OutOfMemory knows e = absurd (let f = e in cc)
+
+pub refused_target : (target : Option PlatformRecord) (error : PlatformFactsError) → KnowsTarget target (Err error) → error ≡ facts_error.RepeatedFact → option_map_or repeats target false ≡ true
+refused_target target facts_error.RepeatedFact knows e = knows
+refused_target target facts_error.OutOfMemory knows e = absurd (let f = e in cc)

@@ -1,6 +1,8 @@
+pub mod Mapped
+pub mod Alike
+pub mod Profile
 pub mod Chosen
 pub mod Passing
-pub mod NoRules
 mod Shown
 pub mod Isolated
 pub mod Limits

@@ -196,5 +196,7 @@ has_limit chain _ _ have (of_fallback unset) = omega arith
 
 pub sets_limit : SetsLimit
 sets_limit cx inputs it by =
-    let have = subst (λ (given : Reading MergedConfig). Holds given AreLimited) by.reads.loaded.1.values (tree_has (merged_in _ inputs.sources)) in
-    has_limit by.chain it.max_fail by.settings.max_fail.from (chain_has _ by.chained.names by.chain have by.chained.valued) by.settings.max_fail.is
+    let chosen = by.chosen in
+    let have = subst (λ (given : Reading MergedConfig). Holds given AreLimited) chosen.reads.loaded.1.values (tree_has (merged_in _ inputs.sources)) in
+    let limit = by.settings.limits.max_fail in
+    has_limit by.chain it.max_fail limit.from (chain_has _ chosen.chained.names by.chain have chosen.chained.valued) limit.is

@@ -1,20 +1,18 @@
 -- Inputs set one thing, or are refused for one reason.
-use Rattle.std.proofs.Common.{◌≡◌, ℕ, suc, Bool, true, false, List, [], ◌∷◌, length, map, Some, Ok, Err, refl, sym, ap, ◌∙◌, subst, cond, arith, find}
-use Rattle.std.specs.Prelude.{◌||◌, is_some, nat_lt}
-use Rattle.std.specs.List.{AllZip, Contains}
+use Rattle.std.proofs.Common.{◌≡◌, inl, inr, ℕ, suc, Bool, true, false, List, [], ◌∷◌, map, Option, Some, Ok, Err, refl, sym, ap, ◌∙◌, subst, cond, arith, find}
+use Rattle.std.specs.Prelude.{◌⊎◌, is_some}
+use Rattle.std.specs.List.{AllByRecursion, Contains}
+use Rattle.std.proofs.lemmas.List.Elements.{recursion_from_All}
 use Rattle.std.specs.Option.{option_map}
 use Rattle.std.specs.Str.{bytes_eq}
 use Rattle.std.proofs.lemmas.Bool.{false≢true}
 use Rattle.std.proofs.lemmas.Slice.Eq.{bytes_eq-Decides}
 use Rattle.nextest_config_elements_plain.specs.declared.run_mode.NextestRunMode.{NextestRunMode}
-use Rattle.nextest_config_elements_plain.specs.declared.max_fail.MaxFail.{MaxFail}
-use Rattle.nextest_config_elements_plain.specs.declared.status_level.FinalStatusLevel.{FinalStatusLevel}
-use Rattle.nextest_config_elements_plain.specs.declared.status_level.StatusLevel.{StatusLevel}
 use Rattle.nextest_config_resolution_inheritance.specs.Inheritance.{Name, IsChain, ends, goes_on}
 use Rattle.nextest_config_resolution_inheritance.specs.declared.inheritance_fault.InheritanceFault.TheVariants as inheritance
 use Rattle.nextest_config_resolution_load.specs.Kinds.{kind_of}
 use Rattle.nextest_config_resolution_load.specs.Checks.{MergedConfig, Refusal, unread, no_toml, bad_value, bad_name, no_constraint, filter_and_default_filter, bad_spec, bad_override_filter, bad_merged, unknown_group, inherits_badly, bad_filter, parents_of}
-use Rattle.nextest_config_resolution_load.specs.Load.{IsReadRule, named, reason_of, seen}
+use Rattle.nextest_config_resolution_load.specs.Load.{named, reason_of, seen}
 use Rattle.nextest_config_resolution_load.specs.declared.load_error.LoadError.TheVariants as load_error
 use Rattle.nextest_config_resolution_load.specs.declared.load_fault.LoadFault.{LoadFault}
 use Rattle.nextest_config_resolution_load.specs.declared.load_fault.LoadFault.TheVariants as load
@@ -26,34 +24,45 @@ use Rattle.nextest_config_resolution_overrides.specs.declared.groups.NamedGroup.
 use Rattle.nextest_config_resolution_profiles.specs.Config.{IsChainOf, names_of, profiles_of, values_of}
 use Rattle.nextest_config_resolution_profiles.specs.Whole.{Whole}
 use Rattle.nextest_config_resolution_profiles.specs.declared.profile_error.ProfileNotFound.{ProfileNotFound}
-use Rattle.nextest_config_resolution_profiles.proofs.OneProfile.{one_chain_of}
+use Rattle.nextest_config_resolution_profiles.proofs.OneProfile.{one_chain_of, one_order}
+use Rattle.nextest_config_resolution_profiles.proofs.Holding.{held_once}
+use Rattle.nextest_config_resolution_profiles.proofs.PutOn.{division_has}
 use Rattle.nextest_config_resolution_settings.specs.Fallbacks as fallback
 use Rattle.nextest_config_resolution_settings.specs.Keys as key
 use Rattle.nextest_config_resolution_settings.specs.TestSettings.{AreSettings}
 use Rattle.nextest_config_resolution_settings.specs.Tracking.{TellsNothing}
 use Rattle.nextest_config_resolution_settings.specs.declared.test_settings.TestSettings.{TestSettings}
+use Rattle.nextest_config_resolution_settings.specs.Rules.{HoldsAndSets, IsLeast, NoneHoldsAndSets}
+use Rattle.nextest_config_resolution_settings.proofs.Least.{one_least}
 use Rattle.nextest_config_resolution_settings.proofs.Sourced.{one_value, same_settings}
 use Rattle.nextest_config_resolution_settings.proofs.Unique.{one_nearest}
 use Rattle.nextest_config_resolution_values.specs.File.{Named}
 use Rattle.nextest_config_resolution_values.specs.declared.profile_config.ProfileConfig.{ProfileConfig}
+use Rattle.nextest_config_resolution_overrides.specs.declared.placed_override.PlacedOverride.{PlacedOverride}
+use Rattle.nextest_filtering_filters.specs.Query.{Test}
+use Rattle.nextest_filtering_filters.specs.declared.known_groups.KnownGroups.TheVariants.{Known}
+use Rattle.nextest_filtering_syntax.proofs.Trees.{one_tree}
+use Rattle.nextest_filtering_trees.specs.Tree.{Tree}
 use Rattle.nextest_filtering_compiling.specs.Context.{Context}
 use Rattle.nextest_filtering_compiling.specs.declared.filterset.Filterset.{Filterset}
 use Rattle.test_runner_core_inputs.specs.declared.inputs.Inputs.{Inputs}
 use Rattle.test_runner_core_platforms.specs.declared.platform_spec.PlatformSpec.{PlatformSpec}
-use Rattle.test_runner_core_settings.specs.Laws.{OneSettings}
-use Rattle.test_runner_core_settings.specs.Settings.{AreRunSettings, owned_of}
-use Rattle.test_runner_core_settings.specs.Sets.{HasNoProfile, IsFilter, IsPlatformSpec, IsTooDeep, Loads, Reads, SetsBy, asks_for_later}
+use Rattle.test_runner_core_settings.specs.Holding.{HoldsForTarget, IsDefaultText, IsDefaultTree, RuleHolds, default_set}
+use Rattle.test_runner_core_settings.specs.Laws.{OneSettings, OneTest}
+use Rattle.test_runner_core_settings.specs.Platforms.{Platforms, has_repeated_fact, platforms_of}
+use Rattle.test_runner_core_settings.specs.Settings.{AreOfRun, AreOfTest, AreOwned, owned_of}
+use Rattle.test_runner_core_settings.specs.Sets.{HasNoProfile, IsChosen, IsFilter, IsPlatformSpec, IsTooDeep, Loads, Reads, SetsBy, groups_in, rules_in}
 use Rattle.test_runner_core_plan.specs.declared.plan_settings.PlanSettings.{PlanSettings}
 use Rattle.test_runner_core_settings.specs.declared.configured.RunSettings.{RunSettings}
 use Rattle.test_runner_core_settings.specs.declared.settings_fault.SettingsFault.TheVariants as fault
 
--- ---- the settings of a chain
+-- ---- the settings of tests
 
--- copies of the settings of a chain are one
-one_test : (mode : NextestRunMode) (chain : List ProfileConfig) (one other : TestSettings (Unit {0})) → AreSettings TellsNothing mode [] chain one → AreSettings TellsNothing mode [] chain other
-    → owned_of one ≡ owned_of other
-one_test mode chain one other a b =
-    let same = same_settings TellsNothing TellsNothing mode [] chain one other a b in
+-- copies of the settings by some overrides and a chain are one
+one_lent : (mode : NextestRunMode) (held : List PlacedOverride) (chain : List ProfileConfig) (one other : TestSettings (Unit {0})) → AreSettings TellsNothing mode held chain one
+    → AreSettings TellsNothing mode held chain other → owned_of one ≡ owned_of other
+one_lent mode held chain one other a b =
+    let same = same_settings TellsNothing TellsNothing mode held chain one other a b in
     let priority = same.priority in
     let threads = same.threads_required in
     let arguments = same.run_extra_args in
@@ -70,18 +79,46 @@ one_test mode chain one other a b =
     let status = same.junit_flaky_fail_status in
     cc
 
-pub one_run : (mode : NextestRunMode) (chain : List ProfileConfig) (one other : RunSettings) → AreRunSettings mode chain one → AreRunSettings mode chain other → one ≡ other
-one_run mode chain one other a b =
-    let test : one.test ≡ other.test = a.test.owned ∙ one_test mode chain a.test.lent b.test.lent a.test.each b.test.each ∙ sym b.test.owned in
-    let limit : one.max_fail ≡ other.max_fail = one_value key.fail_fast chain fallback.fail_fast _ _ a.max_fail b.max_fail in
-    let level : one.levels.status_level ≡ other.levels.status_level = one_value key.status_level chain fallback.status_level _ _ a.status_level b.status_level in
-    let final_level : one.levels.final_status_level ≡ other.levels.final_status_level = one_value key.final_status_level chain fallback.final_status_level _ _ a.final_status_level b.final_status_level in
-    let filter : one.default_filter ≡ other.default_filter = (one_nearest a.default_filter.1 b.default_filter.1).0 in
-    ap (λ (t : PlanSettings). record { test = t; default_filter = one.default_filter; max_fail = one.max_fail; levels = one.levels }) test
-    ∙ ap (λ (d : List ℕ). record { test = other.test; default_filter = d; max_fail = one.max_fail; levels = one.levels }) filter
-    ∙ ap (λ (m : MaxFail). record { test = other.test; default_filter = other.default_filter; max_fail = m; levels = one.levels }) limit
-    ∙ ap (λ (s : StatusLevel). record { test = other.test; default_filter = other.default_filter; max_fail = other.max_fail; levels = record { status_level = s; final_status_level = one.levels.final_status_level } }) level
-    ∙ ap (λ (f : FinalStatusLevel). record { test = other.test; default_filter = other.default_filter; max_fail = other.max_fail; levels = record { status_level = other.levels.status_level; final_status_level = f } }) final_level
+pub one_owned : (mode : NextestRunMode) (held : List PlacedOverride) (chain : List ProfileConfig) (one other : PlanSettings) → AreOwned mode held chain one → AreOwned mode held chain other → one ≡ other
+one_owned mode held chain one other a b = a.owned ∙ one_lent mode held chain a.lent b.lent a.each b.each ∙ sym b.owned
+
+one_of_test : (cx : Context) (platforms : Platforms) (mode : NextestRunMode) (rules : List PlacedOverride) (chain : List ProfileConfig) (default : Tree) (test : Test) (one other : PlanSettings)
+    → AreOfTest cx platforms mode rules chain default test one → AreOfTest cx platforms mode rules chain default test other → one ≡ other
+one_of_test cx platforms mode rules chain default test one other a b =
+    let same : a.held ≡ b.held = held_once (RuleHolds cx platforms default test) a.are b.are in
+    one_owned mode b.held chain one other (subst (λ (held : List PlacedOverride). AreOwned mode held chain one) same a.settings) b.settings
+
+-- ---- the settings of a run
+
+-- no rule is the first that holds and sets a value where none does
+pub never_least : {R V : Type 0} (Holding : R → Type 0) (set_by : R → Option V) (rules : List R) (rule : R) (value : V) → NoneHoldsAndSets Holding set_by rules
+    → IsLeast Holding set_by rules rule value → ⊥
+never_least Holding set_by rules rule value none least =
+    division_has (λ it. ¬ HoldsAndSets Holding set_by it) least.front rule least.back
+    (subst (AllByRecursion (λ it. ¬ HoldsAndSets Holding set_by it)) least.divided (recursion_from_All (λ it. ¬ HoldsAndSets Holding set_by it) rules none))
+    (least.holds, (value, least.sets))
+
+-- the text of the default filter is one
+pub one_default : (platforms : Platforms) (rules : List PlacedOverride) (chain : List ProfileConfig) (one other : List ℕ) → IsDefaultText platforms rules chain one
+    → IsDefaultText platforms rules chain other → one ≡ other
+one_default platforms rules chain one other (inl (rule, a)) (inl (second, b)) = (one_least (HoldsForTarget platforms) default_set rules rule second one other a b).1
+one_default platforms rules chain one other (inl (rule, a)) (inr (none, b)) = absurd (never_least (HoldsForTarget platforms) default_set rules rule one none a)
+one_default platforms rules chain one other (inr (none, a)) (inl (rule, b)) = absurd (never_least (HoldsForTarget platforms) default_set rules rule other none b)
+one_default platforms rules chain one other (inr (none, a)) (inr (also, b)) = (one_nearest a.1 b.1).0
+
+pub one_run : (platforms : Platforms) (rules : List PlacedOverride) (chain : List ProfileConfig) (one other : RunSettings) → AreOfRun platforms rules chain one → AreOfRun platforms rules chain other
+    → one.known_groups ≡ other.known_groups → one ≡ other
+one_run platforms rules chain one other a b groups =
+    let limit : one.max_fail ≡ other.max_fail = one_value key.fail_fast chain fallback.fail_fast _ _ a.limits.max_fail b.limits.max_fail in
+    let level : one.levels.status_level ≡ other.levels.status_level = one_value key.status_level chain fallback.status_level _ _ a.limits.status_level b.limits.status_level in
+    let final_level : one.levels.final_status_level ≡ other.levels.final_status_level = one_value key.final_status_level chain fallback.final_status_level _ _ a.limits.final_status_level b.limits.final_status_level in
+    let filter : one.default_filter ≡ other.default_filter = one_default platforms rules chain one.default_filter other.default_filter a.default_filter b.default_filter in
+    λ i. record {
+      default_filter = filter i;
+      known_groups = groups i;
+      max_fail = limit i;
+      levels = record { status_level = level i; final_status_level = final_level i };
+    }
 
 -- ---- the rule of the load that is broken
 
@@ -126,25 +163,8 @@ one_kind cx inputs one other a b =
 pub same_seen : (cx : Context) (inputs : Inputs) (one other : Whole Filterset PlatformSpec) → Loads cx inputs (Ok one) → Loads cx inputs (Ok other) → seen one.loaded ≡ seen other.loaded
 same_seen cx inputs one other a b = one_load (IsFilter cx) IsPlatformSpec IsTooDeep _ inputs.sources one.loaded other.loaded a.1 b.1
 
--- lists side by side have one length
-same_length : {A B : Type 0} (R : A → B → Type 0) (xs : List A) (ys : List B) → AllZip R xs ys → length xs ≡ length ys
-same_length R [] [] zipped = refl
-same_length R [] (y ∷ ys) zipped = absurd zipped
-same_length R (x ∷ xs) [] zipped = absurd zipped
-same_length R (x ∷ xs) (y ∷ ys) zipped = ap suc (same_length R xs ys zipped.1)
-
-same_later : (cx : Context) (inputs : Inputs) (one other : Whole Filterset PlatformSpec) → Loads cx inputs (Ok one) → Loads cx inputs (Ok other) → asks_for_later one.loaded ≡ asks_for_later other.loaded
-same_later cx inputs one other a b =
-    let ReadAs = IsReadRule (IsFilter cx) IsPlatformSpec in
-    let keys : one.loaded.sets_later_keys ≡ other.loaded.sets_later_keys = a.1.later ∙ sym b.1.later in
-    let rules : length one.loaded.rules ≡ length other.loaded.rules = sym (same_length ReadAs _ _ a.1.rules) ∙ same_length ReadAs _ _ b.1.rules in
-    let groups : one.loaded.groups ≡ other.loaded.groups = ap (λ (it : MergedConfig). it.groups) (same_seen cx inputs one other a b) in
-    ap (λ (later : Bool). (later || nat_lt 0 (length one.loaded.rules)) || nat_lt 0 (length one.loaded.groups)) keys
-    ∙ ap (λ (n : ℕ). (other.loaded.sets_later_keys || nat_lt 0 n) || nat_lt 0 (length one.loaded.groups)) rules
-    ∙ ap (λ (all : List NamedGroup). (other.loaded.sets_later_keys || nat_lt 0 (length other.loaded.rules)) || nat_lt 0 (length all)) groups
-
-never_later : (cx : Context) (inputs : Inputs) (one other : Whole Filterset PlatformSpec) → Reads cx inputs one → Loads cx inputs (Ok other) → asks_for_later other.loaded ≡ true → ⊥
-never_later cx inputs one other reads loaded later = false≢true (sym reads.later ∙ same_later cx inputs one other reads.loaded loaded ∙ later)
+never_later : (cx : Context) (inputs : Inputs) (one other : Whole Filterset PlatformSpec) → Reads cx inputs one → Loads cx inputs (Ok other) → other.loaded.sets_later_keys ≡ true → ⊥
+never_later cx inputs one other reads loaded later = false≢true (sym reads.later ∙ reads.loaded.1.later ∙ sym loaded.1.later ∙ later)
 
 never_refused : (cx : Context) (inputs : Inputs) (config : Whole Filterset PlatformSpec) (told : LoadFault) → Loads cx inputs (Ok config) → Loads cx inputs (Err (load_error.Refused told)) → ⊥
 never_refused cx inputs config told loaded refused = none_refused (IsFilter cx) IsPlatformSpec IsTooDeep (λ text deep. deep) _ inputs.sources config.loaded told loaded.1 refused
@@ -187,21 +207,38 @@ chain_there profiles name (first ∷ []) (value ∷ values) (ends is) e = (value
 chain_there profiles name (first ∷ names) [] (goes_on other more) e = absurd (let f = e in cc)
 chain_there profiles name (first ∷ names) (value ∷ values) (goes_on other more) e = (value, let f = e in cc)
 
-never_missing : (cx : Context) (inputs : Inputs) (it : RunSettings) (told : ProfileNotFound) → SetsBy cx inputs it → HasNoProfile cx inputs told → ⊥
-never_missing cx inputs it told by none =
-    let there = chain_there (profiles_of by.config) inputs.profile by.chained.names by.chain by.chained.in_order by.chained.valued in
-    let named = found_there inputs.profile (profiles_of by.config) there.0 there.1 in
-    let same = same_names by.config none.config (same_seen cx inputs by.config none.config by.reads.loaded none.reads.loaded) in
-    none.none (subst (λ (names : List Name). Contains names inputs.profile) (names_seen by.config.loaded.profiles ∙ same) named)
+never_missing : (cx : Context) (inputs : Inputs) (rules : List PlacedOverride) (chain : List ProfileConfig) (told : ProfileNotFound) → IsChosen cx inputs rules chain → HasNoProfile cx inputs told → ⊥
+never_missing cx inputs rules chain told chosen none =
+    let there = chain_there (profiles_of chosen.config) inputs.profile chosen.chained.names chain chosen.chained.in_order chosen.chained.valued in
+    let named = found_there inputs.profile (profiles_of chosen.config) there.0 there.1 in
+    let same = same_names chosen.config none.config (same_seen cx inputs chosen.config none.config chosen.reads.loaded none.reads.loaded) in
+    none.none (subst (λ (names : List Name). Contains names inputs.profile) (names_seen chosen.config.loaded.profiles ∙ same) named)
 
--- ---- the whole
+-- ---- the chosen profile
+
+-- it has one list of overrides and one chain
+pub chosen_once : (cx : Context) (inputs : Inputs) (rules others : List PlacedOverride) (chain values : List ProfileConfig) → IsChosen cx inputs rules chain → IsChosen cx inputs others values
+    → (rules ≡ others) × (chain ≡ values)
+chosen_once cx inputs rules others chain values a b =
+    let same : profiles_of a.config ≡ profiles_of b.config = ap (λ (it : MergedConfig). it.profiles) (same_seen cx inputs a.config b.config a.reads.loaded b.reads.loaded) in
+    let order = subst (λ (profiles : List Named). IsChain (parents_of profiles) inputs.profile a.chained.names) same a.chained.in_order in
+    let names : a.chained.names ≡ b.chained.names = one_order (parents_of (profiles_of b.config)) order b.chained.in_order in (
+      a.ruled ∙ ap (rules_in inputs) names ∙ sym b.ruled,
+      one_chain_of (profiles_of b.config) inputs.profile chain values (subst (λ (profiles : List Named). IsChainOf profiles inputs.profile chain) same a.chained) b.chained,
+    )
+
+-- what it has and what it sets, as one value
+pub run_alike : (platforms : Platforms) (rules others : List PlacedOverride) (chain values : List ProfileConfig) (it : RunSettings) → rules ≡ others → chain ≡ values
+    → AreOfRun platforms rules chain it → AreOfRun platforms others values it
+run_alike platforms rules others chain values it a b are =
+    subst (λ (all : List PlacedOverride). AreOfRun platforms all values it) a (subst (λ (all : List ProfileConfig). AreOfRun platforms rules all it) b are)
 
 one_profile : (cx : Context) (inputs : Inputs) (one other : RunSettings) → SetsBy cx inputs one → SetsBy cx inputs other → one ≡ other
 one_profile cx inputs one other a b =
-    let same : profiles_of a.config ≡ profiles_of b.config = ap (λ (it : MergedConfig). it.profiles) (same_seen cx inputs a.config b.config a.reads.loaded b.reads.loaded) in
-    let chained = subst (λ (profiles : List Named). IsChainOf profiles inputs.profile a.chain) same a.chained in
-    let chain : a.chain ≡ b.chain = one_chain_of (profiles_of b.config) inputs.profile a.chain b.chain chained b.chained in
-    one_run inputs.mode b.chain one other (subst (λ (it : List ProfileConfig). AreRunSettings inputs.mode it one) chain a.settings) b.settings
+    let same = chosen_once cx inputs a.rules b.rules a.chain b.chain a.chosen b.chosen in
+    let groups : groups_in a.chosen.config ≡ groups_in b.chosen.config =
+    ap (λ (it : MergedConfig). Known (map (λ (group : NamedGroup). group.name) it.groups)) (same_seen cx inputs a.chosen.config b.chosen.config a.chosen.reads.loaded b.chosen.reads.loaded) in
+    one_run (platforms_of inputs) b.rules b.chain one other (run_alike (platforms_of inputs) a.rules b.rules a.chain b.chain one same.0 same.1 a.settings) b.settings (a.groups ∙ groups ∙ sym b.groups)
 
 one_missing : (cx : Context) (inputs : Inputs) (one other : ProfileNotFound) → HasNoProfile cx inputs one → HasNoProfile cx inputs other → one ≡ other
 one_missing cx inputs one other a b =
@@ -209,20 +246,53 @@ one_missing cx inputs one other a b =
     let known : one.known ≡ other.known = a.known ∙ same_names a.config b.config (same_seen cx inputs a.config b.config a.reads.loaded b.reads.loaded) ∙ sym b.known in
     ap (λ (n : List ℕ). record { name = n; known = one.known }) name ∙ ap (λ (k : List (List ℕ)). record { name = other.name; known = k }) known
 
+never_both : (b : Bool) → b ≡ false → b ≡ true → ⊥
+never_both b e f = false≢true (sym e ∙ f)
+
 pub one_settings : OneSettings
 one_settings cx inputs (Ok one) (Ok other) a b = one_profile cx inputs one other a b
-one_settings cx inputs (Ok one) (Err (fault.Load told)) a b = never_refused cx inputs a.config told a.reads.loaded b
-one_settings cx inputs (Ok one) (Err fault.NotYet) a b = never_later cx inputs a.config b.config a.reads b.loaded b.later
-one_settings cx inputs (Ok one) (Err (fault.ProfileNotFound told)) a b = never_missing cx inputs one told a b
-one_settings cx inputs (Err (fault.Load told)) (Ok other) a b = never_refused cx inputs b.config told b.reads.loaded a
+one_settings cx inputs (Ok one) (Err (fault.Load told)) a b = never_refused cx inputs a.chosen.config told a.chosen.reads.loaded b
+one_settings cx inputs (Ok one) (Err fault.NotYet) a b = never_later cx inputs a.chosen.config b.config a.chosen.reads b.loaded b.later
+one_settings cx inputs (Ok one) (Err (fault.ProfileNotFound told)) a b = never_missing cx inputs a.rules a.chain told a.chosen b
+one_settings cx inputs (Ok one) (Err fault.RepeatedFact) a b = never_both (has_repeated_fact inputs) a.known b.repeated
+one_settings cx inputs (Err (fault.Load told)) (Ok other) a b = never_refused cx inputs b.chosen.config told b.chosen.reads.loaded a
 one_settings cx inputs (Err (fault.Load told)) (Err (fault.Load second)) a b = one_kind cx inputs told second a b
 one_settings cx inputs (Err (fault.Load told)) (Err fault.NotYet) a b = absurd (never_refused cx inputs b.config told b.loaded a)
 one_settings cx inputs (Err (fault.Load told)) (Err (fault.ProfileNotFound second)) a b = absurd (never_refused cx inputs b.config told b.reads.loaded a)
-one_settings cx inputs (Err fault.NotYet) (Ok other) a b = never_later cx inputs b.config a.config b.reads a.loaded a.later
+one_settings cx inputs (Err (fault.Load told)) (Err fault.RepeatedFact) a b = absurd (never_refused cx inputs b.chosen.config told b.chosen.reads.loaded a)
+one_settings cx inputs (Err fault.NotYet) (Ok other) a b = never_later cx inputs b.chosen.config a.config b.chosen.reads a.loaded a.later
 one_settings cx inputs (Err fault.NotYet) (Err (fault.Load second)) a b = absurd (never_refused cx inputs a.config second a.loaded b)
 one_settings cx inputs (Err fault.NotYet) (Err fault.NotYet) a b = refl
 one_settings cx inputs (Err fault.NotYet) (Err (fault.ProfileNotFound second)) a b = absurd (never_later cx inputs b.config a.config b.reads a.loaded a.later)
-one_settings cx inputs (Err (fault.ProfileNotFound told)) (Ok other) a b = never_missing cx inputs other told b a
+one_settings cx inputs (Err fault.NotYet) (Err fault.RepeatedFact) a b = absurd (never_later cx inputs b.chosen.config a.config b.chosen.reads a.loaded a.later)
+one_settings cx inputs (Err (fault.ProfileNotFound told)) (Ok other) a b = never_missing cx inputs b.rules b.chain told b.chosen a
 one_settings cx inputs (Err (fault.ProfileNotFound told)) (Err (fault.Load second)) a b = absurd (never_refused cx inputs a.config second a.reads.loaded b)
 one_settings cx inputs (Err (fault.ProfileNotFound told)) (Err fault.NotYet) a b = absurd (never_later cx inputs a.config b.config a.reads b.loaded b.later)
 one_settings cx inputs (Err (fault.ProfileNotFound told)) (Err (fault.ProfileNotFound second)) a b = ap fault.ProfileNotFound (one_missing cx inputs told second a b)
+one_settings cx inputs (Err (fault.ProfileNotFound told)) (Err fault.RepeatedFact) a b = absurd (never_missing cx inputs b.rules b.chain told b.chosen a)
+one_settings cx inputs (Err fault.RepeatedFact) (Ok other) a b = never_both (has_repeated_fact inputs) b.known a.repeated
+one_settings cx inputs (Err fault.RepeatedFact) (Err (fault.Load second)) a b = absurd (never_refused cx inputs a.chosen.config second a.chosen.reads.loaded b)
+one_settings cx inputs (Err fault.RepeatedFact) (Err fault.NotYet) a b = absurd (never_later cx inputs a.chosen.config b.config a.chosen.reads b.loaded b.later)
+one_settings cx inputs (Err fault.RepeatedFact) (Err (fault.ProfileNotFound second)) a b = absurd (never_missing cx inputs a.rules a.chain second a.chosen b)
+one_settings cx inputs (Err fault.RepeatedFact) (Err fault.RepeatedFact) a b = refl
+
+-- ---- tests
+
+-- what two of these set for a test is one, where they have the same overrides, chain and default filter's text
+pub one_test_by : (cx : Context) (platforms : Platforms) (mode : NextestRunMode) (rules others : List PlacedOverride) (chain values : List ProfileConfig) (one_text other_text : List ℕ) (one_tree_is other_tree_is : Tree)
+    (test : Test) (one other : PlanSettings) → rules ≡ others → chain ≡ values → IsDefaultText platforms rules chain one_text → IsDefaultText platforms others values other_text
+    → IsDefaultTree cx one_text one_tree_is → IsDefaultTree cx other_text other_tree_is → AreOfTest cx platforms mode rules chain one_tree_is test one
+    → AreOfTest cx platforms mode others values other_tree_is test other → one ≡ other
+one_test_by cx platforms mode rules others chain values one_text other_text one_is other_is test one other same_rules same_chain set also read reads are there =
+    let here = subst (λ (all : List PlacedOverride). IsDefaultText platforms all values one_text) same_rules (subst (λ (all : List ProfileConfig). IsDefaultText platforms rules all one_text) same_chain set) in
+    let text : one_text ≡ other_text = one_default platforms others values one_text other_text here also in
+    let tree : one_is ≡ other_is = one_tree other_text one_is other_is (subst (λ (t : List ℕ). IsDefaultTree cx t one_is) text read).0 reads.0 in
+    one_of_test cx platforms mode others values other_is test one other
+    (subst (λ (t : Tree). AreOfTest cx platforms mode others values t test one) tree
+    (subst (λ (all : List PlacedOverride). AreOfTest cx platforms mode all values one_is test one) same_rules
+    (subst (λ (all : List ProfileConfig). AreOfTest cx platforms mode rules all one_is test one) same_chain are))) there
+
+pub one_test : OneTest
+one_test cx inputs test one other a b =
+    let same = chosen_once cx inputs a.rules b.rules a.chain b.chain a.chosen b.chosen in
+    one_test_by cx (platforms_of inputs) inputs.mode a.rules b.rules a.chain b.chain a.text b.text a.default b.default test one other same.0 same.1 a.set b.set a.read b.read a.settings b.settings

@@ -9,9 +9,11 @@ use Rattle.nextest_config_resolution_profiles.specs.Config.{profiles_of, values_
 use Rattle.nextest_config_resolution_profiles.specs.Whole.{Whole}
 use Rattle.nextest_filtering_compiling.specs.Context.{Context}
 use Rattle.nextest_filtering_compiling.specs.declared.filterset.Filterset.{Filterset}
+use Rattle.nextest_filtering_filters.specs.Query.{Test}
 use Rattle.test_runner_core_inputs.specs.declared.inputs.Inputs.{Inputs}
 use Rattle.test_runner_core_platforms.specs.declared.platform_spec.PlatformSpec.{PlatformSpec}
-use Rattle.test_runner_core_settings.specs.Sets.{Reads, Sets}
+use Rattle.test_runner_core_plan.specs.declared.plan_settings.PlanSettings.{PlanSettings}
+use Rattle.test_runner_core_settings.specs.Sets.{Reads, Sets, SetsTest, groups_in, rules_in}
 use Rattle.test_runner_core_settings.specs.declared.configured.RunSettings.{RunSettings}
 use Rattle.test_runner_core_settings.specs.declared.settings_fault.SettingsFault.{SettingsFault}
 use Rattle.test_runner_core_settings.specs.declared.settings_fault.SettingsFault.TheVariants as fault
@@ -35,11 +37,22 @@ OneSettings = (cx : Context) (inputs : Inputs) (one other : Result RunSettings S
 abbrev pub SomeSettings : Type 0
 SomeSettings = (cx : Context) (inputs : Inputs) → ¬ ¬ ((given : Result RunSettings SettingsFault) × Sets cx inputs given)
 
--- The same profile is chosen in two inputs, for the same mode, and the configurations of both say the same in each profile of its chain:
--- in itself, in its parents and in `default`. Other profiles may be others.
+-- inputs that set something for their run have settings for each test
+abbrev pub SomeTest : Type 0
+SomeTest = (cx : Context) (inputs : Inputs) (run : RunSettings) (test : Test) → Sets cx inputs (Ok run) → (it : PlanSettings) × SetsTest cx inputs test it
+
+-- and one of each
+abbrev pub OneTest : Type 0
+OneTest = (cx : Context) (inputs : Inputs) (test : Test) (one other : PlanSettings) → SetsTest cx inputs test one → SetsTest cx inputs test other → one ≡ other
+
+-- The same profile is chosen in two inputs, for the same mode and on the same platforms, and the configurations of both say the same in
+-- each profile of its chain, in itself, in its parents and in `default`, with the same overrides, and define the same groups. Other
+-- profiles may be others, and so may their overrides.
 pub record AgreeOnChain (cx : Context) (inputs other : Inputs) : Type 0 where
   pub profile : other.profile ≡ inputs.profile
   pub mode : other.mode ≡ inputs.mode
+  pub host : other.host ≡ inputs.host
+  pub target : other.target ≡ inputs.target
   pub config : Whole Filterset PlatformSpec
   pub reads : Reads cx inputs config
   pub second : Whole Filterset PlatformSpec
@@ -47,10 +60,17 @@ pub record AgreeOnChain (cx : Context) (inputs other : Inputs) : Type 0 where
   pub names : List Name
   pub chain : IsChain (parents_of (profiles_of config)) inputs.profile names
   pub each : All (λ name. values_of (profiles_of second) name ≡ values_of (profiles_of config) name) names
+  pub rules : rules_in other names ≡ rules_in inputs names
+  pub groups : groups_in second ≡ groups_in config
 
--- profiles outside of the chosen one's chain change nothing of what is set
+-- profiles outside of the chosen one's chain, and their overrides, change nothing of what is set for a run
 abbrev pub Isolated : Type 0
 Isolated = (cx : Context) (inputs other : Inputs) (one second : RunSettings) → AgreeOnChain cx inputs other → Sets cx inputs (Ok one) → Sets cx other (Ok second) → one ≡ second
+
+-- and nothing of what is set for a test
+abbrev pub IsolatesTests : Type 0
+IsolatesTests = (cx : Context) (inputs other : Inputs) (test : Test) (one second : PlanSettings)
+    → AgreeOnChain cx inputs other → SetsTest cx inputs test one → SetsTest cx other test second → one ≡ second
 
 -- a limit is one at least
 abbrev pub IsOneAtLeast : MaxFail → Type 0

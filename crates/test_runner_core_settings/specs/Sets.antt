@@ -1,24 +1,34 @@
--- What inputs set for their run, or why they set nothing.
-use Rattle.std.specs.Prelude.{◌≡◌, ℕ, Bool, true, false, ◌||◌, List, Result, Ok, Err, Contains, length, map, nat_lt}
+-- What inputs set for their run and for its tests, or why they set nothing.
+use Rattle.std.specs.Prelude.{◌≡◌, ℕ, true, false, List, Result, Ok, Err, Contains, map}
+use Rattle.nextest_config_elements_identifiers.specs.declared.test_group.TestGroup.{TestGroup}
+use Rattle.nextest_config_resolution_load.specs.Checks.{rules_downward}
 use Rattle.nextest_config_resolution_load.specs.Load.{IsFilterBy}
 use Rattle.nextest_config_resolution_load.specs.Telling.{warnings_in}
 use Rattle.nextest_config_resolution_load.specs.declared.load_error.LoadError.{LoadError}
 use Rattle.nextest_config_resolution_load.specs.declared.load_error.LoadError.TheVariants as load
 use Rattle.nextest_config_resolution_load.specs.declared.languages.FilterPurpose.TheVariants as purpose
-use Rattle.nextest_config_resolution_load.specs.declared.loaded_config.LoadedConfig.{LoadedConfig}
+use Rattle.nextest_config_resolution_overrides.specs.declared.placed_override.PlacedOverride.{PlacedOverride}
 use Rattle.nextest_config_resolution_profiles.specs.Config.{IsChainOf, IsConfig, IsFilterIn, names_of, profiles_of}
 use Rattle.nextest_config_resolution_profiles.specs.Whole.{Whole}
 use Rattle.nextest_config_resolution_profiles.specs.declared.profile_error.ProfileNotFound.{ProfileNotFound}
+use Rattle.nextest_config_resolution_settings.specs.Rules.{id_of, rules_of}
 use Rattle.nextest_config_resolution_values.specs.declared.profile_config.ProfileConfig.{ProfileConfig}
 use Rattle.nextest_config_resolution_warnings.specs.Warnings.{text_of}
 use Rattle.nextest_filtering_compiling.specs.Context.{Context}
 use Rattle.nextest_filtering_compiling.specs.Filtersets.{IsFilterset}
 use Rattle.nextest_filtering_compiling.specs.declared.filterset.Filterset.{Filterset}
+use Rattle.nextest_filtering_filters.specs.Query.{Test}
+use Rattle.nextest_filtering_filters.specs.declared.known_groups.KnownGroups.{KnownGroups}
+use Rattle.nextest_filtering_filters.specs.declared.known_groups.KnownGroups.TheVariants as groups
+use Rattle.nextest_filtering_trees.specs.Tree.{Tree}
 use Rattle.test_runner_core_inputs.specs.declared.inputs.Inputs.{Inputs}
+use Rattle.test_runner_core_plan.specs.declared.plan_settings.PlanSettings.{PlanSettings}
 use Rattle.test_runner_core_platforms.specs.Grammar.{IsSpec}
 use Rattle.test_runner_core_platforms.specs.Trees.{spec_of}
 use Rattle.test_runner_core_platforms.specs.declared.platform_spec.PlatformSpec.{PlatformSpec}
-use Rattle.test_runner_core_settings.specs.Settings.{AreRunSettings}
+use Rattle.test_runner_core_settings.specs.Holding.{IsDefaultText, IsDefaultTree}
+use Rattle.test_runner_core_settings.specs.Platforms.{has_repeated_fact, platforms_of}
+use Rattle.test_runner_core_settings.specs.Settings.{AreOfRun, AreOfTest}
 use Rattle.test_runner_core_settings.specs.declared.configured.RunSettings.{RunSettings}
 use Rattle.test_runner_core_settings.specs.declared.settings_fault.SettingsFault.{SettingsFault}
 use Rattle.test_runner_core_settings.specs.declared.settings_fault.SettingsFault.TheVariants as fault
@@ -42,28 +52,16 @@ IsPlatformSpec text it = IsSpec text (spec_of it)
 abbrev pub Loads : Context → Inputs → Result (Whole Filterset PlatformSpec) LoadError → Type 0
 Loads cx inputs = IsConfig (IsFilter cx) IsPlatformSpec IsTooDeep inputs.root inputs.sources
 
--- a configuration has what isn't read yet: a key of scripts, an override or a group of tests
-abbrev pub asks_for_later : LoadedConfig Filterset PlatformSpec → Bool
-asks_for_later it = (it.sets_later_keys || nat_lt 0 (length it.rules)) || nat_lt 0 (length it.groups)
-
 -- the sources of inputs come to this configuration, and all that it has is read
 pub record Reads (cx : Context) (inputs : Inputs) (config : Whole Filterset PlatformSpec) : Type 0 where
   pub loaded : Loads cx inputs (Ok config)
-  pub later : asks_for_later config.loaded ≡ false
+  pub later : config.loaded.sets_later_keys ≡ false
 
--- the chosen profile sets this
-pub record SetsBy (cx : Context) (inputs : Inputs) (it : RunSettings) : Type 0 where
-  pub config : Whole Filterset PlatformSpec
-  pub reads : Reads cx inputs config
-  pub chain : List ProfileConfig
-  pub chained : IsChainOf (profiles_of config) inputs.profile chain
-  pub settings : AreRunSettings inputs.mode chain it
-
--- the sources come to what isn't read yet
+-- a file sets a key that isn't read yet
 pub record SetsLater (cx : Context) (inputs : Inputs) : Type 0 where
   pub config : Whole Filterset PlatformSpec
   pub loaded : Loads cx inputs (Ok config)
-  pub later : asks_for_later config.loaded ≡ true
+  pub later : config.loaded.sets_later_keys ≡ true
 
 -- no profile has the chosen name; told are that name and those of all profiles
 pub record HasNoProfile (cx : Context) (inputs : Inputs) (told : ProfileNotFound) : Type 0 where
@@ -73,12 +71,64 @@ pub record HasNoProfile (cx : Context) (inputs : Inputs) (told : ProfileNotFound
   pub known : told.known ≡ names_of config
   pub none : ¬ Contains (names_of config) inputs.profile
 
--- what inputs set for their run, or the first reason in their configuration why they set nothing
+-- ---- the chosen profile
+
+-- the overrides of the profiles of a chain, in the order in which they are asked: by profile, then by file from the highest, then as
+-- they are written
+abbrev pub rules_in : Inputs → List (List ℕ) → List PlacedOverride
+rules_in inputs names = rules_of id_of (rules_downward inputs.sources) names
+
+-- the groups that a filterset may name: those that are defined
+abbrev pub groups_in : Whole Filterset PlatformSpec → KnownGroups
+groups_in config = groups.Known (map (λ group. group.name) config.loaded.groups)
+
+-- the chosen profile has these overrides and this chain: its own values and those of its parents, and those of `default`
+pub record IsChosen (cx : Context) (inputs : Inputs) (rules : List PlacedOverride) (chain : List ProfileConfig) : Type 0 where
+  pub config : Whole Filterset PlatformSpec
+  pub reads : Reads cx inputs config
+  pub chained : IsChainOf (profiles_of config) inputs.profile chain
+  pub ruled : rules ≡ rules_in inputs chained.names
+
+-- the chosen profile sets this
+pub record SetsBy (cx : Context) (inputs : Inputs) (it : RunSettings) : Type 0 where
+  pub rules : List PlacedOverride
+  pub chain : List ProfileConfig
+  pub chosen : IsChosen cx inputs rules chain
+  pub known : has_repeated_fact inputs ≡ false
+  pub settings : AreOfRun (platforms_of inputs) rules chain it
+  pub groups : it.known_groups ≡ groups_in chosen.config
+
+-- there is such a profile, and two facts of a platform repeat
+pub record HasRepeatedFact (cx : Context) (inputs : Inputs) : Type 0 where
+  pub rules : List PlacedOverride
+  pub chain : List ProfileConfig
+  pub chosen : IsChosen cx inputs rules chain
+  pub repeated : has_repeated_fact inputs ≡ true
+
+-- what inputs set for their run, or the first reason in their configuration and platforms why they set nothing
 abbrev pub Sets : Context → Inputs → Result RunSettings SettingsFault → Type 0
 Sets cx inputs (Ok it) = SetsBy cx inputs it
 Sets cx inputs (Err (fault.Load told)) = Loads cx inputs (Err (load.Refused told))
 Sets cx inputs (Err fault.NotYet) = SetsLater cx inputs
 Sets cx inputs (Err (fault.ProfileNotFound told)) = HasNoProfile cx inputs told
+Sets cx inputs (Err fault.RepeatedFact) = HasRepeatedFact cx inputs
+
+-- ---- tests
+
+-- what inputs set for a test: the settings by the overrides that hold on it, beside the default filter of the run, and by the chain
+pub record SetsTest (cx : Context) (inputs : Inputs) (test : Test) (it : PlanSettings) : Type 0 where
+  pub rules : List PlacedOverride
+  pub chain : List ProfileConfig
+  pub chosen : IsChosen cx inputs rules chain
+  pub text : List ℕ
+  pub set : IsDefaultText (platforms_of inputs) rules chain text
+  pub default : Tree
+  pub read : IsDefaultTree cx text default
+  pub settings : AreOfTest cx (platforms_of inputs) inputs.mode rules chain default test it
+
+-- the group of a test is the one that its settings have
+abbrev pub IsGroupOf : Context → Inputs → Test → TestGroup → Type 0
+IsGroupOf cx inputs test group = (it : PlanSettings) × SetsTest cx inputs test it × (group ≡ it.test_group)
 
 -- what is told of the keys and profiles in their files that no configuration knows
 abbrev pub key_warnings : Inputs → List (List ℕ)

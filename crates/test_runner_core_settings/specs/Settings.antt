@@ -1,14 +1,21 @@
--- What the chain of a profile sets for a run.
-use Rattle.std.specs.Prelude.{◌≡◌, List, []}
+-- What overrides and the chain of a profile set for a run and for its tests.
+use Rattle.std.specs.Prelude.{◌≡◌, List}
 use Rattle.nextest_config_elements_plain.specs.declared.run_mode.NextestRunMode.{NextestRunMode}
+use Rattle.nextest_config_resolution_overrides.specs.declared.placed_override.PlacedOverride.{PlacedOverride}
 use Rattle.nextest_config_resolution_settings.specs.Fallbacks as fallback
 use Rattle.nextest_config_resolution_settings.specs.Keys as key
-use Rattle.nextest_config_resolution_settings.specs.Profile.{IsSetTo, OfProfiles}
+use Rattle.nextest_config_resolution_settings.specs.Profile.{OfProfiles}
+use Rattle.nextest_config_resolution_settings.specs.Rules.{AreHeld}
 use Rattle.nextest_config_resolution_settings.specs.TestSettings.{AreSettings, group_of}
 use Rattle.nextest_config_resolution_settings.specs.Tracking.{TellsNothing}
 use Rattle.nextest_config_resolution_settings.specs.declared.test_settings.TestSettings.{TestSettings}
 use Rattle.nextest_config_resolution_values.specs.declared.profile_config.ProfileConfig.{ProfileConfig}
+use Rattle.nextest_filtering_compiling.specs.Context.{Context}
+use Rattle.nextest_filtering_filters.specs.Query.{Test}
+use Rattle.nextest_filtering_trees.specs.Tree.{Tree}
 use Rattle.test_runner_core_plan.specs.declared.plan_settings.PlanSettings.{PlanSettings}
+use Rattle.test_runner_core_settings.specs.Holding.{IsDefaultText, RuleHolds}
+use Rattle.test_runner_core_settings.specs.Platforms.{Platforms}
 use Rattle.test_runner_core_settings.specs.declared.configured.RunSettings.{RunSettings}
 
 -- settings of a test that were lent
@@ -30,16 +37,26 @@ owned_of it = record {
   junit_flaky_fail_status = it.junit_flaky_fail_status.0;
 }
 
--- each setting of a test is what the chain has, since there is no rule
-pub record AreOfTests (mode : NextestRunMode) (chain : List ProfileConfig) (it : PlanSettings) : Type 0 where
+-- each setting is what the overrides that hold, and then the chain, have
+pub record AreOwned (mode : NextestRunMode) (held : List PlacedOverride) (chain : List ProfileConfig) (it : PlanSettings) : Type 0 where
   pub lent : TestSettings (Unit {0})
-  pub each : AreSettings TellsNothing mode [] chain lent
+  pub each : AreSettings TellsNothing mode held chain lent
   pub owned : it ≡ owned_of lent
 
--- and so is each of the run, with the text of the default filter
-pub record AreRunSettings (mode : NextestRunMode) (chain : List ProfileConfig) (it : RunSettings) : Type 0 where
-  pub test : AreOfTests mode chain it.test
-  pub default_filter : IsSetTo key.default_filter chain it.default_filter
+-- the settings of a test, by some overrides and a chain, beside a default filter
+pub record AreOfTest (cx : Context) (platforms : Platforms) (mode : NextestRunMode) (rules : List PlacedOverride) (chain : List ProfileConfig)
+    (default : Tree) (test : Test) (it : PlanSettings) : Type 0 where
+  pub held : List PlacedOverride
+  pub are : AreHeld (RuleHolds cx platforms default test) rules held
+  pub settings : AreOwned mode held chain it
+
+-- how many failing tests stop a run, and what is shown of it, is what the chain has
+pub record IsOfChain (chain : List ProfileConfig) (it : RunSettings) : Type 0 where
   pub max_fail : OfProfiles key.fail_fast chain fallback.fail_fast it.max_fail
   pub status_level : OfProfiles key.status_level chain fallback.status_level it.levels.status_level
   pub final_status_level : OfProfiles key.final_status_level chain fallback.final_status_level it.levels.final_status_level
+
+-- what some overrides and a chain set for a run
+pub record AreOfRun (platforms : Platforms) (rules : List PlacedOverride) (chain : List ProfileConfig) (it : RunSettings) : Type 0 where
+  pub default_filter : IsDefaultText platforms rules chain it.default_filter
+  pub limits : IsOfChain chain it

@@ -1,5 +1,5 @@
 //! What holds of what inputs set. Each law is the contract of a function that does nothing.
-ghost use Rattle.test_runner_core_settings.specs.Laws.{Isolated, OneSettings, SetsLimit, SomeSettings};
+ghost use Rattle.test_runner_core_settings.specs.Laws.{Isolated, IsolatesTests, OneSettings, OneTest, SetsLimit, SomeSettings, SomeTest};
 
 /// Inputs set one thing, or are refused for one reason; and it can't be that neither is so.
 pub fn one_settings()
@@ -7,9 +7,16 @@ pub fn one_settings()
     ensures one { OneSettings }
 {}
 
-/// Profiles outside of the chosen one's chain change nothing of what is set.
+/// Inputs that set something for their run have settings for each test, and one of each.
+pub fn one_test()
+    ensures some { SomeTest }
+    ensures one { OneTest }
+{}
+
+/// Profiles outside of the chosen one's chain, and their overrides, change nothing of what is set for a run, or for a test.
 pub fn isolated()
-    ensures { Isolated }
+    ensures run { Isolated }
+    ensures tests { IsolatesTests }
 {}
 
 /// How many failing tests stop a run is one at least.

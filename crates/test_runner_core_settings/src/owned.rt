@@ -1,19 +1,13 @@
 // The settings of a test, owned.
-ghost use Rattle.std.specs.Prelude.{◌≡◌, [], IfOk};
+ghost use Rattle.std.specs.Prelude.{◌≡◌, IfOk};
 ghost use Rattle.nextest_config_resolution_settings.specs.TestSettings.{group_of};
-ghost use Rattle.test_runner_core_settings.specs.Settings.{AreOfTests, owned_of};
+ghost use Rattle.test_runner_core_settings.specs.Settings.{owned_of};
 
 use nextest_config_elements_identifiers::TestGroup;
-use nextest_config_elements_plain::NextestRunMode;
-use nextest_config_resolution_profiles::EvaluatableProfile;
 use nextest_config_resolution_settings::{TestGroupRef, TestSettings};
-use nextest_filtering_compiling::Filterset;
-use nextest_filtering_filters::{BinaryQuery, TestQuery};
-use nextest_filtering_trees::BuildPlatform;
 use nextest_text::{Listing, Text};
 use std::alloc::{AllocError, Global};
 use test_runner_core_plan::PlanSettings;
-use test_runner_core_platforms::PlatformSpec;
 
 /// The settings of a test as a plan keeps them: these, owned. It fails only on allocation.
 pub fn owned_settings(
@@ -50,31 +44,6 @@ fn with_group(
         junit_report_skipped: settings.junit_report_skipped(),
         junit_flaky_fail_status: settings.junit_flaky_fail_status(),
     })
-}
-
-// The settings of each test by a profile, owned, where it has no rule.
-pub(crate) fn settings_of_tests(
-    alloc: Global,
-    profile: &EvaluatableProfile<'_, Filterset, PlatformSpec>,
-    mode: NextestRunMode,
-) -> Result<PlanSettings, AllocError>
-    ensures { profile.now.rules ≡ [] → IfOk result (AreOfTests mode profile.now.chain) }
-{
-    // Where there is no rule the settings of one test are those of each.
-    let query = TestQuery {
-        binary_query: BinaryQuery {
-            package_id: "",
-            binary_id: "",
-            kind: "",
-            binary_name: "",
-            platform: BuildPlatform::Target,
-        },
-        test_name: "",
-    };
-    match profile.settings_for(alloc, mode, &query) {
-        Ok(settings) => owned_settings(alloc, &settings),
-        Err(error) => Err(error),
-    }
 }
 
 // Texts, owned.

@@ -3,6 +3,7 @@ use crate::settings_fault::SettingsFault;
 use nextest_config_resolution_load::LoadError;
 use nextest_config_resolution_profiles::ProfileError;
 use std::alloc::{AllocError, AllocFailed};
+use test_runner_core_platforms::PlatformFactsError;
 use thiserror::Error;
 
 /// Why the configuration of inputs sets nothing, or why that isn't known.
@@ -64,6 +65,22 @@ impl From<ProfileError> for SettingsError {
                 SettingsError::Refused(SettingsFault::ProfileNotFound(told))
             }
             ProfileError::OutOfMemory => SettingsError::OutOfMemory,
+        }
+    }
+}
+
+impl From<PlatformFactsError> for SettingsError {
+    ghost use Rattle.std.specs.Prelude.{◌≡◌};
+    ghost use Rattle.test_runner_core_settings.specs.Calls.{error_of_facts};
+
+    ghost from_gives = { λ part error. error ≡ error_of_facts part };
+
+    fn from(error: PlatformFactsError) -> SettingsError {
+        match error {
+            PlatformFactsError::RepeatedFact => {
+                SettingsError::Refused(SettingsFault::RepeatedFact)
+            }
+            PlatformFactsError::OutOfMemory => SettingsError::OutOfMemory,
         }
     }
 }

@@ -15,4 +15,7 @@ pub enum SettingsFault {
     /// There is no profile of the chosen name.
     #[error(transparent)]
     ProfileNotFound(ProfileNotFound),
+    /// Two facts of a platform have the same name and the same value.
+    #[error("two facts of a platform have the same name and the same value")]
+    RepeatedFact,
 }

@@ -1,0 +1,49 @@
+-- On which tests overrides hold, and which default filter is in force.
+use Rattle.std.specs.Prelude.{◌⊎◌, ℕ, true, List, Option, None, Some, ⊤}
+use Rattle.nextest_config_resolution_overrides.specs.declared.placed_override.PlacedOverride.{PlacedOverride}
+use Rattle.nextest_config_resolution_settings.specs.Keys as key
+use Rattle.nextest_config_resolution_settings.specs.Profile.{IsSetTo}
+use Rattle.nextest_config_resolution_settings.specs.Rules.{IsLeast, NoneHoldsAndSets}
+use Rattle.nextest_config_resolution_values.specs.declared.profile_config.ProfileConfig.{ProfileConfig}
+use Rattle.nextest_filtering_arguments.specs.declared.ban.FiltersetKind.TheVariants as purpose
+use Rattle.nextest_filtering_compiling.specs.Accepting.{IsAccepted}
+use Rattle.nextest_filtering_compiling.specs.Context.{Context}
+use Rattle.nextest_filtering_compiling.specs.Trees.{TreeIsOn}
+use Rattle.nextest_filtering_filters.specs.Query.{Test}
+use Rattle.nextest_filtering_filters.specs.declared.known_groups.KnownGroups.TheVariants as groups
+use Rattle.nextest_filtering_trees.specs.Tree.{Tree}
+use Rattle.nextest_filtering_trees.specs.declared.leaf.BuildPlatform.TheVariants as built_for
+use Rattle.test_runner_core_settings.specs.Platforms.{HoldsFor, Platforms}
+
+-- ---- tests
+
+-- the filter of an override holds on a test, beside the default filter; it may ask for no group. One that isn't there holds.
+abbrev pub FilterHolds : Context → Tree → Test → Option (List ℕ) → Type 0
+FilterHolds cx default test None = ⊤
+FilterHolds cx default test (Some text) =
+    (tree : Tree) × IsAccepted cx purpose.OverrideFilter groups.Unavailable text tree × TreeIsOn cx.graph tree default test (λ m. ⊥) true
+
+-- an override holds on a test: for the platform that the test's binary is built for, and by its filter
+abbrev pub RuleHolds : Context → Platforms → Tree → Test → PlacedOverride → Type 0
+RuleHolds cx platforms default test rule = HoldsFor platforms test.binary.platform rule.config × FilterHolds cx default test rule.config.filter
+
+-- ---- the default filter
+
+-- an override holds for what is built for the target
+abbrev pub HoldsForTarget : Platforms → PlacedOverride → Type 0
+HoldsForTarget platforms rule = HoldsFor platforms built_for.Target rule.config
+
+-- what an override sets as the default filter
+abbrev pub default_set : PlacedOverride → Option (List ℕ)
+default_set rule = rule.config.default_filter
+
+-- the text of the default filter: that of the first of some overrides that holds for the target and sets one, else that of the nearest
+-- of some profiles that does
+abbrev pub IsDefaultText : Platforms → List PlacedOverride → List ProfileConfig → List ℕ → Type 0
+IsDefaultText platforms rules chain text =
+    ((rule : PlacedOverride) × IsLeast (HoldsForTarget platforms) default_set rules rule text)
+    ⊎ (NoneHoldsAndSets (HoldsForTarget platforms) default_set rules × IsSetTo key.default_filter chain text)
+
+-- a text is this tree, as a default filter, which may ask for no group
+abbrev pub IsDefaultTree : Context → List ℕ → Tree → Type 0
+IsDefaultTree cx text tree = IsAccepted cx purpose.DefaultFilter groups.Unavailable text tree
