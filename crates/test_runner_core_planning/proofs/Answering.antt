@@ -1,7 +1,8 @@
 -- What the filters in force answer, by their trees and as they are compiled.
 use Rattle.std.proofs.Common.{◌≡◌, ℕ, List, [], ◌∷◌, ◌++◌, map, Bool, true, false, Option, None, Some, Ok, refl, ap, ◌∙◌, subst}
 use Rattle.std.specs.List.{All, AllZip, cons_option}
-use Rattle.std.specs.Prelude.{◌↔◌, codes}
+use Rattle.std.specs.Prelude.{◌↔◌}
+use Rattle.nextest_config_elements_identifiers.specs.Groups.{text_of}
 use Rattle.std.proofs.lemmas.List.Elements.{All-nil, All-cons, All-head, All-tail}
 use Rattle.nextest_filtering_compiling.proofs.Trees.{can_be_as_compiled, is_on_as_compiled}
 use Rattle.nextest_filtering_compiling.specs.Compiling.{IsCompiled}
@@ -13,6 +14,7 @@ use Rattle.nextest_filtering_filters.specs.Filter.{Compiled, filter_of, is_defau
 use Rattle.nextest_filtering_filters.specs.Formula.{Formula}
 use Rattle.nextest_filtering_filters.specs.Meaning.{CanBeOn, IsOn, Tells}
 use Rattle.nextest_filtering_filters.specs.Query as query
+use Rattle.nextest_filtering_filters.specs.declared.known_groups.KnownGroups.{KnownGroups}
 use Rattle.nextest_filtering_filters.specs.declared.known_groups.KnownGroups.TheVariants as groups
 use Rattle.nextest_filtering_filters.specs.declared.leaf.FiltersetLeaf.{FiltersetLeaf}
 use Rattle.nextest_filtering_filters.proofs.Deciding.{decided_name}
@@ -22,11 +24,14 @@ use Rattle.nextest_filtering_compiling.specs.Trees.{TreeCanBeOn, TreeIsOn}
 use Rattle.test_runner_core_inputs.specs.declared.inputs.Inputs.{Inputs}
 use Rattle.test_runner_core_listing.specs.Answers.{AnswerAs, Answers, seen, seen_test}
 use Rattle.test_runner_core_listing.proofs.Answering.{has_answers}
+use Rattle.test_runner_core_plan.specs.declared.plan_settings.PlanSettings.{PlanSettings}
 use Rattle.test_runner_core_settings.specs.Sets.{IsDefault}
+use Rattle.test_runner_core_settings.specs.declared.configured.RunSettings.{RunSettings}
 use Rattle.test_runner_core_workspace.specs.declared.record.Binary.{Binary}
 use Rattle.test_runner_core_workspace.specs.declared.record.WorkspaceRecord.{WorkspaceRecord}
-use Rattle.test_runner_core_planning.specs.Filtering.{AllCanHold, AllHold, AreAnswersOf, AreInForce, AreOfFilterset, InForce, IsChosen, IsOfGroup, context_of, graph_of, unless_ignored}
+use Rattle.test_runner_core_planning.specs.Filtering.{AllCanHold, AllHold, AreAnswersOf, AreInForce, AreOfFilterset, Choice, InForce, IsChosen, IsOfGroup, context_of, graph_of, unless_ignored}
 use Rattle.test_runner_core_planning.specs.Inside.{IsFilteredBy, in_force}
+use Rattle.test_runner_core_planning.proofs.Surely.{is_on_alike}
 
 -- ---- lists side by side
 
@@ -73,23 +78,32 @@ lists_alike workspace it filters default compiled binary =
     tells_alike (IsCompiled graph) (λ tree. TreeCanBeOn graph tree it.default (seen binary) true) (λ f. CanBeOn f d (seen binary) true)
     (λ tree f made. can_be_as_compiled graph tree it.default f d made compiled.default (seen binary) true) it.filters (map filter_of filters) compiled.each
 
+-- whose group is matched is told alike
+abbrev pub AreAlike : (query.Test → Matcher → Type 0) → (query.Test → PlanSettings) → Type 0
+AreAlike Member of_test = (test : query.Test) (m : Matcher) → Member test m ↔ IsOfGroup of_test test m
+
 -- so that all of them hold on a test
-selects_alike : (workspace : WorkspaceRecord) (it : InForce) (filters : List Compiled) (default : Compiled) → AreCompiledTo workspace it filters default
-    → (binary : Binary) (name : List ℕ) (value : Bool)
-    → Tells (All (λ f. IsOn f (filter_of default) (seen_test binary name) (IsOfGroup (seen_test binary name)) true) (map filter_of filters)) value ↔ Tells (AllHold workspace it binary name) value
-selects_alike workspace it filters default compiled binary name =
+selects_alike : (workspace : WorkspaceRecord) (Member : query.Test → Matcher → Type 0) (of_test : query.Test → PlanSettings) → AreAlike Member of_test → (it : InForce) (filters : List Compiled) (default : Compiled)
+    → AreCompiledTo workspace it filters default → (binary : Binary) (name : List ℕ) (value : Bool)
+    → Tells (All (λ f. IsOn f (filter_of default) (seen_test binary name) (Member (seen_test binary name)) true) (map filter_of filters)) value ↔ Tells (AllHold workspace of_test it binary name) value
+selects_alike workspace Member of_test alike it filters default compiled binary name =
     let graph = graph_of workspace in
     let d = filter_of default in
     let test = seen_test binary name in
-    tells_alike (IsCompiled graph) (λ tree. TreeIsOn graph tree it.default test (IsOfGroup test) true) (λ f. IsOn f d test (IsOfGroup test) true)
-    (λ tree f made. is_on_as_compiled graph tree it.default f d made compiled.default test (IsOfGroup test) true) it.filters (map filter_of filters) compiled.each
+    let back : (m : Matcher) → IsOfGroup of_test test m ↔ Member test m = λ m. ((alike test m).1, (alike test m).0) in
+    tells_alike (IsCompiled graph) (λ tree. TreeIsOn graph tree it.default test (IsOfGroup of_test test) true) (λ f. IsOn f d test (Member test) true)
+    (λ tree f made.
+    let same = is_on_as_compiled graph tree it.default f d made compiled.default test (Member test) true in (
+      (λ on. is_on_alike graph tree it.default test (Member test) (IsOfGroup of_test test) (alike test) true (same.0 on)),
+      (λ on. same.1 (is_on_alike graph tree it.default test (IsOfGroup of_test test) (Member test) back true on)),
+    )) it.filters (map filter_of filters) compiled.each
 
 -- what they answer is exactly what their trees do
-pub answers_alike : (workspace : WorkspaceRecord) (it : InForce) (filters : List Compiled) (default : Compiled) (answers : Answers) → AreCompiledTo workspace it filters default
-    → AnswerAs filters default IsOfGroup answers ↔ AreAnswersOf workspace it answers
-answers_alike workspace it filters default answers compiled =
+pub answers_alike : (workspace : WorkspaceRecord) (Member : query.Test → Matcher → Type 0) (of_test : query.Test → PlanSettings) → AreAlike Member of_test → (it : InForce) (filters : List Compiled) (default : Compiled)
+    (answers : Answers) → AreCompiledTo workspace it filters default → AnswerAs filters default Member answers ↔ AreAnswersOf workspace of_test it answers
+answers_alike workspace Member of_test alike it filters default answers compiled =
     let lists = λ (binary : Binary). lists_alike workspace it filters default compiled binary (answers.lists binary) in
-    let selects = λ (binary : Binary) (name : List ℕ). selects_alike workspace it filters default compiled binary name (answers.selects binary name) in (
+    let selects = λ (binary : Binary) (name : List ℕ). selects_alike workspace Member of_test alike it filters default compiled binary name (answers.selects binary name) in (
       (λ are. record { lists = λ binary. (lists binary).0 (are.lists binary); selects = λ binary name. (selects binary name).0 (are.selects binary name) }),
       (λ are. record { lists = λ binary. (lists binary).1 (are.lists binary); selects = λ binary name. (selects binary name).1 (are.selects binary name) }),
     )
@@ -97,26 +111,26 @@ answers_alike workspace it filters default answers compiled =
 -- ---- the filters in force of inputs
 
 -- those of inputs, as they are compiled, of which each question is decided
-pub record HasForce (inputs : Inputs) (text : List ℕ) (filterset : Option Compiled) (default : Compiled) : Type 0 where
+pub record HasForce (inputs : Inputs) (run : RunSettings) (filterset : Option Compiled) (default : Compiled) : Type 0 where
   pub force : InForce
-  pub of_inputs : AreInForce inputs text force
+  pub of_inputs : AreInForce inputs run force
   pub compiled : AreCompiledTo inputs.workspace force (in_force filterset inputs.ignore_default_filter default) default
   pub readable : All (λ filter. AreReadable (filter_of filter)) (in_force filterset inputs.ignore_default_filter default)
   pub default_readable : AreReadable (filter_of default)
   pub no_default : AllLeaves (λ it. is_default it ≡ false) (filter_of default)
 
 -- the filterset
-record OfFilterset (workspace : WorkspaceRecord) (text : Option (List ℕ)) (found : Option Compiled) : Type 0 where
+record OfFilterset (workspace : WorkspaceRecord) (known : KnownGroups) (text : Option (List ℕ)) (found : Option Compiled) : Type 0 where
   chosen : List Tree
-  are : AreOfFilterset workspace text chosen
+  are : AreOfFilterset workspace known text chosen
   each : AllZip (IsCompiled (graph_of workspace)) chosen (map filter_of (cons_option found []))
   readable : All (λ filter. AreReadable (filter_of filter)) (cons_option found [])
 
-of_filterset : (workspace : WorkspaceRecord) (text : Option (List ℕ)) (found : Option Compiled) → IsFilteredBy workspace text found → OfFilterset workspace text found
-of_filterset workspace None None is = record { chosen = []; are = refl; each = tt; readable = All-nil (λ filter. AreReadable (filter_of filter)) }
-of_filterset workspace None (Some filter) is = absurd is
-of_filterset workspace (Some text) None is = absurd is
-of_filterset workspace (Some text) (Some filter) (tree, taken, made) = record {
+of_filterset : (workspace : WorkspaceRecord) (known : KnownGroups) (text : Option (List ℕ)) (found : Option Compiled) → IsFilteredBy workspace known text found → OfFilterset workspace known text found
+of_filterset workspace known None None is = record { chosen = []; are = refl; each = tt; readable = All-nil (λ filter. AreReadable (filter_of filter)) }
+of_filterset workspace known None (Some filter) is = absurd is
+of_filterset workspace known (Some text) None is = absurd is
+of_filterset workspace known (Some text) (Some filter) (tree, taken, made) = record {
   chosen = tree ∷ [];
   are = (tree, taken, refl);
   each = (made, tt);
@@ -145,13 +159,14 @@ all_append : (P : Compiled → Type 0) (xs ys : List Compiled) → All P xs → 
 all_append P [] ys one other = other
 all_append P (x ∷ xs) ys one other = All-cons P x (xs ++ ys) (All-head P x xs one) (all_append P xs ys (All-tail P x xs one) other)
 
-pub force_of_read : (inputs : Inputs) (text : List ℕ) (filterset : Option Compiled) (it : Filterset) → IsFilteredBy inputs.workspace inputs.filterset filterset
-    → IsDefault (context_of inputs.workspace) text it → HasForce inputs text filterset it.compiled
-force_of_read inputs text filterset it filtered is =
+pub force_of_read : (inputs : Inputs) (run : RunSettings) (filterset : Option Compiled) (it : Filterset) → IsFilteredBy inputs.workspace run.known_groups inputs.filterset filterset
+    → IsDefault (context_of inputs.workspace) run.default_filter it → HasForce inputs run filterset it.compiled
+force_of_read inputs run filterset it filtered is =
+    let text = run.default_filter in
     let ignored = inputs.ignore_default_filter in
     let Made = IsCompiled (graph_of inputs.workspace) in
     let Reads : Compiled → Type 0 = λ filter. AreReadable (filter_of filter) in
-    let of = of_filterset inputs.workspace inputs.filterset filterset filtered in
+    let of = of_filterset inputs.workspace run.known_groups inputs.filterset filterset filtered in
     let tree = tree_of it.parsed in
     let default = it.compiled in
     let reads = readable text tree is.1.0 (graph_of inputs.workspace) (filter_of default) is.3 in
@@ -170,12 +185,13 @@ force_of_read inputs text filterset it filtered is =
     }
 
 -- whether the group of a test is matched can be decided
-decided_group : (test : query.Test) (m : Matcher) → IsReadable m → (b : Bool) × Tells (IsOfGroup test m) b
-decided_group test m reads = decided_name m (codes "@global") reads
+decided_group : (of_test : query.Test → PlanSettings) (test : query.Test) (m : Matcher) → IsReadable m → (b : Bool) × Tells (IsOfGroup of_test test m) b
+decided_group of_test test m reads = decided_name m (text_of (of_test test).test_group) reads
 
 -- they answer something
-pub some_chosen : (inputs : Inputs) (text : List ℕ) (filterset : Option Compiled) (default : Compiled) → HasForce inputs text filterset default → (answers : Answers) × IsChosen inputs text (Ok answers)
-some_chosen inputs text filterset default has =
+pub some_chosen : (inputs : Inputs) (choice : Choice) (filterset : Option Compiled) (default : Compiled) → HasForce inputs choice.run filterset default → (answers : Answers) × IsChosen inputs choice (Ok answers)
+some_chosen inputs choice filterset default has =
     let filters = in_force filterset inputs.ignore_default_filter default in
-    let made = has_answers IsOfGroup filters default decided_group has.readable has.default_readable has.no_default in
-    (made.0, (has.force, has.of_inputs, (answers_alike inputs.workspace has.force filters default made.0 has.compiled).0 made.1))
+    let Member = IsOfGroup choice.of_test in
+    let made = has_answers Member filters default (decided_group choice.of_test) has.readable has.default_readable has.no_default in
+    (made.0, (has.force, has.of_inputs, (answers_alike inputs.workspace Member choice.of_test (λ test m. ((λ so. so), (λ so. so))) has.force filters default made.0 has.compiled).0 made.1))

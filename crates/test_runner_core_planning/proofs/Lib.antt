@@ -1,8 +1,8 @@
 pub mod Building
 pub mod Answering
 pub mod Context
+pub mod Elements
 pub mod Once
-pub mod OneOrder
 pub mod OnePlan
 pub mod Selected
 pub mod NoneTwice
@@ -10,3 +10,4 @@ pub mod Listed
 pub mod Isolated
 pub mod Surely
 pub mod Choosing
+pub mod Settled

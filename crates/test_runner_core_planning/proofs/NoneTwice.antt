@@ -6,7 +6,9 @@ use Rattle.std.specs.Cmp.Lexicographic.{nat_list_eq_equiv}
 use Rattle.std.specs.List.{AllByRecursion, AllPairs, IsDistinct, filter, list_all, list_any}
 use Rattle.std.specs.Str.{bytes_eq}
 use Rattle.std.proofs.lemmas.Bool.{and_from, and_left, and_parts, and_right, or_from, or_parts}
-use Rattle.std.proofs.lemmas.List.{append-nil, map-id}
+use Rattle.std.specs.List.Sorted.{IsPermutation}
+use Rattle.std.proofs.lemmas.List.{append-nil, map-append}
+use Rattle.std.proofs.lemmas.List.Sorted.{IsPermutation-map}
 use Rattle.std.proofs.lemmas.List.Kept.{AllPairs-filter}
 use Rattle.std.proofs.lemmas.Map.Keys.{IsDistinct-cons, IsDistinct-head, IsDistinct-IsPermutation, IsDistinct-push, IsDistinct-tail}
 use Rattle.std.proofs.lemmas.Map.Made.{AllPairs-from_IsDistinct, IsDistinct-from_AllPairs}
@@ -14,11 +16,12 @@ use Rattle.std.proofs.lemmas.Simd.{map-map}
 use Rattle.std.proofs.lemmas.Slice.Eq.{bytes_eq-Decides}
 use Rattle.nextest_run_events_results.specs.declared.instance.OwnedTestInstanceId.{OwnedTestInstanceId}
 use Rattle.test_runner_core_inputs.specs.declared.inputs.Inputs.{Inputs}
-use Rattle.test_runner_core_listing.specs.Answers.{Answers}
+use Rattle.test_runner_core_listing.specs.Answers.{Answers, seen_test}
 use Rattle.test_runner_core_listing.specs.Listing.{Found, accepted, accepted_names, refused_name, ids_of, listing, selected_in, skipped_in, tests_of, ◌>>=◌}
 use Rattle.test_runner_core_listing.specs.declared.listing_fault.ListingFault.{ListingFault}
 use Rattle.test_runner_core_listing.specs.declared.listing_fault.ListingFault.TheVariants as refused
-use Rattle.test_runner_core_planning.specs.Plan.{Planned, Plans, listed_in, plan_test}
+use Rattle.test_runner_core_planning.specs.Plan.{IsPlanOf, Planned, Plans, instance_of, listed_in, plan_test}
+use Rattle.test_runner_core_plan.specs.declared.plan.Plan.{Plan}
 use Rattle.test_runner_core_plan.specs.declared.plan.PlanTest.{PlanTest}
 use Rattle.test_runner_core_workspace.specs.Lister.{Answer}
 use Rattle.test_runner_core_workspace.specs.Workspace.{binary_ids, has_repeat, has_separator, is_among, is_bad_id, is_known_link, package_ids, refusal_of}
@@ -124,13 +127,28 @@ of_others id binary (name ∷ names) rest other others = (other, of_others id bi
 
 -- ---- what binaries give
 
+-- the tests that are found, by their binaries' ids and their names
+abbrev pub instances_in : Found → List OwnedTestInstanceId
+instances_in found = map instance_of found.tests
+
+instances_of_binary : (binary : Binary) (names : List (List ℕ)) → map instance_of (map (seen_test binary) names) ≡ tests_of binary names
+instances_of_binary binary [] = refl
+instances_of_binary binary (name ∷ names) = ap (λ (more : List OwnedTestInstanceId). record { binary_id = binary.id; test_name = name } ∷ more) (instances_of_binary binary names)
+
+-- those of a binary before those of others
+pub instances_joined : (chosen : Answers) (binary : Binary) (names : List (List ℕ)) (rest : Found)
+    → map instance_of (selected_in chosen binary names ++ rest.tests) ≡ tests_of binary (filter (chosen.selects binary) names) ++ instances_in rest
+instances_joined chosen binary names rest =
+    map-append instance_of (selected_in chosen binary names) rest.tests
+    ∙ ap (λ (front : List OwnedTestInstanceId). front ++ map instance_of rest.tests) (instances_of_binary binary (filter (chosen.selects binary) names))
+
 -- what binaries of different ids give has no test twice, and none of another binary
 record AreOnce (binaries : List Binary) (tests : List OwnedTestInstanceId) : Type 0 where
   once : IsDistinct same_test tests
   theirs : (id : List ℕ) → is_among (ids_of binaries) id ≡ false → OfOthers id tests
 
 listed_once : (answer : Binary → Answer) (chosen : Answers) (binaries : List Binary) → has_repeat (ids_of binaries) ≡ false
-    → IfOk (listing answer chosen binaries) (λ (found : Found). AreOnce binaries found.tests)
+    → IfOk (listing answer chosen binaries) (λ (found : Found). AreOnce binaries (instances_in found))
 listed_once answer chosen [] e = record { once = none_distinct same_test; theirs = λ id apart. tt }
 listed_once answer chosen (binary ∷ binaries) e =
     let apart = or_parts (is_among (ids_of binaries) binary.id) (has_repeat (ids_of binaries)) e in
@@ -141,14 +159,14 @@ listed_once answer chosen (binary ∷ binaries) e =
 
     by_answer : is_among (ids_of binaries) binary.id ≡ false
         → (first : Result (List (List ℕ)) ListingFault) → IfOk first (IsDistinct bytes_eq)
-        → (more : Result Found ListingFault) → IfOk more (λ (rest : Found). AreOnce binaries rest.tests)
-        → IfOk (first >>= (λ names. more >>= (λ rest. Ok (joined names rest)))) (λ (found : Found). AreOnce (binary ∷ binaries) found.tests)
-    by_answer new (Ok names) names_are (Ok rest) are = record {
-      once = tests_once binary (filter (chosen.selects binary) names) rest.tests (filter_once (chosen.selects binary) names names_are) (are.theirs binary.id new) are.once;
+        → (more : Result Found ListingFault) → IfOk more (λ (rest : Found). AreOnce binaries (instances_in rest))
+        → IfOk (first >>= (λ names. more >>= (λ rest. Ok (joined names rest)))) (λ (found : Found). AreOnce (binary ∷ binaries) (instances_in found))
+    by_answer new (Ok names) names_are (Ok rest) are = subst (AreOnce (binary ∷ binaries)) (sym (instances_joined chosen binary names rest)) (record {
+      once = tests_once binary (filter (chosen.selects binary) names) (instances_in rest) (filter_once (chosen.selects binary) names names_are) (are.theirs binary.id new) are.once;
       theirs = λ id apart.
           let parts = or_parts (bytes_eq id binary.id) (is_among (ids_of binaries) id) apart in
-          of_others id binary (filter (chosen.selects binary) names) rest.tests parts.0 (are.theirs id parts.1);
-    }
+          of_others id binary (filter (chosen.selects binary) names) (instances_in rest) parts.0 (are.theirs id parts.1);
+    })
     by_answer new (Ok names) names_are (Err refusal) are = tt
     by_answer new (Err refusal) names_are more are = tt
 
@@ -172,7 +190,7 @@ ids_apart workspace e =
 
 pub planned_apart : (answer : Binary → Answer) (inputs : Inputs) (it : Planned) → Plans answer inputs (Ok it) → has_repeat (binary_ids inputs.workspace) ≡ false
 planned_apart answer inputs it planned =
-    ids_apart inputs.workspace (settled_workspace inputs it.settings (parts_of answer inputs it planned).settings)
+    ids_apart inputs.workspace (settled_workspace inputs it.choice (parts_of answer inputs it planned).asked)
 
 -- an id that no binary has is that of none of them that pass
 none_passes : (passes : Binary → Bool) (id : List ℕ) (binaries : List Binary) → is_among (ids_of binaries) id ≡ false → is_among (ids_of (filter passes binaries)) id ≡ false
@@ -200,19 +218,19 @@ passing_apart passes (binary ∷ binaries) apart =
 
 -- ---- plans
 
-instances_of : (tests : List OwnedTestInstanceId) (it : Planned) → map (λ (t : PlanTest). t.instance) (map (plan_test it.settings) tests) ≡ tests
-instances_of tests it = map-map (λ (t : PlanTest). t.instance) (plan_test it.settings) tests ∙ map-id tests
+-- a plan's tests are those that are found, in an order
+pub instances_of : (inputs : Inputs) (it : Planned) (plan : Plan) → IsPlanOf inputs it plan → IsPermutation (instances_in it.found) (map (λ (t : PlanTest). t.instance) plan.tests)
+instances_of inputs it plan built =
+    subst (λ (instances : List OwnedTestInstanceId). IsPermutation instances (map (λ (t : PlanTest). t.instance) plan.tests)) (map-map (λ (t : PlanTest). t.instance) (plan_test it.choice.of_test) it.found.tests)
+    (IsPermutation-map (λ (t : PlanTest). t.instance) (map (plan_test it.choice.of_test) it.found.tests) plan.tests built.tests)
 
 pub has_none_twice : HasNoneTwice
 has_none_twice answer inputs plan (it, planned, built) =
     let apart = passing_apart it.answers.lists inputs.workspace.binaries (planned_apart answer inputs it planned) in
-    let listed : AreOnce (listed_in inputs it.answers) it.found.tests =
-    subst (λ (given : Result Found ListingFault). IfOk given (λ (found : Found). AreOnce (listed_in inputs it.answers) found.tests))
+    let listed : AreOnce (listed_in inputs it.answers) (instances_in it.found) =
+    subst (λ (given : Result Found ListingFault). IfOk given (λ (found : Found). AreOnce (listed_in inputs it.answers) (instances_in found)))
     (parts_of answer inputs it planned).listed
     (listed_once answer it.answers (listed_in inputs it.answers) apart) in
-    let selected : IsDistinct same_test built.selection.tests =
-    IsDistinct-IsPermutation same_test same_test_turned it.found.tests built.selection.tests built.selected.tests listed.once in
-    let instances : map (λ (t : PlanTest). t.instance) plan.tests ≡ built.selection.tests =
-    ap (map (λ (t : PlanTest). t.instance)) built.tests ∙ instances_of built.selection.tests it in
-    subst (λ (tests : List OwnedTestInstanceId). AllPairs (λ (one other : OwnedTestInstanceId). one ≢ other) tests) (sym instances)
-    (AllPairs-from_IsDistinct same_test_decides built.selection.tests selected)
+    let instances = map (λ (t : PlanTest). t.instance) plan.tests in
+    AllPairs-from_IsDistinct same_test_decides instances
+    (IsDistinct-IsPermutation same_test same_test_turned (instances_in it.found) instances (instances_of inputs it plan built) listed.once)

@@ -1,92 +1,27 @@
 -- A plan has exactly the tests that are wanted.
-use Rattle.std.proofs.Common.{◌≡◌, ◌⊎◌, inl, inr, ℕ, suc, zero, List, [], ◌∷◌, ◌++◌, get_or, map, Bool, true, false, cond, Option, None, Some, Result, Ok, Err, refl, sym, ap, ◌∙◌, subst, arith}
+use Rattle.std.proofs.Common.{◌≡◌, ◌⊎◌, inl, inr, ℕ, suc, zero, ◌+◌, List, [], ◌∷◌, ◌++◌, get_or, map, Bool, true, false, cond, Option, None, Some, Result, Ok, Err, refl, sym, ap, ◌∙◌, subst, arith}
 use Rattle.std.specs.List.{Contains, filter}
 use Rattle.std.proofs.lemmas.List.Elements.{Contains-append_left, Contains-append_right, Contains-append_cases}
 use Rattle.std.proofs.lemmas.List.Sorted.{Contains-permutation, IsPermutation-sym}
-use Rattle.test_runner_core_planning.proofs.Surely.{tree_can_be}
+use Rattle.nextest_config_elements_counts.specs.Retries.{count_of}
+use Rattle.nextest_filtering_filters.specs.Query.{Test}
 use Rattle.nextest_run_events_results.specs.declared.instance.OwnedTestInstanceId.{OwnedTestInstanceId}
-use Rattle.test_runner_core_listing.specs.Answers.{Answers, seen_test}
-use Rattle.test_runner_core_listing.specs.Listing.{Found, accepted, accepted_names, refused_name, listing, selected_in, skipped_in, ◌>>=◌}
-use Rattle.test_runner_core_listing.specs.declared.listing_fault.ListingFault.{ListingFault}
 use Rattle.test_runner_core_inputs.specs.declared.inputs.Inputs.{Inputs}
-use Rattle.test_runner_core_planning.specs.Filtering.{AllCanHold, AllHold, AreAnswersOf, AreInForce, InForce, IsChosen, IsOfGroup, graph_of}
-use Rattle.test_runner_core_planning.specs.Plan.{Planned, Plans, Settles, listed_in, plan_test}
+use Rattle.test_runner_core_listing.specs.Answers.{Answers, seen_test}
+use Rattle.test_runner_core_listing.specs.Listing.{Found, accepted, accepted_names, refused_name, listing, selected_in, skipped_in, tests_of, ◌>>=◌}
+use Rattle.test_runner_core_listing.specs.declared.listing_fault.ListingFault.{ListingFault}
 use Rattle.test_runner_core_plan.specs.declared.plan.PlanTest.{PlanTest}
-use Rattle.test_runner_core_settings.specs.declared.configured.RunSettings.{RunSettings}
-use Rattle.test_runner_core_planning.specs.Laws.{HasExactlyTheWanted, IsWanted}
+use Rattle.test_runner_core_plan.specs.declared.plan_settings.PlanSettings.{PlanSettings}
+use Rattle.test_runner_core_planning.specs.Filtering.{AllCanHold, AllHold, AreAnswersOf, AreInForce, Choice, InForce, IsChosen, IsOfGroup, graph_of}
+use Rattle.test_runner_core_planning.specs.Laws.{HasExactlyTheWanted, HaveTheirSettings, IsWanted}
+use Rattle.test_runner_core_planning.specs.Plan.{Planned, Plans, Settles, instance_of, listed_in, plan_test}
+use Rattle.test_runner_core_planning.proofs.Elements.{filter_has, first_has, has_cases, has_of_filter, has_of_map, map_has, none_has, rest_has, same_binary}
+use Rattle.test_runner_core_planning.proofs.NoneTwice.{instances_in, instances_joined, instances_of, planned_apart}
 use Rattle.test_runner_core_planning.proofs.Once.{answers_are, parts_of, settled_once}
+use Rattle.test_runner_core_planning.proofs.Surely.{tree_can_be}
 use Rattle.test_runner_core_workspace.specs.Lister.{Answer}
 use Rattle.test_runner_core_workspace.specs.declared.record.Binary.{Binary}
 use Rattle.test_runner_core_workspace.specs.declared.record.WorkspaceRecord.{WorkspaceRecord}
-
--- ---- elements
-
-pub first_has : {X : Type 0} (x : X) (xs : List X) → Contains (x ∷ xs) x
-first_has x xs = (0, omega arith, refl)
-
-pub rest_has : {X : Type 0} (x y : X) (xs : List X) → Contains xs y → Contains (x ∷ xs) y
-rest_has x y xs (k, within, is) = (suc k, omega (arith, within), is)
-
-pub has_cases : {X : Type 0} (x y : X) (xs : List X) → Contains (x ∷ xs) y → (x ≡ y) ⊎ Contains xs y
-has_cases x y xs (zero, within, is) = inl is
-has_cases x y xs (suc k, within, is) = inr (k, omega (arith, within), is)
-
-pub none_has : {X : Type 0} (y : X) → Contains [] y → ⊥
-none_has y (k, within, is) = absurd (omega (arith, within))
-
-pub map_has : {X Y : Type 0} (f : X → Y) (xs : List X) (x : X) → Contains xs x → Contains (map f xs) (f x)
-map_has f [] x has = absurd (none_has x has)
-map_has {Y = Y} f (y ∷ xs) x has =
-    elim (has_cases y x xs has) [
-      | inl same ↦ subst (λ (z : Y). Contains (f y ∷ map f xs) z) (ap f same) (first_has (f y) (map f xs))
-      | inr more ↦ rest_has (f y) (f x) (map f xs) (map_has f xs x more)
-    ]
-
--- what a map made an element of, and what a filter let pass
-pub record MadeOf {X Y : Type 0} (f : X → Y) (xs : List X) (y : Y) : Type 0 where
-  pub of : X
-  pub among : Contains xs of
-  pub made : f of ≡ y
-
-pub has_of_map : {X Y : Type 0} (f : X → Y) (xs : List X) (y : Y) → Contains (map f xs) y → MadeOf f xs y
-has_of_map f [] y has = absurd (none_has y has)
-has_of_map f (x ∷ xs) y has =
-    elim (has_cases (f x) y (map f xs) has) [
-      | inl same ↦ record { of = x; among = first_has x xs; made = same }
-      | inr more ↦ let there = has_of_map f xs y more in record { of = there.of; among = rest_has x there.of xs there.among; made = there.made }
-    ]
-
-pub filter_has : {X : Type 0} (p : X → Bool) (xs : List X) (x : X) → Contains xs x → p x ≡ true → Contains (filter p xs) x
-filter_has p [] x has passed = absurd (none_has x has)
-filter_has {X = X} p (y ∷ xs) x has passed = by_first (p y) refl (λ more. filter_has p xs x more passed)
-  where
-    by_first : (b : Bool) → p y ≡ b → (Contains xs x → Contains (filter p xs) x) → Contains (cond b (y ∷ filter p xs) (filter p xs)) x
-    by_first true e behind =
-        elim (has_cases y x xs has) [
-          | inl same ↦ subst (λ (z : X). Contains (y ∷ filter p xs) z) same (first_has y (filter p xs))
-          | inr more ↦ rest_has y x (filter p xs) (behind more)
-        ]
-    by_first false e behind =
-        elim (has_cases y x xs has) [
-          | inl same ↦ absurd (let f : true ≡ false = sym passed ∙ ap p (sym same) ∙ e in cc)
-          | inr more ↦ behind more
-        ]
-
-pub record Passes {X : Type 0} (p : X → Bool) (xs : List X) (x : X) : Type 0 where
-  pub among : Contains xs x
-  pub passes : p x ≡ true
-
-pub has_of_filter : {X : Type 0} (p : X → Bool) (xs : List X) (x : X) → Contains (filter p xs) x → Passes p xs x
-has_of_filter p [] x has = absurd (none_has x has)
-has_of_filter {X = X} p (y ∷ xs) x has = by_first (p y) refl has (has_of_filter p xs x)
-  where
-    by_first : (b : Bool) → p y ≡ b → Contains (cond b (y ∷ filter p xs) (filter p xs)) x → (Contains (filter p xs) x → Passes p xs x) → Passes p (y ∷ xs) x
-    by_first true e h behind =
-        elim (has_cases y x (filter p xs) h) [
-          | inl same ↦ record { among = subst (λ (z : X). Contains (y ∷ xs) z) same (first_has y xs); passes = ap p (sym same) ∙ e }
-          | inr more ↦ let there = behind more in record { among = rest_has y x xs there.among; passes = there.passes }
-        ]
-    by_first false e h behind = let there = behind h in record { among = rest_has y x xs there.among; passes = there.passes }
 
 -- ---- what binaries give
 
@@ -115,6 +50,7 @@ record First (answer : Binary → Answer) (chosen : Answers) (binary : Binary) (
   rest : Found
   listed : listing answer chosen binaries ≡ Ok rest
   tests : found.tests ≡ selected_in chosen binary names ++ rest.tests
+  instances : instances_in found ≡ tests_of binary (filter (chosen.selects binary) names) ++ instances_in rest
 
 first_of : (answer : Binary → Answer) (chosen : Answers) (binary : Binary) (binaries : List Binary) (found : Found)
     → listing answer chosen (binary ∷ binaries) ≡ Ok found → First answer chosen binary binaries found
@@ -126,17 +62,26 @@ first_of answer chosen binary binaries found e = by_answer (accepted (answer bin
     by_answer : (first : Result (List (List ℕ)) ListingFault) → accepted (answer binary) ≡ first → (more : Result Found ListingFault)
         → listing answer chosen binaries ≡ more → (first >>= (λ names. more >>= (λ rest. Ok (joined names rest)))) ≡ Ok found
         → First answer chosen binary binaries found
-    by_answer (Ok names) a (Ok rest) m h = record { names = names; answered = a; rest = rest; listed = m; tests = let g : joined names rest ≡ found = cc in ap (λ (s : Found). s.tests) (sym g) }
+    by_answer (Ok names) a (Ok rest) m h =
+        let g : joined names rest ≡ found = cc in
+        record {
+          names = names;
+          answered = a;
+          rest = rest;
+          listed = m;
+          tests = ap (λ (s : Found). s.tests) (sym g);
+          instances = ap instances_in (sym g) ∙ instances_joined chosen binary names rest;
+        }
     by_answer (Ok names) a (Err refusal) m h = absurd (let g = h in cc)
     by_answer (Err refusal) a more m h = absurd (let g = h in cc)
 
 to_listed : (answer : Binary → Answer) (chosen : Answers) (binaries : List Binary) (found : Found) → listing answer chosen binaries ≡ Ok found
-    → (test : OwnedTestInstanceId) → Contains found.tests test → IsListed answer chosen binaries test
+    → (test : OwnedTestInstanceId) → Contains (instances_in found) test → IsListed answer chosen binaries test
 to_listed answer chosen [] found e test has =
-    absurd (none_has test (subst (λ (s : Found). Contains s.tests test) (let g : found ≡ record { tests = []; skipped = [] } = cc in g) has))
+    absurd (none_has test (subst (λ (s : Found). Contains (instances_in s) test) (let g : found ≡ record { tests = []; skipped = [] } = cc in g) has))
 to_listed answer chosen (binary ∷ binaries) found e test has =
     let parts = first_of answer chosen binary binaries found e in
-    elim (Contains-append_cases (selected_in chosen binary parts.names) parts.rest.tests test (subst (λ (tests : List OwnedTestInstanceId). Contains tests test) parts.tests has)) [
+    elim (Contains-append_cases (tests_of binary (filter (chosen.selects binary) parts.names)) (instances_in parts.rest) test (subst (λ (tests : List OwnedTestInstanceId). Contains tests test) parts.instances has)) [
       | inl here ↦
           let made = has_of_map (λ (name : List ℕ). record { binary_id = binary.id; test_name = name }) (filter (chosen.selects binary) parts.names) test here in
           let name = has_of_filter (chosen.selects binary) parts.names made.of made.among in
@@ -163,41 +108,71 @@ to_listed answer chosen (binary ∷ binaries) found e test has =
     ]
 
 from_listed : (answer : Binary → Answer) (chosen : Answers) (binaries : List Binary) (found : Found) → listing answer chosen binaries ≡ Ok found
-    → (test : OwnedTestInstanceId) → IsListed answer chosen binaries test → Contains found.tests test
+    → (test : OwnedTestInstanceId) → IsListed answer chosen binaries test → Contains (instances_in found) test
 from_listed answer chosen [] found e test it = absurd (none_has it.binary it.among)
 from_listed answer chosen (binary ∷ binaries) found e test it =
     let parts = first_of answer chosen binary binaries found e in
-    subst (λ (tests : List OwnedTestInstanceId). Contains tests test) (sym parts.tests) (
+    subst (λ (tests : List OwnedTestInstanceId). Contains tests test) (sym parts.instances) (
     elim (has_cases binary it.binary binaries it.among) [
       | inl same ↦
           let both : Ok parts.names ≡ Ok it.names = sym (accepted_is (answer binary) parts.names parts.answered) ∙ ap answer same ∙ it.answered in
           let names : it.names ≡ parts.names = cc in
           let made : record { binary_id = binary.id; test_name = test.test_name } ≡ test = ap (λ (id : List ℕ). record { binary_id = id; test_name = test.test_name }) (ap (λ (b : Binary). b.id) same ∙ it.id) in
-          Contains-append_left (selected_in chosen binary parts.names) parts.rest.tests test
-          (subst (λ (t : OwnedTestInstanceId). Contains (selected_in chosen binary parts.names) t) made
+          Contains-append_left (tests_of binary (filter (chosen.selects binary) parts.names)) (instances_in parts.rest) test
+          (subst (λ (t : OwnedTestInstanceId). Contains (tests_of binary (filter (chosen.selects binary) parts.names)) t) made
           (map_has (λ (name : List ℕ). record { binary_id = binary.id; test_name = name }) (filter (chosen.selects binary) parts.names) test.test_name
           (filter_has (chosen.selects binary) parts.names test.test_name (subst (λ (ns : List (List ℕ)). Contains ns test.test_name) names it.named)
           (ap (λ (b : Binary). chosen.selects b test.test_name) same ∙ it.chosen_name))))
       | inr more ↦
-          Contains-append_right (selected_in chosen binary parts.names) parts.rest.tests test
+          Contains-append_right (tests_of binary (filter (chosen.selects binary) parts.names)) (instances_in parts.rest) test
           (from_listed answer chosen binaries parts.rest parts.listed test
           (record { binary = it.binary; among = more; id = it.id; names = it.names; answered = it.answered; named = it.named; chosen_name = it.chosen_name }))
     ])
 
-instances_of : (settings : RunSettings) (tests : List OwnedTestInstanceId) → map (λ (t : PlanTest). t.instance) (map (plan_test settings) tests) ≡ tests
-instances_of settings [] = refl
-instances_of settings (test ∷ tests) = ap (λ (ts : List OwnedTestInstanceId). test ∷ ts) (instances_of settings tests)
+-- each test that is found is one of a listed binary
+of_binaries : (answer : Binary → Answer) (chosen : Answers) (binaries : List Binary) (found : Found) → listing answer chosen binaries ≡ Ok found
+    → (test : Test) → Contains found.tests test → (binary : Binary) × Contains binaries binary × (test ≡ seen_test binary test.name)
+of_binaries answer chosen [] found e test has =
+    absurd (none_has test (subst (λ (s : Found). Contains s.tests test) (let g : found ≡ record { tests = []; skipped = [] } = cc in g) has))
+of_binaries answer chosen (binary ∷ binaries) found e test has =
+    let parts = first_of answer chosen binary binaries found e in
+    elim (Contains-append_cases (selected_in chosen binary parts.names) parts.rest.tests test (subst (λ (tests : List Test). Contains tests test) parts.tests has)) [
+      | inl here ↦
+          let made = has_of_map (seen_test binary) (filter (chosen.selects binary) parts.names) test here in
+          (binary, first_has binary binaries, sym made.made ∙ ap (seen_test binary) (ap (λ (t : Test). t.name) made.made))
+      | inr more ↦ let there = of_binaries answer chosen binaries parts.rest parts.listed test more in (there.0, rest_has binary there.0 binaries there.1, there.2)
+    ]
+
+-- two tests of a plan that are of one id and one name are one
+pub by_instance : (answer : Binary → Answer) (inputs : Inputs) (it : Planned) → Plans answer inputs (Ok it) → (a b : PlanTest) → Contains (map (plan_test it.choice.of_test) it.found.tests) a
+    → Contains (map (plan_test it.choice.of_test) it.found.tests) b → a.instance ≡ b.instance → a ≡ b
+by_instance answer inputs it planned a b has also same =
+    let parts = parts_of answer inputs it planned in
+    let listed = listed_in inputs it.answers in
+    let one = has_of_map (plan_test it.choice.of_test) it.found.tests a has in
+    let other = has_of_map (plan_test it.choice.of_test) it.found.tests b also in
+    let from = of_binaries answer it.answers listed it.found parts.listed one.of one.among in
+    let from_other = of_binaries answer it.answers listed it.found parts.listed other.of other.among in
+    let instances : instance_of one.of ≡ instance_of other.of = ap (λ (t : PlanTest). t.instance) one.made ∙ same ∙ sym (ap (λ (t : PlanTest). t.instance) other.made) in
+    let ids : from.0.id ≡ from_other.0.id =
+    sym (ap (λ (t : Test). t.binary.id) from.2) ∙ ap (λ (i : OwnedTestInstanceId). i.binary_id) instances ∙ ap (λ (t : Test). t.binary.id) from_other.2 in
+    let binary : from.0 ≡ from_other.0 =
+    same_binary inputs.workspace.binaries from.0 from_other.0 (planned_apart answer inputs it planned) (has_of_filter it.answers.lists inputs.workspace.binaries from.0 from.1).among
+    (has_of_filter it.answers.lists inputs.workspace.binaries from_other.0 from_other.1).among ids in
+    let name : one.of.name ≡ other.of.name = ap (λ (i : OwnedTestInstanceId). i.test_name) instances in
+    let tests : one.of ≡ other.of = from.2 ∙ ap (λ (b : Binary). seen_test b one.of.name) binary ∙ ap (seen_test from_other.0) name ∙ sym from_other.2 in
+    sym one.made ∙ ap (plan_test it.choice.of_test) tests ∙ other.made
 
 -- ---- filters
 
 -- where all hold on a test of a binary, each can hold on the binary
-all_can_hold : (workspace : WorkspaceRecord) (force : InForce) (binary : Binary) (name : List ℕ) → AllHold workspace force binary name → AllCanHold workspace force binary
-all_can_hold workspace force binary name all = λ k d within. tree_can_be (graph_of workspace) (get_or force.filters k d) force.default (seen_test binary name) (IsOfGroup (seen_test binary name)) true (all k d within)
+all_can_hold : (workspace : WorkspaceRecord) (of_test : Test → PlanSettings) (force : InForce) (binary : Binary) (name : List ℕ) → AllHold workspace of_test force binary name → AllCanHold workspace force binary
+all_can_hold workspace of_test force binary name all = λ k d within. tree_can_be (graph_of workspace) (get_or force.filters k d) force.default (seen_test binary name) (IsOfGroup of_test (seen_test binary name)) true (all k d within)
 
 -- a selected test of a listed binary is wanted
-wanted_of : (answer : Binary → Answer) (inputs : Inputs) (force : InForce) (answers : Answers) (test : OwnedTestInstanceId) → AreAnswersOf inputs.workspace force answers
-    → IsListed answer answers (listed_in inputs answers) test → IsWanted answer inputs force test
-wanted_of answer inputs force answers test are it = record {
+wanted_of : (answer : Binary → Answer) (inputs : Inputs) (choice : Choice) (force : InForce) (answers : Answers) (test : OwnedTestInstanceId) → AreAnswersOf inputs.workspace choice.of_test force answers
+    → IsListed answer answers (listed_in inputs answers) test → IsWanted answer inputs choice force test
+wanted_of answer inputs choice force answers test are it = record {
   binary = it.binary;
   among = (has_of_filter answers.lists inputs.workspace.binaries it.binary it.among).among;
   id = it.id;
@@ -207,12 +182,12 @@ wanted_of answer inputs force answers test are it = record {
   holds = (are.selects it.binary test.test_name).0 it.chosen_name;
 }
 
-of_wanted : (answer : Binary → Answer) (inputs : Inputs) (force : InForce) (answers : Answers) (test : OwnedTestInstanceId) → AreAnswersOf inputs.workspace force answers
-    → IsWanted answer inputs force test → IsListed answer answers (listed_in inputs answers) test
-of_wanted answer inputs force answers test are it = record {
+of_wanted : (answer : Binary → Answer) (inputs : Inputs) (choice : Choice) (force : InForce) (answers : Answers) (test : OwnedTestInstanceId) → AreAnswersOf inputs.workspace choice.of_test force answers
+    → IsWanted answer inputs choice force test → IsListed answer answers (listed_in inputs answers) test
+of_wanted answer inputs choice force answers test are it = record {
   binary = it.binary;
   among = filter_has answers.lists inputs.workspace.binaries it.binary it.among
-      ((are.lists it.binary).1 (all_can_hold inputs.workspace force it.binary test.test_name it.holds));
+      ((are.lists it.binary).1 (all_can_hold inputs.workspace choice.of_test force it.binary test.test_name it.holds));
   id = it.id;
   names = it.names;
   answered = it.answered;
@@ -220,28 +195,44 @@ of_wanted answer inputs force answers test are it = record {
   chosen_name = (are.selects it.binary test.test_name).1 it.holds;
 }
 
--- what the filters in force of a plan answer
-pub plan_answers : (answer : Binary → Answer) (inputs : Inputs) (it : Planned) (settings : RunSettings) (force : InForce) → Plans answer inputs (Ok it) → Settles inputs (Ok settings)
-    → AreInForce inputs settings.default_filter force → AreAnswersOf inputs.workspace force it.answers
-plan_answers answer inputs it settings force planned settles is =
-    let parts = parts_of answer inputs it planned in
-    let same : it.settings ≡ settings = settled_once inputs (Ok it.settings) (Ok settings) parts.settings settles in
-    answers_are inputs settings.default_filter force it.answers is (subst (λ (s : RunSettings). IsChosen inputs s.default_filter (Ok it.answers)) same parts.chosen)
+-- what a plan's inputs ask for
+pub plan_choice : (answer : Binary → Answer) (inputs : Inputs) (it : Planned) (choice : Choice) → Plans answer inputs (Ok it) → Settles inputs (Ok choice) → it.choice ≡ choice
+plan_choice answer inputs it choice planned settles = settled_once inputs (Ok it.choice) (Ok choice) (parts_of answer inputs it planned).asked settles
+
+-- and what the filters in force answer
+pub plan_answers : (answer : Binary → Answer) (inputs : Inputs) (it : Planned) (choice : Choice) (force : InForce) → Plans answer inputs (Ok it) → Settles inputs (Ok choice)
+    → AreInForce inputs choice.run force → AreAnswersOf inputs.workspace choice.of_test force it.answers
+plan_answers answer inputs it choice force planned settles is =
+    answers_are inputs choice force it.answers is
+    (subst (λ (c : Choice). IsChosen inputs c (Ok it.answers)) (plan_choice answer inputs it choice planned settles) (parts_of answer inputs it planned).chosen)
 
 pub exactly_the_wanted : HasExactlyTheWanted
-exactly_the_wanted answer inputs plan settings force (it, planned, built) settles is test =
+exactly_the_wanted answer inputs plan choice force (it, planned, built) settles is test =
     let parts = parts_of answer inputs it planned in
-    let are = plan_answers answer inputs it settings force planned settles is in
+    let are = plan_answers answer inputs it choice force planned settles is in
     let listed = listed_in inputs it.answers in
-    let instances : map (λ (t : PlanTest). t.instance) plan.tests ≡ built.selection.tests =
-    ap (map (λ (t : PlanTest). t.instance)) built.tests ∙ instances_of it.settings built.selection.tests in (
+    let tests = map (λ (t : PlanTest). t.instance) plan.tests in
+    let same = instances_of inputs it plan built in (
       λ has.
-          wanted_of answer inputs force it.answers test are
-          (to_listed answer it.answers listed it.found parts.listed test
-          (Contains-permutation built.selection.tests it.found.tests test (IsPermutation-sym it.found.tests built.selection.tests built.selected.tests)
-          (subst (λ (tests : List OwnedTestInstanceId). Contains tests test) instances has))),
+          wanted_of answer inputs choice force it.answers test are
+          (to_listed answer it.answers listed it.found parts.listed test (Contains-permutation tests (instances_in it.found) test (IsPermutation-sym (instances_in it.found) tests same) has)),
       λ wanted.
-          subst (λ (tests : List OwnedTestInstanceId). Contains tests test) (sym instances)
-          (Contains-permutation it.found.tests built.selection.tests test built.selected.tests
-          (from_listed answer it.answers listed it.found parts.listed test (of_wanted answer inputs force it.answers test are wanted))),
+          Contains-permutation (instances_in it.found) tests test same (from_listed answer it.answers listed it.found parts.listed test (of_wanted answer inputs choice force it.answers test are wanted)),
     )
+
+-- each test of a plan has the settings that are set for it
+pub have_their_settings : HaveTheirSettings
+have_their_settings answer inputs plan choice (it, planned, built) settles test has =
+    let parts = parts_of answer inputs it planned in
+    let all = map (plan_test it.choice.of_test) it.found.tests in
+    let made = has_of_map (plan_test it.choice.of_test) it.found.tests test (Contains-permutation plan.tests all test (IsPermutation-sym all plan.tests built.tests) has) in
+    let from = of_binaries answer it.answers (listed_in inputs it.answers) it.found parts.listed made.of made.among in
+    let same = plan_choice answer inputs it choice planned settles in
+    let name : made.of.name ≡ test.instance.test_name = ap (λ (t : PlanTest). t.instance.test_name) made.made in
+    record {
+      binary = from.0;
+      among = (has_of_filter it.answers.lists inputs.workspace.binaries from.0 from.1).among;
+      id = sym (ap (λ (t : Test). t.binary.id) from.2) ∙ ap (λ (t : PlanTest). t.instance.binary_id) made.made;
+      settings = ap (λ (t : PlanTest). t.settings) (sym made.made) ∙ ap (λ (c : Choice). c.of_test made.of) same ∙ ap choice.of_test (from.2 ∙ ap (seen_test from.0) name);
+      tries = ap (λ (t : PlanTest). t.tries) (sym made.made) ∙ ap (λ (t : PlanTest). count_of t.settings.retries + 1) made.made;
+    }

@@ -1,6 +1,7 @@
 pub mod Refusals
 pub mod Filtering
 pub mod Plan
+pub mod Tests
 pub mod Inside
 pub mod Texts
 pub mod Laws

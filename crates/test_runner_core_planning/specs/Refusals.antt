@@ -36,6 +36,7 @@ abbrev pub of_settings : SettingsFault → PlanFault
 of_settings (set.Load told) = fault.Load told
 of_settings set.NotYet = fault.NotYet
 of_settings (set.ProfileNotFound told) = fault.ProfileNotFound told
+of_settings set.RepeatedFact = fault.RepeatedFact
 
 abbrev pub of_listing : ListingFault → PlanFault
 of_listing (listed.ListFault cause) = fault.ListFault cause

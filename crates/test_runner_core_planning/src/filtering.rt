@@ -13,7 +13,7 @@ use nextest_filtering_arguments::FiltersetKind;
 use nextest_filtering_compiling::{Filterset, FiltersetError, ParseContext};
 use nextest_filtering_filters::{CompiledExpr, KnownGroups};
 use nextest_filtering_graph::{GraphError, PackageGraph};
-use nextest_text::{Listing, Text};
+use nextest_text::Text;
 use std::alloc::{AllocError, Global};
 use test_runner_core_workspace::{Binary, Link, Package, WorkspaceRecord};
 
@@ -80,18 +80,18 @@ pub(crate) fn context_of(
     Ok(ParseContext::new(alloc, graph)?.with_binaries(binaries))
 }
 
-// The filter that a filterset is in a workspace, which is `cx` to filtersets.
+// The filter that a filterset is in a workspace, which is `cx` to filtersets, where these groups are known.
 fn parsed(
     alloc: Global,
     workspace: &WorkspaceRecord,
     cx: &ParseContext,
+    known: &KnownGroups,
     text: &Text,
 ) -> Result<Option<CompiledExpr>, PlanError>
     requires { cx.now ≡ words.context_of workspace.now }
-    ensures { GivesFilterset workspace.now (Some text.now) result }
+    ensures { GivesFilterset workspace.now known.now (Some text.now) result }
 {
-    let known = KnownGroups::Known(Listing::new(alloc));
-    match Filterset::parse(alloc, text.clone()?, cx, FiltersetKind::Test, &known) {
+    match Filterset::parse(alloc, text.clone()?, cx, FiltersetKind::Test, known) {
         Ok(
             Filterset {
                 input: _,
@@ -109,13 +109,14 @@ pub(crate) fn filterset_in(
     alloc: Global,
     workspace: &WorkspaceRecord,
     cx: &ParseContext,
+    known: &KnownGroups,
     filterset: &Option<Text>,
 ) -> Result<Option<CompiledExpr>, PlanError>
     requires { cx.now ≡ words.context_of workspace.now }
-    ensures { GivesFilterset workspace.now filterset.now result }
+    ensures { GivesFilterset workspace.now known.now filterset.now result }
 {
     match filterset {
-        Some(text) => parsed(alloc, workspace, cx, text),
+        Some(text) => parsed(alloc, workspace, cx, known, text),
         None => Ok(None),
     }
 }

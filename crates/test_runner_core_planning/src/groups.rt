@@ -1,25 +1,54 @@
-// The groups of tests, as long as no rule gives a test one.
+// The groups of tests, by the settings that a profile has for them.
+ghost use Rattle.std.specs.Prelude.{◌≡◌};
+ghost use Rattle.nextest_config_elements_identifiers.specs.Groups.{text_of};
+ghost use Rattle.nextest_config_resolution_settings.specs.TestSettings.{group_of};
+
+use nextest_config_resolution_profiles::EvaluatableProfile;
+use nextest_config_resolution_settings::TestGroupRef;
+use nextest_filtering_compiling::Filterset;
 use nextest_filtering_filters::{GroupLookup, TestQuery};
 use nextest_filtering_trees::NameMatcher;
 use std::alloc::{AllocError, Global};
+use test_runner_core_platforms::PlatformSpec;
 
-// Says of every test that its group is `@global`.
-pub(crate) struct AllGlobal {
+// Says of each test the group that a profile has for it, where it is asked.
+pub(crate) struct ProfileGroups<'p, 'c> {
     pub(crate) alloc: Global,
+    pub(crate) profile: &'p EvaluatableProfile<'c, Filterset, PlatformSpec>,
 }
 
-impl Drop for AllGlobal {
+impl<'p, 'c> Drop for ProfileGroups<'p, 'c> {
     fn drop(self) {
-        let Self { alloc: _ } = self;
+        let Self {
+            alloc: _,
+            profile: _,
+        } = self;
     }
 }
 
-impl GroupLookup for AllGlobal {
-    ghost use Rattle.test_runner_core_planning.specs.Filtering.{IsOfGroup};
+impl<'p, 'c> GroupLookup for ProfileGroups<'p, 'c> {
+    ghost use Rattle.test_runner_core_planning.specs.Inside.{IsInGroup};
 
-    ghost member = { λ groups. IsOfGroup };
+    ghost member = { λ groups. IsInGroup groups.profile.now };
 
-    fn is_member_test(&self, _: &TestQuery<'_>, matcher: &NameMatcher) -> Result<bool, AllocError> {
-        matcher.is_match(self.alloc, "@global")
+    fn is_member_test(
+        &self,
+        test: &TestQuery<'_>,
+        matcher: &NameMatcher,
+    ) -> Result<bool, AllocError> {
+        match self.profile.group_for(self.alloc, test) {
+            Ok(group) => matcher.is_match(self.alloc, name_of(group)),
+            Err(error) => Err(error),
+        }
+    }
+}
+
+// The name of a group.
+fn name_of(group: TestGroupRef<'_>) -> &str
+    ensures { result.now ≡ text_of (group_of group.entry) }
+{
+    match group {
+        TestGroupRef::Global => "@global",
+        TestGroupRef::Custom(custom) => custom.as_str(),
     }
 }

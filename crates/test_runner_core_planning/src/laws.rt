@@ -1,5 +1,5 @@
 //! What holds of every plan that is built. Each function does nothing, and its contract is the law.
-ghost use Rattle.test_runner_core_planning.specs.Laws.{AsksForSome, HasExactlyTheWanted, HasNoneTwice, IsolatesPlans, ListsExactly, NotPlannedAndRefused, OnePlan};
+ghost use Rattle.test_runner_core_planning.specs.Laws.{AsksForSome, HasExactlyTheWanted, HasNoneTwice, HaveTheirSettings, IsolatesPlans, ListsExactly, NotPlannedAndRefused, OnePlan};
 
 /// Inputs have at most one plan.
 pub fn one_plan()
@@ -16,6 +16,11 @@ pub fn selected()
     ensures { HasExactlyTheWanted }
 {}
 
+/// Each test of a plan has the settings that are set for it in its binary.
+pub fn settled()
+    ensures { HaveTheirSettings }
+{}
+
 /// A binary is listed exactly if each filter in force can hold on it, by answers of its own to what it asks of the binary's tests.
 pub fn listed()
     ensures { ListsExactly }
@@ -27,12 +32,13 @@ pub fn selected_once()
 {}
 
 /// Profiles outside of the chosen one's chain change nothing: where two inputs ask for the same tests of one workspace, choose one
-/// profile and say the same in it, in its parents and in `default`, and both have a plan, then it is one plan, warnings aside.
+/// profile, for the same platforms and with the same groups, and say the same in it, in its parents and in `default`, and both have a
+/// plan, then it is one plan, warnings aside.
 pub fn isolated()
     ensures plan { IsolatesPlans }
 {}
 
-/// It can't be that inputs neither ask for settings nor have a first reason, before their filterset is looked at, why they have no
+/// It can't be that inputs neither ask for something nor have a first reason, before their filterset is looked at, why they have no
 /// plan.
 pub fn some_settings()
     ensures { AsksForSome }

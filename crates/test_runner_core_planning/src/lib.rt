@@ -7,6 +7,7 @@ mod groups;
 pub mod laws;
 mod plan_error;
 mod plan_fault;
+mod settled_tests;
 mod wanted;
 
 pub use build::BuildPlan;

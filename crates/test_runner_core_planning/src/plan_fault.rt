@@ -47,12 +47,15 @@ pub enum PlanFault {
     /// The configuration isn't loaded.
     #[error(transparent)]
     Load(LoadFault),
+    /// A file sets a key of scripts, which isn't read yet; looked for last among the reasons of the configuration.
+    #[error("NotYet")]
+    NotYet,
     /// There is no profile of the chosen name.
     #[error(transparent)]
     ProfileNotFound(ProfileNotFound),
-    /// The inputs ask for what isn't built yet; looked for last among the reasons of the part that it belongs to.
-    #[error("NotYet")]
-    NotYet,
+    /// Two facts of a platform have the same name and the same value.
+    #[error("RepeatedFact")]
+    RepeatedFact,
     /// The filterset isn't one that the workspace accepts.
     #[error("Filterset")]
     Filterset,
@@ -86,8 +89,9 @@ impl Drop for PlanFault {
             Self::VersionError => {}
             Self::UnknownFeature => {}
             Self::Load(_) => {}
-            Self::ProfileNotFound(_) => {}
             Self::NotYet => {}
+            Self::ProfileNotFound(_) => {}
+            Self::RepeatedFact => {}
             Self::Filterset => {}
             Self::ListFault(_) => {}
             Self::EmptyTestName => {}
@@ -116,8 +120,9 @@ impl PlanFault {
             PlanFault::VersionError => "VersionError",
             PlanFault::UnknownFeature => "UnknownFeature",
             PlanFault::Load(told) => load_name(told.kind()),
-            PlanFault::ProfileNotFound(_) => "ProfileNotFound",
             PlanFault::NotYet => "NotYet",
+            PlanFault::ProfileNotFound(_) => "ProfileNotFound",
+            PlanFault::RepeatedFact => "RepeatedFact",
             PlanFault::Filterset => "Filterset",
             PlanFault::ListFault(_) => "ListFault",
             PlanFault::EmptyTestName => "EmptyTestName",
@@ -201,6 +206,7 @@ impl From<SettingsFault> for PlanFault {
             SettingsFault::Load(told) => PlanFault::Load(told),
             SettingsFault::NotYet => PlanFault::NotYet,
             SettingsFault::ProfileNotFound(told) => PlanFault::ProfileNotFound(told),
+            SettingsFault::RepeatedFact => PlanFault::RepeatedFact,
         }
     }
 }

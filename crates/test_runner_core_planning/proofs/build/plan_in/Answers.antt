@@ -1,11 +1,14 @@
-use Rattle.std.proofs.Common.{◌≡◌, ap, sym, ◌∙◌, List, Err, true, false}
+use Rattle.std.proofs.Common.{◌≡◌, ap, sym, subst, ◌∙◌, List, Err, true, false, map}
+use Rattle.std.specs.List.{list_any}
+use Rattle.std.specs.List.Sorted.{IsPermutation}
 use Rattle.std.proofs.lemmas.Result.{err_from_is_err_and}
-use Rattle.nextest_run_events_results.specs.declared.instance.OwnedTestInstanceId.{OwnedTestInstanceId}
 use Rattle.test_runner_core_listing.specs.Listing.{asked_of}
+use Rattle.test_runner_core_listing.specs.Selected.{tests_in}
 use Rattle.test_runner_core_listing.specs.declared.selection.Selection.{Selection}
-use Rattle.test_runner_core_planning.specs.Plan.{has_too_many, lacks_memory, listed_in}
-use Rattle.test_runner_core_planning.proofs.Building.{asks_lacking, asks_nothing, asks_with, plans_found, refused_before, refused_listing, tries_fit, wants_settled}
-use Rattle.test_runner_core_planning.proofs.Choosing.{wanted_chosen}
+use Rattle.test_runner_core_plan.specs.declared.plan.PlanTest.{PlanTest}
+use Rattle.test_runner_core_planning.specs.Plan.{has_too_many, lacks_memory, listed_in, overflows, plan_test, with_settings}
+use Rattle.test_runner_core_planning.proofs.Building.{any_overflows, asks_lacking, asks_nothing, asks_with, plans_found, refused_before, refused_listing, tries_fit, wants_settled}
+use Rattle.test_runner_core_planning.proofs.Choosing.{has_each, own, own_settles, wanted_chosen}
 use Rattle.test_runner_core_planning.proofs.build.plan_in.Goals as goal
 
 pub returns-in_err-config-clause-builds : goal.returns-in_err-config-clause-builds
@@ -32,77 +35,87 @@ returns-in_err-wanted-clause-asks g c =
     let p = err_from_is_err_and c.from_residual-in_err-wanted.result c.from_residual-in_err-wanted.ensures.1 in
     rw (p.1, p.2) (asks_nothing (g.L.Lister.answer c.args.lister.now) c.args.inputs.now c.in_err-wanted.field-0.0 (g.L.Lister.asked c.args.lister.now) c.in_err-wanted.ensures)
 
-pub returns-in_err-selection-clause-builds : goal.returns-in_err-selection-clause-builds
-returns-in_err-selection-clause-builds g c =
-    let p = err_from_is_err_and c.from_residual-in_err-selection.result c.from_residual-in_err-selection.ensures.1 in
+pub returns-in_err-listed-clause-builds : goal.returns-in_err-listed-clause-builds
+returns-in_err-listed-clause-builds g c =
+    let p = err_from_is_err_and c.from_residual-in_err-listed.result c.from_residual-in_err-listed.ensures.1 in
     let inputs = c.args.inputs.now in
-    let wanted = c.in_ok-wanted.wanted in
-    let known = c.in_ok-wanted.ensures in
-    let made = wanted_chosen inputs wanted known in
-    rw (p.1, p.2) (refused_listing (g.L.Lister.answer c.args.lister.now) inputs wanted.settings made.0 c.in_err-selection.field-0.0 known.0 made.1 (c.in_err-selection.ensures.selects made.0 made.1))
+    let choice = own inputs c.in_ok-wanted.wanted c.in_ok-wanted.ensures in
+    let settles = own_settles inputs c.in_ok-wanted.wanted c.in_ok-wanted.ensures in
+    let made = wanted_chosen inputs c.in_ok-wanted.wanted c.in_ok-wanted.ensures in
+    rw (p.1, p.2) (refused_listing (g.L.Lister.answer c.args.lister.now) inputs choice made.0 c.in_err-listed.field-0.0 settles made.1 (c.in_err-listed.ensures.selects choice made.0 settles made.1))
 
-pub returns-in_err-selection-clause-asks : goal.returns-in_err-selection-clause-asks
-returns-in_err-selection-clause-asks g c =
-    let p = err_from_is_err_and c.from_residual-in_err-selection.result c.from_residual-in_err-selection.ensures.1 in
+pub returns-in_err-listed-clause-asks : goal.returns-in_err-listed-clause-asks
+returns-in_err-listed-clause-asks g c =
+    let p = err_from_is_err_and c.from_residual-in_err-listed.result c.from_residual-in_err-listed.ensures.1 in
     let inputs = c.args.inputs.now in
-    let wanted = c.in_ok-wanted.wanted in
-    let known = c.in_ok-wanted.ensures in
-    let made = wanted_chosen inputs wanted known in
-    rw (p.1, p.2) (asks_with (g.L.Lister.answer c.args.lister.now) inputs wanted.settings made.0 (lacks_memory {A = Selection} (Err c.in_err-selection.field-0.0)) (g.L.Lister.asked c.args.lister.now) (g.L.Lister.asked c.selection_by.new.lister)
-    known.0 made.1 (λ answers are. c.in_err-selection.ensures.asks answers are))
+    let choice = own inputs c.in_ok-wanted.wanted c.in_ok-wanted.ensures in
+    let settles = own_settles inputs c.in_ok-wanted.wanted c.in_ok-wanted.ensures in
+    let made = wanted_chosen inputs c.in_ok-wanted.wanted c.in_ok-wanted.ensures in
+    rw (p.1, p.2) (asks_with (g.L.Lister.answer c.args.lister.now) inputs choice made.0 (lacks_memory {A = Selection} (Err c.in_err-listed.field-0.0)) (g.L.Lister.asked c.args.lister.now) (g.L.Lister.asked c.selection_by.new.lister)
+    settles made.1 (λ answers are. c.in_err-listed.ensures.asks choice answers settles are))
+
+pub returns-in_err-tests-clause-asks : goal.returns-in_err-tests-clause-asks
+returns-in_err-tests-clause-asks g c =
+    let p = err_from_is_err_and c.from_residual-in_err-tests.result c.from_residual-in_err-tests.ensures.1 in
+    let answer = g.L.Lister.answer c.args.lister.now in
+    let inputs = c.args.inputs.now in
+    let old = g.L.Lister.asked c.args.lister.now in
+    let new = g.L.Lister.asked c.selection_by.new.lister in
+    let choice = own inputs c.in_ok-wanted.wanted c.in_ok-wanted.ensures in
+    let settles = own_settles inputs c.in_ok-wanted.wanted c.in_ok-wanted.ensures in
+    let made = wanted_chosen inputs c.in_ok-wanted.wanted c.in_ok-wanted.ensures in
+    rw (p.1, p.2) (asks_with answer inputs choice made.0 true old new settles made.1
+    (λ answers are. asks_lacking old (asked_of answer (listed_in inputs answers)) new (c.in_ok-listed.ensures.asks choice answers settles are)))
 
 pub returns-then-has_too_many-clause-builds : goal.returns-then-has_too_many-clause-builds
 returns-then-has_too_many-clause-builds g c =
     let inputs = c.args.inputs.now in
     let wanted = c.in_ok-wanted.wanted in
-    let known = c.in_ok-wanted.ensures in
-    let made = wanted_chosen inputs wanted known in
-    let selects = c.in_ok-selection.ensures.selects made.0 made.1 in
-    let many : has_too_many wanted.settings c.in_ok-selection.selection.tests ≡ true =
-    ap (λ (tests : List OwnedTestInstanceId). has_too_many wanted.settings tests) (sym c.as_slice.ensures) ∙ sym c.has_too_many.ensures.value ∙ c.if-has_too_many.true in
-    plans_found (g.L.Lister.answer c.args.lister.now) inputs wanted.settings made.0 selects.0 c.in_ok-selection.selection true known.0 made.1 selects.1 selects.2 many
+    let has = c.in_ok-wanted.ensures in
+    let choice = own inputs wanted has in
+    let settles = own_settles inputs wanted has in
+    let made = wanted_chosen inputs wanted has in
+    let selection = c.in_ok-listed.field-0 in
+    let selects = c.in_ok-listed.ensures.selects choice made.0 settles made.1 in
+    let tests = c.in_ok-tests.ensures choice.of_test (has_each inputs wanted.run has.chooses) in
+    let many : has_too_many choice.of_test (tests_in selection.tests.items) ≡ true =
+    sym (any_overflows choice.of_test (tests_in selection.tests.items))
+    ∙ ap (λ (it : List PlanTest). list_any (λ (test : PlanTest). overflows test.settings) it) (sym (c.as_slice.ensures.value ∙ tests))
+    ∙ sym c.has_too_many.ensures ∙ c.if-has_too_many.true in
+    plans_found (g.L.Lister.answer c.args.lister.now) inputs choice made.0 (record { tests = tests_in selection.tests.items; skipped = selection.skipped }) true settles made.1 selects.0 many
 
 pub returns-then-has_too_many-clause-asks : goal.returns-then-has_too_many-clause-asks
 returns-then-has_too_many-clause-asks g c =
     let inputs = c.args.inputs.now in
-    let wanted = c.in_ok-wanted.wanted in
-    let known = c.in_ok-wanted.ensures in
-    let made = wanted_chosen inputs wanted known in
-    asks_with (g.L.Lister.answer c.args.lister.now) inputs wanted.settings made.0 false (g.L.Lister.asked c.args.lister.now) (g.L.Lister.asked c.selection_by.new.lister)
-    known.0 made.1 (λ answers are. c.in_ok-selection.ensures.asks answers are)
-
-pub returns-in_err-plan_of-clause-asks : goal.returns-in_err-plan_of-clause-asks
-returns-in_err-plan_of-clause-asks g c =
-    let p = err_from_is_err_and c.from_residual-in_err-plan_of.result c.from_residual-in_err-plan_of.ensures.1 in
-    let answer = g.L.Lister.answer c.args.lister.now in
-    let inputs = c.args.inputs.now in
-    let old = g.L.Lister.asked c.args.lister.now in
-    let new = g.L.Lister.asked c.selection_by.new.lister in
-    let wanted = c.in_ok-wanted.wanted in
-    let known = c.in_ok-wanted.ensures in
-    let made = wanted_chosen inputs wanted known in
-    rw (p.1, p.2) (asks_with answer inputs wanted.settings made.0 true old new known.0 made.1
-    (λ answers are. asks_lacking old (asked_of answer (listed_in inputs answers)) new (c.in_ok-selection.ensures.asks answers are)))
+    let choice = own inputs c.in_ok-wanted.wanted c.in_ok-wanted.ensures in
+    let settles = own_settles inputs c.in_ok-wanted.wanted c.in_ok-wanted.ensures in
+    let made = wanted_chosen inputs c.in_ok-wanted.wanted c.in_ok-wanted.ensures in
+    asks_with (g.L.Lister.answer c.args.lister.now) inputs choice made.0 false (g.L.Lister.asked c.args.lister.now) (g.L.Lister.asked c.selection_by.new.lister)
+    settles made.1 (λ answers are. c.in_ok-listed.ensures.asks choice answers settles are)
 
 pub returns-clause-builds : goal.returns-clause-builds
 returns-clause-builds g c =
     let inputs = c.args.inputs.now in
     let wanted = c.in_ok-wanted.wanted in
-    let known = c.in_ok-wanted.ensures in
-    let selection = c.in_ok-selection.selection in
-    let made = wanted_chosen inputs wanted known in
-    let selects = c.in_ok-selection.ensures.selects made.0 made.1 in
-    let few : has_too_many wanted.settings selection.tests ≡ false =
-    ap (λ (tests : List OwnedTestInstanceId). has_too_many wanted.settings tests) (sym c.as_slice.ensures) ∙ sym c.has_too_many.ensures.value ∙ c.if-has_too_many.false in
-    let plan = c.in_ok-plan_of.ensures in (
-      record { settings = wanted.settings; answers = made.0; found = selects.0 },
-      plans_found (g.L.Lister.answer c.args.lister.now) inputs wanted.settings made.0 selects.0 selection false known.0 made.1 selects.1 selects.2 few,
+    let has = c.in_ok-wanted.ensures in
+    let choice = own inputs wanted has in
+    let settles = own_settles inputs wanted has in
+    let made = wanted_chosen inputs wanted has in
+    let selection = c.in_ok-listed.field-0 in
+    let selects = c.in_ok-listed.ensures.selects choice made.0 settles made.1 in
+    let tests = c.in_ok-tests.ensures choice.of_test (has_each inputs wanted.run has.chooses) in
+    let few : has_too_many choice.of_test (tests_in selection.tests.items) ≡ false =
+    sym (any_overflows choice.of_test (tests_in selection.tests.items))
+    ∙ ap (λ (it : List PlanTest). list_any (λ (test : PlanTest). overflows test.settings) it) (sym (c.as_slice.ensures.value ∙ tests))
+    ∙ sym c.has_too_many.ensures ∙ c.if-has_too_many.false in
+    let plan = c.plan_of.ensures in (
+      record { choice = choice; answers = made.0; found = record { tests = tests_in selection.tests.items; skipped = selection.skipped } },
+      plans_found (g.L.Lister.answer c.args.lister.now) inputs choice made.0 (record { tests = tests_in selection.tests.items; skipped = selection.skipped }) false settles made.1 selects.0 few,
       record {
-        selection = selection;
-        selected = selects.2;
-        tests = plan.tests ∙ tries_fit wanted.settings selection.tests c.has_too_many.ensures.fits few;
-        skipped = plan.skipped ∙ selects.2.skipped;
-        listed = plan.listed ∙ selects.2.listed;
+        tests = subst (λ (it : List PlanTest). IsPermutation it c.plan_of.result.tests) (tests ∙ tries_fit choice.of_test (tests_in selection.tests.items) few) plan.tests;
+        order = plan.order;
+        skipped = plan.skipped;
+        listed = plan.listed ∙ selects.1;
         limit = plan.limit;
         levels = plan.levels;
         scripts = plan.scripts;
@@ -113,8 +126,8 @@ returns-clause-builds g c =
 pub returns-clause-asks : goal.returns-clause-asks
 returns-clause-asks g c =
     let inputs = c.args.inputs.now in
-    let wanted = c.in_ok-wanted.wanted in
-    let known = c.in_ok-wanted.ensures in
-    let made = wanted_chosen inputs wanted known in
-    asks_with (g.L.Lister.answer c.args.lister.now) inputs wanted.settings made.0 false (g.L.Lister.asked c.args.lister.now) (g.L.Lister.asked c.selection_by.new.lister)
-    known.0 made.1 (λ answers are. c.in_ok-selection.ensures.asks answers are)
+    let choice = own inputs c.in_ok-wanted.wanted c.in_ok-wanted.ensures in
+    let settles = own_settles inputs c.in_ok-wanted.wanted c.in_ok-wanted.ensures in
+    let made = wanted_chosen inputs c.in_ok-wanted.wanted c.in_ok-wanted.ensures in
+    asks_with (g.L.Lister.answer c.args.lister.now) inputs choice made.0 false (g.L.Lister.asked c.args.lister.now) (g.L.Lister.asked c.selection_by.new.lister)
+    settles made.1 (λ answers are. c.in_ok-listed.ensures.asks choice answers settles are)
