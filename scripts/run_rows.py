@@ -4,11 +4,9 @@
 
     python3 scripts/run_rows.py
 
-It knows nothing of the program: each answer is reckoned here by the rules. What configurations come to, and what of them is unknown, is
-reckoned by scripts/config_rows.py, what versions they ask for by scripts/version_rows.py. Then, by the rules:
+It knows nothing of the program: each answer is reckoned here by the rules. What inputs come to is reckoned by scripts/plan_rules.py; rows that
+scripts/plan_rows.py draws stand at the end of `profiles_plans`. Then, by the rules:
 
-- First come the faults of versions and features, then those of the load; then a file that sets what isn't taken yet (scripts), or has an
-  override or a group, a profile that isn't there, a platform, and retries that can't be counted.
 - An attempt that ends finishes its test if it is a success, the last try, or the run is stopped; else the test is between two attempts. A
   finished test fails where its last attempt does, or where it passes late and the flaky rule is `fail`. As many of these as the limit stop
   a run that isn't stopped, and each stop finishes the tests between two attempts.
@@ -17,17 +15,24 @@ reckoned by scripts/config_rows.py, what versions they ask for by scripts/versio
   not after an interrupt; in the final text where they are shown finally, but not after a signal where they stood at once. The final text has
   each test that isn't finished, without outputs; and of the others, but after an interrupt, those whose outputs are shown finally and those
   that the final level reaches. A test that the run itself ended has its line alone.
+- The part of an output that tells of the error runs from the last panic message of standard error, or from a line before it that begins with
+  `Error:`, else from its first line that begins so; or it is the note on standard output that a panic is missing.
 """
 import itertools
 import json
 import random
 import re
-import tomllib
+import sys
 
+sys.dont_write_bytecode = True
 import config_rows as configs
+import plan_rows
+import plan_rules as plans
 import version_rows as versions
-from config_rows import in_order, on_one_line
-from element_rows import SIGNS, toml
+from config_rows import in_order
+from element_rows import SIGNS, tell_numbers, toml
+from plan_rules import Refused
+from plan_rows import changed, facts, source, with_sources
 
 DATA, ROWS = versions.ROOT / "crates/worked_rows/data", versions.ROOT / "rows"
 
@@ -40,103 +45,36 @@ COUNTERS = (
     " leaky-failed exec-failed skipped"
 ).split()
 
-# ---- what inputs come to
-
-
-class Refused(Exception):
-    """Inputs without a plan, or a line that is refused."""
-
-
-def as_told(source):
-    outcome = "missing" if "missing" in source else f"failed {source['failed']}" if "failed" in source else f"text {source['text']}"
-    return source["kind"], source["path"], outcome
-
-
-def versions_told(sources, inputs):
-    """The warnings of versions."""
-    greatest, names = [None, None], []
-    for kind, path, text in sources:
-        if not text.startswith("text "):
-            continue
-        try:
-            file = tomllib.loads(text.removeprefix("text "))
-            asked, names_here = versions.asked(file.get("nextest-version")), versions.features(file.get("experimental"))
-        except (tomllib.TOMLDecodeError, versions.Bad):
-            raise Refused("VersionSource") from None
-        if kind == "tool" and names_here:
-            raise Refused("VersionSource")
-        names += names_here
-        for role, version in enumerate(asked):
-            if version is not None and (greatest[role] is None or versions.before(version, greatest[role][0]) >= 0):
-                greatest[role] = version, path
-    current, passes = inputs["current_version"], inputs.get("override_version_check", False)
-    told = []
-    for role, found in zip(("required", "recommended"), greatest):
-        if found and versions.before(found[0], current) > 0:
-            if role == "required" and not passes:
-                raise Refused("VersionError")
-            told = [f"version {role} {found[0]} current {current} by {on_one_line(found[1])}{' (overridden)' * passes}"]
-            break
-    if set(names) - versions.FEATURES:
-        raise Refused("UnknownFeature")
-    return told
-
-
-def is_taken(file):
-    profiles = file.get("profile", {}).values()
-    return not {"script", "scripts"} & set(file) and not file.get("test-groups") and not any("scripts" in it or it.get("overrides") for it in profiles)
-
-
-def plan_of(inputs):
-    """The warnings, the settings of the chosen profile by their keys, and the tests to run."""
-    told = [as_told(source) for source in inputs["sources"]]
-    counted = configs.counted(told)
-    warnings = versions_told(counted, inputs)
-    try:
-        config = configs.load(told)
-    except configs.Refusal as refusal:
-        raise Refused(f"Load.{str(refusal).split(' ')[0]}") from None
-    if not all(it.get("default-filter", "all()") in ("all()", "none()") for it in config["profile"].values()):
-        raise Refused("Load.BadFilter")
-    texts = [(path, text.removeprefix("text ")) for _, path, text in counted if text.startswith("text ")]
-    if not all(is_taken(tomllib.loads(text)) for _, text in texts):
-        raise Refused("NotYet")
-    name = inputs.get("profile", "default")
-    if name not in config["profile"]:
-        raise Refused("ProfileNotFound")
-    if "target" in inputs or any(inputs.get("host", {}).values()):
-        raise Refused("NotYet")
-    for path, text in texts:
-        warnings += [line for line in configs.warning_answer(path, text).split("; ") if line != "-"]
-    keys = "retries flaky-result fail-fast status-level final-status-level success-output failure-output".split()
-    settings = {key: configs.setting(config, name, key) for key in keys}
-    settings["retries"] = int(re.search("count: ([0-9]+)", settings["retries"])[1])
-    everything = inputs.get("ignore_default_filter") or configs.setting(config, name, "default-filter") == "all()"
-    tests = [(it["id"], test) for it in inputs["workspace"]["binaries"] if everything for test in it["tests"]]
-    if settings["retries"] == 2**32 - 1 and tests:
-        raise Refused("RetriesTooMany")
-    return warnings, settings, tests
-
-
-def plan_answer(inputs):
-    try:
-        warnings, settings, wanted = plan_of(inputs)
-    except Refused as refusal:
-        return str(refusal)
-    words = "x{retries} {flaky-result} {success-output} {failure-output}".format_map({**settings, "retries": settings["retries"] + 1})
-    tests = "".join(f" [{id} {name} {words}]" for id, name in wanted)
-    told = "".join(f" [{line}]" for line in warnings)
-    return f"run{tests}; limit {settings['fail-fast']}; levels {settings['status-level']} {settings['final-status-level']}; warnings{told}"
-
-
 # ---- runs
+
+WHITE = "\t\n\v\f\r \u0085\u00a0\u1680\u2028\u2029\u202f\u205f\u3000" + "".join(map(chr, range(0x2000, 0x200B)))
+
+
+def trimmed(output):
+    return output.decode("utf-8", "surrogateescape").rstrip(WHITE).encode("utf-8", "surrogateescape")
+
+
+def slice_of(out, err):
+    """The part of outputs that tells of the error: its kind, its place in its stream, and its length; None where there is none."""
+    panics = list(re.finditer(rb"^thread '[^']+' (?:\([0-9]+\) )?panicked at ", err, re.MULTILINE))
+    error = re.search(rb"^Error: ", err, re.MULTILINE)
+    if panics:
+        start = panics[-1].start()
+        line = err[:start].rstrip(b"\r\n").rfind(b"\n") + 1
+        start = line if line and err[line:].startswith(b"Error:") else start
+        return "panic", start, len(trimmed(err[start:]))
+    if error:
+        return "error", error.start(), len(trimmed(err[error.start() :]))
+    note = re.search(rb"^.*note: test did not panic as expected.*?(?=\r?$)", out, re.MULTILINE)
+    return ("should-panic", note.start(), len(note[0])) if note else None
 
 
 class Test:
     """A test of a run: the fields of its ended attempts, its mark, and the reason under which it finished."""
 
-    def __init__(self, name, settings):
-        self.name, self.settings, self.ended, self.mark, self.under = name, settings, [], "waiting", None
+    def __init__(self, planned, levels):
+        self.name, self.settings, self.levels_shown = (planned.binary, planned.name), planned.settings, levels
+        self.ended, self.mark, self.under = [], "waiting", None
 
     def result(self):
         return self.ended[-1][0]
@@ -148,7 +86,7 @@ class Test:
         return len(self.ended) > 1
 
     def fails(self):
-        return not self.is_success() or (self.is_late() and self.settings["flaky-result"] == "Fail")
+        return not self.is_success() or (self.is_late() and self.settings.flaky_result == "Fail")
 
     def is_ended_by_run(self):
         return self.under == "test-failure-immediate" and self.result() in ("abort:15", "abort:15:leaked")
@@ -170,26 +108,25 @@ class Test:
 
     def shows(self):
         """Whether it has a line as it finishes, outputs there, a part in the final text, and outputs there."""
-        display = self.settings["success-output" if self.is_success() else "failure-output"]
+        display = self.settings.success_output if self.is_success() else self.settings.failure_output
         status, final = self.levels()
         is_hidden = self.under in ("interrupt", "second-signal") or self.is_ended_by_run()
         at_once, at_end = display.startswith("Immediate"), display.endswith("Final")
-        line = STATUS_LEVELS.index(self.settings["status-level"]) >= STATUS_LEVELS.index(status)
-        part = at_end or FINAL_LEVELS.index(self.settings["final-status-level"]) >= FINAL_LEVELS.index(final)
+        line = STATUS_LEVELS.index(self.levels_shown[0]) >= STATUS_LEVELS.index(status)
+        part = at_end or FINAL_LEVELS.index(self.levels_shown[1]) >= FINAL_LEVELS.index(final)
         is_immediate = at_once and not is_hidden
         return line or is_immediate, is_immediate, part and not is_hidden, at_end and not (at_once and self.under == "signal")
 
     def words(self):
-        return f"p\t{self.name}\t{self.fate()}\t{len(self.ended)}/{self.settings['retries'] + 1}"
+        return "\t".join([*self.name, self.fate(), f"{len(self.ended)}/{self.settings.tries}"])
 
     def outputs(self):
         _, _, _, out, err = self.ended[-1]
         if self.result() == "exec-fail":
             return [f"error\t{out}"]
         lines = [f"{name}\t{stream}" for name, stream in (("out", out), ("err", err)) if stream != "-"]
-        text = "" if err == "-" else bytes.fromhex(err).decode()
-        found = re.search("^Error: .*", text.rstrip(), re.MULTILINE | re.DOTALL)
-        return lines + ([f"slice\terror\t{found.start()}\t{len(found[0])}"] if found and not self.is_success() else [])
+        found = slice_of(*(b"" if stream == "-" else bytes.fromhex(stream) for stream in (out, err)))
+        return lines + (["slice\t{}\t{}\t{}".format(*found)] if found and not self.is_success() else [])
 
     def done(self):
         line, outputs, _, _ = self.shows()
@@ -202,10 +139,12 @@ class Test:
 
 
 class Run:
-    def __init__(self, names, settings):
-        self.tests = {name: Test(name, settings) for name in in_order(names)}
-        self.tries, self.reason = settings["retries"] + 1, None
-        limit = re.fullmatch("All|Count { max_fail: ([0-9]+), terminate: (Wait|Immediate) }", settings["fail-fast"])
+    """A run of a plan."""
+
+    def __init__(self, plan):
+        self.tests = {(it.binary, it.name): Test(it, plan.levels) for it in plan.tests}
+        self.skipped, self.reason = len(plan.skipped), None
+        limit = re.fullmatch("All|Count { max_fail: ([0-9]+), terminate: (Wait|Immediate) }", plan.limit)
         self.limit = int(limit[1]) if limit[1] else None
         self.limit_reason = "test-failure-immediate" if limit[2] == "Immediate" else "test-failure"
 
@@ -227,8 +166,10 @@ class Run:
         """The tests that a line finishes, in the order in which they are told."""
         if fields[0] == "stop":
             return self.stop(fields[1])
-        test = self.tests.get(fields[2])
-        if test is None or fields[1] != "p":
+        if fields[0] == "script":
+            raise Refused("UnknownScript")
+        test = self.tests.get(tuple(fields[1:3]))
+        if test is None:
             raise Refused("UnknownTest")
         if fields[0] == "start":
             if self.reason is not None or test.mark in ("running", "finished"):
@@ -238,7 +179,7 @@ class Run:
         if test.mark != "running":
             raise Refused("NotRunning")
         test.ended.append(fields[3:])
-        if not (test.is_success() or len(test.ended) == self.tries or self.reason is not None):
+        if not (test.is_success() or len(test.ended) == test.settings.tries or self.reason is not None):
             test.mark = "between"
             return []
         test.mark, test.under = "finished", self.reason
@@ -247,6 +188,7 @@ class Run:
 
     def counters(self):
         counts = dict.fromkeys(COUNTERS, 0) | {"initial-run-count": len(self.tests), "finished-count": len(self.finished())}
+        counts["skipped"] = self.skipped
         for test in self.finished():
             result, kind = test.result(), test.result().split(":")[0]
             if not test.fails():
@@ -282,11 +224,10 @@ def run_answer(stream):
     first, *log = stream.split("\n")
     inputs = json.loads(first)
     try:
-        warnings, settings, wanted = plan_of(inputs)
+        plan = plans.plan_of(inputs)
     except Refused as refusal:
         return f"refused\t{refusal}\n(status {92 if str(refusal) == 'VersionError' else 96})\n"
-    run = Run([name for _, name in wanted], settings)
-    lines = [f"warning\t{warning}" for warning in warnings]
+    run, lines = Run(plan), [f"warning\t{warning}" for warning in plan.warnings]
     for number, line in enumerate(log, 1):
         try:
             told = run.take(line.split("\t")) if line else []
@@ -329,22 +270,6 @@ def base_run(plan):
     failed = [f"end p {name} fail:1 - 1 - 66" for name in [*AGAIN, "between"]]
     lines = [*(f"start p {name}" for name in STARTED), *failed, *(f"start p {name}" for name in AGAIN), "", *(f"end p {end}" for end in ENDS)]
     return plan.replace('["a","b"]', names).rstrip("\n") + "\n" + "\n".join(lines).replace(" ", "\t") + "\n"
-
-
-def shown(value):
-    return json.dumps(value, ensure_ascii=False, separators=(",", ":"))
-
-
-def source(text, kind="explicit", path=None):
-    path = path or {"explicit": "nextest.toml", "discovered": ".config/nextest.toml", "tool": "t.toml"}[kind]
-    form = {"missing": True} if text is None else {"failed": "denied"} if text == "FAILED" else {"text": text}
-    return {"kind": kind, **({"tool": path.split(".")[0]} if kind == "tool" else {}), "path": path, **form}
-
-
-def with_sources(sources, **fields):
-    """The changes that give inputs their sources and other fields."""
-    more = "".join(f',"{name}":{shown(value)}' for name, value in fields.items())
-    return ['"sources":[]', f'"sources":{shown(sources)}'] + (['"0.9.100"', f'"0.9.100"{more}'] if more else [])
 
 
 def set_at(settings):
@@ -440,11 +365,14 @@ PLAN_TEXTS = [
     # keys that a plan shows nothing of
     "store = {}", "[profile.default]\nslow-timeout = '60s'\ntest-threads = 4\nleak-timeout = '1s'\nglobal-timeout = '1h'\nrun-extra-args = ['x']\narchive = 1\n",
     "[profile.default]\nretries = { backoff = 'fixed', count = 1 }\n", "[profile.default]\nfail-fast = { max-fail = 1 }\n", "[profile.ci]\n", "[profile.default.junit]\npath = 'j.xml'\n",
-    # what isn't taken yet, and what is refused before and behind it
+    # overrides and groups; and scripts, which aren't taken yet, with what is refused before and behind them
     "[[profile.default.overrides]]\nfilter = 'all()'\npriority = 1\n", "[profile.default]\ndefault-filter = 'all()'\n", "[[profile.default.scripts]]\nfilter = 'all()'\nsetup = 's'\n",
     "[[profile.z.overrides]]\nfilter = 'all()'\nretries = 1\n", "[profile.z]\ndefault-filter = 'all()'\n", "[test-groups.g]\nmax-threads = 1\n", "[script.s]\ncommand = 'x'\n",
     "experimental = ['setup-scripts']\n[scripts.setup.s]\ncommand = 'x'\n", "[profile.default]\ndefault-filter = 'all()'\nretries = -1\n",
     "[profile.z]\ndefault-filter = 'all()'\ninherits = 'q'\n", "[profile.default]\ndefault-filter = 'all()'\nretries = 4294967295\n", "zzz = 1\n[profile.default]\ndefault-filter = 'all()'\n",
+    "[profile.default]\noverrides = []\n", "[test-groups]\n",
+    "[[profile.default.overrides]]\nfilter = 'all()'\nretries = 1\n[[profile.default.scripts]]\nfilter = 'all()'\nsetup = 's'\n",
+    "[[profile.default.overrides]]\nretries = 1\n[script.s]\ncommand = 'x'\n",
     # how profiles inherit
     "[profile.z]\ninherits = 'q'\n", "[profile.x]\ninherits = 'y'\n[profile.y]\ninherits = 'x'\n", "[profile.x]\ninherits = 'x'\n", "[profile.default]\ninherits = 'x'\n[profile.x]\n",
     "[profile.x]\n[profile.default-y]\ninherits = 'x'\n", "[profile.default-miri]\ninherits = 'default'\n", "[profile.a]\ninherits = 'a'\n[profile.z]\ninherits = 'q'\n",
@@ -482,7 +410,47 @@ PLAN_FIELDS = [
 ]
 
 
-def plan_rows():
+RULE = "[[profile.default.overrides]]\n"
+UNIX = RULE + "platform = 'cfg(unix)'\nretries = 1\n"
+NO_UNIX, SOME_UNIX, NOTHING = facts(unix=False), facts(unix=True), facts()
+OF_HOST = ['"platform":"target"', '"platform":"host"']
+THREE = ['["a","b"]', '["a","b","c"]']
+HELD = RULE + "filter = 'test(a)'\nretries = 3\n"
+TABLE = "{ backoff = 'exponential', count = 2, delay = '1s', max-delay = '2s' }"
+# Overrides of a file, with other fields of inputs and other changes of them.
+OVERRIDES = [
+    # what each of two sets, and what only the second sets
+    (RULE + "filter = 'all()'\npriority = 5\n" + RULE + "filter = 'test(a)'\nretries = 2\n",),
+    (RULE + "filter = 'all()'\npriority = 5\n" + RULE + "filter = 'test(a)'\nretries = 2\npriority = -5\n",),
+    (RULE + "filter = 'test(a)'\nretries = 2\n" + RULE + "filter = 'all()'\nretries = 1\n",), (RULE + "filter = 'all()'\nretries = 1\n" + HELD,),
+    (RULE + f"filter = 'test(a)'\nretries = {TABLE}\n",), (RULE + "filter = 'test(a)'\nflaky-result = 'fail'\nsuccess-output = 'final'\nfailure-output = 'never'\n",),
+    (RULE + "filter = 'none()'\nretries = 1\n",), (RULE + "filter = 'not test(a)'\nretries = 1\n" + RULE + "filter = 'kind(lib)'\nflaky-result = 'fail'\n",),
+    # over the settings of profiles, the nearest too
+    ("[profile.default]\nretries = 1\n" + HELD,), (f"[profile.ci]\nretries = 1\n{HELD}", {"profile": "ci"}),
+    (f"[profile.ci]\nretries = 1\n[[profile.ci.overrides]]\nfilter = 'test(a)'\nflaky-result = 'fail'\n{HELD}", {"profile": "ci"}),
+    ("[[profile.ci.overrides]]\nfilter = 'all()'\nretries = 1\n" + HELD, {"profile": "ci"}), ("[[profile.ci.overrides]]\nfilter = 'all()'\nretries = 1\n" + HELD,),
+    # which stand first: greater priorities, from -100 to 100
+    (RULE + "filter = 'test(b)'\npriority = 100\n",), (RULE + "filter = 'test(a)'\npriority = -100\n",), (RULE + "filter = 'test(a)'\npriority = -1\n" + RULE + "filter = 'test(b)'\npriority = 1\n", {}, THREE),
+    (RULE + "filter = 'test(c)'\npriority = 1\n" + RULE + "filter = 'not test(a)'\npriority = 0\n" + RULE + "filter = 'all()'\npriority = -1\n", {}, THREE),
+    (RULE + "filter = 'all()'\npriority = 101\n",), (RULE + "filter = 'all()'\npriority = -101\n",),
+    # on what is known of host and target, of a binary of each
+    *((UNIX, fields, change) for change in ([], OF_HOST) for fields in (
+        {}, {"host": NO_UNIX}, {"host": SOME_UNIX}, {"host": NO_UNIX, "target": SOME_UNIX}, {"host": SOME_UNIX, "target": NO_UNIX}, {"host": NO_UNIX, "target": NOTHING}, {"target": NO_UNIX},
+    )),
+    *((RULE + f"platform = {{ host = 'cfg(unix)'{more} }}\nretries = 1\n", {"host": host, "target": target}) for more in ("", ", target = 'cfg(windows)'") for host, target in (
+        (SOME_UNIX, NO_UNIX), (NO_UNIX, SOME_UNIX), (SOME_UNIX, facts(windows=False)), (SOME_UNIX, facts(windows=True)), (NOTHING, NOTHING),
+    )),
+    *((RULE + f"platform = '{spec}'\nretries = 1\n", fields) for spec in ("t-1", "cfg(t)", "cfg(all(unix, not(unix)))", "cfg(any())") for fields in ({}, {"host": facts("t-1", unix=True)}, {"target": facts("t-1")})),
+    (RULE + "platform = 'cfg(unix)'\nfilter = 'test(a)'\nretries = 1\n", {"host": SOME_UNIX}), (RULE + "platform = 'cfg(unix)'\nfilter = 'test(a)'\nretries = 1\n", {"host": NO_UNIX}),
+    # what is too often
+    (RULE + "filter = 'test(a)'\nretries = 4294967295\n",), (RULE + "filter = 'test(zzz)'\nretries = 4294967295\n",), (RULE + "filter = 'test(a)'\nretries = 4294967295\n", {"filterset": "test(b)"}),
+    ("[profile.default]\nretries = 4294967295\n" + RULE + "filter = 'all()'\nretries = 0\n",), ("[profile.default]\nretries = 4294967295\n" + RULE + "filter = 'test(a)'\nretries = 0\n",),
+    # what is told of keys that aren't known
+    (RULE + "filter = 'all()'\nzzz = 1\n" + RULE + "platform = { host = 'cfg(unix)', zzz = 1 }\njunit.zzz = 1\n[test-groups.g]\nmax-threads = 1\nzzz = 1\n",),
+]
+
+
+def plan_changes():
     for text in PLAN_TEXTS:
         yield with_sources([source(text)])
     for profile, *texts in PLAN_FILES:
@@ -503,36 +471,42 @@ def plan_rows():
         choose = random.Random(seed)
         profile = choose.choice(["default", "ci", "ci", "base", "default-miri"])
         yield with_sources(list(drawn_sources(choose)), **({"profile": profile} if profile != "default" else {}))
+    for text, *more in OVERRIDES:
+        fields, change = (*more, {}, [])[:2] if len(more) < 2 else more
+        yield [*change, *with_sources([source(text)], **fields)]
+    # the same key in an override of each place, over the next one, as the rows of settings have it in profiles
+    for a, (place, below) in enumerate(zip(PLACES, PLACES[1:])):
+        texts = dict.fromkeys(("nextest.toml", "t.toml"), "")
+        texts["nextest.toml"] = "[profile.ci]\ninherits = 'base'\n[profile.base]\n"
+        for (profile, path), retries, name in ((place, a + 2, "test(a)"), (below, 9, "all()")):
+            texts[path] += f"[[profile.{profile}.overrides]]\nfilter = '{name}'\nretries = {retries}\n"
+        for profile in ("ci", "default"):
+            yield with_sources([source(texts["nextest.toml"]), source(texts["t.toml"], "tool")], profile=profile)
 
 
 # ---- the files
-
-
-def changed(text, changes):
-    """The text with the first place of each part put into its other form."""
-    for part, other in zip(changes[::2], changes[1::2]):
-        assert part in text, part
-        text = text.replace(part, other, 1)
-    return text
 
 
 def write(folder, name, head, rows):
     lines = dict.fromkeys(f"{' => '.join(changes)} => {answer}".translate(SIGNS) for changes, answer in rows)
     (folder / f"{name}.txt").write_text("\n".join([f"# Made by scripts/run_rows.py. {head}", *lines]) + "\n", encoding="utf-8")
     print(f"{name}: {len(lines)} rows")
+    return len(lines)
 
 
 def main():
     plan = (DATA / "plan.json").read_text(encoding="utf-8")
     run = base_run(plan)
     (ROWS / "profiles_runs.in").write_text(run, encoding="utf-8")
-    write(
+    made = ((changes, plans.shown_settings(json.loads(changed(plan, changes)))) for changes in plan_changes())
+    number = write(
         DATA,
         "profiles_plans",
         "Changes of plan.json => the tests, each with its most attempts, its flaky rule and when its output is shown where it passes and"
         " where it fails; the limit, the levels of lines and of the final text, and the warnings; or the name under which it is refused.",
-        ((changes, plan_answer(json.loads(changed(plan, changes)))) for changes in plan_rows()),
+        [*made, *plan_rows.drawn(plan_rows.SEED + 1, plans.shown_settings, plan)],
     )
+    tell_numbers({"profiles_plans": number})
     write(
         ROWS,
         "profiles_runs",
