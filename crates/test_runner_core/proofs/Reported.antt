@@ -14,7 +14,7 @@ use Rattle.test_runner_core_planning.specs.declared.plan_error.PlanError.TheVari
 use Rattle.test_runner_core_planning.specs.Texts.{status_of}
 use Rattle.test_runner_core_plan.specs.declared.plan.Plan.{Plan}
 use Rattle.test_runner_core_planning.specs.declared.plan_fault.PlanFault.{PlanFault}
-use Rattle.test_runner_core_settings.specs.declared.configured.RunSettings.{RunSettings}
+use Rattle.test_runner_core_planning.specs.Filtering.{Choice}
 use Rattle.test_runner_core_telling.specs.Parts.{Part}
 use Rattle.test_runner_core_telling.specs.Telling.{TellsAll, TellsFront}
 use Rattle.test_runner_core_telling.specs.declared.fault.TellFault.{TellFault}
@@ -121,8 +121,8 @@ asked_in_part error old ids new is asks = subst (λ (e : PlanError). Asks {A = P
 -- what a call asks the lister for is what the plan's building asked for
 pub asks_with : (answer : Binary → Answer) (inputs : Inputs) (built : Result Plan PlanError) (lacks : Bool) (old new : List (List ℕ))
     → ((ids : List (List ℕ)) → Asks built old ids new → AsksFor lacks old ids new) → AsksWith answer inputs (building.lacks_memory built) old new → AsksWith answer inputs lacks old new
-asks_with answer inputs built lacks old new also asks = λ settings settles. by_settings settings (asks settings settles)
+asks_with answer inputs built lacks old new also asks = λ choice settles. by_choice choice (asks choice settles)
   where
-    by_settings : (settings : Result RunSettings PlanFault) → AsksBehind answer inputs settings (building.lacks_memory built) old new → AsksBehind answer inputs settings lacks old new
-    by_settings (Ok settings) here = λ chosen is. also (asked_by answer inputs chosen) (here chosen is)
-    by_settings (Err refusal) here = here
+    by_choice : (choice : Result Choice PlanFault) → AsksBehind answer inputs choice (building.lacks_memory built) old new → AsksBehind answer inputs choice lacks old new
+    by_choice (Ok choice) here = λ chosen is. also (asked_by answer inputs chosen) (here chosen is)
+    by_choice (Err refusal) here = here

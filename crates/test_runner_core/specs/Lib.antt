@@ -41,6 +41,9 @@ pub use Rattle.test_runner_core_planning.specs.Refusals
 pub use Rattle.test_runner_core_planning.specs.Texts as PlanTexts
 pub use Rattle.test_runner_core_listing.specs.Listing
 pub use Rattle.test_runner_core_listing.specs.Answers
+pub use Rattle.test_runner_core_listing.specs.Selected
+pub use Rattle.test_runner_core_settings.specs.Platforms
+pub use Rattle.test_runner_core_settings.specs.Holding
 pub use Rattle.test_runner_core_settings.specs.Sets
 pub use Rattle.test_runner_core_settings.specs.Settings
 pub use Rattle.test_runner_core_settings.specs.Laws as SettingsLaws
@@ -49,6 +52,11 @@ pub use Rattle.nextest_config_resolution_sources.specs.Counting
 pub use Rattle.test_runner_core_settings.specs.Sources as PassSources
 pub use Rattle.test_runner_core_settings.specs.Pass
 pub use Rattle.test_runner_core_settings.specs.Warnings
+-- platform specs, and what is known of platforms
+pub use Rattle.test_runner_core_platforms.specs.Spec as PlatformSpecs
+pub use Rattle.test_runner_core_platforms.specs.Grammar as PlatformGrammar
+pub use Rattle.test_runner_core_platforms.specs.Facts as PlatformFactsWords
+pub use Rattle.test_runner_core_platforms.specs.Meaning as PlatformMeaning
 -- inputs, workspaces and listers
 pub use Rattle.test_runner_core_inputs.specs.Reading as InputsReading
 pub use Rattle.test_runner_core_inputs.specs.Calls as InputsCalls

@@ -43,9 +43,12 @@ pub use test_runner_core_line_syntax::{
 pub use test_runner_core_log_reader::{
     FIRST_LINE_LIMIT, LINE_LIMIT, LOG_LIMIT, LineFault, LogFault, LogLines, Next,
 };
-pub use test_runner_core_plan::{Plan, PlanSettings, PlanTest};
+pub use test_runner_core_plan::{Plan, PlanSettings, PlanTest, SharedSettings};
 pub use test_runner_core_planning::{
     BuildPlan, LoadFault, LoadKind, PlanError, PlanFault, ProfileNotFound,
+};
+pub use test_runner_core_platforms::{
+    Fact, PlatformFacts, PlatformFactsError, PlatformSpec, PlatformSpecError,
 };
 pub use test_runner_core_progress::StartFault;
 pub use test_runner_core_runs::{Finished, Mark, StepRefusal, exit_status};
