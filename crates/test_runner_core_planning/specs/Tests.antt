@@ -1,8 +1,7 @@
 -- The settings that a profile has for tests, as a plan keeps them.
-use Rattle.std.specs.Prelude.{◌≡◌, ℕ, Bool, List, All, Some, map, slice_get}
+use Rattle.std.specs.Prelude.{◌≡◌, ℕ, Bool, List, All, Some, slice_get}
 use Rattle.std.specs.BTreeMap.{BTreeMap}
 use Rattle.std.specs.Global.{Vec}
-use denote.Ref.{Bor}
 use Rattle.nextest_config_elements_plain.specs.declared.run_mode.NextestRunMode.{NextestRunMode}
 use Rattle.nextest_config_resolution_profiles.specs.Evaluatable.{Evaluatable}
 use Rattle.nextest_config_resolution_profiles.specs.Held.{AreSettingsFor}
@@ -29,10 +28,6 @@ HasForEach profile mode of_test = (test : Test) (it : PlanSettings) → HasSetti
 -- and these for each test on which just the rules of a row hold
 abbrev pub HasForRow : Evaluatable Filterset PlatformSpec → NextestRunMode → List Bool → PlanSettings → Type 0
 HasForRow profile mode row it = (test : Test) → IsHeldRow HasOnTest profile test row → HasSettings profile mode test it
-
--- texts that are lent
-abbrev pub texts : List (Bor (List ℕ)) → List (List ℕ)
-texts lent = map (λ text. text.now) lent
 
 -- what is held has at each place the row of the test of a binary that has the name there
 abbrev pub HasRows : Evaluatable Filterset PlatformSpec → Binary → List (List ℕ) → List (List Bool) → Type 0

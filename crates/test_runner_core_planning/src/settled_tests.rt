@@ -1,12 +1,12 @@
 // The selected tests with their settings.
-ghost use Rattle.std.specs.Prelude.{◌≡◌, [], ◌∷◌, ◌++◌, List, ℕ, IfOk, OnOk, map};
-ghost use Rattle.nextest_filtering_compiling.specs.Filtersets.{HasOnTest};
+ghost use Rattle.std.specs.Prelude.{◌≡◌, [], ◌∷◌, ◌++◌, IfOk, OnOk, map};
+ghost use Rattle.nextest_config_resolution_settings.specs.Nearest.{lent};
 ghost use Rattle.nextest_filtering_filters.specs.Query.{Test};
 ghost use Rattle.test_runner_core_listing.specs.Answers.{seen_test};
 ghost use Rattle.test_runner_core_listing.specs.Selected.{tests_in, tests_of_one};
 ghost use Rattle.test_runner_core_plan.specs.declared.plan_settings.PlanSettings.{PlanSettings};
 ghost use Rattle.test_runner_core_planning.specs.Plan.{with_settings};
-ghost use Rattle.test_runner_core_planning.specs.Tests.{AreShared, HasForEach, HasForRow, HasRows, texts};
+ghost use Rattle.test_runner_core_planning.specs.Tests.{AreShared, HasForEach, HasForRow, HasRows};
 
 use nextest_config_elements_plain::NextestRunMode;
 use nextest_config_resolution_profiles::{EvaluatableProfile, HeldRules};
@@ -39,7 +39,7 @@ pub(crate) fn settled_tests(
     Ok(tests)
 }
 
-// Nothing: it adds the selected tests of a binary, and to what is shared the settings of each new row of rules.
+// Adds the selected tests of a binary, and to what is shared the settings of each row of rules that is new there.
 fn push_tests(
     alloc: Global,
     profile: &EvaluatableProfile<'_, Filterset, PlatformSpec>,
@@ -77,15 +77,15 @@ fn held_rules_of(
     profile.held_rules(alloc, &query_of(binary), texts.as_slice())
 }
 
-// Names, lent as texts.
+// The names, each lent as a text.
 fn texts_of<'n>(alloc: Global, names: &'n [Text]) -> Result<Vec<&'n str>, AllocError>
-    ensures { IfOk result (λ it. texts it.items ≡ names.now) }
+    ensures { IfOk result (λ it. lent it.items ≡ names.now) }
 {
-    let mut lent = Vec::with_capacity(alloc, names.len())?;
+    let mut texts = Vec::with_capacity(alloc, names.len())?;
     for name in names {
-        lent.push(name.as_str())?;
+        texts.push(name.as_str())?;
     }
-    Ok(lent)
+    Ok(texts)
 }
 
 // The settings of each test on which just the rules of a row hold: what is shared has them, or gets them.
@@ -106,7 +106,7 @@ fn settings_of_row(
     }
 }
 
-// The settings of each test on which just the rules of a row hold, found anew, and added to what is shared.
+// The settings of each test on which just the rules of a row hold, found now, and added to what is shared.
 fn new_settings(
     alloc: Global,
     profile: &EvaluatableProfile<'_, Filterset, PlatformSpec>,
@@ -138,7 +138,7 @@ fn settings_by_row(
     }
 }
 
-// Nothing: it adds a test of a binary, with these settings.
+// Adds a test of a binary, with these settings.
 fn push_test(
     binary: &Binary,
     name: Text,
