@@ -157,7 +157,8 @@ def main():
             return
         if not PROGRAM.exists():
             print(f"There is no program {PROGRAM}: `make run` builds it. So the plain one is timed alone.")
-        given = {row: inputs(range(row[0]), row[1]) for row in ROWS}
+        # the last binaries, since a filterset may name none that isn't there
+        given = {row: inputs(range(BINARIES - row[0], BINARIES), row[1]) for row in ROWS}
         streams = {row: stream(it) + b"x\n" for row, it in given.items()} if PROGRAM.exists() else {}
         texts = {row: lines(it) for row, it in given.items()}
         taken = {}
