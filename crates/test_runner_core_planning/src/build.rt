@@ -36,7 +36,8 @@ pub trait BuildPlan {
     fn build<L: Lister>(alloc: Global, inputs: &Inputs, lister: &mut L) -> Result<Plan, PlanError>
         ensures builds { words.Builds (L.answer lister.old) inputs.now result }
         ensures stays { (other : Binary) → L.answer lister.new other ≡ L.answer lister.old other }
-        ensures asks { words.AsksWith (L.answer lister.old) inputs.now (words.lacks_memory result) (L.asked lister.old) (L.asked lister.new) };
+        ensures asks { words.AsksWith (L.answer lister.old) inputs.now (words.lacks_memory result)
+            (L.asked lister.old) (L.asked lister.new) };
 }
 
 impl BuildPlan for Plan {
@@ -49,7 +50,8 @@ impl BuildPlan for Plan {
 fn plan_in<L: Lister>(alloc: Global, inputs: &Inputs, lister: &mut L) -> Result<Plan, PlanError>
     ensures builds { words.Builds (L.answer lister.old) inputs.now result }
     ensures stays { (other : Binary) → L.answer lister.new other ≡ L.answer lister.old other }
-    ensures asks { words.AsksWith (L.answer lister.old) inputs.now (words.lacks_memory result) (L.asked lister.old) (L.asked lister.new) }
+    ensures asks { words.AsksWith (L.answer lister.old) inputs.now (words.lacks_memory result)
+        (L.asked lister.old) (L.asked lister.new) }
 {
     let Settled {
         config,
@@ -84,9 +86,16 @@ fn selection_by<'w, L: Lister>(
     lister: &mut L,
 ) -> Result<Selection<'w>, PlanError>
     requires { HasWanted inputs.now wanted.now }
-    ensures selects { (choice : Choice) (chosen : Answers) → words.Settles inputs.now (Ok choice) → IsChosen inputs.now choice (Ok chosen) → words.Selected result (listing (L.answer lister.old) chosen (words.listed_in inputs.now chosen)) (words.listed_in inputs.now chosen) }
+    ensures selects { (choice : Choice) (chosen : Answers)
+        → words.Settles inputs.now (Ok choice) → IsChosen inputs.now choice (Ok chosen)
+        → words.Selected result
+        (listing (L.answer lister.old) chosen (words.listed_in inputs.now chosen))
+        (words.listed_in inputs.now chosen) }
     ensures stays { (other : Binary) → L.answer lister.new other ≡ L.answer lister.old other }
-    ensures asks { (choice : Choice) (chosen : Answers) → words.Settles inputs.now (Ok choice) → IsChosen inputs.now choice (Ok chosen) → words.Asks result (L.asked lister.old) (asked_of (L.answer lister.old) (words.listed_in inputs.now chosen)) (L.asked lister.new) }
+    ensures asks { (choice : Choice) (chosen : Answers)
+        → words.Settles inputs.now (Ok choice) → IsChosen inputs.now choice (Ok chosen)
+        → words.Asks result (L.asked lister.old)
+        (asked_of (L.answer lister.old) (words.listed_in inputs.now chosen)) (L.asked lister.new) }
 {
     let default = &wanted.run.profile.default_filter().filter.compiled;
     select_beside(alloc, inputs, wanted, default, lister)
@@ -102,9 +111,18 @@ fn select_beside<'w, L: Lister>(
 ) -> Result<Selection<'w>, PlanError>
     requires no_default { list_any is_default default.now.leaves ≡ false }
     requires no_group { list_any is_group default.now.leaves ≡ false }
-    ensures selects { (chosen : Answers) → AnswerAs (in_force wanted.now.filterset inputs.now.ignore_default_filter default.now) default.now (IsInGroup wanted.now.run.profile) chosen → words.Selected result (listing (L.answer lister.old) chosen (words.listed_in inputs.now chosen)) (words.listed_in inputs.now chosen) }
+    ensures selects { (chosen : Answers)
+        → AnswerAs (in_force wanted.now.filterset inputs.now.ignore_default_filter default.now)
+        default.now (IsInGroup wanted.now.run.profile) chosen
+        → words.Selected result
+        (listing (L.answer lister.old) chosen (words.listed_in inputs.now chosen))
+        (words.listed_in inputs.now chosen) }
     ensures stays { (other : Binary) → L.answer lister.new other ≡ L.answer lister.old other }
-    ensures asks { (chosen : Answers) → AnswerAs (in_force wanted.now.filterset inputs.now.ignore_default_filter default.now) default.now (IsInGroup wanted.now.run.profile) chosen → words.Asks result (L.asked lister.old) (asked_of (L.answer lister.old) (words.listed_in inputs.now chosen)) (L.asked lister.new) }
+    ensures asks { (chosen : Answers)
+        → AnswerAs (in_force wanted.now.filterset inputs.now.ignore_default_filter default.now)
+        default.now (IsInGroup wanted.now.run.profile) chosen
+        → words.Asks result (L.asked lister.old)
+        (asked_of (L.answer lister.old) (words.listed_in inputs.now chosen)) (L.asked lister.new) }
 {
     let filterset = wanted.filterset.as_ref();
     let filters = filters_in_force(alloc, filterset, default, inputs.ignore_default_filter)?;

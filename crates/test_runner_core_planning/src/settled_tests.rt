@@ -29,7 +29,8 @@ pub(crate) fn settled_tests(
     selected: Vec<SelectedTests<'_>>,
 ) -> Result<Vec<PlanTest>, AllocError>
     ensures { (of_test : Test → PlanSettings) → HasForEach profile.now mode of_test
-        → IfOk result (λ tests. tests.items ≡ map (with_settings of_test) (tests_in selected.entry.items)) }
+        → IfOk result (λ tests. tests.items
+        ≡ map (with_settings of_test) (tests_in selected.entry.items)) }
 {
     let mut shared = BTreeMap::new(alloc);
     let mut tests = Vec::new(alloc);
@@ -51,7 +52,8 @@ fn push_tests(
     requires { AreShared profile.now mode shared.old }
     ensures shared { OnOk result (AreShared profile.now mode shared.new) }
     ensures tests { (of_test : Test → PlanSettings) → HasForEach profile.now mode of_test
-        → OnOk result (tests.new.items ≡ tests.old.items ++ map (with_settings of_test) (tests_of_one of_binary.entry)) }
+        → OnOk result (tests.new.items
+        ≡ tests.old.items ++ map (with_settings of_test) (tests_of_one of_binary.entry)) }
 {
     let SelectedTests { binary, names } = of_binary;
     let held = held_rules_of(alloc, profile, binary, names.as_slice())?;
