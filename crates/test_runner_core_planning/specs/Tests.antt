@@ -1,7 +1,7 @@
 -- The settings that a profile has for tests, as a plan keeps them.
 use Rattle.std.specs.Prelude.{◌≡◌, ℕ, Bool, List, All, Some, slice_get}
 use Rattle.std.specs.BTreeMap.{BTreeMap}
-use Rattle.std.specs.Global.{Vec}
+use Rattle.std.specs.Map.{values_of}
 use Rattle.nextest_config_elements_plain.specs.declared.run_mode.NextestRunMode.{NextestRunMode}
 use Rattle.nextest_config_resolution_profiles.specs.Evaluatable.{Evaluatable}
 use Rattle.nextest_config_resolution_profiles.specs.Held.{AreSettingsFor}
@@ -13,6 +13,7 @@ use Rattle.nextest_filtering_compiling.specs.declared.filterset.Filterset.{Filte
 use Rattle.nextest_filtering_filters.specs.Query.{Test}
 use Rattle.test_runner_core_listing.specs.Answers.{seen_test}
 use Rattle.test_runner_core_plan.specs.declared.plan_settings.PlanSettings.{PlanSettings}
+use Rattle.test_runner_core_planning.specs.declared.settled_tests.RowSettings.{RowSettings}
 use Rattle.test_runner_core_platforms.specs.declared.platform_spec.PlatformSpec.{PlatformSpec}
 use Rattle.test_runner_core_settings.specs.Settings.{owned_of}
 use Rattle.test_runner_core_workspace.specs.declared.record.Binary.{Binary}
@@ -33,6 +34,6 @@ HasForRow profile mode row it = (test : Test) → IsHeldRow HasOnTest profile te
 abbrev pub HasRows : Evaluatable Filterset PlatformSpec → Binary → List (List ℕ) → List (List Bool) → Type 0
 HasRows profile binary names held = (place : ℕ) (name : List ℕ) → slice_get names place ≡ Some name → IsHeldRow HasOnTest profile (seen_test binary name) (row_at place held)
 
--- what is shared are settings under a row, each for every test of its row
-abbrev pub AreShared : Evaluatable Filterset PlatformSpec → NextestRunMode → BTreeMap (Vec Bool) PlanSettings → Type 0
-AreShared profile mode shared = All (λ entry. HasForRow profile mode entry.0.items entry.1) shared.entries
+-- what is shared are settings with a row, each for every test of its row
+abbrev pub AreShared : Evaluatable Filterset PlatformSpec → NextestRunMode → BTreeMap ℕ RowSettings → Type 0
+AreShared profile mode shared = All (λ it. HasForRow profile mode it.row.items it.settings) (values_of shared.entries)

@@ -1,11 +1,15 @@
 // The selected tests with their settings.
-ghost use Rattle.std.specs.Prelude.{◌≡◌, [], ◌∷◌, ◌++◌, IfOk, OnOk, map};
+ghost use Rattle.std.specs.Prelude.{◌≡◌, [], ◌∷◌, ◌++◌, IfOk, IfSome, OnOk, map};
+ghost use Rattle.nextest_config_elements_plain.specs.declared.run_mode.NextestRunMode.{NextestRunMode};
+ghost use Rattle.nextest_config_resolution_profiles.specs.Evaluatable.{Evaluatable};
 ghost use Rattle.nextest_config_resolution_settings.specs.Nearest.{lent};
+ghost use Rattle.nextest_filtering_compiling.specs.declared.filterset.Filterset.{Filterset};
 ghost use Rattle.nextest_filtering_filters.specs.Query.{Test};
 ghost use Rattle.test_runner_core_listing.specs.Answers.{seen_test};
 ghost use Rattle.test_runner_core_listing.specs.Selected.{tests_in, tests_of_one};
 ghost use Rattle.test_runner_core_plan.specs.declared.plan_settings.PlanSettings.{PlanSettings};
 ghost use Rattle.test_runner_core_planning.specs.Plan.{with_settings};
+ghost use Rattle.test_runner_core_platforms.specs.declared.platform_spec.PlatformSpec.{PlatformSpec};
 ghost use Rattle.test_runner_core_planning.specs.Tests.{AreShared, HasForEach, HasForRow, HasRows};
 
 use nextest_config_elements_plain::NextestRunMode;
@@ -20,6 +24,25 @@ use test_runner_core_plan::{PlanTest, SharedSettings};
 use test_runner_core_platforms::PlatformSpec;
 use test_runner_core_settings::owned_settings;
 use test_runner_core_workspace::Binary;
+
+// The settings of each test on which just the rules of a row hold.
+pub(crate) struct RowSettings {
+    row: Vec<bool>,
+    settings: SharedSettings,
+}
+
+// One call drops it, whoever holds it.
+impl Drop for RowSettings {
+    fn drop(self) {
+        let Self {
+            row: _,
+            settings: _,
+        } = self;
+    }
+}
+
+// Settings that tests share, by a number of the row.
+type SettingsByRow = BTreeMap<u64, RowSettings>;
 
 // The selected tests, each with the settings that a profile has for it. Those on which the same rules hold share them.
 pub(crate) fn settled_tests(
@@ -46,7 +69,7 @@ fn push_tests(
     profile: &EvaluatableProfile<'_, Filterset, PlatformSpec>,
     mode: NextestRunMode,
     of_binary: SelectedTests<'_>,
-    shared: &mut BTreeMap<Vec<bool>, SharedSettings>,
+    shared: &mut SettingsByRow,
     tests: &mut Vec<PlanTest>,
 ) -> Result<(), AllocError>
     requires { AreShared profile.now mode shared.old }
@@ -96,32 +119,67 @@ fn settings_of_row(
     profile: &EvaluatableProfile<'_, Filterset, PlatformSpec>,
     mode: NextestRunMode,
     row: &[bool],
-    shared: &mut BTreeMap<Vec<bool>, SharedSettings>,
+    shared: &mut SettingsByRow,
 ) -> Result<SharedSettings, AllocError>
     requires { AreShared profile.now mode shared.old }
     ensures shared { OnOk result (AreShared profile.now mode shared.new) }
     ensures settings { IfOk result (HasForRow profile.now mode row.now) }
 {
-    match shared.get(row) {
-        Some(settings) => settings.clone(),
-        None => new_settings(alloc, profile, mode, row, shared),
+    let number = number_of(row);
+    match shared_under(number, row, shared)? {
+        Some(settings) => Ok(settings),
+        None => new_settings(alloc, profile, mode, row, number, shared),
     }
 }
 
-// The settings of each test on which just the rules of a row hold, found now, and added to what is shared.
+// A number of a row. Up to 64 rules each row has its own; of more rules rows may have one number, which costs time and memory.
+fn number_of(row: &[bool]) -> u64 {
+    let mut number: u64 = 0;
+    for holds in row {
+        number = number.rotate_left(1) ^ u64::from(*holds);
+    }
+    number
+}
+
+// The settings that are shared for a row, which has this number.
+fn shared_under(
+    number: u64,
+    row: &[bool],
+    shared: &SettingsByRow,
+) -> Result<Option<SharedSettings>, AllocError>
+    ensures { (profile : Evaluatable Filterset PlatformSpec) (mode : NextestRunMode)
+        → AreShared profile mode shared.now
+        → IfOk result (λ found. IfSome found (HasForRow profile mode row.now)) }
+{
+    let Some(found) = shared.get(&number) else {
+        return Ok(None);
+    };
+    if found.row.as_slice() != row {
+        return Ok(None);
+    }
+    Ok(Some(found.settings.clone()?))
+}
+
+// The settings of each test on which just the rules of a row hold, found now, and added to what is shared. They take the place of those
+// of another row with its number.
 fn new_settings(
     alloc: Global,
     profile: &EvaluatableProfile<'_, Filterset, PlatformSpec>,
     mode: NextestRunMode,
     row: &[bool],
-    shared: &mut BTreeMap<Vec<bool>, SharedSettings>,
+    number: u64,
+    shared: &mut SettingsByRow,
 ) -> Result<SharedSettings, AllocError>
     requires { AreShared profile.now mode shared.old }
     ensures shared { OnOk result (AreShared profile.now mode shared.new) }
     ensures settings { IfOk result (HasForRow profile.now mode row.now) }
 {
     let settings = settings_by_row(alloc, profile, mode, row)?;
-    shared.insert(Vec::from_slice(alloc, row)?, settings.clone()?)?;
+    let of_row = RowSettings {
+        row: Vec::from_slice(alloc, row)?,
+        settings: settings.clone()?,
+    };
+    shared.insert(number, of_row)?;
     Ok(settings)
 }
 
