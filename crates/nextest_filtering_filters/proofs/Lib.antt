@@ -6,3 +6,4 @@ pub mod Lists
 pub mod Parts
 pub mod Sure
 pub mod Deciding
+pub mod EachTest

@@ -30,7 +30,7 @@ leaf_waits May number old new values exact some is formulas next made waits =
     subst (λ (f : List (Formula ℕ)). Wait May f new) same (old, (values, is, leaf_values May number values exact some, waits))
 
 -- what waits last
-last_waits : (May : ℕ → Bool → Type 0) (last : Formula ℕ) (formulas : List (Formula ℕ)) (front old : List Values) (values : Values) → old ≡ front ++ values ∷ [] → Wait May (last ∷ formulas) old
+pub last_waits : (May : ℕ → Bool → Type 0) (last : Formula ℕ) (formulas : List (Formula ℕ)) (front old : List Values) (values : Values) → old ≡ front ++ values ∷ [] → Wait May (last ∷ formulas) old
     → AreOf May last values × Wait May formulas front
 last_waits May last formulas front old values is (others, (same, ends, of, waits)) =
     let one = same_ends others front same values (sym ends ∙ is) in
@@ -102,10 +102,10 @@ pub got_nowhere : (May : ℕ → Bool → Type 0) (steps : List Step) (formula :
 got_nowhere May steps formula waiting made none = record { formulas = []; ahead = made; waits = none }
 
 -- what a step makes, where the steps make something
-record Makes (it : Step) (more : List Step) (formulas : List (Formula ℕ)) (formula : Formula ℕ) : Type 0 where
-  next : List (Formula ℕ)
-  made : after_step it formulas ≡ Some next
-  ahead : after more next ≡ Some (formula ∷ [])
+pub record Makes (it : Step) (more : List Step) (formulas : List (Formula ℕ)) (formula : Formula ℕ) : Type 0 where
+  pub next : List (Formula ℕ)
+  pub made : after_step it formulas ≡ Some next
+  pub ahead : after more next ≡ Some (formula ∷ [])
 
 makes : (it : Step) (more : List Step) (formulas : List (Formula ℕ)) (formula : Formula ℕ) → after (it ∷ more) formulas ≡ Some (formula ∷ []) → Makes it more formulas formula
 makes it more formulas formula ahead = by_made (after_step it formulas) refl ahead
@@ -114,13 +114,13 @@ makes it more formulas formula ahead = by_made (after_step it formulas) refl ahe
     by_made None is none = cc
     by_made (Some next) is some = record { next = next; made = is; ahead = some }
 
-next_step : (May : ℕ → Bool → Type 0) (steps : List Step) (place : ℕ) (formula : Formula ℕ) (waiting : List Values) (other : Step) → place < length steps
-    → (got : GotTo May steps place formula waiting) → Makes (get_or steps place other) (drop (suc place) steps) got.formulas formula
-next_step May steps place formula waiting other less got =
-    makes (get_or steps place other) (drop (suc place) steps) got.formulas formula
-    (subst (λ (l : List Step). after l got.formulas ≡ Some (formula ∷ [])) (drop-cons steps place other less) got.ahead)
+pub next_step : (steps : List Step) (place : ℕ) (formula : Formula ℕ) (other : Step) → place < length steps → (formulas : List (Formula ℕ)) → after (drop place steps) formulas ≡ Some (formula ∷ [])
+    → Makes (get_or steps place other) (drop (suc place) steps) formulas formula
+next_step steps place formula other less formulas ahead =
+    makes (get_or steps place other) (drop (suc place) steps) formulas formula
+    (subst (λ (l : List Step). after l formulas ≡ Some (formula ∷ [])) (drop-cons steps place other less) ahead)
 
-enough : (it : Step) (formulas next : List (Formula ℕ)) → after_step it formulas ≡ Some next → over it ≤ length formulas
+pub enough : (it : Step) (formulas next : List (Formula ℕ)) → after_step it formulas ≡ Some next → over it ≤ length formulas
 enough (step.Leaf number) formulas next made = omega arith
 enough step.Not [] next made = cc
 enough step.Not (last ∷ formulas) next made = omega arith
@@ -135,7 +135,7 @@ enough step.Both (last ∷ first ∷ formulas) next made = omega arith
 pub enough_wait : (May : ℕ → Bool → Type 0) (steps : List Step) (place : ℕ) (formula : Formula ℕ) (waiting : List Values) (other : Step) → place < length steps
     → GotTo May steps place formula waiting → over (get_or steps place other) ≤ length waiting
 enough_wait May steps place formula waiting other less got =
-    let step_made = next_step May steps place formula waiting other less got in
+    let step_made = next_step steps place formula other less got.formulas got.ahead in
     let few = enough (get_or steps place other) got.formulas step_made.next step_made.made in
     omega (arith, few, many_wait May got.formulas waiting got.waits)
 
@@ -143,7 +143,7 @@ enough_wait May steps place formula waiting other less got =
 pub goes_on : (May : ℕ → Bool → Type 0) (steps : List Step) (place : ℕ) (formula : Formula ℕ) (waiting new : List Values) (other : Step) → place < length steps
     → GotTo May steps place formula waiting → Takes May (get_or steps place other) waiting new → GotTo May steps (place + 1) formula new
 goes_on May steps place formula waiting new other less got takes =
-    let step_made = next_step May steps place formula waiting other less got in
+    let step_made = next_step steps place formula other less got.formulas got.ahead in
     let count : suc place ≡ place + 1 = omega arith in
     record {
       formulas = step_made.next;

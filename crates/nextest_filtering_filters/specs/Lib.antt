@@ -2,6 +2,7 @@ pub mod Formula
 pub mod Values
 pub mod Steps
 pub mod Waiting
+pub mod Columns
 pub mod FormulaLaws
 pub mod WorkedRows
 pub mod Query

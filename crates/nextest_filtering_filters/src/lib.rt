@@ -3,6 +3,7 @@
 
 mod asked;
 mod builder;
+mod columns;
 mod compiled;
 mod context;
 mod evaluator;
