@@ -182,7 +182,7 @@ record Exact (Can : Bool → Type 0) : Type 0 where
   exact : AreValues Can values
   some : IsSome values
 
-not_itself : (b : Bool) → b ≡ not b → ⊥
+pub not_itself : (b : Bool) → b ≡ not b → ⊥
 not_itself true is = cc
 not_itself false is = cc
 

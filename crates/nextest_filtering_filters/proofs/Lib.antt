@@ -7,3 +7,4 @@ pub mod Parts
 pub mod Sure
 pub mod Deciding
 pub mod EachTest
+pub mod TestColumns

@@ -1,5 +1,5 @@
 -- Lists side by side, and a loop over one of them.
-use Rattle.std.proofs.Common.{◌≡◌, ℕ, zero, suc, ◌+◌, ◌<◌, List, [], ◌∷◌, ◌++◌, length, take, get_or, refl, sym, ap, ◌∙◌, subst, arith, slice_set}
+use Rattle.std.proofs.Common.{◌≡◌, ℕ, zero, suc, ◌+◌, ◌<◌, List, [], ◌∷◌, ◌++◌, Some, length, map, replicate, take, get_or, refl, sym, ap, ◌∙◌, subst, arith, slice_get, slice_set}
 use Rattle.std.specs.List.{All, AllZip}
 use Rattle.std.proofs.lemmas.List.{take_more}
 use Rattle.std.proofs.Math.Seq.{take-length, take-suc}
@@ -67,3 +67,41 @@ all_second R P holds xs [] all k d less = absurd (omega (arith, less))
 all_second R P holds [] (y ∷ ys) all k d less = absurd all
 all_second R P holds (x ∷ xs) (y ∷ ys) all zero d less = holds x y all.0
 all_second R P holds (x ∷ xs) (y ∷ ys) all (suc k) d less = all_second R P holds xs ys all.1 k d (omega (arith, less))
+
+-- a loop that has seen to each
+pub all_end : {A : Type 0} (P : A → Type 0) (xs : List A) (place : ℕ) → place ≡ length xs → All P (take place xs) → All P xs
+all_end P xs place ended all = subst (All P) (ap (λ n. take n xs) ended ∙ take-length xs) all
+
+-- what stands at the same place
+pub zip_at : {A B : Type 0} (R : A → B → Type 0) (xs : List A) (ys : List B) → AllZip R xs ys → (place : ℕ) (x : A) (other : B) → slice_get xs place ≡ Some x → R x (get_or ys place other)
+zip_at R [] ys all place x other at = cc
+zip_at R (a ∷ xs) [] all place x other at = absurd all
+zip_at R (a ∷ xs) (b ∷ ys) all zero x other at = let same : a ≡ x = cc in subst (λ l. R l b) same all.0
+zip_at R (a ∷ xs) (b ∷ ys) all (suc place) x other at = zip_at R xs ys all.1 place x other at
+
+pub zip_by_places : {A B : Type 0} (R : A → B → Type 0) (xs : List A) (ys : List B) (other : B) → length ys ≡ length xs → ((place : ℕ) (x : A) → slice_get xs place ≡ Some x → R x (get_or ys place other)) → AllZip R xs ys
+zip_by_places R [] [] other long at = tt
+zip_by_places R [] (b ∷ ys) other long at = absurd (omega (arith, long))
+zip_by_places R (a ∷ xs) [] other long at = absurd (omega (arith, long))
+zip_by_places R (a ∷ xs) (b ∷ ys) other long at = (at 0 a refl, zip_by_places R xs ys other (omega (arith, long)) (λ place x is. at (suc place) x is))
+
+-- all with one
+pub zip_same : {A B : Type 0} (R : A → B → Type 0) (xs : List A) (ys : List B) (one : B) → ys ≡ replicate (length xs) one → ((x : A) → R x one) → AllZip R xs ys
+zip_same {A} R xs ys one is so = subst (AllZip R xs) (sym is) (by_list xs)
+  where
+    by_list : (them : List A) → AllZip R them (replicate (length them) one)
+    by_list [] = tt
+    by_list (x ∷ them) = (so x, by_list them)
+
+-- the second list by what is told of it
+pub zip_map : {A B C : Type 0} (R : A → B → Type 0) (Q : A → C → Type 0) (change : B → C) → ((x : A) (y : B) → R x y → Q x (change y)) → (xs : List A) (ys : List B) → AllZip R xs ys → AllZip Q xs (map change ys)
+zip_map R Q change so [] [] all = tt
+zip_map R Q change so [] (y ∷ ys) all = absurd all
+zip_map R Q change so (x ∷ xs) [] all = absurd all
+zip_map R Q change so (x ∷ xs) (y ∷ ys) all = (so x y all.0, zip_map R Q change so xs ys all.1)
+
+-- a place where something stands
+pub within : {A : Type 0} (xs : List A) (place : ℕ) (x : A) → slice_get xs place ≡ Some x → place < length xs
+within [] place x at = cc
+within (a ∷ xs) zero x at = omega arith
+within (a ∷ xs) (suc place) x at = let less = within xs place x at in omega (arith, less)

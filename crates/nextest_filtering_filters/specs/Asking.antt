@@ -1,5 +1,8 @@
 -- What is left to ask of a filter where its binary is known.
-use Rattle.std.specs.Prelude.{◌≡◌, ℕ, Bool, true, false, List, Option, None, Some}
+use Rattle.std.specs.Prelude.{◌≡◌, ℕ, Bool, true, false, List, length, Option, None, Some}
+use Rattle.std.specs.Borrow.{Bor}
+use Rattle.std.specs.Global.{Vec}
+use Rattle.nextest_filtering_filters.specs.Columns.{IsLong, OnEach, value_at}
 use Rattle.nextest_filtering_filters.specs.Formula.{AreValues}
 use Rattle.nextest_filtering_filters.specs.Values.{IsSome, may_by}
 use Rattle.nextest_filtering_filters.specs.declared.values.Values.{Values}
@@ -51,6 +54,11 @@ AreOn binary default it values = AreValues (MayBe binary Either Either (values_m
 -- the value that a predicate has on a test, as values
 abbrev pub AreTold : Binary → List ℕ → (Matcher → Type 0) → Bool → FiltersetLeaf → Values → Type 0
 AreTold binary name Member default it values = AreValues (IsTold binary name Member default it) values × IsSome values
+
+-- what a predicate is on each of some tests of a binary, whose groups nobody knows, where this is what the default filter is
+abbrev pub IsColumn : Binary → List (Bor (List ℕ)) → List Bool → FiltersetLeaf → Vec Bool → Type 0
+IsColumn binary names default it column = IsLong (length names) column
+    × OnEach names (λ place name. IsTold binary name (λ m. ⊥) (value_at default place) it (value_at column.items place))
 
 -- the values that one value, or none that is known, leaves
 abbrev pub left_by : Option Bool → Values

@@ -1,11 +1,14 @@
 // What a predicate is on a binary, and who is asked of the binary's tests.
-ghost use Rattle.std.specs.Prelude.{◌≡◌, Bool, IfOk};
+ghost use Rattle.std.specs.Prelude.{◌≡◌, Bool, IfOk, length};
+ghost use Rattle.std.specs.List.{AllZip};
 ghost use Rattle.nextest_filtering_filters.specs.Formula.{AreValues};
 ghost use Rattle.nextest_filtering_filters.specs.Values.{IsSome, may_by};
-ghost use Rattle.nextest_filtering_filters.specs.Asking.{IsFor, IsTold, values_may};
-ghost use Rattle.nextest_filtering_filters.specs.Meaning.{Either, MayBe};
+ghost use Rattle.nextest_filtering_filters.specs.Asking.{IsColumn, IsFor, IsTold, values_may};
+ghost use Rattle.nextest_filtering_filters.specs.Meaning.{Either, MayBe, Tells};
 ghost use Rattle.nextest_filtering_filters.specs.Query.{Binary, binary_of, test_of};
 ghost use Rattle.nextest_filtering_filters.specs.declared.leaf.FiltersetLeaf.{FiltersetLeaf};
+ghost use Rattle.nextest_filtering_trees.specs.Matching.{comparison_of, text_of};
+ghost use Rattle.nextest_filtering_trees.specs.Meaning.{Compares};
 
 use crate::group_lookup::GroupLookup;
 use crate::leaf::FiltersetLeaf;
@@ -25,6 +28,23 @@ pub(crate) enum Asked<'f> {
     Group(&'f NameMatcher),
     // Whether the default filter holds.
     Default,
+}
+
+// Whether each of some names is matched.
+fn matched(
+    alloc: Global,
+    matching: &mut NameMatching<'_>,
+    names: &[&str],
+) -> Result<Vec<bool>, AllocError>
+    ensures told { IfOk result (λ column. AllZip (λ name value. Tells (Compares (comparison_of matching.old) (text_of matching.old) name.now) value) names.now column.items) }
+    ensures comparison { comparison_of matching.new ≡ comparison_of matching.old }
+    ensures text { text_of matching.new ≡ text_of matching.old }
+{
+    let mut column = Vec::with_capacity(alloc, names.len())?;
+    for name in names {
+        column.push(matching.is_match(name)?)?;
+    }
+    Ok(column)
 }
 
 impl<'f> Asked<'f> {
@@ -90,6 +110,25 @@ impl<'f> Asked<'f> {
             Asked::Name(matching) => matching.is_match(test.test_name),
             Asked::Group(matcher) => groups.is_member_test(test, matcher),
             Asked::Default => Ok(default),
+        }
+    }
+    // Whether the predicate is so on each of some tests, whose groups nobody knows, where this is whether the default filter
+    // holds on them.
+    pub(crate) fn on_tests(
+        &mut self,
+        alloc: Global,
+        names: &[&str],
+        default: &[bool],
+    ) -> Result<Vec<bool>, AllocError>
+        requires long { length default.now ≡ length names.now }
+        ensures column { IfOk result (λ column. (binary : Binary) (leaf : FiltersetLeaf) → IsFor binary leaf self.old → IsColumn binary names.now default.now leaf column) }
+        ensures stays { (binary : Binary) (leaf : FiltersetLeaf) → IsFor binary leaf self.old → IsFor binary leaf self.new }
+    {
+        match self {
+            Asked::Known(value) => vec![in alloc; *value; names.len()],
+            Asked::Name(matching) => matched(alloc, matching, names),
+            Asked::Group(_) => vec![in alloc; false; names.len()],
+            Asked::Default => Vec::from_slice(alloc, default),
         }
     }
 }

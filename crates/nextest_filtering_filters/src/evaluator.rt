@@ -1,6 +1,7 @@
 // A filter on a binary and its tests.
-ghost use Rattle.std.specs.Prelude.{◌≡◌, true, false, Some, IfOk};
-ghost use Rattle.std.specs.List.{list_any};
+ghost use Rattle.std.specs.Prelude.{◌≡◌, true, false, Some, IfOk, length};
+ghost use Rattle.std.specs.List.{AllZip, list_any};
+ghost use Rattle.nextest_filtering_filters.specs.Columns.{IsLong, OnEach, value_at};
 ghost use Rattle.nextest_filtering_filters.specs.Formula.{AreValues, Gives, IsValue};
 ghost use Rattle.nextest_filtering_filters.specs.Values.{IsSome};
 ghost use Rattle.nextest_filtering_trees.specs.Meaning.{MatchesName};
@@ -103,6 +104,26 @@ fn default_value<G: GroupLookup>(
     }
 }
 
+// Whether a default filter holds on each of some tests, whose groups nobody knows, where it is asked for.
+fn default_column(
+    alloc: Global,
+    default: &mut Part<'_>,
+    is_asked: bool,
+    names: &[&str],
+) -> Result<Vec<bool>, AllocError>
+    requires none { list_any is_default default.old.filter.leaves ≡ false }
+    ensures long { IfOk result (IsLong (length names.now)) }
+    ensures values { IfOk result (λ column. is_asked ≡ true → OnEach names.now (λ place name. IsValue (Gives (MayBe default.old.binary (λ m. Tells (MatchesName m name)) (λ m. Tells ⊥) Never) (filter_of default.old.filter)) (Some (value_at column.items place)))) }
+    ensures same { default.new ≡ default.old }
+{
+    let nowhere = vec![in alloc; false; names.len()]?;
+    if is_asked {
+        default.on_tests(alloc, names, nowhere.as_slice())
+    } else {
+        Ok(nowhere)
+    }
+}
+
 impl<'f> BinaryEvaluator<'f> {
     /// A filter on a binary. It fails only on allocation.
     pub fn new(
@@ -148,5 +169,18 @@ impl<'f> BinaryEvaluator<'f> {
         };
         let default = default_value(&mut self.default, self.asks_default, &test, groups)?;
         self.main.on_test(&test, default, groups)
+    }
+    // Whether the filter holds on each of some tests of the binary, whose groups nobody knows, by their names and in their
+    // order.
+    pub(crate) fn matches_tests(
+        &mut self,
+        alloc: Global,
+        names: &[&str],
+    ) -> Result<Vec<bool>, AllocError>
+        ensures values { IfOk result (λ values. AllZip (λ name value. IsValue (IsOn (filter_of self.old.filter) (filter_of self.old.default) (record { binary = self.old.binary; name = name.now }) (λ matcher. ⊥)) (Some value)) names.now values.items) }
+        ensures same { self.new ≡ self.old }
+    {
+        let default = default_column(alloc, &mut self.default, self.asks_default, names)?;
+        self.main.on_tests(alloc, names, default.as_slice())
     }
 }

@@ -15,6 +15,7 @@ mod leaf;
 mod matches;
 mod part;
 mod query;
+mod readable;
 mod step;
 mod values;
 

@@ -11,6 +11,7 @@ use crate::context::EvalContext;
 use crate::evaluator::BinaryEvaluator;
 use crate::group_lookup::GroupLookup;
 use crate::query::{BinaryQuery, TestQuery};
+use crate::readable::see_leaves;
 use nextest_filtering_trees::NameMatcher;
 use std::alloc::{AllocError, Global};
 
@@ -70,11 +71,14 @@ impl CompiledExpr {
             names.now values.items) }
     {
         let mut evaluator = BinaryEvaluator::new(alloc, self, ecx, binary)?;
-        let mut values = Vec::with_capacity(alloc, names.len())?;
-        for name in names {
-            values.push(evaluator.matches_test_with_groups(name, &NoGroups)?)?;
+        match evaluator.matches_binary()? {
+            Some(value) => {
+                see_leaves(self.leaves());
+                see_leaves(ecx.default_filter().leaves());
+                vec![in alloc; value; names.len()]
+            }
+            None => evaluator.matches_tests(alloc, names),
         }
-        Ok(values)
     }
 
     /// Whether the filter holds on a test, whose groups this look-up knows. It fails only on allocation. Who asks for many tests

@@ -1,9 +1,10 @@
 // A filter on a binary, asked of the binary's tests.
-ghost use Rattle.std.specs.Prelude.{◌≡◌, Bool, List, Some, IfOk};
+ghost use Rattle.std.specs.Prelude.{◌≡◌, Bool, List, Some, IfOk, length};
 ghost use Rattle.std.specs.List.{AllZip};
+ghost use Rattle.nextest_filtering_filters.specs.Columns.{IsLong, OnEach, value_at};
 ghost use Rattle.nextest_filtering_filters.specs.Formula.{Gives, IsValue};
 ghost use Rattle.nextest_filtering_filters.specs.Values.{IsSome};
-ghost use Rattle.nextest_filtering_filters.specs.Asking.{AreOn, AreTold, IsFor, IsTold, values_may};
+ghost use Rattle.nextest_filtering_filters.specs.Asking.{AreOn, AreTold, IsColumn, IsFor, IsTold, values_may};
 ghost use Rattle.nextest_filtering_filters.specs.Filter.{filter_of};
 ghost use Rattle.nextest_filtering_filters.specs.Meaning.{Either, MayBe};
 ghost use Rattle.nextest_filtering_filters.specs.Query.{Binary, binary_of, test_of};
@@ -117,6 +118,24 @@ fn values_on_test<G: GroupLookup>(
     Ok(())
 }
 
+// What each predicate is on each of some tests, where this is whether the default filter holds on them.
+fn columns_of(
+    alloc: Global,
+    asked: &mut [Asked<'_>],
+    names: &[&str],
+    default: &[bool],
+) -> Result<Vec<Vec<bool>>, AllocError>
+    requires long { length default.now ≡ length names.now }
+    ensures columns { IfOk result (λ columns. (binary : Binary) (leaves : List FiltersetLeaf) → AllZip (IsFor binary) leaves asked.old → AllZip (IsColumn binary names.now default.now) leaves columns.items) }
+    ensures stays { (binary : Binary) (leaves : List FiltersetLeaf) → AllZip (IsFor binary) leaves asked.old → AllZip (IsFor binary) leaves asked.new }
+{
+    let mut columns = Vec::with_capacity(alloc, asked.len())?;
+    for it in asked.iter_mut() {
+        columns.push(it.on_tests(alloc, names, default)?)?;
+    }
+    Ok(columns)
+}
+
 // The one value, where there is one.
 fn one_value(value: Option<bool>) -> bool
     ensures { (one : Bool) → value ≡ Some one → result ≡ one }
@@ -177,5 +196,23 @@ impl<'f> Part<'f> {
             .formula()
             .value(self.values.as_slice(), &mut self.waiting)?;
         Ok(one_value(value))
+    }
+    // Whether the filter holds on each of some tests of the binary, whose groups nobody knows, where this is whether the
+    // default filter does.
+    pub(crate) fn on_tests(
+        &mut self,
+        alloc: Global,
+        names: &[&str],
+        default: &[bool],
+    ) -> Result<Vec<bool>, AllocError>
+        requires long { length default.now ≡ length names.now }
+        ensures long { IfOk result (IsLong (length names.now)) }
+        ensures values { IfOk result (λ column. OnEach names.now (λ place name. IsValue (Gives (IsTold self.old.binary name (λ m. ⊥) (value_at default.now place)) (filter_of self.old.filter)) (Some (value_at column.items place)))) }
+        ensures same { self.new ≡ self.old }
+    {
+        let columns = columns_of(alloc, self.asked.as_mut_slice(), names, default)?;
+        self.filter
+            .formula()
+            .column(alloc, columns.as_slice(), names.len())
     }
 }

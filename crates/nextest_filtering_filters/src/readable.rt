@@ -1,0 +1,43 @@
+// Why a filter has an answer on each test: the text of each of its globs is one.
+ghost use Rattle.std.specs.Prelude.{All};
+ghost use Rattle.nextest_filtering_filters.specs.Deciding.{HasReadable, IsReadable};
+ghost use Rattle.nextest_filtering_trees.specs.Tree.{matcher_of};
+
+use crate::leaf::FiltersetLeaf;
+use nextest_filtering_trees::NameMatcher;
+
+// A glob was made of a text that is one.
+fn see_matcher(matcher: &NameMatcher)
+    ensures { IsReadable (matcher_of matcher.now) }
+{
+    if let NameMatcher::Glob { glob, implicit: _ } = matcher {
+        let _spelled = glob.tokens();
+    }
+}
+
+// So was that of a predicate, where it has one.
+fn see_leaf(leaf: &FiltersetLeaf)
+    ensures { HasReadable leaf.now }
+{
+    match leaf {
+        FiltersetLeaf::Kind(matcher, _)
+        | FiltersetLeaf::Binary(matcher, _)
+        | FiltersetLeaf::BinaryId(matcher, _)
+        | FiltersetLeaf::Test(matcher, _)
+        | FiltersetLeaf::Group(matcher, _) => see_matcher(matcher),
+        FiltersetLeaf::Packages(_)
+        | FiltersetLeaf::Platform(_, _)
+        | FiltersetLeaf::Default
+        | FiltersetLeaf::All
+        | FiltersetLeaf::None => {}
+    }
+}
+
+// So were those of some predicates.
+pub(crate) fn see_leaves(leaves: &[FiltersetLeaf])
+    ensures { All HasReadable leaves.now }
+{
+    for leaf in leaves {
+        see_leaf(leaf);
+    }
+}
