@@ -1,5 +1,5 @@
 -- Formulas on each of some tests, by columns.
-use Rattle.std.proofs.Common.{◌≡◌, ℕ, zero, suc, ◌+◌, ◌≤◌, ◌<◌, Bool, true, false, not, ◌&&◌, ◌||◌, List, [], ◌∷◌, ◌++◌, length, map, drop, get_or, Option, None, Some, refl, sym, ap, ◌∙◌, subst, inl, inr, arith, length-append}
+use Rattle.std.proofs.Common.{◌≡◌, ℕ, suc, ◌+◌, ◌≤◌, ◌<◌, Bool, true, false, not, ◌&&◌, ◌||◌, List, [], ◌∷◌, ◌++◌, length, map, drop, get_or, Some, refl, sym, ap, ◌∙◌, subst, inl, inr, arith}
 use Rattle.std.specs.Global.{Vec}
 use Rattle.std.specs.List.{All}
 use Rattle.std.proofs.lemmas.List.{map_push, with_items_is}
@@ -9,8 +9,8 @@ use Rattle.std.proofs.lemmas.List.Elements.{All-nil, All-pop, All-push}
 use Rattle.nextest_filtering_filters.specs.Columns.{IsLong, just, value_at, values_in}
 use Rattle.nextest_filtering_filters.specs.Formula.{AreValues, Formula, Gives, IsValue, both, either, leaf, negated}
 use Rattle.nextest_filtering_filters.specs.Steps.{after, after_step}
-use Rattle.nextest_filtering_filters.specs.Values.{IsSome, both_values, either_values, may_by, negated_values, values_at}
-use Rattle.nextest_filtering_filters.specs.Waiting.{AreOf, Takes, Wait, over}
+use Rattle.nextest_filtering_filters.specs.Values.{IsSome, both_values, either_values, may_by, negated_values}
+use Rattle.nextest_filtering_filters.specs.Waiting.{Takes, Wait, over}
 use Rattle.nextest_filtering_filters.specs.declared.step.Step.{Step}
 use Rattle.nextest_filtering_filters.specs.declared.step.Step.TheVariants as step
 use Rattle.nextest_filtering_filters.specs.declared.values.Values.{Values}

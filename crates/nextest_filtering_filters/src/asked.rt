@@ -36,7 +36,9 @@ fn matched(
     matching: &mut NameMatching<'_>,
     names: &[&str],
 ) -> Result<Vec<bool>, AllocError>
-    ensures told { IfOk result (λ column. AllZip (λ name value. Tells (Compares (comparison_of matching.old) (text_of matching.old) name.now) value) names.now column.items) }
+    ensures told { IfOk result (λ column. AllZip (λ name value.
+        Tells (Compares (comparison_of matching.old) (text_of matching.old) name.now) value)
+        names.now column.items) }
     ensures comparison { comparison_of matching.new ≡ comparison_of matching.old }
     ensures text { text_of matching.new ≡ text_of matching.old }
 {
@@ -121,8 +123,10 @@ impl<'f> Asked<'f> {
         default: &[bool],
     ) -> Result<Vec<bool>, AllocError>
         requires long { length default.now ≡ length names.now }
-        ensures column { IfOk result (λ column. (binary : Binary) (leaf : FiltersetLeaf) → IsFor binary leaf self.old → IsColumn binary names.now default.now leaf column) }
-        ensures stays { (binary : Binary) (leaf : FiltersetLeaf) → IsFor binary leaf self.old → IsFor binary leaf self.new }
+        ensures column { IfOk result (λ column. (binary : Binary) (leaf : FiltersetLeaf)
+            → IsFor binary leaf self.old → IsColumn binary names.now default.now leaf column) }
+        ensures stays { (binary : Binary) (leaf : FiltersetLeaf)
+            → IsFor binary leaf self.old → IsFor binary leaf self.new }
     {
         match self {
             Asked::Known(value) => vec![in alloc; *value; names.len()],

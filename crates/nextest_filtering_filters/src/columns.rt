@@ -1,5 +1,6 @@
 // Formulas over columns: one truth value for each of some tests.
-ghost use Rattle.std.specs.Prelude.{◌≡◌, ◌≤◌, ◌<◌, ◌+◌, ℕ, not, ◌&&◌, ◌||◌, [], ◌∷◌, ◌++◌, Some, length, vec_len, IfOk, All};
+ghost use Rattle.std.specs.Prelude.{◌≡◌, ◌≤◌, ◌<◌, ◌+◌, ℕ, not, ◌&&◌, ◌||◌, [], ◌∷◌, ◌++◌, Some};
+ghost use Rattle.std.specs.Prelude.{length, vec_len, IfOk, All};
 ghost use Rattle.nextest_filtering_filters.specs.Columns.{IsLong, just, value_at, values_in};
 ghost use Rattle.nextest_filtering_filters.specs.Formula.{Gives, IsValue};
 ghost use Rattle.nextest_filtering_filters.specs.Steps.{formula_of};
@@ -30,7 +31,8 @@ fn column_of(
 ) -> Result<Vec<bool>, AllocError>
     requires long { All (IsLong count) leaves.now }
     ensures long { IfOk result (IsLong count) }
-    ensures values { IfOk result (λ column. (place : ℕ) → place < count → just (value_at column.items place) ≡ values_at (values_in leaves.now place) leaf) }
+    ensures values { IfOk result (λ column. (place : ℕ) → place < count
+        → just (value_at column.items place) ≡ values_at (values_in leaves.now place) leaf) }
 {
     match leaves.get(leaf) {
         Some(column) => Vec::from_slice(alloc, column.as_slice()),
@@ -40,7 +42,8 @@ fn column_of(
 
 // Turns each value of a column.
 fn negate(column: &mut [bool])
-    ensures { (place : ℕ) → place < length column.old → value_at column.new place ≡ not (value_at column.old place) }
+    ensures { (place : ℕ) → place < length column.old
+        → value_at column.new place ≡ not (value_at column.old place) }
 {
     for value in column.iter_mut() {
         *value = !*value;
@@ -50,7 +53,8 @@ fn negate(column: &mut [bool])
 // Joins each value of a column with that of another one: either of them.
 fn join_either(left: &mut [bool], right: &[bool])
     requires long { length left.old ≡ length right.now }
-    ensures { (place : ℕ) → place < length left.old → value_at left.new place ≡ (value_at left.old place || value_at right.now place) }
+    ensures { (place : ℕ) → place < length left.old
+        → value_at left.new place ≡ (value_at left.old place || value_at right.now place) }
 {
     for (place, value) in left.iter_mut().enumerate() {
         *value |= right[place];
@@ -60,7 +64,8 @@ fn join_either(left: &mut [bool], right: &[bool])
 // Joins each value of a column with that of another one: both of them.
 fn join_both(left: &mut [bool], right: &[bool])
     requires long { length left.old ≡ length right.now }
-    ensures { (place : ℕ) → place < length left.old → value_at left.new place ≡ (value_at left.old place && value_at right.now place) }
+    ensures { (place : ℕ) → place < length left.old
+        → value_at left.new place ≡ (value_at left.old place && value_at right.now place) }
 {
     for (place, value) in left.iter_mut().enumerate() {
         *value &= right[place];
@@ -78,8 +83,11 @@ fn take_step(
     requires few { over step ≤ vec_len waiting.old }
     requires leaves { All (IsLong count) leaves.now }
     requires long { All (IsLong count) waiting.old.items }
-    ensures takes { IfOk result (λ _. (place : ℕ) → place < count → Takes (may_by (values_at (values_in leaves.now place))) step (values_in waiting.old.items place) (values_in waiting.new.items place)) }
-    ensures many { IfOk result (λ _. length waiting.new.items + over step ≡ length waiting.old.items + 1) }
+    ensures takes { IfOk result (λ _. (place : ℕ) → place < count
+        → Takes (may_by (values_at (values_in leaves.now place))) step
+        (values_in waiting.old.items place) (values_in waiting.new.items place)) }
+    ensures many { IfOk result (λ _.
+        length waiting.new.items + over step ≡ length waiting.old.items + 1) }
     ensures long { IfOk result (λ _. All (IsLong count) waiting.new.items) }
 {
     match step {
@@ -118,7 +126,9 @@ impl Formula {
     ) -> Result<Vec<bool>, AllocError>
         requires long { All (IsLong count) leaves.now }
         ensures long { IfOk result (IsLong count) }
-        ensures values { IfOk result (λ column. (place : ℕ) → place < count → IsValue (Gives (may_by (values_at (values_in leaves.now place))) (formula_of self.now)) (Some (value_at column.items place))) }
+        ensures values { IfOk result (λ column. (place : ℕ) → place < count
+            → IsValue (Gives (may_by (values_at (values_in leaves.now place))) (formula_of self.now))
+            (Some (value_at column.items place))) }
     {
         let mut waiting = Vec::new(alloc);
         for step in &self.steps {

@@ -113,7 +113,10 @@ fn default_column(
 ) -> Result<Vec<bool>, AllocError>
     requires none { list_any is_default default.old.filter.leaves ≡ false }
     ensures long { IfOk result (IsLong (length names.now)) }
-    ensures values { IfOk result (λ column. is_asked ≡ true → OnEach names.now (λ place name. IsValue (Gives (MayBe default.old.binary (λ m. Tells (MatchesName m name)) (λ m. Tells ⊥) Never) (filter_of default.old.filter)) (Some (value_at column.items place)))) }
+    ensures values { IfOk result (λ column. is_asked ≡ true
+        → OnEach names.now (λ place name. IsValue (Gives
+        (MayBe default.old.binary (λ m. Tells (MatchesName m name)) (λ m. Tells ⊥) Never)
+        (filter_of default.old.filter)) (Some (value_at column.items place)))) }
     ensures same { default.new ≡ default.old }
 {
     let nowhere = vec![in alloc; false; names.len()]?;
@@ -177,7 +180,10 @@ impl<'f> BinaryEvaluator<'f> {
         alloc: Global,
         names: &[&str],
     ) -> Result<Vec<bool>, AllocError>
-        ensures values { IfOk result (λ values. AllZip (λ name value. IsValue (IsOn (filter_of self.old.filter) (filter_of self.old.default) (record { binary = self.old.binary; name = name.now }) (λ matcher. ⊥)) (Some value)) names.now values.items) }
+        ensures values { IfOk result (λ values. AllZip (λ name value. IsValue (IsOn
+            (filter_of self.old.filter) (filter_of self.old.default)
+            (record { binary = self.old.binary; name = name.now }) (λ matcher. ⊥)) (Some value))
+            names.now values.items) }
         ensures same { self.new ≡ self.old }
     {
         let default = default_column(alloc, &mut self.default, self.asks_default, names)?;

@@ -126,8 +126,11 @@ fn columns_of(
     default: &[bool],
 ) -> Result<Vec<Vec<bool>>, AllocError>
     requires long { length default.now ≡ length names.now }
-    ensures columns { IfOk result (λ columns. (binary : Binary) (leaves : List FiltersetLeaf) → AllZip (IsFor binary) leaves asked.old → AllZip (IsColumn binary names.now default.now) leaves columns.items) }
-    ensures stays { (binary : Binary) (leaves : List FiltersetLeaf) → AllZip (IsFor binary) leaves asked.old → AllZip (IsFor binary) leaves asked.new }
+    ensures columns { IfOk result (λ columns. (binary : Binary) (leaves : List FiltersetLeaf)
+        → AllZip (IsFor binary) leaves asked.old
+        → AllZip (IsColumn binary names.now default.now) leaves columns.items) }
+    ensures stays { (binary : Binary) (leaves : List FiltersetLeaf)
+        → AllZip (IsFor binary) leaves asked.old → AllZip (IsFor binary) leaves asked.new }
 {
     let mut columns = Vec::with_capacity(alloc, asked.len())?;
     for it in asked.iter_mut() {
@@ -207,7 +210,9 @@ impl<'f> Part<'f> {
     ) -> Result<Vec<bool>, AllocError>
         requires long { length default.now ≡ length names.now }
         ensures long { IfOk result (IsLong (length names.now)) }
-        ensures values { IfOk result (λ column. OnEach names.now (λ place name. IsValue (Gives (IsTold self.old.binary name (λ m. ⊥) (value_at default.now place)) (filter_of self.old.filter)) (Some (value_at column.items place)))) }
+        ensures values { IfOk result (λ column. OnEach names.now (λ place name. IsValue
+            (Gives (IsTold self.old.binary name (λ m. ⊥) (value_at default.now place))
+            (filter_of self.old.filter)) (Some (value_at column.items place)))) }
         ensures same { self.new ≡ self.old }
     {
         let columns = columns_of(alloc, self.asked.as_mut_slice(), names, default)?;

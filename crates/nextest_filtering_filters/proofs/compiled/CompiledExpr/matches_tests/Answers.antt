@@ -7,7 +7,6 @@ use Rattle.nextest_filtering_filters.specs.Filter.{Compiled, filter_of, is_defau
 use Rattle.nextest_filtering_filters.specs.Formula.{IsValue}
 use Rattle.nextest_filtering_filters.specs.Meaning.{CanBeOn, IsOn}
 use Rattle.nextest_filtering_filters.specs.Query.{Binary, binary_of}
-use Rattle.nextest_filtering_filters.specs.declared.leaf.FiltersetLeaf.{FiltersetLeaf}
 use Rattle.nextest_filtering_filters.proofs.Parts.{with_three}
 use Rattle.nextest_filtering_filters.proofs.TestColumns.{sure_on_tests}
 use Rattle.nextest_filtering_filters.proofs.compiled.CompiledExpr.matches_tests.Goals as goal

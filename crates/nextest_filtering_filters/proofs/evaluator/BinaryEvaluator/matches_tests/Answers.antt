@@ -2,7 +2,7 @@ use Rattle.std.proofs.Common.{Bool, Bor, List, ℕ, Some, ◌∙◌, subst, sym}
 use Rattle.std.specs.List.{AllZip}
 use Rattle.nextest_filtering_trees.specs.Meaning.{MatchesName}
 use Rattle.nextest_filtering_filters.specs.Asking.{Asking, IsTold}
-use Rattle.nextest_filtering_filters.specs.Columns.{IsLong, OnEach, value_at}
+use Rattle.nextest_filtering_filters.specs.Columns.{OnEach, value_at}
 use Rattle.nextest_filtering_filters.specs.Filter.{filter_of}
 use Rattle.nextest_filtering_filters.specs.Formula.{Gives, IsValue}
 use Rattle.nextest_filtering_filters.specs.Meaning.{IsOn, MayBe, Never, Tells}
