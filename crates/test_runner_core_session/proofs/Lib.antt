@@ -1,3 +1,3 @@
-pub mod Indexes
+pub mod ByName
 pub mod Rising
 pub mod InOrder

@@ -5,12 +5,12 @@ use Rattle.std.proofs.lemmas.Cmp.{alike_right}
 use Rattle.std.proofs.lemmas.List.{get_or-map, length-map}
 use Rattle.std.proofs.lemmas.Map.Keys.{Less-from_sorted}
 use Rattle.std.proofs.lemmas.Map.Text.{is_eq-slice_cmp}
-use Rattle.std.proofs.lemmas.Option.{get_or_from_slice_get, slice_get-get_or, slice_get_within}
+use Rattle.std.proofs.lemmas.Option.{get_or_from_slice_get, slice_get-get_or, slice_get-map, slice_get_within}
 use Rattle.std.specs.Cmp.{IsTotalOrder, both_tied, on_total, then_total}
 use Rattle.std.specs.Cmp.Lexicographic.{nat_list_cmp_total, nat_list_eq_equiv, slice_cmp}
 use Rattle.std.specs.List.{AllAdjacentBelow, AllWithin, position_from}
 use Rattle.std.specs.List.Sorted.{IsStrictlySortedBy}
-use Rattle.std.specs.Option.{option_map_or, unwrap_or}
+use Rattle.std.specs.Option.{option_map, option_map_or, unwrap_or}
 use Rattle.std.specs.Ordering.{is_eq, is_lt, nat_cmp}
 use Rattle.std.specs.Str.{bytes_eq}
 use Rattle.std.specs.declared.cmp.Ordering.{Ordering}
@@ -18,7 +18,7 @@ use Rattle.std.specs.declared.cmp.Ordering.TheVariants.{Less, Equal, Greater}
 use Rattle.nextest_run_events_results.specs.declared.instance.OwnedTestInstanceId.{OwnedTestInstanceId}
 use Rattle.test_runner_core_plan.specs.Order.{instance_cmp}
 use Rattle.test_runner_core_plan.specs.declared.plan.PlanTest.{PlanTest}
-use Rattle.test_runner_core_session.specs.Names.{is_named, place_of}
+use Rattle.test_runner_core_session.specs.Names.{AreDistinct, is_named, place_of}
 
 pub instance_total : IsTotalOrder instance_cmp
 instance_total = then_total (on_total (λ (t : OwnedTestInstanceId). t.binary_id) nat_list_cmp_total) (on_total (λ (t : OwnedTestInstanceId). t.test_name) nat_list_cmp_total)
@@ -26,7 +26,7 @@ instance_total = then_total (on_total (λ (t : OwnedTestInstanceId). t.binary_id
 abbrev pub names : List PlanTest → List OwnedTestInstanceId
 names tests = map (λ test. test.instance) tests
 
-length_names : (tests : List PlanTest) → length (names tests) ≡ length tests
+pub length_names : (tests : List PlanTest) → length (names tests) ≡ length tests
 length_names tests = length-map tests (λ (t : PlanTest). t.instance)
 
 abbrev pub has : List ℕ → List ℕ → PlanTest → Bool
@@ -37,7 +37,7 @@ one id name = record { binary_id = id; test_name = name }
 
 -- ---- a list and a test
 
-first_from : {X : Type 0} (test : X → Bool) (xs : List X) (start k : ℕ) (d : X) → k < length xs → test (get_or xs k d) ≡ true
+pub first_from : {X : Type 0} (test : X → Bool) (xs : List X) (start k : ℕ) (d : X) → k < length xs → test (get_or xs k d) ≡ true
     → ((j : ℕ) → j < k → test (get_or xs j d) ≡ false) → position_from test start xs ≡ Some (start + k)
 first_from test [] start k d within it apart = absurd (omega (arith, within))
 first_from test (x ∷ xs) start zero d within it apart =
@@ -49,7 +49,7 @@ first_from test (x ∷ xs) start (suc k) d within it apart =
     ∙ first_from test xs (start + 1) k d (omega (arith, within)) it (λ j below. apart (suc j) (omega (arith, below)))
     ∙ ap (λ (n : ℕ). Some n) sum
 
-none_from : {X : Type 0} (test : X → Bool) (xs : List X) (start : ℕ) → ((j : ℕ) (d : X) → j < length xs → test (get_or xs j d) ≡ false) → position_from test start xs ≡ None
+pub none_from : {X : Type 0} (test : X → Bool) (xs : List X) (start : ℕ) → ((j : ℕ) (d : X) → j < length xs → test (get_or xs j d) ≡ false) → position_from test start xs ≡ None
 none_from test [] start apart = refl
 none_from test (x ∷ xs) start apart =
     ap (λ (b : Bool). cond b (Some start) (position_from test (start + 1) xs)) (apart 0 x (omega arith))
@@ -61,25 +61,25 @@ by_name id name (test ∷ tests) start = ap (λ (more : Option ℕ). cond (has i
 
 -- ---- names and their order
 
-tied : (id name : List ℕ) (test : PlanTest) → has id name test ≡ is_eq (instance_cmp test.instance (one id name))
+pub tied : (id name : List ℕ) (test : OwnedTestInstanceId) → is_named id name test ≡ is_eq (instance_cmp test (one id name))
 tied id name test =
-    both_tied (bytes_eq id test.instance.binary_id) (bytes_eq name test.instance.test_name)
-    (slice_cmp nat_cmp test.instance.binary_id id) (slice_cmp nat_cmp test.instance.test_name name)
-    (nat_list_eq_equiv.symm id test.instance.binary_id ∙ sym (is_eq-slice_cmp test.instance.binary_id id))
-    (nat_list_eq_equiv.symm name test.instance.test_name ∙ sym (is_eq-slice_cmp test.instance.test_name name))
+    both_tied (bytes_eq id test.binary_id) (bytes_eq name test.test_name)
+    (slice_cmp nat_cmp test.binary_id id) (slice_cmp nat_cmp test.test_name name)
+    (nat_list_eq_equiv.symm id test.binary_id ∙ sym (is_eq-slice_cmp test.binary_id id))
+    (nat_list_eq_equiv.symm name test.test_name ∙ sym (is_eq-slice_cmp test.test_name name))
 
-is_equal : (o : Ordering) → is_eq o ≡ true → o ≡ Equal
+pub is_equal : (o : Ordering) → is_eq o ≡ true → o ≡ Equal
 is_equal Less h = cc
 is_equal Equal h = refl
 is_equal Greater h = cc
 
-is_less : (o : Ordering) → is_lt o ≡ true → o ≡ Less
+pub is_less : (o : Ordering) → is_lt o ≡ true → o ≡ Less
 is_less Less h = refl
 is_less Equal h = cc
 is_less Greater h = cc
 
 below_it : (id name : List ℕ) (test : PlanTest) → instance_cmp test.instance (one id name) ≡ Less → has id name test ≡ false
-below_it id name test less = tied id name test ∙ ap is_eq less
+below_it id name test less = tied id name test.instance ∙ ap is_eq less
 
 -- an earlier test is less
 rising : (tests : List PlanTest) (i j : ℕ) (d : PlanTest) → IsStrictlySortedBy instance_cmp (names tests) → i < j → j < length tests
@@ -95,7 +95,7 @@ rising tests i j d rise below within =
 before_named : (id name : List ℕ) (test other : PlanTest) → has id name other ≡ true → instance_cmp test.instance other.instance ≡ Less
     → instance_cmp test.instance (one id name) ≡ Less
 before_named id name test other same less =
-    sym (alike_right instance_total other.instance (one id name) test.instance (is_equal _ (sym (tied id name other) ∙ same))) ∙ less
+    sym (alike_right instance_total other.instance (one id name) test.instance (is_equal _ (sym (tied id name other.instance) ∙ same))) ∙ less
 
 -- ---- places
 
@@ -115,6 +115,21 @@ stands tests id name place rise = found (slice_get tests place) refl
         (before_named id name (get_or tests j test) (get_or tests place test) here (rising tests j place test rise below within))) in
         let zero_more : 0 + place ≡ place = omega arith in
         sym (ap (λ (o : Option ℕ). unwrap_or o (length (names tests))) (by_name id name tests 0 ∙ first ∙ ap (λ (n : ℕ). Some n) zero_more))
+
+-- a test of the name at a place, by the tests' names
+pub at_name : (id name : List ℕ) (tests : List PlanTest) (place : ℕ)
+    → option_map_or (has id name) (slice_get tests place) false ≡ option_map_or (is_named id name) (slice_get (names tests) place) false
+at_name id name tests place =
+    of_test (slice_get tests place)
+    ∙ ap (λ (o : Option OwnedTestInstanceId). option_map_or (is_named id name) o false) (sym (slice_get-map (λ (t : PlanTest). t.instance) tests place))
+  where
+    of_test : (o : Option PlanTest) → option_map_or (has id name) o false ≡ option_map_or (is_named id name) (option_map (λ (t : PlanTest). t.instance) o) false
+    of_test None = refl
+    of_test (Some test) = refl
+
+-- tests that rise have names that differ
+pub distinct : (tests : List PlanTest) → IsStrictlySortedBy instance_cmp (names tests) → AreDistinct (names tests)
+distinct tests rise id name place it = stands tests id name place rise (at_name id name tests place ∙ it)
 
 -- where it would stand and doesn't, none of the name stands
 pub stands_nowhere : (tests : List PlanTest) (id name : List ℕ) (place : ℕ) → IsStrictlySortedBy instance_cmp (names tests)

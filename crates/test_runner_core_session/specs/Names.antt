@@ -1,13 +1,16 @@
 -- The places of tests and scripts by their names.
-use Rattle.std.specs.Prelude.{◌≡◌, ℕ, Bool, ◌&&◌, List, length, Option, None, Some}
-use Rattle.std.specs.List.{position_from}
-use Rattle.std.specs.List.Sorted.{IsStrictlySortedBy}
-use Rattle.std.specs.Option.{unwrap_or}
+use Rattle.std.specs.Prelude.{◌≡◌, ℕ, ◌<◌, Bool, true, false, IsTrue, ◌&&◌, List, length, map, Option, None, Some, slice_get}
+use Rattle.std.specs.Global.{Vec}
+use Rattle.std.specs.List.{All, Contains, position_from}
+use Rattle.std.specs.List.Sorted.{IsSorted, IsStrictlySortedBy}
+use Rattle.std.specs.Option.{option_map_or, unwrap_or}
+use Rattle.std.specs.Ordering.{nat_cmp, ordering_then}
 use Rattle.std.specs.Str.{bytes_eq}
-use Rattle.indexmap.specs.IndexMap.{IndexMap, get_by}
+use Rattle.std.specs.declared.cmp.Ordering.{Ordering}
 use Rattle.nextest_run_events_results.specs.declared.instance.OwnedTestInstanceId.{OwnedTestInstanceId}
 use Rattle.nextest_run_events_results.specs.declared.instance.TestInstanceId.{TestInstanceId}
 use Rattle.test_runner_core_plan.specs.Order.{instance_cmp}
+use Rattle.test_runner_core_session.specs.declared.places.Named.{Named}
 
 -- a test has this binary id and name
 abbrev pub is_named : List ℕ → List ℕ → OwnedTestInstanceId → Bool
@@ -29,15 +32,31 @@ script_place scripts id = unwrap_or (position_from (λ script. bytes_eq script i
 abbrev pub name_of : TestInstanceId → OwnedTestInstanceId
 name_of test = record { binary_id = test.binary_id.now; test_name = test.test_name.now }
 
--- two names are the same
-abbrev pub same_name : TestInstanceId → TestInstanceId → Bool
-same_name a b = bytes_eq a.binary_id.now b.binary_id.now && bytes_eq a.test_name.now b.test_name.now
+-- names with their places: by name, and of one name by place
+abbrev pub named_cmp : Named → Named → Ordering
+named_cmp one other = ordering_then (instance_cmp one.name.now other.name.now) (nat_cmp one.place other.place)
 
--- an index leads from each name to the place of the first test that has it
-abbrev pub IsIndex : {S : Type 0} → IndexMap TestInstanceId ℕ S → List OwnedTestInstanceId → Type 0
-IsIndex index tests = (key : TestInstanceId) → get_by (same_name key) index ≡ first_place tests key.binary_id.now key.test_name.now
+-- names with their places are those of all tests, in any order
+abbrev pub AreNamed : List Named → List OwnedTestInstanceId → Type 0
+AreNamed named tests =
+    All (λ it. slice_get tests it.place ≡ Some it.name.now) named
+    × ((place : ℕ) → place < length tests → Contains (map (λ it. it.place) named) place)
 
--- tests are found by an index, or without one where they rise strictly
-abbrev pub KeepsPlaces : {S : Type 0} → Option (IndexMap TestInstanceId ℕ S) → List OwnedTestInstanceId → Type 0
-KeepsPlaces None tests = IsStrictlySortedBy instance_cmp tests
-KeepsPlaces (Some index) tests = IsIndex index tests
+-- the same, in their order
+abbrev pub AreByName : List Named → List OwnedTestInstanceId → Type 0
+AreByName named tests = AreNamed named tests × IsSorted named_cmp named
+
+-- where a test of a name stands, it is the first of the name
+abbrev pub AreDistinct : List OwnedTestInstanceId → Type 0
+AreDistinct tests =
+    (id name : List ℕ) (place : ℕ) → option_map_or (is_named id name) (slice_get tests place) false ≡ true
+    → place ≡ place_of tests id name
+
+-- tests are found by their names in their order, or without these where they rise strictly
+abbrev pub IsFoundBy : Option (Vec Named) → List OwnedTestInstanceId → Type 0
+IsFoundBy None tests = IsStrictlySortedBy instance_cmp tests
+IsFoundBy (Some by_name) tests = AreByName by_name.items tests
+
+-- what is kept of tests: how they are found, and whether no two of them are known to have one name
+abbrev pub KeepsPlaces : Option (Vec Named) → Bool → List OwnedTestInstanceId → Type 0
+KeepsPlaces by_name are_distinct tests = IsFoundBy by_name tests × (IsTrue are_distinct → AreDistinct tests)

@@ -4,26 +4,32 @@ ghost use Rattle.std.specs.List.Sorted.{IsStrictlySortedBy};
 ghost use Rattle.std.specs.Option.{option_map_or};
 ghost use Rattle.std.specs.Ordering.{is_lt};
 ghost use Rattle.test_runner_core_plan.specs.Order.{instance_cmp};
-ghost use Rattle.test_runner_core_session.specs.Names.{IsIndex, is_named, name_of, place_of};
+ghost use Rattle.test_runner_core_session.specs.Names.{AreByName, AreNamed, is_named, name_of, named_cmp, place_of};
 
-use indexmap::IndexMap;
-use nextest_run_events_results::TestInstanceId;
+use nextest_run_events_results::{OwnedTestInstanceId, TestInstanceId};
 use std::alloc::{AllocError, Global};
+use std::cmp::Ordering;
 use std::marker::Model;
-use test_runner_core_plan::{KeyedState, PlanTest, TextsDigest};
+use test_runner_core_plan::PlanTest;
 
 // The places of tests by their names. In a clause it is the tests' names by their places.
 #[derive(Drop)]
 pub(crate) struct Places<'a> {
     tests: &'a [PlanTest],
-    // Where the tests don't rise by their names, as without priorities they do.
-    index: Option<Index<'a>>,
+    // The tests by their names, where they don't rise by these, as without priorities they do.
+    by_name: Option<Vec<Named<'a>>>,
+    // Whether no two tests are known to have one name.
+    are_distinct: bool,
     // The place that was found last, where the next look-up begins.
     last: usize,
 }
 
-// A table that nobody who chooses names can slow down.
-type Index<'a> = IndexMap<TestInstanceId<'a>, usize, KeyedState>;
+// The name of a test, and its place.
+#[derive(Clone, Copy)]
+struct Named<'a> {
+    name: &'a OwnedTestInstanceId,
+    place: usize,
+}
 
 impl<'a> Model for Places<'a> {
     ghost use Rattle.std.specs.Prelude.{List, map};
@@ -34,7 +40,7 @@ impl<'a> Model for Places<'a> {
 
     ghost view = { λ p. map (λ test. test.instance) p.tests.now };
 
-    ghost invariant = { λ p. KeepsPlaces p.index (map (λ test. test.instance) p.tests.now) };
+    ghost invariant = { λ p. KeepsPlaces p.by_name p.are_distinct (map (λ test. test.instance) p.tests.now) };
 }
 
 impl<'a> Places<'a> {
@@ -42,28 +48,40 @@ impl<'a> Places<'a> {
     pub(crate) fn new(alloc: Global, tests: &'a [PlanTest]) -> Result<Places<'a>, AllocError>
         ensures { IfOk result (λ places. places ≡ map (λ test. test.instance) tests.now) }
     {
-        let index = if rise(tests) {
-            None
-        } else {
-            Some(index_of(alloc, tests)?)
-        };
+        if rise(tests) {
+            return Ok(Places {
+                tests,
+                by_name: None,
+                are_distinct: true,
+                last: 0,
+            });
+        }
+        let by_name = sorted_by_name(alloc, tests)?;
         Ok(Places {
             tests,
-            index,
+            are_distinct: differ(by_name.as_slice()),
+            by_name: Some(by_name),
             last: 0,
         })
     }
 
-    // The place of the first test of this name, or one past the end where there is none.
+    // The place of the first test of this name, or one past the end where there is none: mostly it is that of the look-up
+    // before, or the next.
     pub(crate) fn place(&self, test: TestInstanceId<'_>) -> usize
         ensures { result ≡ place_of self.now test.entry.binary_id.now test.entry.test_name.now }
     {
-        match &self.index {
-            None => place_among(self.tests, self.last, test),
-            Some(index) => match index.get(&test) {
-                Some(place) => *place,
-                None => self.tests.len(),
-            },
+        if self.are_distinct {
+            if is_at(self.tests, self.last, test) {
+                return self.last;
+            }
+            let next = self.last.saturating_add(1);
+            if is_at(self.tests, next, test) {
+                return next;
+            }
+        }
+        match &self.by_name {
+            None => place_among(self.tests, test),
+            Some(by_name) => place_by_name(by_name.as_slice(), self.tests, test),
         }
     }
 
@@ -90,19 +108,11 @@ fn rise(tests: &[PlanTest]) -> bool
     true
 }
 
-// The place of the test of this name among tests that rise, or one past the end: mostly it is that of the look-up
-// before, or the next.
-fn place_among(tests: &[PlanTest], last: usize, test: TestInstanceId<'_>) -> usize
+// The place of the test of this name among tests that rise, or one past the end.
+fn place_among(tests: &[PlanTest], test: TestInstanceId<'_>) -> usize
     requires { IsStrictlySortedBy instance_cmp (map (λ test. test.instance) tests.now) }
     ensures { result ≡ place_of (map (λ test. test.instance) tests.now) test.entry.binary_id.now test.entry.test_name.now }
 {
-    if is_at(tests, last, test) {
-        return last;
-    }
-    let next = last.saturating_add(1);
-    if is_at(tests, next, test) {
-        return next;
-    }
     let place = tests.partition_point(
         |planned: &PlanTest| -> bool
             ensures { result ≡ is_lt (instance_cmp planned.now.instance (name_of test.entry)) }
@@ -124,24 +134,69 @@ fn is_at(tests: &[PlanTest], place: usize, test: TestInstanceId<'_>) -> bool
     }
 }
 
-// From each name to the place of the first test that has it: from the last test on, so that a test takes the place of
-// those behind it that have its name.
-fn index_of<'a>(alloc: Global, tests: &'a [PlanTest]) -> Result<Index<'a>, AllocError>
-    ensures { IfOk result (λ index. IsIndex index (map (λ test. test.instance) tests.now)) }
+// The place of the first test of this name, by the tests' names in their order, or one past the end: of one name the
+// least place comes first.
+fn place_by_name(by_name: &[Named<'_>], tests: &[PlanTest], test: TestInstanceId<'_>) -> usize
+    requires { AreByName by_name.now (map (λ test. test.instance) tests.now) }
+    ensures { result ≡ place_of (map (λ test. test.instance) tests.now) test.entry.binary_id.now test.entry.test_name.now }
 {
-    let mut index = IndexMap::with_capacity_and_hasher(alloc, tests.len(), state_of(tests))?;
-    for place in (0..tests.len()).rev() {
-        index.insert(tests[place].instance.as_ref(), place)?;
+    let first = by_name.partition_point(
+        |named: &Named<'_>| -> bool
+            ensures { result ≡ is_lt (instance_cmp named.now.name.now (name_of test.entry)) }
+        { named.name.as_ref() < test },
+    );
+    let Some(named) = by_name.get(first) else {
+        return tests.len();
+    };
+    if test == named.name.as_ref() {
+        return named.place;
     }
-    Ok(index)
+    tests.len()
 }
 
-// Hashes the names of these tests by a digest of all of them.
-fn state_of(tests: &[PlanTest]) -> KeyedState {
-    let mut digest = TextsDigest::new();
-    for test in tests {
-        digest.add(test.instance.binary_id.as_str());
-        digest.add(test.instance.test_name.as_str());
+// The names of tests with their places, in their order.
+fn sorted_by_name<'a>(alloc: Global, tests: &'a [PlanTest]) -> Result<Vec<Named<'a>>, AllocError>
+    ensures { IfOk result (λ by_name. AreByName by_name.items (map (λ test. test.instance) tests.now)) }
+{
+    let mut by_name = named_tests(alloc, tests)?;
+    by_name.sort_by(
+        |one: &Named<'_>, other: &Named<'_>| -> Ordering
+            ensures { result ≡ named_cmp one.now other.now }
+        { compare(one, other) },
+    )?;
+    Ok(by_name)
+}
+
+// The names of tests with their places.
+fn named_tests<'a>(alloc: Global, tests: &'a [PlanTest]) -> Result<Vec<Named<'a>>, AllocError>
+    ensures { IfOk result (λ named. AreNamed named.items (map (λ test. test.instance) tests.now)) }
+{
+    let mut named = Vec::with_capacity(alloc, tests.len())?;
+    for (place, test) in tests.iter().enumerate() {
+        named.push(Named {
+            name: &test.instance,
+            place,
+        })?;
     }
-    digest.into_state()
+    Ok(named)
+}
+
+// Which of two tests comes first: by their names, and of one name by their places.
+fn compare(one: &Named<'_>, other: &Named<'_>) -> Ordering
+    ensures { result ≡ named_cmp one.now other.now }
+{
+    one.name
+        .cmp(other.name)
+        .then(one.place.cmp(&other.place))
+}
+
+// Whether each name is greater than the one before it.
+fn differ(by_name: &[Named<'_>]) -> bool
+    ensures { IsTrue result → IsStrictlySortedBy instance_cmp (map (λ named. named.name.now) by_name.now) }
+{
+    by_name.is_sorted_by(
+        |one: &Named<'_>, other: &Named<'_>| -> bool
+            ensures { result ≡ is_lt (instance_cmp one.now.name.now other.now.name.now) }
+        { one.name < other.name },
+    )
 }

@@ -7,13 +7,7 @@ use Rattle.test_runner_core_session.proofs.Rising.{is_parted, one, stands, stand
 use Rattle.test_runner_core_session.proofs.places.place_among.Goals as goal
 
 pub returns-then-is_at : goal.returns-then-is_at
-returns-then-is_at c = stands c.args.tests.now _ _ c.args.last c.requires (sym c.is_at.ensures ∙ c.if-is_at.true)
-
-pub returns-then-is_at-2 : goal.returns-then-is_at-2
-returns-then-is_at-2 c = stands c.args.tests.now _ _ c.saturating_add-next.result c.requires (sym c.is_at-2.ensures ∙ c.if-is_at-2.true)
-
-pub returns-then-is_at-3 : goal.returns-then-is_at-3
-returns-then-is_at-3 c = stands c.args.tests.now _ _ c.partition_point-place.result c.requires (sym c.is_at-3.ensures ∙ c.if-is_at-3.true)
+returns-then-is_at c = stands c.args.tests.now _ _ c.partition_point-place.result c.requires (sym c.is_at.ensures ∙ c.if-is_at.true)
 
 pub returns : goal.returns
 returns c =
@@ -22,4 +16,4 @@ returns c =
     let name = c.args.test.test_name.now in
     let parted = IsPartitionPoint-from_clause (λ (t : PlanTest). is_lt (instance_cmp t.instance (one id name))) tests c.partition_point-place.result c.partition_point-place.ensures.partitioned
     (is_parted tests id name c.requires) (λ a r f k. search (rules, of_calls)) in
-    stands_nowhere tests id name c.partition_point-place.result c.requires parted.0 parted.1 (sym c.is_at-3.ensures ∙ c.if-is_at-3.false)
+    stands_nowhere tests id name c.partition_point-place.result c.requires parted.0 parted.1 (sym c.is_at.ensures ∙ c.if-is_at.false)
