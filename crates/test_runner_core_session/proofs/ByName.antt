@@ -6,10 +6,10 @@ use Rattle.std.proofs.lemmas.List.{get_or-append-add, get_or-map, get_or_append_
 use Rattle.std.proofs.lemmas.List.MinMax.{ranks_by}
 use Rattle.std.proofs.lemmas.List.Sorted.{All-permutation, Contains-permutation, IsPermutation-map, sorted_far}
 use Rattle.std.proofs.lemmas.Map.Keys.{Less-from_sorted}
-use Rattle.std.proofs.lemmas.Option.{get_or_from_slice_get, slice_get-get_or, slice_get_within}
+use Rattle.std.proofs.lemmas.Option.{get_or_from_slice_get, slice_get_within}
 use Rattle.std.specs.Cmp.{IsStrictWeakOrder, IsTotalOrder, nat_cmp_is, on_total, then_total}
 use Rattle.std.specs.List.{AllWithin, HoldsAt, IsAllAdjacentAnswer}
-use Rattle.std.specs.List.Sorted.{IsPartitionedBy, IsPermutation, IsSorted, IsStrictlySortedBy}
+use Rattle.std.specs.List.Sorted.{IsPartitionedBy, IsPermutation, IsSorted}
 use Rattle.std.specs.Option.{option_map_or, unwrap_or}
 use Rattle.std.specs.Ordering.{is_eq, is_lt, nat_cmp, ordering_reverse, ordering_then}
 use Rattle.std.specs.declared.cmp.Ordering.{Ordering}
@@ -19,7 +19,7 @@ use Rattle.test_runner_core_plan.proofs.OneOrder.{instances_tie}
 use Rattle.test_runner_core_plan.proofs.Strict.{strictly}
 use Rattle.test_runner_core_plan.specs.Order.{instance_cmp}
 use Rattle.test_runner_core_session.proofs.Rising.{first_from, instance_total, is_equal, is_less, none_from, one, tied}
-use Rattle.test_runner_core_session.specs.Names.{AreByName, AreDistinct, AreNamed, is_named, named_cmp, place_of}
+use Rattle.test_runner_core_session.specs.Names.{AreByName, AreDistinct, AreNamed, RiseByName, is_named, named_cmp, place_of}
 use Rattle.test_runner_core_session.specs.declared.places.Named.{Named}
 
 -- ---- names with their places have an order
@@ -85,10 +85,13 @@ stands_at : (named : List Named) (tests : List OwnedTestInstanceId) (place : ℕ
     → (k : ℕ) × (k < length named) × HoldsAt (λ (it : Named). (it.place ≡ place) × (slice_get tests place ≡ Some it.name.now)) named k
 stands_at named tests place are inside =
     let at = are.1 place inside in
-    let within : at.0 < length named = omega (arith, at.1, length-map named (λ (it : Named). it.place)) in
-    (at.0, within, λ d.
-    let is : (get_or named at.0 d).place ≡ place = sym (get_or-map (λ (it : Named). it.place) named at.0 d place within) ∙ at.2 in
-    (is, subst (λ (n : ℕ). slice_get tests n ≡ Some (get_or named at.0 d).name.now) is (are.0 at.0 d within)))
+    let within : at.0 < length named = omega (arith, at.1, length-map named (λ (it : Named). it.place)) in (
+      at.0,
+      within,
+      λ d.
+          let is : (get_or named at.0 d).place ≡ place = sym (get_or-map (λ (it : Named). it.place) named at.0 d place within) ∙ at.2 in
+          (is, subst (λ (n : ℕ). slice_get tests n ≡ Some (get_or named at.0 d).name.now) is (are.0 at.0 d within)),
+    )
 
 -- and its name
 stands_named : (named : List Named) (tests : List OwnedTestInstanceId) (place k : ℕ) (d : Named) (test : OwnedTestInstanceId)
@@ -121,6 +124,7 @@ found_first named tests id name i d by under inside it =
         let places : nat_cmp (get_or named k d).place other.place ≡ Less =
         ap (λ (n : ℕ). nat_cmp n other.place) is ∙ sym (nat_cmp_is j other.place Less below) in
         ap (λ (o : Ordering). is_lt (ordering_then o (nat_cmp (get_or named k d).place other.place))) names_tie ∙ ap is_lt places
+
     apart : (j : ℕ) → j < (get_or named i d).place → (get_or named i d).place < length tests → is_named id name (get_or tests j (get_or named i d).name.now) ≡ false
     apart j below within =
         let test = get_or tests j (get_or named i d).name.now in
@@ -173,9 +177,9 @@ found_nowhere named tests id name i by under over missing =
 -- another order of names with their places
 pub named_permuted : (named other : List Named) (tests : List OwnedTestInstanceId) → IsPermutation named other → AreNamed named tests → AreNamed other tests
 named_permuted named other tests same are = (
-    All-permutation (λ (it : Named). slice_get tests it.place ≡ Some it.name.now) named other same are.0,
-    λ place inside. Contains-permutation (map (λ (it : Named). it.place) named) (map (λ (it : Named). it.place) other) place
-    (IsPermutation-map (λ (it : Named). it.place) named other same) (are.1 place inside),
+  All-permutation (λ (it : Named). slice_get tests it.place ≡ Some it.name.now) named other same are.0,
+  λ place inside. Contains-permutation (map (λ (it : Named). it.place) named) (map (λ (it : Named). it.place) other) place
+      (IsPermutation-map (λ (it : Named). it.place) named other same) (are.1 place inside),
 )
 
 -- each stands at its own place
@@ -202,12 +206,12 @@ in_place_more named next tests each is_place is_name = λ k d inside.
 pub named_in_place : (named : List Named) (tests : List OwnedTestInstanceId) → length named ≡ length tests
     → AreInPlace named tests → AreNamed named tests
 named_in_place named tests len each = (
-    λ k d inside. subst (λ (n : ℕ). slice_get tests n ≡ Some (get_or named k d).name.now) (sym (each k d inside).0) (each k d inside).1,
-    λ place inside. (
-      place,
-      omega (arith, inside, len, length-map named (λ (it : Named). it.place)),
-      contained place inside,
-    ),
+  λ k d inside. subst (λ (n : ℕ). slice_get tests n ≡ Some (get_or named k d).name.now) (sym (each k d inside).0) (each k d inside).1,
+  λ place inside. (
+    place,
+    omega (arith, inside, len, length-map named (λ (it : Named). it.place)),
+    contained place inside,
+  ),
 )
   where
     contained : (place : ℕ) → place < length tests → get_or (map (λ (it : Named). it.place) named) place place ≡ place
@@ -215,13 +219,9 @@ named_in_place named tests len each = (
         let within : place < length named = omega (arith, inside, len) in
         get_or-map (λ (it : Named). it.place) named place some_named place within ∙ (each place some_named within).0
 
--- the names rise strictly
-abbrev pub RisesByName : List Named → Type 0
-RisesByName named = IsStrictlySortedBy instance_cmp (map (λ (it : Named). it.name.now) named)
-
 -- where each is said to be less than the next, they rise strictly
 pub strictly_by_name : (named : List Named) (answer : Bool)
-    → IsAllAdjacentAnswer (λ (x y : Named) (b : Bool). b ≡ is_lt (instance_cmp x.name.now y.name.now)) named answer → IsTrue answer → RisesByName named
+    → IsAllAdjacentAnswer (λ (x y : Named) (b : Bool). b ≡ is_lt (instance_cmp x.name.now y.name.now)) named answer → IsTrue answer → RiseByName named
 strictly_by_name named true each h =
     let name_at = λ (it : Named). it.name.now in
     strictly instance_cmp instance_total (map name_at named) (λ k e inside.
@@ -232,7 +232,7 @@ strictly_by_name named true each h =
 strictly_by_name named false each h = cc
 
 -- where the names rise strictly, those of the tests differ
-pub distinct_by_name : (named : List Named) (tests : List OwnedTestInstanceId) → AreNamed named tests → RisesByName named → AreDistinct tests
+pub distinct_by_name : (named : List Named) (tests : List OwnedTestInstanceId) → AreNamed named tests → RiseByName named → AreDistinct tests
 distinct_by_name named tests are rise id name place = found (slice_get tests place) refl
   where
     rising : (i j : ℕ) (d : Named) → i < j → j < length named → instance_cmp (get_or named i d).name.now (get_or named j d).name.now ≡ Less
@@ -242,11 +242,13 @@ distinct_by_name named tests are rise id name place = found (slice_get tests pla
         subst (λ (y : OwnedTestInstanceId). instance_cmp (get_or named i d).name.now y ≡ Less) (get_or-map name_at named j d e within)
         (subst (λ (x : OwnedTestInstanceId). instance_cmp x (get_or (map name_at named) j e) ≡ Less) (get_or-map name_at named i d e (omega (arith, below, within)))
         (Less-from_sorted instance_cmp (map name_at named) i j e rise below (omega (arith, within, length-map named name_at))))
+
     apart : (i j : ℕ) (d : Named) → i < j → j < length named → (get_or named i d).name.now ≡ one id name → (get_or named j d).name.now ≡ one id name → ⊥
     apart i j d below within is other =
         let less = rising i j d below within in
         let tie = ap (λ (a : OwnedTestInstanceId). instance_cmp a (get_or named j d).name.now) is ∙ ap (λ (b : OwnedTestInstanceId). instance_cmp (one id name) b) other ∙ is_itself id name in
         false≢true (ap is_lt (sym tie) ∙ ap is_lt less)
+
     found : (o : Option OwnedTestInstanceId) → slice_get tests place ≡ o → option_map_or (is_named id name) o false ≡ true → place ≡ place_of tests id name
     found None is h = cc
     found (Some test) is h =

@@ -1,5 +1,5 @@
 -- Where a test stands among tests that rise by their names.
-use Rattle.std.proofs.Common.{◌≡◌, ℕ, zero, suc, ◌+◌, ◌<◌, ◌≤◌, List, [], ◌∷◌, length, get_or, map, slice_get, Bool, true, false, cond, Option, Some, None, refl, ap, sym, ◌∙◌, subst, arith, inl, inr}
+use Rattle.std.proofs.Common.{◌≡◌, ℕ, zero, suc, ◌+◌, ◌<◌, ◌≤◌, List, [], ◌∷◌, length, get_or, slice_get, Bool, true, false, cond, Option, Some, None, refl, ap, sym, ◌∙◌, subst, arith, inl, inr}
 use Rattle.std.proofs.lemmas.Bool.{cases_Bool, cases_lt, false≢true}
 use Rattle.std.proofs.lemmas.Cmp.{alike_right}
 use Rattle.std.proofs.lemmas.List.{get_or-map, length-map}
@@ -18,13 +18,10 @@ use Rattle.std.specs.declared.cmp.Ordering.TheVariants.{Less, Equal, Greater}
 use Rattle.nextest_run_events_results.specs.declared.instance.OwnedTestInstanceId.{OwnedTestInstanceId}
 use Rattle.test_runner_core_plan.specs.Order.{instance_cmp}
 use Rattle.test_runner_core_plan.specs.declared.plan.PlanTest.{PlanTest}
-use Rattle.test_runner_core_session.specs.Names.{AreDistinct, is_named, place_of}
+use Rattle.test_runner_core_session.specs.Names.{AreDistinct, is_named, names, place_of}
 
 pub instance_total : IsTotalOrder instance_cmp
 instance_total = then_total (on_total (λ (t : OwnedTestInstanceId). t.binary_id) nat_list_cmp_total) (on_total (λ (t : OwnedTestInstanceId). t.test_name) nat_list_cmp_total)
-
-abbrev pub names : List PlanTest → List OwnedTestInstanceId
-names tests = map (λ test. test.instance) tests
 
 pub length_names : (tests : List PlanTest) → length (names tests) ≡ length tests
 length_names tests = length-map tests (λ (t : PlanTest). t.instance)

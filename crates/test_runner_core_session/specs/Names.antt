@@ -10,6 +10,7 @@ use Rattle.std.specs.declared.cmp.Ordering.{Ordering}
 use Rattle.nextest_run_events_results.specs.declared.instance.OwnedTestInstanceId.{OwnedTestInstanceId}
 use Rattle.nextest_run_events_results.specs.declared.instance.TestInstanceId.{TestInstanceId}
 use Rattle.test_runner_core_plan.specs.Order.{instance_cmp}
+use Rattle.test_runner_core_plan.specs.declared.plan.PlanTest.{PlanTest}
 use Rattle.test_runner_core_session.specs.declared.places.Named.{Named}
 
 -- a test has this binary id and name
@@ -32,31 +33,46 @@ script_place scripts id = unwrap_or (position_from (λ script. bytes_eq script i
 abbrev pub name_of : TestInstanceId → OwnedTestInstanceId
 name_of test = record { binary_id = test.binary_id.now; test_name = test.test_name.now }
 
+-- the names of tests, by their places
+abbrev pub names : List PlanTest → List OwnedTestInstanceId
+names tests = map (λ test. test.instance) tests
+
+-- the place of the first test of a name among these, or one past the end
+abbrev pub place_among_tests : List PlanTest → TestInstanceId → ℕ
+place_among_tests tests test = place_of (names tests) test.binary_id.now test.test_name.now
+
 -- names with their places: by name, and of one name by place
 abbrev pub named_cmp : Named → Named → Ordering
-named_cmp one other = ordering_then (instance_cmp one.name.now other.name.now) (nat_cmp one.place other.place)
+named_cmp one other =
+    ordering_then (instance_cmp one.name.now other.name.now) (nat_cmp one.place other.place)
 
--- names with their places are those of all tests, in any order
+-- these are the names of all tests with their places, in any order
 abbrev pub AreNamed : List Named → List OwnedTestInstanceId → Type 0
 AreNamed named tests =
     All (λ it. slice_get tests it.place ≡ Some it.name.now) named
     × ((place : ℕ) → place < length tests → Contains (map (λ it. it.place) named) place)
 
--- the same, in their order
+-- the same, in the order of names
 abbrev pub AreByName : List Named → List OwnedTestInstanceId → Type 0
 AreByName named tests = AreNamed named tests × IsSorted named_cmp named
+
+-- each of these names is greater than the one before it
+abbrev pub RiseByName : List Named → Type 0
+RiseByName named = IsStrictlySortedBy instance_cmp (map (λ it. it.name.now) named)
 
 -- where a test of a name stands, it is the first of the name
 abbrev pub AreDistinct : List OwnedTestInstanceId → Type 0
 AreDistinct tests =
-    (id name : List ℕ) (place : ℕ) → option_map_or (is_named id name) (slice_get tests place) false ≡ true
+    (id name : List ℕ) (place : ℕ)
+    → option_map_or (is_named id name) (slice_get tests place) false ≡ true
     → place ≡ place_of tests id name
 
--- tests are found by their names in their order, or without these where they rise strictly
+-- tests are found by their names in order, or without these where they rise strictly
 abbrev pub IsFoundBy : Option (Vec Named) → List OwnedTestInstanceId → Type 0
 IsFoundBy None tests = IsStrictlySortedBy instance_cmp tests
 IsFoundBy (Some by_name) tests = AreByName by_name.items tests
 
--- what is kept of tests: how they are found, and whether no two of them are known to have one name
+-- tests are found so, and no two have one name where that is said of them
 abbrev pub KeepsPlaces : Option (Vec Named) → Bool → List OwnedTestInstanceId → Type 0
-KeepsPlaces by_name are_distinct tests = IsFoundBy by_name tests × (IsTrue are_distinct → AreDistinct tests)
+KeepsPlaces by_name are_distinct tests =
+    IsFoundBy by_name tests × (IsTrue are_distinct → AreDistinct tests)

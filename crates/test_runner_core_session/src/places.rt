@@ -4,7 +4,7 @@ ghost use Rattle.std.specs.List.Sorted.{IsStrictlySortedBy};
 ghost use Rattle.std.specs.Option.{option_map_or};
 ghost use Rattle.std.specs.Ordering.{is_lt};
 ghost use Rattle.test_runner_core_plan.specs.Order.{instance_cmp};
-ghost use Rattle.test_runner_core_session.specs.Names.{AreByName, AreNamed, is_named, name_of, named_cmp, place_of};
+ghost use Rattle.test_runner_core_session.specs.Names.{AreByName, AreNamed, RiseByName, is_named, name_of, named_cmp, names, place_among_tests, place_of};
 
 use nextest_run_events_results::{OwnedTestInstanceId, TestInstanceId};
 use std::alloc::{AllocError, Global};
@@ -16,9 +16,9 @@ use test_runner_core_plan::PlanTest;
 #[derive(Drop)]
 pub(crate) struct Places<'a> {
     tests: &'a [PlanTest],
-    // The tests by their names, where they don't rise by these, as without priorities they do.
+    // Their names in order, where the tests don't rise by these, as without priorities they do.
     by_name: Option<Vec<Named<'a>>>,
-    // Whether no two tests are known to have one name.
+    // Whether it is known that no two tests have one name.
     are_distinct: bool,
     // The place that was found last, where the next look-up begins.
     last: usize,
@@ -34,13 +34,13 @@ struct Named<'a> {
 impl<'a> Model for Places<'a> {
     ghost use Rattle.std.specs.Prelude.{List, map};
     ghost use Rattle.nextest_run_events_results.specs.declared.instance.OwnedTestInstanceId.{OwnedTestInstanceId};
-    ghost use Rattle.test_runner_core_session.specs.Names.{KeepsPlaces};
+    ghost use Rattle.test_runner_core_session.specs.Names.{KeepsPlaces, names};
 
     ghost Value = { List OwnedTestInstanceId };
 
     ghost view = { λ p. map (λ test. test.instance) p.tests.now };
 
-    ghost invariant = { λ p. KeepsPlaces p.by_name p.are_distinct (map (λ test. test.instance) p.tests.now) };
+    ghost invariant = { λ p. KeepsPlaces p.by_name p.are_distinct (names p.tests.now) };
 }
 
 impl<'a> Places<'a> {
@@ -98,7 +98,7 @@ impl<'a> Places<'a> {
 
 // Whether the name of each test is greater than that of the test before it.
 fn rise(tests: &[PlanTest]) -> bool
-    ensures { IsTrue result → IsStrictlySortedBy instance_cmp (map (λ test. test.instance) tests.now) }
+    ensures { IsTrue result → IsStrictlySortedBy instance_cmp (names tests.now) }
 {
     for place in 1..tests.len() {
         if tests[place].instance <= tests[place - 1].instance {
@@ -110,8 +110,8 @@ fn rise(tests: &[PlanTest]) -> bool
 
 // The place of the test of this name among tests that rise, or one past the end.
 fn place_among(tests: &[PlanTest], test: TestInstanceId<'_>) -> usize
-    requires { IsStrictlySortedBy instance_cmp (map (λ test. test.instance) tests.now) }
-    ensures { result ≡ place_of (map (λ test. test.instance) tests.now) test.entry.binary_id.now test.entry.test_name.now }
+    requires { IsStrictlySortedBy instance_cmp (names tests.now) }
+    ensures { result ≡ place_among_tests tests.now test.entry }
 {
     let place = tests.partition_point(
         |planned: &PlanTest| -> bool
@@ -134,11 +134,11 @@ fn is_at(tests: &[PlanTest], place: usize, test: TestInstanceId<'_>) -> bool
     }
 }
 
-// The place of the first test of this name, by the tests' names in their order, or one past the end: of one name the
-// least place comes first.
+// The place of the first test of this name, by the names of tests in order, or one past the end: of one name the least
+// place comes first.
 fn place_by_name(by_name: &[Named<'_>], tests: &[PlanTest], test: TestInstanceId<'_>) -> usize
-    requires { AreByName by_name.now (map (λ test. test.instance) tests.now) }
-    ensures { result ≡ place_of (map (λ test. test.instance) tests.now) test.entry.binary_id.now test.entry.test_name.now }
+    requires { AreByName by_name.now (names tests.now) }
+    ensures { result ≡ place_among_tests tests.now test.entry }
 {
     let first = by_name.partition_point(
         |named: &Named<'_>| -> bool
@@ -154,9 +154,9 @@ fn place_by_name(by_name: &[Named<'_>], tests: &[PlanTest], test: TestInstanceId
     tests.len()
 }
 
-// The names of tests with their places, in their order.
+// The names of tests with their places, in order.
 fn sorted_by_name<'a>(alloc: Global, tests: &'a [PlanTest]) -> Result<Vec<Named<'a>>, AllocError>
-    ensures { IfOk result (λ by_name. AreByName by_name.items (map (λ test. test.instance) tests.now)) }
+    ensures { IfOk result (λ by_name. AreByName by_name.items (names tests.now)) }
 {
     let mut by_name = named_tests(alloc, tests)?;
     by_name.sort_by(
@@ -169,7 +169,7 @@ fn sorted_by_name<'a>(alloc: Global, tests: &'a [PlanTest]) -> Result<Vec<Named<
 
 // The names of tests with their places.
 fn named_tests<'a>(alloc: Global, tests: &'a [PlanTest]) -> Result<Vec<Named<'a>>, AllocError>
-    ensures { IfOk result (λ named. AreNamed named.items (map (λ test. test.instance) tests.now)) }
+    ensures { IfOk result (λ named. AreNamed named.items (names tests.now)) }
 {
     let mut named = Vec::with_capacity(alloc, tests.len())?;
     for (place, test) in tests.iter().enumerate() {
@@ -185,14 +185,12 @@ fn named_tests<'a>(alloc: Global, tests: &'a [PlanTest]) -> Result<Vec<Named<'a>
 fn compare(one: &Named<'_>, other: &Named<'_>) -> Ordering
     ensures { result ≡ named_cmp one.now other.now }
 {
-    one.name
-        .cmp(other.name)
-        .then(one.place.cmp(&other.place))
+    one.name.cmp(other.name).then(one.place.cmp(&other.place))
 }
 
 // Whether each name is greater than the one before it.
 fn differ(by_name: &[Named<'_>]) -> bool
-    ensures { IsTrue result → IsStrictlySortedBy instance_cmp (map (λ named. named.name.now) by_name.now) }
+    ensures { IsTrue result → RiseByName by_name.now }
 {
     by_name.is_sorted_by(
         |one: &Named<'_>, other: &Named<'_>| -> bool

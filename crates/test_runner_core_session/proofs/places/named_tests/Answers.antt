@@ -1,6 +1,7 @@
 use Rattle.std.proofs.Common.{◌≡◌, length, arith}
 use Rattle.test_runner_core_session.proofs.ByName.{named_in_place}
-use Rattle.test_runner_core_session.proofs.Rising.{length_names, names}
+use Rattle.test_runner_core_session.proofs.Rising.{length_names}
+use Rattle.test_runner_core_session.specs.Names.{names}
 use Rattle.test_runner_core_session.proofs.places.named_tests.Goals as goal
 
 pub returns : goal.returns

@@ -3,11 +3,10 @@ use Rattle.std.proofs.lemmas.List.{get_or_default}
 use Rattle.std.proofs.lemmas.List.Sorted.{IsPartitionPoint-from_clause}
 use Rattle.std.specs.Ordering.{is_lt}
 use Rattle.std.specs.Str.{bytes_eq}
-use Rattle.nextest_run_events_results.specs.declared.instance.OwnedTestInstanceId.{OwnedTestInstanceId}
 use Rattle.test_runner_core_plan.specs.Order.{instance_cmp}
 use Rattle.test_runner_core_session.proofs.ByName.{found_first, found_nowhere, is_parted_by_name}
-use Rattle.test_runner_core_session.proofs.Rising.{length_names, names, one}
-use Rattle.test_runner_core_session.specs.Names.{is_named}
+use Rattle.test_runner_core_session.proofs.Rising.{length_names, one}
+use Rattle.test_runner_core_session.specs.Names.{is_named, names}
 use Rattle.test_runner_core_session.specs.declared.places.Named.{Named}
 use Rattle.test_runner_core_session.proofs.places.place_by_name.Goals as goal
 

@@ -1,7 +1,8 @@
 use Rattle.std.proofs.Common.{List, subst}
-use Rattle.test_runner_core_session.proofs.ByName.{RisesByName, distinct_by_name}
-use Rattle.test_runner_core_session.proofs.Rising.{distinct, names}
+use Rattle.test_runner_core_session.proofs.ByName.{distinct_by_name}
+use Rattle.test_runner_core_session.proofs.Rising.{distinct}
 use Rattle.test_runner_core_session.specs.declared.places.Named.{Named}
+use Rattle.test_runner_core_session.specs.Names.{RiseByName, names}
 use Rattle.test_runner_core_session.proofs.places.Places.new.Goals as goal
 
 pub invariant_of-result : goal.invariant_of-result
@@ -13,6 +14,8 @@ pub invariant_of-result-2 : goal.invariant_of-result-2
 invariant_of-result-2 c =
     let tests = names c.args.tests.now in
     let by_name = c.in_ok-by_name.by_name.items in
-    let are = c.in_ok-by_name.ensures in
-    (are, λ yes_distinct. distinct_by_name by_name tests are.0
-    (subst (λ (named : List Named). RisesByName named) c.as_slice.ensures.value (c.differ.ensures yes_distinct)))
+    let are = c.in_ok-by_name.ensures in (
+      are,
+      λ yes_distinct. distinct_by_name by_name tests are.0
+          (subst (λ (named : List Named). RiseByName named) c.as_slice.ensures.value (c.differ.ensures yes_distinct)),
+    )

@@ -1,8 +1,8 @@
-use Rattle.std.proofs.Common.{◌≡◌, List, Option, sym, ap, subst, ◌∙◌}
+use Rattle.std.proofs.Common.{List, Option, sym, ap, subst, ◌∙◌}
 use Rattle.nextest_run_events_results.specs.declared.instance.OwnedTestInstanceId.{OwnedTestInstanceId}
-use Rattle.test_runner_core_session.proofs.Rising.{at_name, names}
+use Rattle.test_runner_core_session.proofs.Rising.{at_name}
 use Rattle.std.specs.Global.{Vec}
-use Rattle.test_runner_core_session.specs.Names.{AreByName, IsFoundBy, place_of}
+use Rattle.test_runner_core_session.specs.Names.{AreByName, IsFoundBy, place_of, names}
 use Rattle.test_runner_core_session.specs.declared.places.Named.{Named}
 use Rattle.test_runner_core_session.proofs.places.Places.place.Goals as goal
 
