@@ -1,26 +1,38 @@
 -- Where no place is in any set, none comes into one.
-use Rattle.std.proofs.Common.{◌≡◌, ℕ, zero, suc, Bool, true, false, List, [], ◌∷◌, ◌++◌, length, replicate, subst, sym, ◌∙◌, refl, ap, arith}
-use Rattle.std.specs.Prelude.{⊤}
-use mathlib.Core.Bool.{beq}
-use Rattle.std.specs.List.{list_any}
+use Rattle.std.proofs.Common.{◌≡◌, ℕ, zero, suc, ◌+◌, ◌<◌, Bool, true, false, List, [], ◌∷◌, ◌++◌, length, drop, get_or, replicate, subst, sym, ◌∙◌, refl, ap, arith}
+use Rattle.std.specs.Prelude.{⊤, ◌||◌}
 use Rattle.std.proofs.lemmas.Bool.{false≢true}
 use Rattle.std.proofs.lemmas.List.{length-append}
 use Rattle.nextest_filtering_globs.specs.declared.token.GlobToken.{GlobToken}
 use Rattle.nextest_filtering_globs.specs.declared.token.GlobToken.TheVariants as token
 use Rattle.nextest_filtering_globs.specs.Inside.{fits, moved, later, either_of, none_of, Level, State, state, further, closed, step, run, IsStack}
-use Rattle.nextest_filtering_globs.proofs.Loops.{all_false}
+use Rattle.nextest_filtering_globs.proofs.Loops.{all_false, from_here}
 use Rattle.nextest_filtering_globs.proofs.Walks.{Walked}
 
--- where no place is found, none is in the set
-pub none_there : (places : List Bool) → list_any (λ y. beq y true) places ≡ false → places ≡ none_of places
+-- whether a place is in the set, or was found before
+abbrev pub some_there : Bool → List Bool → Bool
+some_there found [] = found
+some_there found (here ∷ places) = some_there (found || here) places
+
+found_before : (places : List Bool) → some_there true places ≡ true
+found_before [] = refl
+found_before (here ∷ places) = found_before places
+
+pub none_there : (places : List Bool) → some_there false places ≡ false → places ≡ none_of places
 none_there [] h = refl
-none_there (true ∷ places) h = absurd (false≢true (sym h))
+none_there (true ∷ places) h = absurd (false≢true (sym h ∙ found_before places))
 none_there (false ∷ places) h = ap (λ x. false ∷ x) (none_there places h)
 
-pub none_found : (places : List Bool) → places ≡ none_of places → list_any (λ y. beq y true) places ≡ false
+pub none_found : (places : List Bool) → places ≡ none_of places → some_there false places ≡ false
 none_found [] h = refl
 none_found (true ∷ places) h = absurd cc
 none_found (false ∷ places) h = none_found places cc
+
+-- one place more was looked at
+pub looked_at : (found : Bool) (places : List Bool) (i : ℕ) → i < length places
+    → some_there false places ≡ some_there found (drop i places)
+    → some_there false places ≡ some_there (found || get_or places i false) (drop (i + 1) places)
+looked_at found places i h e = e ∙ ap (some_there found) (from_here places i false h)
 
 -- so many places, and none of them
 abbrev nowhere : ℕ → List Bool

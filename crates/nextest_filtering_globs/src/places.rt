@@ -59,7 +59,11 @@ pub fn has_last(places: &[bool]) -> bool
 pub fn is_nowhere(places: &[bool]) -> bool
     ensures { IsTrue result ↔ (places.now ≡ none_of places.now) }
 {
-    !places.contains(&true)
+    let mut is_found = false;
+    for is_there in places {
+        is_found |= *is_there;
+    }
+    !is_found
 }
 
 /// Moves each place on by one where the token fits the character behind it, and takes it away elsewhere.
