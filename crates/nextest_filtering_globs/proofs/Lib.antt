@@ -12,3 +12,4 @@ pub mod Fold
 pub mod Loops
 pub mod Walks
 pub mod Nowhere
+pub mod Singles

@@ -1,10 +1,12 @@
 -- Each glob is a tree, written flat.
 use Rattle.std.proofs.Common.{◌≡◌, ℕ, zero, suc, ◌+◌, ◌-◌, List, [], ◌∷◌, ◌++◌, subst, sym, ◌∙◌, refl, ap, arith}
+use Rattle.std.specs.Prelude.{nat_lt}
 use Rattle.std.proofs.lemmas.Bool.{false≢true}
 use Rattle.std.proofs.lemmas.List.{append_assoc}
 use Rattle.nextest_filtering_globs.specs.declared.token.GlobToken.{GlobToken}
 use Rattle.nextest_filtering_globs.specs.declared.token.GlobToken.TheVariants as token
-use Rattle.nextest_filtering_globs.specs.Syntax.{SpellsFrom}
+use Rattle.nextest_filtering_globs.specs.Syntax.{Spells, SpellsFrom, depth_behind}
+use Rattle.nextest_filtering_globs.specs.Inside.{ClosesFrom, HasBrace}
 use Rattle.nextest_filtering_globs.specs.Meaning.{Token, literal, any, zero_or_more, class, alternates, Tokens, no_tokens, next_token, Alternatives, last_alternative, next_alternative, flat_token, flat, flat_alternatives}
 
 -- tokens with so many braces open: the rest of an alternative, the further ones, and what follows their brace
@@ -50,18 +52,33 @@ next_depth depth = omega arith
 last_depth : (depth : ℕ) → suc depth - 1 ≡ depth
 last_depth depth = omega arith
 
-pub pieces : (depth : ℕ) (tokens : List GlobToken) (text : List ℕ) → SpellsFrom depth tokens text → Pieces depth tokens
-pieces zero [] text h = (no_tokens, refl)
-pieces (suc depth) [] text h = let e = h.1 in absurd (omega (arith, e))
-pieces depth (token.Literal c ∷ more) text h = one_more depth (literal c) more (pieces depth more h.0 h.2)
-pieces depth (token.Any ∷ more) text h = one_more depth any more (pieces depth more h.0 h.2)
-pieces depth (token.ZeroOrMore ∷ more) text h = one_more depth zero_or_more more (pieces depth more h.0 h.2)
-pieces depth (token.Class negated ranges ∷ more) text h =
-    one_more depth (class negated ranges) more (pieces depth more h.0 h.2)
-pieces depth (token.Open ∷ more) text h =
-    opened depth more (subst (λ d. Pieces d more) (next_depth depth) (pieces (depth + 1) more h.0 h.2))
-pieces zero (token.Or ∷ more) text h = absurd (false≢true h.1.1)
-pieces (suc depth) (token.Or ∷ more) text h = separated depth more (pieces (suc depth) more h.0 h.2)
-pieces zero (token.Close ∷ more) text h = absurd (false≢true h.1.1)
-pieces (suc depth) (token.Close ∷ more) text h =
-    closed_here depth more (subst (λ d. Pieces d more) (last_depth depth) (pieces (suc depth - 1) more h.0 h.2))
+pub pieces : (depth : ℕ) (tokens : List GlobToken) → ClosesFrom depth tokens → Pieces depth tokens
+pieces zero [] h = (no_tokens, refl)
+pieces (suc depth) [] h = absurd (omega (arith, h))
+pieces depth (token.Literal c ∷ more) h = one_more depth (literal c) more (pieces depth more h.1)
+pieces depth (token.Any ∷ more) h = one_more depth any more (pieces depth more h.1)
+pieces depth (token.ZeroOrMore ∷ more) h = one_more depth zero_or_more more (pieces depth more h.1)
+pieces depth (token.Class negated ranges ∷ more) h = one_more depth (class negated ranges) more (pieces depth more h.1)
+pieces depth (token.Open ∷ more) h =
+    opened depth more (subst (λ d. Pieces d more) (next_depth depth) (pieces (depth + 1) more h.1))
+pieces zero (token.Or ∷ more) h = absurd (false≢true h.0)
+pieces (suc depth) (token.Or ∷ more) h = separated depth more (pieces (suc depth) more h.1)
+pieces zero (token.Close ∷ more) h = absurd (false≢true h.0)
+pieces (suc depth) (token.Close ∷ more) h =
+    closed_here depth more (subst (λ d. Pieces d more) (last_depth depth) (pieces (suc depth - 1) more h.1))
+
+has_brace : (depth : ℕ) (t : GlobToken) (text rest : List ℕ) → Spells (nat_lt 0 depth) t text rest → HasBrace depth t
+has_brace depth (token.Literal c) text rest h = tt
+has_brace depth token.Any text rest h = tt
+has_brace depth token.ZeroOrMore text rest h = tt
+has_brace depth (token.Class negated ranges) text rest h = tt
+has_brace depth token.Open text rest h = tt
+has_brace depth token.Or text rest h = h.1
+has_brace depth token.Close text rest h = h.1
+
+-- what a text spells closes its braces
+pub spelled_closes : (depth : ℕ) (tokens : List GlobToken) (text : List ℕ) → SpellsFrom depth tokens text
+    → ClosesFrom depth tokens
+spelled_closes depth [] text h = h.1
+spelled_closes depth (first ∷ more) text h =
+    (has_brace depth first text h.0 h.1, spelled_closes (depth_behind depth first) more h.0 h.2)

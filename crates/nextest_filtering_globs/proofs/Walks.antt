@@ -4,25 +4,23 @@ use Rattle.std.proofs.lemmas.Bool.{false≢true}
 use Rattle.std.proofs.lemmas.List.{length-append}
 use Rattle.nextest_filtering_globs.specs.declared.token.GlobToken.{GlobToken}
 use Rattle.nextest_filtering_globs.specs.declared.token.GlobToken.TheVariants as token
-use Rattle.nextest_filtering_globs.specs.Syntax.{SpellsFrom, depth_behind}
-use Rattle.nextest_filtering_globs.specs.Inside.{Level, state, step, run, Changes, HasRoom, IsSpelled, IsStack}
+use Rattle.nextest_filtering_globs.specs.Syntax.{depth_behind}
+use Rattle.nextest_filtering_globs.specs.Inside.{Level, state, step, run, Changes, ClosesFrom, HasRoom, IsBalanced, IsStack}
 use Rattle.nextest_filtering_globs.proofs.Loops.{from_here}
 
--- with the tokens that are left the same comes out as of all from the start, and they are spelled from where so many
--- braces are open
+-- with the tokens that are left the same comes out as of all from the start, and they close the braces that are open
 pub record Walked (text : List ℕ) (tokens : List GlobToken) (start : List Bool) (left : List GlobToken)
     (current stack : List Bool) : Type 0 where
   pub levels : List Level
   pub stacked : IsStack (length current) levels stack
   pub wide : length current ≡ length text + 1
   pub same : run text tokens (state start []) ≡ run text left (state current levels)
-  pub spelled : List ℕ
-  pub spells : SpellsFrom (length levels) left spelled
+  pub closes : ClosesFrom (length levels) left
 
 pub walked_none : (text : List ℕ) (tokens : List GlobToken) (start stack : List Bool) → length start ≡ length text + 1
-    → IsSpelled tokens → stack ≡ [] → Walked text tokens start tokens start stack
+    → IsBalanced tokens → stack ≡ [] → Walked text tokens start tokens start stack
 walked_none text tokens start stack wide h e =
-    record { levels = []; stacked = e; wide = wide; same = refl; spelled = h.0; spells = h.1 }
+    record { levels = []; stacked = e; wide = wide; same = refl; closes = h }
 
 pub walked_all : (text : List ℕ) (tokens : List GlobToken) (start : List Bool) (left : List GlobToken)
     (current stack : List Bool) → left ≡ [] → Walked text tokens start left current stack
@@ -32,40 +30,40 @@ walked_all text tokens start left current stack e walked =
 
 -- a brace that goes on or closes is there
 has_room : (text : List ℕ) (t : GlobToken) (more : List GlobToken) (levels : List Level) (width : ℕ) (stack : List Bool)
-    (spelled : List ℕ) → IsStack width levels stack → SpellsFrom (length levels) (t ∷ more) spelled
+    → IsStack width levels stack → ClosesFrom (length levels) (t ∷ more)
     → HasRoom t width (length stack)
-has_room text (token.Literal c) more levels width stack spelled h k = tt
-has_room text token.Any more levels width stack spelled h k = tt
-has_room text token.ZeroOrMore more levels width stack spelled h k = tt
-has_room text (token.Class negated ranges) more levels width stack spelled h k = tt
-has_room text token.Open more levels width stack spelled h k = tt
-has_room text token.Or more [] width stack spelled h k = absurd (false≢true k.1.1)
-has_room text token.Or more (inner ∷ outer) width stack spelled h k =
+has_room text (token.Literal c) more levels width stack h k = tt
+has_room text token.Any more levels width stack h k = tt
+has_room text token.ZeroOrMore more levels width stack h k = tt
+has_room text (token.Class negated ranges) more levels width stack h k = tt
+has_room text token.Open more levels width stack h k = tt
+has_room text token.Or more [] width stack h k = absurd (false≢true k.0)
+has_room text token.Or more (inner ∷ outer) width stack h k =
     omega (arith, ap length h.1, length-append (h.0 ++ inner.start) inner.reached, length-append h.0 inner.start, h.2, h.3)
-has_room text token.Close more [] width stack spelled h k = absurd (false≢true k.1.1)
-has_room text token.Close more (inner ∷ outer) width stack spelled h k =
+has_room text token.Close more [] width stack h k = absurd (false≢true k.0)
+has_room text token.Close more (inner ∷ outer) width stack h k =
     omega (arith, ap length h.1, length-append (h.0 ++ inner.start) inner.reached, length-append h.0 inner.start, h.2, h.3)
 
 pub walked_room : (text : List ℕ) (tokens : List GlobToken) (start : List Bool) (t : GlobToken) (more left : List GlobToken)
     (current stack : List Bool) → left ≡ t ∷ more → Walked text tokens start left current stack
     → HasRoom t (length current) (length stack)
 walked_room text tokens start t more left current stack e walked =
-    has_room text t more walked.levels (length current) stack walked.spelled walked.stacked
-    (subst (λ x. SpellsFrom (length walked.levels) x walked.spelled) e walked.spells)
+    has_room text t more walked.levels (length current) stack walked.stacked
+    (subst (ClosesFrom (length walked.levels)) e walked.closes)
 
 -- as many braces are open as the tokens say
 depth_kept : (text : List ℕ) (t : GlobToken) (more : List GlobToken) (current : List Bool) (levels : List Level)
-    (spelled : List ℕ) → SpellsFrom (length levels) (t ∷ more) spelled
+    → ClosesFrom (length levels) (t ∷ more)
     → depth_behind (length levels) t ≡ length (step text t (state current levels)).levels
-depth_kept text (token.Literal c) more current levels spelled k = refl
-depth_kept text token.Any more current levels spelled k = refl
-depth_kept text token.ZeroOrMore more current levels spelled k = refl
-depth_kept text (token.Class negated ranges) more current levels spelled k = refl
-depth_kept text token.Open more current levels spelled k = omega arith
-depth_kept text token.Or more current [] spelled k = absurd (false≢true k.1.1)
-depth_kept text token.Or more current (inner ∷ outer) spelled k = refl
-depth_kept text token.Close more current [] spelled k = absurd (false≢true k.1.1)
-depth_kept text token.Close more current (inner ∷ outer) spelled k = omega arith
+depth_kept text (token.Literal c) more current levels k = refl
+depth_kept text token.Any more current levels k = refl
+depth_kept text token.ZeroOrMore more current levels k = refl
+depth_kept text (token.Class negated ranges) more current levels k = refl
+depth_kept text token.Open more current levels k = omega arith
+depth_kept text token.Or more current [] k = absurd (false≢true k.0)
+depth_kept text token.Or more current (inner ∷ outer) k = refl
+depth_kept text token.Close more current [] k = absurd (false≢true k.0)
+depth_kept text token.Close more current (inner ∷ outer) k = omega arith
 
 -- one token more
 walked_one : (text : List ℕ) (tokens : List GlobToken) (start : List Bool) (t : GlobToken) (more left : List GlobToken)
@@ -76,8 +74,7 @@ walked_one : (text : List ℕ) (tokens : List GlobToken) (start : List Bool) (t 
 walked_one text tokens start t more left current stack current_after stack_after e kept walked changes =
     let next = step text t (state current walked.levels) in
     let after = changes walked.levels walked.stacked in
-    let begun : SpellsFrom (length walked.levels) (t ∷ more) walked.spelled =
-    subst (λ x. SpellsFrom (length walked.levels) x walked.spelled) e walked.spells in
+    let begun : ClosesFrom (length walked.levels) (t ∷ more) = subst (ClosesFrom (length walked.levels)) e walked.closes in
     let same : next ≡ state current_after next.levels = ap (λ x. state x next.levels) (sym after.0) in
     record {
       levels = next.levels;
@@ -85,9 +82,7 @@ walked_one text tokens start t more left current stack current_after stack_after
       wide = kept ∙ walked.wide;
       same = walked.same
           ∙ (ap (λ x. run text x (state current walked.levels)) e ∙ ap (run text more) same);
-      spelled = begun.0;
-      spells = subst (λ d. SpellsFrom d more begun.0) (depth_kept text t more current walked.levels walked.spelled begun)
-          begun.2;
+      closes = subst (λ d. ClosesFrom d more) (depth_kept text t more current walked.levels begun) begun.1;
     }
 
 -- the token at a place of the list

@@ -1,10 +1,11 @@
 -- Sets of places in a text, and what each token makes of them. A text of n characters has n + 1 places: in front of
 -- each character, and at the end. A set has a `true` for each place that is in it.
-use Rattle.std.specs.Prelude.{◌≡◌, ℕ, ◌*◌, ◌==◌, ◌≤◌, ⊤, Bool, true, false, not, ◌&&◌, ◌||◌, nat_le, List, [], ◌∷◌, ◌++◌, map, length}
+use Rattle.std.specs.Prelude.{◌≡◌, ℕ, ◌*◌, ◌==◌, ◌≤◌, ⊤, Bool, true, false, not, ◌&&◌, ◌||◌, nat_le, nat_lt, ◌↔◌, IsTrue, List, [], ◌∷◌, ◌++◌, map, length}
 use Rattle.nextest_filtering_globs.specs.declared.token.ClassRange.{ClassRange}
 use Rattle.nextest_filtering_globs.specs.declared.token.GlobToken.{GlobToken}
 use Rattle.nextest_filtering_globs.specs.declared.token.GlobToken.TheVariants as token
-use Rattle.nextest_filtering_globs.specs.Syntax.{SpellsFrom}
+use Rattle.nextest_filtering_globs.specs.Syntax.{depth_behind}
+use Rattle.nextest_filtering_globs.specs.Meaning.{Matches}
 
 -- whether the character is in one of the ranges
 abbrev pub is_in_some : ℕ → List ClassRange → Bool
@@ -112,6 +113,28 @@ HasRoom token.Or width size = 2 * width ≤ size
 HasRoom token.Close width size = 2 * width ≤ size
 HasRoom other width size = ⊤
 
--- the tokens are those of a glob
-abbrev pub IsSpelled : List GlobToken → Type 0
-IsSpelled tokens = (spelled : List ℕ) × SpellsFrom 0 tokens spelled
+-- whether the token is one that matches one character
+abbrev pub is_single : GlobToken → Bool
+is_single (token.Literal c) = true
+is_single token.Any = true
+is_single (token.Class negated ranges) = true
+is_single other = false
+
+-- with so many braces open, one is there for a token that goes on with it, or closes it
+abbrev pub HasBrace : ℕ → GlobToken → Type 0
+HasBrace depth token.Or = IsTrue (nat_lt 0 depth)
+HasBrace depth token.Close = IsTrue (nat_lt 0 depth)
+HasBrace depth other = ⊤
+
+-- from here on, with so many braces open, the tokens close them all, and each that they open
+abbrev pub ClosesFrom : ℕ → List GlobToken → Type 0
+ClosesFrom depth [] = depth ≡ 0
+ClosesFrom depth (first ∷ more) = HasBrace depth first × ClosesFrom (depth_behind depth first) more
+
+-- the tokens close each brace that they open, and no other
+abbrev pub IsBalanced : List GlobToken → Type 0
+IsBalanced tokens = ClosesFrom 0 tokens
+
+-- some tokens match a text exactly where what is left of them matches what is left of it
+abbrev pub Leaves : List GlobToken → List ℕ → List GlobToken → List ℕ → Type 0
+Leaves tokens text left rest = (IsBalanced tokens → IsBalanced left) × (Matches tokens text ↔ Matches left rest)

@@ -1,6 +1,6 @@
 // Which characters a token fits.
 ghost use Rattle.std.specs.Prelude.{◌≡◌};
-ghost use Rattle.nextest_filtering_globs.specs.Inside.{fits, is_in_some};
+ghost use Rattle.nextest_filtering_globs.specs.Inside.{fits, is_in_some, is_single};
 
 use super::token::{ClassRange, GlobToken};
 
@@ -26,4 +26,14 @@ pub fn fits(token: &GlobToken, c: char) -> bool
         GlobToken::Class { negated, ranges } => is_in_some(ranges.as_slice(), c) != *negated,
         _ => false,
     }
+}
+
+/// Whether the token is one that matches one character.
+pub fn is_single(token: &GlobToken) -> bool
+    ensures { result ≡ is_single token.now }
+{
+    matches!(
+        token,
+        GlobToken::Literal(_) | GlobToken::Any | GlobToken::Class { .. }
+    )
 }

@@ -3,10 +3,12 @@
 
 mod class;
 mod construct_error;
+mod edges;
 mod fitting;
 mod glob;
 pub mod laws;
 mod matcher;
+mod matching;
 mod places;
 mod reading;
 mod token;

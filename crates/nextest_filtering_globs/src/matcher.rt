@@ -4,8 +4,8 @@ ghost use Rattle.nextest_filtering_globs.specs.Meaning.{Matches};
 ghost use Rattle.nextest_filtering_globs.specs.Syntax.{IsGlob};
 
 use super::glob::GenericGlob;
-use super::places::{begin, has_last, read_characters};
-use super::walk::take_all;
+use super::matching::is_matched;
+use super::places::read_characters;
 use std::alloc::{AllocError, Global};
 use std::marker::Model;
 
@@ -48,15 +48,12 @@ impl<'g> GlobMatcher<'g> {
         ensures same { self.new ≡ self.old }
     {
         read_characters(text, &mut self.characters)?;
-        begin(self.characters.as_slice(), &mut self.current)?;
-        self.stack.clear();
-        take_all(
+        is_matched(
             self.glob.tokens(),
             self.characters.as_slice(),
-            self.current.as_mut_slice(),
+            &mut self.current,
             &mut self.stack,
-        )?;
-        Ok(has_last(self.current.as_slice()))
+        )
     }
 }
 

@@ -1,7 +1,7 @@
 // What the tokens of a glob make of a set of places. The opened braces wait in a stack, which has two sets for each:
 // the places in front of the brace, and those behind one of its alternatives so far.
 ghost use Rattle.std.specs.Prelude.{◌≡◌, ◌+◌, ◌*◌, ◌≤◌, ◌++◌, [], length, vec_len, IsTrue, OnOk};
-ghost use Rattle.nextest_filtering_globs.specs.Inside.{closed, further, none_of, run, state, step, Changes, HasRoom, IsSpelled};
+ghost use Rattle.nextest_filtering_globs.specs.Inside.{closed, further, none_of, run, state, step, Changes, HasRoom, IsBalanced};
 
 use super::places::{add_later, advance, is_nowhere, join};
 use super::token::GlobToken;
@@ -72,7 +72,7 @@ fn is_over(token: &GlobToken, current: &[bool], stack: &[bool]) -> bool
     }
 }
 
-/// All tokens of a glob, with an empty stack.
+/// All of the tokens, with an empty stack.
 pub fn take_all(
     tokens: &[GlobToken],
     text: &[char],
@@ -80,7 +80,7 @@ pub fn take_all(
     stack: &mut Vec<bool>,
 ) -> Result<(), AllocError>
     requires covers { length current.old ≡ length text.now + 1 }
-    requires spelled { IsSpelled tokens.now }
+    requires balanced { IsBalanced tokens.now }
     requires empty { stack.old.items ≡ [] }
     ensures { OnOk result (current.new ≡ (run text.now tokens.now (state current.old [])).current) }
 {

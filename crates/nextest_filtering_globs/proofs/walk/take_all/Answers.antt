@@ -6,7 +6,7 @@ use Rattle.nextest_filtering_globs.proofs.walk.take_all.Goals as goal
 pub loop-token-init : goal.loop-token-init
 loop-token-init c =
     walked_none c.args.text.now c.args.tokens.now c.args.current.now c.args.stack.now.items c.requires.covers
-    c.requires.spelled c.requires.empty
+    c.requires.balanced c.requires.empty
 
 pub loop-token-preserved : goal.loop-token-preserved
 loop-token-preserved c =

@@ -1,0 +1,44 @@
+// Tokens at the beginning and the end of a glob that match one character each, and the characters there.
+ghost use Rattle.std.specs.Prelude.{◌≡◌, ℕ, List, [], ◌∷◌, ◌++◌, MatchOption, IsTrue};
+ghost use Rattle.nextest_filtering_globs.specs.Inside.{fits, Leaves};
+ghost use Rattle.nextest_filtering_globs.specs.Meaning.{Matches};
+
+use super::fitting::{fits, is_single};
+use super::token::GlobToken;
+
+// What is left of the text behind its first character, where the token fits that.
+fn behind_first<'a>(token: &GlobToken, text: &'a [char]) -> Option<&'a [char]>
+    ensures { MatchOption result
+        ((c : ℕ) (rest : List ℕ) → text.now ≡ c ∷ rest → IsTrue (fits token.now c) → ⊥)
+        (λ rest. (c : ℕ) × (text.now ≡ c ∷ rest.now) × IsTrue (fits token.now c)) }
+{
+    match text {
+        [c, rest @ ..] if fits(token, *c) => Some(rest),
+        _ => None,
+    }
+}
+
+/// What is left of the tokens and of the text behind the first tokens that match one character each, where these fit
+/// the first characters. `None` says that they don't, so the tokens don't match the text.
+pub fn behind_singles<'a>(
+    tokens: &'a [GlobToken],
+    text: &'a [char],
+) -> Option<(&'a [GlobToken], &'a [char])>
+    ensures { MatchOption result
+        (Matches tokens.now text.now → ⊥)
+        (λ left. Leaves tokens.now text.now left.0.now left.1.now) }
+{
+    let mut left = tokens;
+    let mut rest = text;
+    while let Some((token, more)) = left.split_first() {
+        if !is_single(token) {
+            break;
+        }
+        let Some(behind) = behind_first(token, rest) else {
+            return None;
+        };
+        left = more;
+        rest = behind;
+    }
+    Some((left, rest))
+}
