@@ -72,12 +72,3 @@ answers tokens text places h e =
       λ b. (tree.0, tree.1, matched text tree.0 (ap has_last (sym (tree_places text tree.0 tokens tree.1)) ∙ (ap has_last (sym e) ∙ b))),
       λ m. ap has_last (e ∙ tree_places text m.0 tokens m.1) ∙ matching text m.0 m.2,
     )
-
--- the same from equal texts, places and tokens
-pub placed : (read text : List ℕ) (places : List Bool) (taken tokens : List GlobToken) → read ≡ text
-    → places ≡ start_of text → taken ≡ tokens
-    → (run read taken (state places [])).current ≡ (run text tokens (state (start_of text) [])).current
-placed read text places taken tokens e k h =
-    ap (λ x. (run x taken (state places [])).current) e
-    ∙ (ap (λ x. (run text taken (state x [])).current) k
-    ∙ ap (λ x. (run text x (state (start_of text) [])).current) h)

@@ -13,3 +13,4 @@ pub mod Loops
 pub mod Walks
 pub mod Nowhere
 pub mod Singles
+pub mod Lasts

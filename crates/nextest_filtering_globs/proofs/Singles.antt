@@ -11,12 +11,12 @@ use Rattle.nextest_filtering_globs.specs.Inside.{fits, is_single, ClosesFrom, Is
 use Rattle.nextest_filtering_globs.proofs.Classes.{of_class, class_of, same_number}
 
 -- the part of a glob that such a token is
-abbrev single : GlobToken → Token
+abbrev pub single : GlobToken → Token
 single (token.Literal c) = literal c
 single (token.Class negated ranges) = class negated ranges
 single other = any
 
-single_flat : (t : GlobToken) → is_single t ≡ true → flat_token (single t) ≡ t ∷ []
+pub single_flat : (t : GlobToken) → is_single t ≡ true → flat_token (single t) ≡ t ∷ []
 single_flat (token.Literal c) s = refl
 single_flat token.Any s = refl
 single_flat token.ZeroOrMore s = absurd (false≢true s)
@@ -26,7 +26,7 @@ single_flat token.Or s = absurd (false≢true s)
 single_flat token.Close s = absurd (false≢true s)
 
 -- it matches a character that it fits
-single_matches : (t : GlobToken) (c : ℕ) → is_single t ≡ true → fits t c ≡ true → MatchesOne (single t) (c ∷ [])
+pub single_matches : (t : GlobToken) (c : ℕ) → is_single t ≡ true → fits t c ≡ true → MatchesOne (single t) (c ∷ [])
 single_matches (token.Literal d) c s f = ap (λ x. x ∷ []) (eqb-true c d f)
 single_matches token.Any c s f = (c, refl)
 single_matches token.ZeroOrMore c s f = absurd (false≢true s)
@@ -36,7 +36,7 @@ single_matches token.Or c s f = absurd (false≢true s)
 single_matches token.Close c s f = absurd (false≢true s)
 
 -- and nothing else
-single_fits : (t : GlobToken) (text : List ℕ) → is_single t ≡ true → MatchesOne (single t) text
+pub single_fits : (t : GlobToken) (text : List ℕ) → is_single t ≡ true → MatchesOne (single t) text
     → (c : ℕ) × (text ≡ c ∷ []) × (fits t c ≡ true)
 single_fits (token.Literal d) text s m = (d, m, same_number d)
 single_fits token.Any text s m = (m.0, m.1, refl)
@@ -46,7 +46,7 @@ single_fits token.Open text s m = absurd (false≢true s)
 single_fits token.Or text s m = absurd (false≢true s)
 single_fits token.Close text s m = absurd (false≢true s)
 
-single_depth : (depth : ℕ) (t : GlobToken) → is_single t ≡ true → depth_behind depth t ≡ depth
+pub single_depth : (depth : ℕ) (t : GlobToken) → is_single t ≡ true → depth_behind depth t ≡ depth
 single_depth depth (token.Literal c) s = refl
 single_depth depth token.Any s = refl
 single_depth depth token.ZeroOrMore s = refl
@@ -126,7 +126,7 @@ none_behind tokens text t left more rest e s none h m =
     none first.0 first.1 first.2 first.3
 
 -- no token matches the empty text alone
-flat_empty : (tree : Tokens) (text : List ℕ) → flat tree ≡ [] → MatchesAll tree text → text ≡ []
+pub flat_empty : (tree : Tokens) (text : List ℕ) → flat tree ≡ [] → MatchesAll tree text → text ≡ []
 flat_empty no_tokens text e m = m
 flat_empty (next_token (literal c) more) text e m = absurd cc
 flat_empty (next_token any more) text e m = absurd cc

@@ -42,3 +42,40 @@ pub fn behind_singles<'a>(
     }
     Some((left, rest))
 }
+
+// What is left of the text in front of its last character, where the token fits that.
+fn before_last<'a>(token: &GlobToken, text: &'a [char]) -> Option<&'a [char]>
+    ensures { MatchOption result
+        ((rest : List ℕ) (c : ℕ) → text.now ≡ rest ++ c ∷ [] → IsTrue (fits token.now c) → ⊥)
+        (λ rest. (c : ℕ) × (text.now ≡ rest.now ++ c ∷ []) × IsTrue (fits token.now c)) }
+{
+    match text {
+        [rest @ .., c] if fits(token, *c) => Some(rest),
+        _ => None,
+    }
+}
+
+/// What is left of the tokens and of the text in front of the last tokens that match one character each, where these
+/// fit the last characters. `None` says that they don't, so the tokens don't match the text.
+pub fn before_singles<'a>(
+    tokens: &'a [GlobToken],
+    text: &'a [char],
+) -> Option<(&'a [GlobToken], &'a [char])>
+    ensures { MatchOption result
+        (Matches tokens.now text.now → ⊥)
+        (λ left. Leaves tokens.now text.now left.0.now left.1.now) }
+{
+    let mut left = tokens;
+    let mut rest = text;
+    while let [more @ .., token] = left {
+        if !is_single(token) {
+            break;
+        }
+        let Some(before) = before_last(token, rest) else {
+            return None;
+        };
+        left = more;
+        rest = before;
+    }
+    Some((left, rest))
+}

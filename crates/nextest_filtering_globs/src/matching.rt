@@ -3,7 +3,7 @@ ghost use Rattle.std.specs.Prelude.{◌↔◌, ℕ, List, IfOk, IsTrue};
 ghost use Rattle.nextest_filtering_globs.specs.Meaning.{Matches};
 ghost use Rattle.nextest_filtering_globs.specs.Inside.{IsBalanced};
 
-use super::edges::behind_singles;
+use super::edges::{before_singles, behind_singles};
 use super::places::{begin, has_last};
 use super::token::GlobToken;
 use super::walk::take_all;
@@ -55,7 +55,7 @@ fn is_left_matched(
 }
 
 /// Whether the tokens match the whole text. The first characters are compared with the first tokens one by one, so far
-/// as these match one character each.
+/// as these match one character each, and so are the last ones.
 pub fn is_matched(
     tokens: &[GlobToken],
     text: &[char],
@@ -66,6 +66,9 @@ pub fn is_matched(
     ensures { IfOk result (λ answer. IsTrue answer ↔ Matches tokens.now text.now) }
 {
     let Some((left, rest)) = behind_singles(tokens, text) else {
+        return Ok(false);
+    };
+    let Some((left, rest)) = before_singles(left, rest) else {
         return Ok(false);
     };
     is_left_matched(left, rest, current, stack)

@@ -1,0 +1,12 @@
+use Rattle.std.proofs.Common.{◌≤◌, length}
+use Rattle.nextest_filtering_globs.specs.Inside.{Leaves}
+use Rattle.nextest_filtering_globs.proofs.edges.before_singles.Given as goal
+
+abbrev pub invariant-loop-left : goal.invariant-loop-left
+invariant-loop-left l = record {
+  within : length l.left ≤ length l.tokens;
+  leaves : Leaves l.tokens l.text l.left l.rest;
+}
+
+abbrev pub decreases-loop-left : goal.decreases-loop-left
+decreases-loop-left l = length l.left
