@@ -4,11 +4,12 @@ use Rattle.std.specs.Prelude.{◌↔◌}
 use Rattle.std.proofs.lemmas.List.{append-nil}
 use Rattle.nextest_filtering_globs.specs.declared.token.GlobToken.{GlobToken}
 use Rattle.nextest_filtering_globs.specs.declared.token.GlobToken.TheVariants as token
+use Rattle.nextest_filtering_globs.specs.Syntax.{SpellsFrom}
 use Rattle.nextest_filtering_globs.specs.Meaning.{Token, literal, any, zero_or_more, class, alternates, Tokens, no_tokens, next_token, Alternatives, last_alternative, next_alternative, flat_token, flat, flat_alternatives, MatchesAll, Matches}
 use Rattle.nextest_filtering_globs.specs.Inside.{Level, State, level, state, step, run, none_of, either_of, start_of, has_last, IsBalanced}
 use Rattle.nextest_filtering_globs.proofs.Sets.{Has, start_covers, start_has, has_start, last_has, has_at_end}
 use Rattle.nextest_filtering_globs.proofs.Ends.{ends_one, ends_all, ends_some, covers_all, all_reached, reached_all}
-use Rattle.nextest_filtering_globs.proofs.Trees.{pieces}
+use Rattle.nextest_filtering_globs.proofs.Trees.{pieces, spelled_closes}
 
 pub run-append : (text : List ℕ) (xs ys : List GlobToken) (it : State) → run text (xs ++ ys) it ≡ run text ys (run text xs it)
 run-append text [] ys it = refl
@@ -64,11 +65,17 @@ matching text tree m =
     (subst (λ x. Has text start x) (sym (append-nil text)) (has_start text)) m)
 
 -- the answer by sets of places is what the glob matches
-pub answers : (tokens : List GlobToken) (text : List ℕ) (places : List Bool) → IsBalanced tokens
+pub balanced_answers : (tokens : List GlobToken) (text : List ℕ) (places : List Bool) → IsBalanced tokens
     → places ≡ (run text tokens (state (start_of text) [])).current
     → IsTrue (has_last places) ↔ Matches tokens text
-answers tokens text places h e =
+balanced_answers tokens text places h e =
     let tree = pieces 0 tokens h in (
       λ b. (tree.0, tree.1, matched text tree.0 (ap has_last (sym (tree_places text tree.0 tokens tree.1)) ∙ (ap has_last (sym e) ∙ b))),
       λ m. ap has_last (e ∙ tree_places text m.0 tokens m.1) ∙ matching text m.0 m.2,
     )
+
+-- the same of the tokens that a text spells
+pub answers : (tokens : List GlobToken) (spelled text : List ℕ) (places : List Bool) → SpellsFrom 0 tokens spelled
+    → places ≡ (run text tokens (state (start_of text) [])).current
+    → IsTrue (has_last places) ↔ Matches tokens text
+answers tokens spelled text places h e = balanced_answers tokens text places (spelled_closes 0 tokens spelled h) e

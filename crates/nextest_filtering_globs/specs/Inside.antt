@@ -135,6 +135,8 @@ ClosesFrom depth (first ∷ more) = HasBrace depth first × ClosesFrom (depth_be
 abbrev pub IsBalanced : List GlobToken → Type 0
 IsBalanced tokens = ClosesFrom 0 tokens
 
--- some tokens match a text exactly where what is left of them matches what is left of it
+-- some tokens match a text exactly where what is left of them matches what is left of it; and where they close their
+-- braces, what is left does
 abbrev pub Leaves : List GlobToken → List ℕ → List GlobToken → List ℕ → Type 0
-Leaves tokens text left rest = (IsBalanced tokens → IsBalanced left) × (Matches tokens text ↔ Matches left rest)
+Leaves tokens text left rest =
+    (IsBalanced tokens → IsBalanced left) × (Matches tokens text ↔ Matches left rest)

@@ -2,7 +2,7 @@ use Rattle.std.proofs.Common.{◌≡◌, ◌∙◌, sym, ap, subst, Bool, [], le
 use Rattle.std.specs.Prelude.{◌↔◌}
 use Rattle.nextest_filtering_globs.specs.Meaning.{Matches}
 use Rattle.nextest_filtering_globs.specs.Inside.{run, state, start_of, has_last}
-use Rattle.nextest_filtering_globs.proofs.Fold.{answers}
+use Rattle.nextest_filtering_globs.proofs.Fold.{balanced_answers}
 use Rattle.nextest_filtering_globs.proofs.Loops.{written_back}
 use Rattle.nextest_filtering_globs.proofs.matching.is_walked.Goals as goal
 
@@ -19,5 +19,5 @@ returns c =
     let places : c.as_slice.result.now ≡ (run text tokens (state (start_of text) [])).current =
     last ∙ (c.in_ok-take_all.ensures ∙ ap (λ x. (run text tokens (state x [])).current) begun) in
     let whole : IsTrue (has_last c.as_slice.result.now) ↔ Matches tokens text =
-    answers tokens text c.as_slice.result.now c.requires places in
+    balanced_answers tokens text c.as_slice.result.now c.requires places in
     subst (λ (b : Bool). IsTrue b ↔ Matches tokens text) (sym c.has_last.ensures) whole
