@@ -9,9 +9,8 @@ use super::places::read_characters;
 use std::alloc::{AllocError, Global};
 use std::marker::Model;
 
-/// A glob, lent, with memory of its own for matching texts one after another. It asks for more only where a text wants
-/// more than each before: it has more characters, or more of them than the glob's first and last tokens take alone.
-/// In a clause it is the glob.
+/// A glob, lent, with memory of its own for matching texts one after another. It asks for more only where a text has
+/// too many characters for what it has. In a clause it is the glob.
 #[derive(Debug, Drop)]
 pub struct GlobMatcher<'g> {
     glob: &'g GenericGlob,
