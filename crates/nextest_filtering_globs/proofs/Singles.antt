@@ -46,6 +46,16 @@ single_fits token.Open text s m = absurd (false≢true s)
 single_fits token.Or text s m = absurd (false≢true s)
 single_fits token.Close text s m = absurd (false≢true s)
 
+-- only such a token fits a character
+pub fitting_single : (t : GlobToken) (c : ℕ) → fits t c ≡ true → is_single t ≡ true
+fitting_single (token.Literal d) c f = refl
+fitting_single token.Any c f = refl
+fitting_single token.ZeroOrMore c f = absurd (false≢true f)
+fitting_single (token.Class negated ranges) c f = refl
+fitting_single token.Open c f = absurd (false≢true f)
+fitting_single token.Or c f = absurd (false≢true f)
+fitting_single token.Close c f = absurd (false≢true f)
+
 pub single_depth : (depth : ℕ) (t : GlobToken) → is_single t ≡ true → depth_behind depth t ≡ depth
 single_depth depth (token.Literal c) s = refl
 single_depth depth token.Any s = refl

@@ -31,11 +31,11 @@ pub fn behind_singles<'a>(
     let mut left = tokens;
     let mut rest = text;
     while let Some((token, more)) = left.split_first() {
-        if !is_single(token) {
-            break;
-        }
         let Some(behind) = behind_first(token, rest) else {
-            return None;
+            if is_single(token) {
+                return None;
+            }
+            break;
         };
         left = more;
         rest = behind;
@@ -68,11 +68,11 @@ pub fn before_singles<'a>(
     let mut left = tokens;
     let mut rest = text;
     while let [more @ .., token] = left {
-        if !is_single(token) {
-            break;
-        }
         let Some(before) = before_last(token, rest) else {
-            return None;
+            if is_single(token) {
+                return None;
+            }
+            break;
         };
         left = more;
         rest = before;

@@ -1,16 +1,16 @@
 use Rattle.std.proofs.Common.{sym, ◌∙◌}
-use Rattle.nextest_filtering_globs.proofs.Singles.{leaves_all, leaves_behind, none_behind}
+use Rattle.nextest_filtering_globs.proofs.Singles.{fitting_single, leaves_all, leaves_behind, none_behind}
 use Rattle.nextest_filtering_globs.proofs.edges.behind_singles.Goals as goal
 
 pub loop-token-init : goal.loop-token-init
 loop-token-init c = leaves_all c.args.tokens.now c.args.text.now
 
-pub returns-in_default-behind_first : goal.returns-in_default-behind_first
-returns-in_default-behind_first c =
+pub returns-then-is_single : goal.returns-then-is_single
+returns-then-is_single c =
     let l = c.loop-token in
     let begun = c.in-Some in
     none_behind c.args.tokens.now c.args.text.now begun.token.now l.left.now begun.more.now l.rest.now
-    begun.ensures.cases.0 (sym c.is_single.ensures ∙ c.if-not-is_single.false) c.in_default-behind_first.ensures l.invariant
+    begun.ensures.cases.0 (sym c.is_single.ensures ∙ c.if-is_single.true) c.in_default-behind_first.ensures l.invariant
 
 pub loop-token-preserved : goal.loop-token-preserved
 loop-token-preserved c =
@@ -19,4 +19,4 @@ loop-token-preserved c =
     let taken = c.in-Some-behind_first.ensures in
     leaves_behind c.args.tokens.now c.args.text.now begun.token.now l.left.now begun.more.now l.rest.now
     c.in-Some-behind_first.behind.now taken.0 begun.ensures.cases.0 taken.1
-    (sym c.is_single.ensures ∙ c.if-not-is_single.false) taken.2 l.invariant
+    (fitting_single begun.token.now taken.0 taken.2) taken.2 l.invariant
