@@ -6,19 +6,18 @@ ghost use Rattle.test_runner_core_plan.specs.Order.{plan_cmp};
 
 use crate::plan::PlanTest;
 use nextest_text::Listing;
-use std::alloc::Global;
 use std::cmp::Ordering;
 
 /// Tests in the order in which a plan has them: by greater priority, then by binary id, then by
 /// name. It never fails: where there is no memory for it, sorting only takes longer.
-pub fn in_order(alloc: Global, mut tests: Vec<PlanTest>) -> Listing<PlanTest>
+pub fn in_order(mut tests: Vec<PlanTest>) -> Listing<PlanTest>
     ensures same { IsPermutation tests.items result }
     ensures order { IsSorted plan_cmp result }
 {
     if stand_in_order(tests.as_slice()) {
         return Listing::from(tests);
     }
-    sort_by_priority(alloc, tests.as_mut_slice());
+    sort_by_priority(&mut tests);
     if stand_in_order(tests.as_slice()) {
         return Listing::from(tests);
     }
@@ -32,10 +31,10 @@ pub fn in_order(alloc: Global, mut tests: Vec<PlanTest>) -> Listing<PlanTest>
 
 // Puts tests of greater priority first, and leaves those of one priority in their order. So tests whose names rose are in the order
 // of a plan, without comparing names. Where there is no memory, all stay as they were.
-fn sort_by_priority(alloc: Global, tests: &mut [PlanTest])
-    ensures { IsPermutation tests.old tests.new }
+fn sort_by_priority(tests: &mut Vec<PlanTest>)
+    ensures { IsPermutation tests.old.items tests.new.items }
 {
-    let _ = tests.sort_by_key(alloc, |test: &PlanTest| test.settings.priority);
+    let _ = tests.sort_by_key(|test: &PlanTest| test.settings.priority);
 }
 
 // Whether no test is greater than the next. Mostly they stand so already, and none is moved.

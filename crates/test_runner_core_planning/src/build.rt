@@ -169,7 +169,7 @@ fn plan_of(
 {
     Plan {
         scripts: Listing::new(alloc),
-        tests: in_order(alloc, tests),
+        tests: in_order(tests),
         listed,
         skipped,
         limit: settings.max_fail,

@@ -1,7 +1,8 @@
 use Rattle.std.proofs.Common.{List, rules, of_calls, subst, sym, ◌∙◌}
 use Rattle.std.proofs.lemmas.Fn.{always_returns_same}
 use Rattle.std.proofs.lemmas.List.MinMax.{ranks_by}
-use Rattle.std.specs.List.Sorted.{IsSorted}
+use Rattle.std.proofs.lemmas.List.Sorted.{IsPermutation-trans}
+use Rattle.std.specs.List.Sorted.{IsPermutation, IsSorted}
 use Rattle.std.specs.Ordering.{is_lt}
 use Rattle.test_runner_core_plan.specs.Order.{plan_cmp}
 use Rattle.test_runner_core_plan.specs.declared.plan.PlanTest.{PlanTest}
@@ -16,3 +17,8 @@ pub returns-clause-order : goal.returns-clause-order
 returns-clause-order c =
     let sorted = c.sort_unstable_by.ensures.sorted (λ a b. is_lt (plan_cmp a b)) (ranks_by plans_compare (λ (it : PlanTest). it)) (always_returns_same _ _ _ (λ a r f k. search (rules, of_calls))) in
     subst (λ (tests : List PlanTest). IsSorted plan_cmp tests) (sym c.from-2.ensures) sorted
+
+pub returns-clause-same : goal.returns-clause-same
+returns-clause-same c =
+    subst (IsPermutation c.args.tests.items) (sym c.from-2.ensures)
+    (IsPermutation-trans c.args.tests.items _ _ c.sort_by_priority.ensures c.sort_unstable_by.ensures.permutation)
