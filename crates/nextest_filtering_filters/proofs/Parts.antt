@@ -1,7 +1,7 @@
 -- What a filter is by the values of its predicates.
 use Rattle.std.proofs.Common.{◌≡◌, ℕ, Bool, true, false, List, [], ◌∷◌, zero, suc, not, Option, None, Some, refl, sym, ◌∙◌, subst, inl, inr}
 use Rattle.std.specs.List.{All, AllZip, list_any}
-use Rattle.std.specs.Prelude.{◌||◌}
+use Rattle.std.specs.Prelude.{◌||◌, IfSome}
 use Rattle.nextest_filtering_filters.specs.Formula.{AreValues, Formula, Gives, IsValue}
 use Rattle.nextest_filtering_filters.specs.Steps.{formula_of}
 use Rattle.nextest_filtering_filters.specs.Values.{IsSome, may_by, nowhere, values_at}
@@ -10,7 +10,7 @@ use Rattle.nextest_filtering_filters.specs.declared.values.Values.{Values}
 use Rattle.nextest_filtering_filters.proofs.Giving.{gives_less, gives_one, gives_with, with_gives}
 use Rattle.nextest_filtering_trees.specs.Meaning.{MatchesName}
 use Rattle.nextest_filtering_trees.specs.Tree.{Matcher, matcher_of}
-use Rattle.nextest_filtering_filters.specs.Asking.{AreOn, AreTold, IsTold, left_by, values_may}
+use Rattle.nextest_filtering_filters.specs.Asking.{AreOn, AreTold, IsKept, IsTold, PartOf, left_by, values_may}
 use Rattle.nextest_filtering_filters.specs.Filter.{Compiled, filter_of, is_default, leaf_at}
 use Rattle.nextest_filtering_filters.specs.Meaning.{CanBeOn, Either, IsOn, MayBe, Never, Tells}
 use Rattle.nextest_filtering_filters.specs.Query.{Binary, Test}
@@ -217,3 +217,15 @@ is_on filter default test Member one exact =
 
 pub with_three : {A B C : Type 0} (P : A → B → C → Type 0) (a x : A) (b y : B) (c z : C) → a ≡ x → b ≡ y → c ≡ z → P a b c → P x y z
 with_three P a x b y c z first second third it = subst (P x y) third (subst (λ m. P x m c) second (subst (λ m. P m b c) first it))
+
+-- ---- what is kept of a default filter
+
+-- what is so of it where something is kept, is so of it where it is asked for
+pub kept_of : (filter default : Compiled) (binary : Binary) (part : Option PartOf) (P : Compiled → Binary → Type 0) → IsKept filter default binary part → IfSome part (λ it. P it.filter it.binary)
+    → list_any is_default filter.leaves ≡ true → P default binary
+kept_of filter default binary None P kept so asked = cc
+kept_of filter default binary (Some part) P kept so asked = subst (P default) kept.1 (subst (λ (f : Compiled). P f part.binary) kept.0 so)
+
+pub kept_asks_not : (filter default : Compiled) (binary : Binary) (part : Option PartOf) → IsKept filter default binary part → list_any is_default default.leaves ≡ false → IfSome part (λ it. list_any is_default it.filter.leaves ≡ false)
+kept_asks_not filter default binary None kept none = tt
+kept_asks_not filter default binary (Some part) kept none = subst (λ (f : Compiled). list_any is_default f.leaves ≡ false) (sym kept.0) none

@@ -2,6 +2,7 @@
 use Rattle.std.specs.Prelude.{◌≡◌, ℕ, Bool, true, false, List, length, Option, None, Some}
 use Rattle.std.specs.Borrow.{Bor}
 use Rattle.std.specs.Global.{Vec}
+use Rattle.std.specs.List.{list_any}
 use Rattle.nextest_filtering_filters.specs.Columns.{IsLong, OnEach, value_at}
 use Rattle.nextest_filtering_filters.specs.Formula.{AreValues}
 use Rattle.nextest_filtering_filters.specs.Values.{IsSome, may_by}
@@ -11,7 +12,7 @@ use Rattle.nextest_filtering_trees.specs.Meaning.{MatchesName}
 use Rattle.nextest_filtering_trees.specs.Tree.{Matcher, matcher_of}
 use Rattle.nextest_filtering_trees.specs.declared.leaf.SourceSpan.{SourceSpan}
 use Rattle.nextest_filtering_trees.specs.declared.matcher.NameMatcher.{NameMatcher}
-use Rattle.nextest_filtering_filters.specs.Filter.{Compiled}
+use Rattle.nextest_filtering_filters.specs.Filter.{Compiled, is_default}
 use Rattle.nextest_filtering_filters.specs.Meaning.{Either, IsKnownOn, MayBe, Tells}
 use Rattle.nextest_filtering_filters.specs.Query.{Binary}
 use Rattle.nextest_filtering_filters.specs.declared.asked.Asked.{Asked}
@@ -59,6 +60,11 @@ AreTold binary name Member default it values = AreValues (IsTold binary name Mem
 abbrev pub IsColumn : Binary → List (Bor (List ℕ)) → List Bool → FiltersetLeaf → Vec Bool → Type 0
 IsColumn binary names default it column = IsLong (length names) column
     × OnEach names (λ place name. IsTold binary name (λ m. ⊥) (value_at default place) it (value_at column.items place))
+
+-- what is kept of a default filter on a binary, beside a filter: nothing only where the filter doesn't ask for it
+abbrev pub IsKept : Compiled → Compiled → Binary → Option PartOf → Type 0
+IsKept filter default binary None = list_any is_default filter.leaves ≡ false
+IsKept filter default binary (Some part) = (part.filter ≡ default) × (part.binary ≡ binary)
 
 -- the values that one value, or none that is known, leaves
 abbrev pub left_by : Option Bool → Values

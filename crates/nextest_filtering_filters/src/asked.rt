@@ -114,6 +114,7 @@ impl<'f> Asked<'f> {
             Asked::Default => Ok(default),
         }
     }
+
     // Whether the predicate is so on each of some tests, whose groups nobody knows, where this is whether the default filter
     // holds on them.
     pub(crate) fn on_tests(

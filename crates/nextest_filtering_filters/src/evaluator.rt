@@ -1,11 +1,11 @@
 // A filter on a binary and its tests.
-ghost use Rattle.std.specs.Prelude.{◌≡◌, true, false, Some, IfOk, length};
+ghost use Rattle.std.specs.Prelude.{◌≡◌, false, Some, IfOk, IfSome, length};
 ghost use Rattle.std.specs.List.{AllZip, list_any};
 ghost use Rattle.nextest_filtering_filters.specs.Columns.{IsLong, OnEach, value_at};
 ghost use Rattle.nextest_filtering_filters.specs.Formula.{AreValues, Gives, IsValue};
 ghost use Rattle.nextest_filtering_filters.specs.Values.{IsSome};
 ghost use Rattle.nextest_filtering_trees.specs.Meaning.{MatchesName};
-ghost use Rattle.nextest_filtering_filters.specs.Asking.{left_by};
+ghost use Rattle.nextest_filtering_filters.specs.Asking.{IsKept, left_by};
 ghost use Rattle.nextest_filtering_filters.specs.Filter.{filter_of, is_default};
 ghost use Rattle.nextest_filtering_filters.specs.Meaning.{CanBeOn, Either, IsOn, MayBe, Never, Tells};
 ghost use Rattle.nextest_filtering_filters.specs.Query.{Test, binary_of, test_of};
@@ -30,9 +30,10 @@ const NOWHERE: Values = Values {
 /// binary.
 pub struct BinaryEvaluator<'f> {
     main: Part<'f>,
-    default: Part<'f>,
+    // Nothing is kept of the default filter where the filter doesn't ask for it.
+    default: Option<Part<'f>>,
+    default_filter: &'f CompiledExpr,
     binary: BinaryQuery<'f>,
-    asks_default: bool,
 }
 
 impl<'f> Drop for BinaryEvaluator<'f> {
@@ -40,8 +41,8 @@ impl<'f> Drop for BinaryEvaluator<'f> {
         let Self {
             main: _,
             default: _,
+            default_filter: _,
             binary: _,
-            asks_default: _,
         } = self;
     }
 }
@@ -49,17 +50,21 @@ impl<'f> Drop for BinaryEvaluator<'f> {
 impl<'f> Model for BinaryEvaluator<'f> {
     ghost use Rattle.std.specs.Prelude.{◌≡◌, false};
     ghost use Rattle.std.specs.List.{list_any};
-    ghost use Rattle.nextest_filtering_filters.specs.Asking.{Asking};
+    ghost use Rattle.nextest_filtering_filters.specs.Asking.{Asking, IsKept};
     ghost use Rattle.nextest_filtering_filters.specs.Filter.{is_default};
     ghost use Rattle.nextest_filtering_filters.specs.Query.{binary_of};
 
     ghost Value = { Asking };
 
-    ghost view = { λ it. record { filter = it.main.filter; default = it.default.filter; binary = binary_of it.binary } };
+    ghost view = { λ it. record {
+      filter = it.main.filter;
+      default = it.default_filter.now;
+      binary = binary_of it.binary;
+    } };
 
-    ghost invariant = { λ it. (it.main.binary ≡ binary_of it.binary) × (it.default.binary ≡ binary_of it.binary)
-        × (list_any is_default it.default.filter.leaves ≡ false)
-        × (it.asks_default ≡ list_any is_default it.main.filter.leaves) };
+    ghost invariant = { λ it. (it.main.binary ≡ binary_of it.binary)
+        × (list_any is_default it.default_filter.now.leaves ≡ false)
+        × IsKept it.main.filter it.default_filter.now (binary_of it.binary) it.default };
 }
 
 // The values that one value, or none that is known, leaves.
@@ -72,58 +77,73 @@ fn values_of(value: Option<bool>) -> Values
     }
 }
 
+// What is kept of a default filter on a binary, beside a filter: nothing where the filter doesn't ask for it.
+fn default_part<'f>(
+    alloc: Global,
+    filter: &CompiledExpr,
+    default: &'f CompiledExpr,
+    binary: &BinaryQuery<'f>,
+) -> Result<Option<Part<'f>>, AllocError>
+    ensures { IfOk result (IsKept filter.now default.now (binary_of binary.now)) }
+{
+    if filter.has_default() {
+        Ok(Some(Part::new(alloc, default, *binary)?))
+    } else {
+        Ok(None)
+    }
+}
+
 // The values that a default filter may have on its binary, where it is asked for.
-fn default_values(default: &mut Part<'_>, is_asked: bool) -> Result<Values, AllocError>
-    requires none { list_any is_default default.old.filter.leaves ≡ false }
-    ensures values { IfOk result (λ values. is_asked ≡ true → AreValues (Gives (MayBe default.old.binary Either Either Never) (filter_of default.old.filter)) values) }
+fn default_values(default: &mut Option<Part<'_>>) -> Result<Values, AllocError>
+    requires none { IfSome default.old (λ part. list_any is_default part.filter.leaves ≡ false) }
+    ensures values { IfOk result (λ values. IfSome default.old (λ part.
+        AreValues (Gives (MayBe part.binary Either Either Never) (filter_of part.filter)) values)) }
     ensures some { IfOk result IsSome }
     ensures same { default.new ≡ default.old }
 {
-    if is_asked {
-        Ok(values_of(default.on_binary(NOWHERE)?))
-    } else {
-        Ok(NOWHERE)
+    match default {
+        Some(part) => Ok(values_of(part.on_binary(NOWHERE)?)),
+        None => Ok(NOWHERE),
     }
 }
 
 // Whether a default filter holds on a test, where it is asked for.
 fn default_value<G: GroupLookup>(
-    default: &mut Part<'_>,
-    is_asked: bool,
+    default: &mut Option<Part<'_>>,
     test: &TestQuery<'_>,
     groups: &G,
 ) -> Result<bool, AllocError>
-    requires none { list_any is_default default.old.filter.leaves ≡ false }
-    ensures value { IfOk result (λ value. is_asked ≡ true → IsValue (Gives (MayBe default.old.binary (λ m. Tells (MatchesName m (test_of test.now).name)) (λ m. Tells (G.member groups.now (test_of test.now) m)) Never) (filter_of default.old.filter)) (Some value)) }
+    requires none { IfSome default.old (λ part. list_any is_default part.filter.leaves ≡ false) }
+    ensures value { IfOk result (λ value. IfSome default.old (λ part. IsValue (Gives
+        (MayBe part.binary (λ m. Tells (MatchesName m (test_of test.now).name))
+        (λ m. Tells (G.member groups.now (test_of test.now) m)) Never)
+        (filter_of part.filter)) (Some value))) }
     ensures same { default.new ≡ default.old }
 {
-    if is_asked {
-        default.on_test(test, false, groups)
-    } else {
-        Ok(false)
+    match default {
+        Some(part) => part.on_test(test, false, groups),
+        None => Ok(false),
     }
 }
 
 // Whether a default filter holds on each of some tests, whose groups nobody knows, where it is asked for.
 fn default_column(
     alloc: Global,
-    default: &mut Part<'_>,
-    is_asked: bool,
+    default: &mut Option<Part<'_>>,
     names: &[&str],
 ) -> Result<Vec<bool>, AllocError>
-    requires none { list_any is_default default.old.filter.leaves ≡ false }
+    requires none { IfSome default.old (λ part. list_any is_default part.filter.leaves ≡ false) }
     ensures long { IfOk result (IsLong (length names.now)) }
-    ensures values { IfOk result (λ column. is_asked ≡ true
-        → OnEach names.now (λ place name. IsValue (Gives
-        (MayBe default.old.binary (λ m. Tells (MatchesName m name)) (λ m. Tells ⊥) Never)
-        (filter_of default.old.filter)) (Some (value_at column.items place)))) }
+    ensures values { IfOk result (λ column. IfSome default.old (λ part.
+        OnEach names.now (λ place name. IsValue (Gives
+        (MayBe part.binary (λ m. Tells (MatchesName m name)) (λ m. Tells ⊥) Never)
+        (filter_of part.filter)) (Some (value_at column.items place))))) }
     ensures same { default.new ≡ default.old }
 {
     let nowhere = vec![in alloc; false; names.len()]?;
-    if is_asked {
-        default.on_tests(alloc, names, nowhere.as_slice())
-    } else {
-        Ok(nowhere)
+    match default {
+        Some(part) => part.on_tests(alloc, names, nowhere.as_slice()),
+        None => Ok(nowhere),
     }
 }
 
@@ -139,11 +159,12 @@ impl<'f> BinaryEvaluator<'f> {
         ensures default { IfOk result (λ it. it.default ≡ ecx.now) }
         ensures binary { IfOk result (λ it. it.binary ≡ binary_of binary.now) }
     {
+        let default_filter = ecx.default_filter();
         Ok(BinaryEvaluator {
             main: Part::new(alloc, filter, *binary)?,
-            default: Part::new(alloc, ecx.default_filter(), *binary)?,
+            default: default_part(alloc, filter, default_filter, binary)?,
+            default_filter,
             binary: *binary,
-            asks_default: filter.has_default(),
         })
     }
 
@@ -153,7 +174,7 @@ impl<'f> BinaryEvaluator<'f> {
         ensures value { IfOk result (IsValue (CanBeOn (filter_of self.old.filter) (filter_of self.old.default) self.old.binary)) }
         ensures same { self.new ≡ self.old }
     {
-        let default = default_values(&mut self.default, self.asks_default)?;
+        let default = default_values(&mut self.default)?;
         self.main.on_binary(default)
     }
 
@@ -170,9 +191,10 @@ impl<'f> BinaryEvaluator<'f> {
             binary_query: self.binary,
             test_name,
         };
-        let default = default_value(&mut self.default, self.asks_default, &test, groups)?;
+        let default = default_value(&mut self.default, &test, groups)?;
         self.main.on_test(&test, default, groups)
     }
+
     // Whether the filter holds on each of some tests of the binary, whose groups nobody knows, by their names and in their
     // order.
     pub(crate) fn matches_tests(
@@ -186,7 +208,7 @@ impl<'f> BinaryEvaluator<'f> {
             names.now values.items) }
         ensures same { self.new ≡ self.old }
     {
-        let default = default_column(alloc, &mut self.default, self.asks_default, names)?;
+        let default = default_column(alloc, &mut self.default, names)?;
         self.main.on_tests(alloc, names, default.as_slice())
     }
 }

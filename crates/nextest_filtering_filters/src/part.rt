@@ -60,7 +60,7 @@ fn asked_of<'f>(
 ) -> Result<Vec<Asked<'f>>, AllocError>
     ensures { IfOk result (λ asked. AllZip (IsFor (binary_of binary.now)) leaves.now asked.items) }
 {
-    let mut asked = Vec::new(alloc);
+    let mut asked = Vec::with_capacity(alloc, leaves.len())?;
     for leaf in leaves {
         asked.push(Asked::new(alloc, leaf, binary)?)?;
     }
@@ -200,6 +200,7 @@ impl<'f> Part<'f> {
             .value(self.values.as_slice(), &mut self.waiting)?;
         Ok(one_value(value))
     }
+
     // Whether the filter holds on each of some tests of the binary, whose groups nobody knows, where this is whether the
     // default filter does.
     pub(crate) fn on_tests(

@@ -6,7 +6,7 @@ ghost use Rattle.nextest_filtering_trees.specs.Tree.{matcher_of};
 use crate::leaf::FiltersetLeaf;
 use nextest_filtering_trees::NameMatcher;
 
-// A glob was made of a text that is one.
+// The text of a glob is one. This changes nothing, and is called for what it says, as is all here.
 fn see_matcher(matcher: &NameMatcher)
     ensures { IsReadable (matcher_of matcher.now) }
 {
@@ -15,7 +15,7 @@ fn see_matcher(matcher: &NameMatcher)
     }
 }
 
-// So was that of a predicate, where it has one.
+// So it is with the matcher of a predicate, where it has one.
 fn see_leaf(leaf: &FiltersetLeaf)
     ensures { HasReadable leaf.now }
 {
@@ -33,7 +33,7 @@ fn see_leaf(leaf: &FiltersetLeaf)
     }
 }
 
-// So were those of some predicates.
+// So it is with the matchers of some predicates.
 pub(crate) fn see_leaves(leaves: &[FiltersetLeaf])
     ensures { All HasReadable leaves.now }
 {

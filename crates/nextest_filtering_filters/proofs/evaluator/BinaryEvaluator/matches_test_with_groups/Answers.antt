@@ -1,19 +1,24 @@
-use Rattle.std.proofs.Common.{Bool, Some, ◌∙◌, subst}
+use Rattle.std.proofs.Common.{Bool, Some, subst}
 use Rattle.std.proofs.lemmas.Result.{IfOk-weaker}
 use Rattle.nextest_filtering_filters.specs.Formula.{Gives, IsValue}
 use Rattle.nextest_filtering_trees.specs.Meaning.{MatchesName}
 use Rattle.nextest_filtering_trees.specs.Tree.{Matcher}
 use Rattle.nextest_filtering_filters.specs.Asking.{Asking, IsTold}
-use Rattle.nextest_filtering_filters.specs.Filter.{filter_of}
+use Rattle.nextest_filtering_filters.specs.Filter.{Compiled, filter_of}
 use Rattle.nextest_filtering_filters.specs.Meaning.{IsOn, MayBe, Never, Tells}
 use Rattle.nextest_filtering_filters.specs.Query.{Binary, Test, binary_of}
-use Rattle.nextest_filtering_filters.proofs.Parts.{is_on}
+use Rattle.nextest_filtering_filters.proofs.Parts.{is_on, kept_asks_not, kept_of}
 use Rattle.nextest_filtering_filters.proofs.evaluator.BinaryEvaluator.matches_test_with_groups.Goals as goal
+
+pub default_value-requires : goal.default_value-requires
+default_value-requires g c =
+    let known = c.self.invariant in
+    record { none = kept_asks_not c.self.inside.main.filter c.self.inside.default_filter.now (binary_of c.self.inside.binary) c.self.inside.default known.2 known.1 }
 
 pub returns-clause-value : goal.returns-clause-value
 returns-clause-value g c =
     let main = c.self.inside.main in
-    let default = c.self.inside.default in
+    let default = c.self.inside.default_filter.now in
     let known = c.self.invariant in
     let name = c.args.test_name.now in
     let test : Test = record { binary = binary_of c.self.inside.binary; name = name } in
@@ -25,7 +30,7 @@ returns-clause-value g c =
     (λ value is. subst
     (λ (it : Asking). IsValue (IsOn (filter_of it.filter) (filter_of it.default) (record { binary = it.binary; name = name }) (g.G.GroupLookup.member c.args.groups.now (record { binary = it.binary; name = name }))) (Some value))
     c.self.view_is
-    (is_on main.filter default.filter test Member one
-    (λ asked. subst (λ (b : Binary). IsValue (Gives (MayBe b Name Group Never) (filter_of default.filter)) (Some one)) known.1 (c.in_ok-default.ensures.value (known.3 ∙ asked)))
+    (is_on main.filter default test Member one
+    (kept_of main.filter default test.binary c.self.inside.default (λ (f : Compiled) (b : Binary). IsValue (Gives (MayBe b Name Group Never) (filter_of f)) (Some one)) known.2 c.in_ok-default.ensures.value)
     (Some value) (subst (λ (b : Binary). IsValue (Gives (IsTold b name Member one) (filter_of main.filter)) (Some value)) known.0 is)))
     c.on_test.ensures.value
