@@ -1,5 +1,5 @@
 // Formulas over columns: one truth value for each of some tests.
-ghost use Rattle.std.specs.Prelude.{◌≡◌, ◌≤◌, ◌<◌, ◌+◌, ℕ, not, ◌&&◌, ◌||◌, [], ◌∷◌, ◌++◌, Some};
+ghost use Rattle.std.specs.Prelude.{◌≡◌, ◌≤◌, ◌<◌, ◌+◌, ℕ, not, ◌&&◌, ◌||◌, Some};
 ghost use Rattle.std.specs.Prelude.{length, vec_len, IfOk, All};
 ghost use Rattle.nextest_filtering_filters.specs.Columns.{IsLong, just, value_at, values_in};
 ghost use Rattle.nextest_filtering_filters.specs.Formula.{Gives, IsValue};
@@ -7,20 +7,9 @@ ghost use Rattle.nextest_filtering_filters.specs.Steps.{formula_of};
 ghost use Rattle.nextest_filtering_filters.specs.Values.{may_by, values_at};
 ghost use Rattle.nextest_filtering_filters.specs.Waiting.{Takes, over};
 
-use crate::formula::Formula;
+use crate::formula::{Formula, take_last};
 use crate::step::Step;
 use std::alloc::{AllocError, Global};
-
-// Takes the last column off.
-fn take_last(waiting: &mut Vec<Vec<bool>>) -> Vec<bool>
-    requires some { 1 ≤ vec_len waiting.old }
-    ensures { waiting.old.items ≡ waiting.new.items ++ result ∷ [] }
-{
-    match waiting.pop() {
-        Some(last) => last,
-        None => unreachable!(),
-    }
-}
 
 // A copy of a leaf's column. A leaf that has none holds nowhere.
 fn column_of(

@@ -28,8 +28,8 @@ impl Model for Formula {
     ghost invariant = { λ it. IsOf it.steps.items (formula_of it.steps.items) };
 }
 
-// Takes the last value off.
-fn take_last(waiting: &mut Vec<Values>) -> Values
+// Takes the last one off.
+pub(crate) fn take_last<T>(waiting: &mut Vec<T>) -> T
     requires some { 1 ≤ vec_len waiting.old }
     ensures { waiting.old.items ≡ waiting.new.items ++ result ∷ [] }
 {
