@@ -1,5 +1,5 @@
 -- Formulas on each of some tests, by columns.
-use Rattle.std.proofs.Common.{◌≡◌, ℕ, suc, ◌+◌, ◌≤◌, ◌<◌, Bool, true, false, not, ◌&&◌, ◌||◌, List, [], ◌∷◌, ◌++◌, length, map, drop, get_or, Some, refl, sym, ap, ◌∙◌, subst, inl, inr, arith}
+use Rattle.std.proofs.Common.{◌≡◌, ℕ, suc, ◌+◌, ◌<◌, Bool, true, false, not, ◌&&◌, ◌||◌, List, [], ◌∷◌, ◌++◌, length, map, drop, get_or, Some, refl, sym, ap, ◌∙◌, subst, inl, inr, arith}
 use Rattle.std.specs.Global.{Vec}
 use Rattle.std.specs.List.{All}
 use Rattle.std.proofs.lemmas.List.{map_push, with_items_is}
@@ -15,7 +15,7 @@ use Rattle.nextest_filtering_filters.specs.declared.step.Step.{Step}
 use Rattle.nextest_filtering_filters.specs.declared.step.Step.TheVariants as step
 use Rattle.nextest_filtering_filters.specs.declared.values.Values.{Values}
 use Rattle.nextest_filtering_filters.proofs.Giving.{is_value, may_exactly}
-use Rattle.nextest_filtering_filters.proofs.Waiting.{enough, last_waits, next_step, takes_both, takes_either, takes_leaf, takes_not}
+use Rattle.nextest_filtering_filters.proofs.Waiting.{last_waits, next_step, takes_both, takes_either, takes_leaf, takes_not}
 
 -- ---- one value
 
@@ -175,12 +175,6 @@ got_nothing May steps formula count waiting made none =
       long = subst (All (IsLong count)) (sym none) (All-nil (IsLong count));
     }
 
-pub enough_columns : (May : ℕ → ℕ → Bool → Type 0) (steps : List Step) (at : ℕ) (formula : Formula ℕ) (count : ℕ) (waiting : List (Vec Bool)) (other : Step) → at < length steps
-    → Reaches May steps at formula count waiting → over (get_or steps at other) ≤ length waiting
-enough_columns May steps at formula count waiting other less got =
-    let made = next_step steps at formula other less got.formulas got.ahead in
-    omega (arith, enough (get_or steps at other) got.formulas made.next made.made, got.many)
-
 pub reaches_more : (May : ℕ → ℕ → Bool → Type 0) (steps : List Step) (at : ℕ) (formula : Formula ℕ) (count : ℕ) (waiting new : List (Vec Bool)) (other : Step) → at < length steps
     → Reaches May steps at formula count waiting → ((place : ℕ) → place < count → Takes (May place) (get_or steps at other) (values_in waiting place) (values_in new place))
     → length new + over (get_or steps at other) ≡ length waiting + 1 → All (IsLong count) new → Reaches May steps (at + 1) formula count new
@@ -209,9 +203,6 @@ ends May steps at formula count waiting ended got =
       one = got.many ∙ ap length formulas;
       waits = λ place within. subst (λ (f : List (Formula ℕ)). Wait (May place) f (values_in waiting place)) formulas (got.waits place within);
     }
-
-pub one_waits : (May : ℕ → ℕ → Bool → Type 0) (steps : List Step) (at : ℕ) (formula : Formula ℕ) (count : ℕ) (waiting : List (Vec Bool)) → at ≡ length steps → Reaches May steps at formula count waiting → length waiting ≡ 1
-one_waits May steps at formula count waiting ended got = (ends May steps at formula count waiting ended got).one
 
 pub column_told : (May : ℕ → ℕ → Bool → Type 0) (steps : List Step) (at : ℕ) (formula : Formula ℕ) (count : ℕ) (front waiting : List (Vec Bool)) (column : Vec Bool) → at ≡ length steps → waiting ≡ front ++ column ∷ []
     → Reaches May steps at formula count waiting → (place : ℕ) → place < count → IsValue (Gives (May place) formula) (Some (value_at column.items place))

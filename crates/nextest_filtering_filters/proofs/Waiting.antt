@@ -120,7 +120,7 @@ next_step steps place formula other less formulas ahead =
     makes (get_or steps place other) (drop (suc place) steps) formulas formula
     (subst (λ (l : List Step). after l formulas ≡ Some (formula ∷ [])) (drop-cons steps place other less) ahead)
 
-pub enough : (it : Step) (formulas next : List (Formula ℕ)) → after_step it formulas ≡ Some next → over it ≤ length formulas
+enough : (it : Step) (formulas next : List (Formula ℕ)) → after_step it formulas ≡ Some next → over it ≤ length formulas
 enough (step.Leaf number) formulas next made = omega arith
 enough step.Not [] next made = cc
 enough step.Not (last ∷ formulas) next made = omega arith
