@@ -64,6 +64,13 @@ matching text tree m =
     (reached_all text tree start [] text (start_covers text)
     (subst (λ x. Has text start x) (sym (append-nil text)) (has_start text)) m)
 
+-- what tokens match, each of their trees does
+pub meant : (tokens : List GlobToken) (tree : Tokens) (text : List ℕ) → flat tree ≡ tokens → Matches tokens text
+    → MatchesAll tree text
+meant tokens tree text e m =
+    matched text tree
+    (ap has_last (sym (tree_places text tree tokens e) ∙ tree_places text m.0 tokens m.1) ∙ matching text m.0 m.2)
+
 -- the answer by sets of places is what the glob matches
 pub balanced_answers : (tokens : List GlobToken) (text : List ℕ) (places : List Bool) → IsBalanced tokens
     → places ≡ (run text tokens (state (start_of text) [])).current

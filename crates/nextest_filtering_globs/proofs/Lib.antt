@@ -14,3 +14,5 @@ pub mod Walks
 pub mod Nowhere
 pub mod Singles
 pub mod Lasts
+pub mod Gaps
+pub mod Branches

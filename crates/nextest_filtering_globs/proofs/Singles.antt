@@ -85,7 +85,7 @@ single_first t more (next_token (alternates all) left) s e =
     let same : token.Open ≡ t = cc in
     absurd (false≢true (ap is_single same ∙ s))
 
-first_matched : (t : GlobToken) (more : List GlobToken) (text : List ℕ) → is_single t ≡ true → Matches (t ∷ more) text
+pub first_matched : (t : GlobToken) (more : List GlobToken) (text : List ℕ) → is_single t ≡ true → Matches (t ∷ more) text
     → (c : ℕ) × (rest : List ℕ) × (text ≡ c ∷ rest) × (fits t c ≡ true) × Matches more rest
 first_matched t more text s m =
     let tree = single_first t more m.0 s m.1 in
@@ -93,7 +93,7 @@ first_matched t more text s m =
     let first = single_fits t parts.0 s parts.3 in
     (first.0, parts.1, parts.2 ∙ ap (λ x. x ++ parts.1) first.1, first.2, (tree.0, tree.2, parts.4))
 
-first_matches : (t : GlobToken) (more : List GlobToken) (c : ℕ) (rest : List ℕ) → is_single t ≡ true → fits t c ≡ true
+pub first_matches : (t : GlobToken) (more : List GlobToken) (c : ℕ) (rest : List ℕ) → is_single t ≡ true → fits t c ≡ true
     → Matches more rest → Matches (t ∷ more) (c ∷ rest)
 first_matches t more c rest s f m = (
   next_token (single t) m.0,

@@ -15,11 +15,11 @@ Pieces zero tokens = (tree : Tokens) × (flat tree ≡ tokens)
 Pieces (suc depth) tokens = (all : Alternatives) × (behind : List GlobToken) × (tokens ≡ flat_alternatives all ++ behind)
     × Pieces depth behind
 
-in_front : Token → Alternatives → Alternatives
+pub in_front : Token → Alternatives → Alternatives
 in_front t (last_alternative tokens) = last_alternative (next_token t tokens)
 in_front t (next_alternative first more) = next_alternative (next_token t first) more
 
-in_front_is : (t : Token) (all : Alternatives) → flat_alternatives (in_front t all) ≡ flat_token t ++ flat_alternatives all
+pub in_front_is : (t : Token) (all : Alternatives) → flat_alternatives (in_front t all) ≡ flat_token t ++ flat_alternatives all
 unfolding in_front
 in_front_is t (last_alternative tokens) = append_assoc (flat_token t) (flat tokens) (token.Close ∷ [])
 in_front_is t (next_alternative first more) =

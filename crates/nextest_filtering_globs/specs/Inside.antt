@@ -140,3 +140,37 @@ IsBalanced tokens = ClosesFrom 0 tokens
 abbrev pub Leaves : List GlobToken → List ℕ → List GlobToken → List ℕ → Type 0
 Leaves tokens text left rest =
     (IsBalanced tokens → IsBalanced left) × (Matches tokens text ↔ Matches left rest)
+
+-- each token is one that matches one character
+abbrev pub AreSingle : List GlobToken → Type 0
+AreSingle [] = ⊤
+AreSingle (first ∷ more) = (is_single first ≡ true) × AreSingle more
+
+-- whether the token is one that matches one character, or stands between two alternatives
+abbrev pub is_plain : GlobToken → Bool
+is_plain token.Or = true
+is_plain other = is_single other
+
+-- each token is such a one
+abbrev pub ArePlain : List GlobToken → Type 0
+ArePlain [] = ⊤
+ArePlain (first ∷ more) = (is_plain first ≡ true) × ArePlain more
+
+-- tokens between braces
+abbrev pub in_braces : List GlobToken → List GlobToken
+in_braces tokens = token.Open ∷ (tokens ++ token.Close ∷ [])
+
+-- the tokens have a word between two asterisks first, and from the second of these on they are `left`
+abbrev pub IsWord : List GlobToken → List GlobToken → List GlobToken → Type 0
+IsWord tokens word left = (more : List GlobToken) × (left ≡ token.ZeroOrMore ∷ more)
+    × (tokens ≡ token.ZeroOrMore ∷ (word ++ left)) × AreSingle word
+
+-- a word matches the first characters of a text so far: whatever follows it, and be there an asterisk in front of it
+abbrev pub GoesOn : List GlobToken → List ℕ → List GlobToken → List ℕ → Type 0
+GoesOn word text left rest = (more : List GlobToken) → (Matches (word ++ more) text ↔ Matches (left ++ more) rest)
+    × (Matches (token.ZeroOrMore ∷ (word ++ more)) text → Matches (token.ZeroOrMore ∷ (left ++ more)) rest)
+
+-- a word between asterisks was found, and this is what is left of the text behind it
+abbrev pub IsFound : List GlobToken → List ℕ → List ℕ → Type 0
+IsFound word text rest = (more : List GlobToken)
+    → Matches (token.ZeroOrMore ∷ (word ++ token.ZeroOrMore ∷ more)) text ↔ Matches (token.ZeroOrMore ∷ more) rest

@@ -6,8 +6,8 @@ ghost use Rattle.nextest_filtering_globs.specs.Meaning.{Matches};
 use super::fitting::{fits, is_single};
 use super::token::GlobToken;
 
-// What is left of the text behind its first character, where the token fits that.
-fn behind_first<'a>(token: &GlobToken, text: &'a [char]) -> Option<&'a [char]>
+/// What is left of the text behind its first character, where the token fits that.
+pub fn behind_first<'a>(token: &GlobToken, text: &'a [char]) -> Option<&'a [char]>
     ensures { MatchOption result
         ((c : ℕ) (rest : List ℕ) → text.now ≡ c ∷ rest → IsTrue (fits token.now c) → ⊥)
         (λ rest. (c : ℕ) × (text.now ≡ c ∷ rest.now) × IsTrue (fits token.now c)) }
@@ -43,8 +43,8 @@ pub fn behind_singles<'a>(
     Some((left, rest))
 }
 
-// What is left of the text in front of its last character, where the token fits that.
-fn before_last<'a>(token: &GlobToken, text: &'a [char]) -> Option<&'a [char]>
+/// What is left of the text in front of its last character, where the token fits that.
+pub fn before_last<'a>(token: &GlobToken, text: &'a [char]) -> Option<&'a [char]>
     ensures { MatchOption result
         ((rest : List ℕ) (c : ℕ) → text.now ≡ rest ++ c ∷ [] → IsTrue (fits token.now c) → ⊥)
         (λ rest. (c : ℕ) × (text.now ≡ rest.now ++ c ∷ []) × IsTrue (fits token.now c)) }

@@ -1,6 +1,7 @@
 //! Glob patterns of a filterset language: their tokens, and exactly which texts are globs and what they match.
 #![tactic(auto)]
 
+mod alternatives;
 mod class;
 mod construct_error;
 mod edges;
@@ -13,6 +14,7 @@ mod places;
 mod reading;
 mod token;
 mod walk;
+mod words;
 
 pub use construct_error::GlobConstructError;
 pub use glob::GenericGlob;

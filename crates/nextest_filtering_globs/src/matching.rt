@@ -1,12 +1,14 @@
 // Whether tokens match a text.
-ghost use Rattle.std.specs.Prelude.{◌↔◌, ℕ, List, IfOk, IsTrue};
+ghost use Rattle.std.specs.Prelude.{◌↔◌, ◌++◌, ℕ, List, IfOk, IsTrue};
 ghost use Rattle.nextest_filtering_globs.specs.Meaning.{Matches};
-ghost use Rattle.nextest_filtering_globs.specs.Inside.{IsBalanced};
+ghost use Rattle.nextest_filtering_globs.specs.Inside.{in_braces, ArePlain, AreSingle, IsBalanced};
 
+use super::alternatives::{before_word, first_alternative, has_single_end, split_alternatives};
 use super::edges::{before_singles, behind_singles};
 use super::places::{begin, has_last};
 use super::token::GlobToken;
 use super::walk::take_all;
+use super::words::behind_words;
 use std::alloc::AllocError;
 
 // Whether the tokens match the whole text, by sets of places.
@@ -54,8 +56,73 @@ fn is_left_matched(
     is_walked(tokens, text, current, stack)
 }
 
+// Whether the tokens match the whole text, with these of one character each at their end.
+fn is_ended_matched(
+    front: &[GlobToken],
+    alternative: &[GlobToken],
+    text: &[char],
+    current: &mut Vec<bool>,
+    stack: &mut Vec<bool>,
+) -> Result<bool, AllocError>
+    requires balanced { IsBalanced front.now }
+    requires singles { AreSingle alternative.now }
+    ensures { IfOk result (λ answer. IsTrue answer ↔ Matches (front.now ++ alternative.now) text.now) }
+{
+    let Some(rest) = before_word(alternative, text) else {
+        return Ok(false);
+    };
+    let Some((left, rest)) = before_singles(front, rest) else {
+        return Ok(false);
+    };
+    is_left_matched(left, rest, current, stack)
+}
+
+// Whether the tokens match the whole text, with one of the alternatives at their end.
+fn is_some_matched(
+    front: &[GlobToken],
+    alternatives: &[GlobToken],
+    text: &[char],
+    current: &mut Vec<bool>,
+    stack: &mut Vec<bool>,
+) -> Result<bool, AllocError>
+    requires balanced { IsBalanced front.now }
+    requires plain { ArePlain alternatives.now }
+    ensures { IfOk result (λ answer. IsTrue answer ↔ Matches (front.now ++ in_braces alternatives.now) text.now) }
+{
+    let mut left = alternatives;
+    loop {
+        let (first, behind) = first_alternative(left);
+        if is_ended_matched(front, first, text, current, stack)? {
+            return Ok(true);
+        }
+        let Some(more) = behind else {
+            return Ok(false);
+        };
+        left = more;
+    }
+}
+
+// Whether the tokens match the whole text. Alternatives at their end are tried one by one, where this takes no longer
+// than sets of places.
+fn is_choice_matched(
+    tokens: &[GlobToken],
+    text: &[char],
+    current: &mut Vec<bool>,
+    stack: &mut Vec<bool>,
+) -> Result<bool, AllocError>
+    requires { IsBalanced tokens.now }
+    ensures { IfOk result (λ answer. IsTrue answer ↔ Matches tokens.now text.now) }
+{
+    match split_alternatives(tokens) {
+        Some((front, alternatives)) if has_single_end(front) => {
+            is_some_matched(front, alternatives, text, current, stack)
+        }
+        _ => is_left_matched(tokens, text, current, stack),
+    }
+}
+
 /// Whether the tokens match the whole text. The first characters are compared with the first tokens one by one, so far
-/// as these match one character each, and so are the last ones.
+/// as these match one character each, and so are the last ones. Then words between asterisks are looked for.
 pub fn is_matched(
     tokens: &[GlobToken],
     text: &[char],
@@ -71,5 +138,8 @@ pub fn is_matched(
     let Some((left, rest)) = before_singles(left, rest) else {
         return Ok(false);
     };
-    is_left_matched(left, rest, current, stack)
+    let Some((left, rest)) = behind_words(left, rest) else {
+        return Ok(false);
+    };
+    is_choice_matched(left, rest, current, stack)
 }

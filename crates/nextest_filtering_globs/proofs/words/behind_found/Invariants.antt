@@ -1,0 +1,9 @@
+use Rattle.std.proofs.Common.{length}
+use Rattle.nextest_filtering_globs.proofs.Gaps.{IsAhead}
+use Rattle.nextest_filtering_globs.proofs.words.behind_found.Given as goal
+
+abbrev pub invariant-loop-behind : goal.invariant-loop-behind
+invariant-loop-behind l = IsAhead l.word l.text l.rest
+
+abbrev pub decreases-loop-behind : goal.decreases-loop-behind
+decreases-loop-behind l = length l.rest

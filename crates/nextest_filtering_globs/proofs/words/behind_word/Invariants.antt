@@ -1,0 +1,12 @@
+use Rattle.std.proofs.Common.{length}
+use Rattle.nextest_filtering_globs.specs.Inside.{AreSingle, GoesOn}
+use Rattle.nextest_filtering_globs.proofs.words.behind_word.Given as goal
+
+abbrev pub invariant-loop-token : goal.invariant-loop-token
+invariant-loop-token l = record {
+  singles : AreSingle l.left;
+  goes_on : GoesOn l.word l.text l.left l.rest;
+}
+
+abbrev pub decreases-loop-token : goal.decreases-loop-token
+decreases-loop-token l = length l.left

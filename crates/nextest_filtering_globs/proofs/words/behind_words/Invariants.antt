@@ -1,0 +1,9 @@
+use Rattle.std.proofs.Common.{length}
+use Rattle.nextest_filtering_globs.specs.Inside.{Leaves}
+use Rattle.nextest_filtering_globs.proofs.words.behind_words.Given as goal
+
+abbrev pub invariant-loop-word : goal.invariant-loop-word
+invariant-loop-word l = Leaves l.tokens l.text l.left l.rest
+
+abbrev pub decreases-loop-word : goal.decreases-loop-word
+decreases-loop-word l = length l.left

@@ -1,0 +1,98 @@
+// Words of tokens that match one character each, between two asterisks.
+ghost use Rattle.std.specs.Prelude.{◌≤◌, ◌++◌, ◌∷◌, [], List, ⊤, length, take, MatchOption};
+ghost use Rattle.nextest_filtering_globs.specs.Inside.{AreSingle, GoesOn, IsFound, IsWord, Leaves};
+ghost use Rattle.nextest_filtering_globs.specs.Meaning.{Matches};
+ghost use Rattle.nextest_filtering_globs.specs.declared.token.GlobToken.{GlobToken};
+ghost use Rattle.nextest_filtering_globs.specs.declared.token.GlobToken.TheVariants as token;
+
+use super::edges::behind_first;
+use super::fitting::is_single;
+use super::token::GlobToken;
+
+// How many of the first tokens match one character each.
+fn word_len(tokens: &[GlobToken]) -> usize
+    ensures within { result ≤ length tokens.now }
+    ensures singles { AreSingle (take result tokens.now) }
+{
+    for (place, token) in tokens.iter().enumerate() {
+        if !is_single(token) {
+            return place;
+        }
+    }
+    tokens.len()
+}
+
+// The word between the first two tokens that are asterisks, and the tokens from the second of them on.
+fn split_word(tokens: &[GlobToken]) -> Option<(&[GlobToken], &[GlobToken])>
+    ensures { MatchOption result ⊤ (λ split. IsWord tokens.now split.0.now split.1.now) }
+{
+    let Some((GlobToken::ZeroOrMore, behind)) = tokens.split_first() else {
+        return None;
+    };
+    let (word, left) = behind.split_at(word_len(behind));
+    let Some((GlobToken::ZeroOrMore, _)) = left.split_first() else {
+        return None;
+    };
+    Some((word, left))
+}
+
+// What is left of the text behind its first characters, where the tokens fit these one by one.
+fn behind_word<'a>(word: &[GlobToken], text: &'a [char]) -> Option<&'a [char]>
+    requires { AreSingle word.now }
+    ensures { MatchOption result
+        ((more : List GlobToken) → Matches (word.now ++ more) text.now → ⊥)
+        (λ rest. GoesOn word.now text.now [] rest.now) }
+{
+    let mut left = word;
+    let mut rest = text;
+    while let Some((token, more)) = left.split_first() {
+        let Some(behind) = behind_first(token, rest) else {
+            return None;
+        };
+        left = more;
+        rest = behind;
+    }
+    Some(rest)
+}
+
+// What is left of the text behind the first place where the word stands in it.
+fn behind_found<'a>(word: &[GlobToken], text: &'a [char]) -> Option<&'a [char]>
+    requires { AreSingle word.now }
+    ensures { MatchOption result
+        ((more : List GlobToken) → Matches (token.ZeroOrMore ∷ (word.now ++ more)) text.now → ⊥)
+        (λ rest. IsFound word.now text.now rest.now) }
+{
+    let mut rest = text;
+    loop {
+        if let Some(behind) = behind_word(word, rest) {
+            return Some(behind);
+        }
+        let Some((_, later)) = rest.split_first() else {
+            return None;
+        };
+        rest = later;
+    }
+}
+
+/// What is left of the tokens and of the text behind the first words between asterisks, each at the first place where
+/// it stands in the text: an asterisk takes up what lies before any later one. `None` says that some word stands
+/// nowhere, so the tokens don't match the text.
+pub fn behind_words<'a>(
+    tokens: &'a [GlobToken],
+    text: &'a [char],
+) -> Option<(&'a [GlobToken], &'a [char])>
+    ensures { MatchOption result
+        (Matches tokens.now text.now → ⊥)
+        (λ left. Leaves tokens.now text.now left.0.now left.1.now) }
+{
+    let mut left = tokens;
+    let mut rest = text;
+    while let Some((word, more)) = split_word(left) {
+        let Some(behind) = behind_found(word, rest) else {
+            return None;
+        };
+        left = more;
+        rest = behind;
+    }
+    Some((left, rest))
+}
