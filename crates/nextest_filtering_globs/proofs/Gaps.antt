@@ -1,11 +1,12 @@
 -- Words between asterisks.
 use Rattle.std.proofs.Common.{◌≡◌, ℕ, ◌+◌, ◌<◌, true, List, [], ◌∷◌, ◌++◌, length, take, get_or, subst, sym, ◌∙◌, refl, ap, arith}
 use Rattle.std.specs.Prelude.{◌↔◌}
+use Rattle.std.proofs.lemmas.Bool.{eqb-true}
 use Rattle.std.proofs.lemmas.List.{append_assoc, take_more}
 use Rattle.nextest_filtering_globs.specs.declared.token.GlobToken.{GlobToken}
 use Rattle.nextest_filtering_globs.specs.declared.token.GlobToken.TheVariants as token
 use Rattle.nextest_filtering_globs.specs.Meaning.{literal, any, zero_or_more, class, alternates, Tokens, no_tokens, next_token, flat, MatchesAll, Matches}
-use Rattle.nextest_filtering_globs.specs.Inside.{fits, is_single, AreSingle, ClosesFrom, GoesOn, IsBalanced, IsFound, IsWord, Leaves}
+use Rattle.nextest_filtering_globs.specs.Inside.{fits, is_single, AreSingle, ClosesFrom, GoesOn, IsAhead, IsBalanced, IsFound, IsWord, Leaves}
 use Rattle.nextest_filtering_globs.proofs.Singles.{first_matched, first_matches, single_depth}
 
 -- a tree that begins with an asterisk
@@ -121,13 +122,12 @@ pub singles_of : (t : GlobToken) (left more : List GlobToken) → left ≡ t ∷
     → (is_single t ≡ true) × AreSingle more
 singles_of t left more e h = subst AreSingle e h
 
--- a word behind an asterisk is still to be found in what is left of the text
-abbrev pub IsAhead : List GlobToken → List ℕ → List ℕ → Type 0
-IsAhead word text rest = (more : List GlobToken)
-    → Matches (token.ZeroOrMore ∷ (word ++ more)) text ↔ Matches (token.ZeroOrMore ∷ (word ++ more)) rest
-
 pub ahead_all : (word : List GlobToken) (text : List ℕ) → IsAhead word text text
 ahead_all word text more = (λ m. m, λ m. m)
+
+pub ahead_more : (word : List GlobToken) (text rest later : List ℕ) → IsAhead word text rest → IsAhead word rest later
+    → IsAhead word text later
+ahead_more word text rest later h k more = (λ m. (k more).0 ((h more).0 m), λ m. (h more).1 ((k more).1 m))
 
 -- it doesn't stand here
 pub ahead_later : (word : List GlobToken) (text rest later : List ℕ) (c : ℕ) → rest ≡ c ∷ later
@@ -197,3 +197,19 @@ pub singles_at : (tokens : List GlobToken) (place : ℕ) (t : GlobToken) → pla
 singles_at tokens place t within is s h =
     subst AreSingle (ap (λ x. take place tokens ++ x ∷ []) is ∙ sym (take_more tokens place t within))
     (singles_more (take place tokens) t h s)
+
+-- another character stands here than the word's first
+pub letter_later : (letter c : ℕ) (text rest later : List ℕ) → rest ≡ c ∷ later → (c ≡ letter → ⊥)
+    → IsAhead (token.Literal letter ∷ []) text rest → IsAhead (token.Literal letter ∷ []) text later
+letter_later letter c text rest later e other h = ahead_later (token.Literal letter ∷ []) text rest later c e none h where
+  none : (more : List GlobToken) → Matches (token.Literal letter ∷ more) rest → ⊥
+  none more m =
+      let first = first_matched (token.Literal letter) more rest refl m in
+      let both : first.0 ∷ first.1 ≡ c ∷ later = sym first.2 ∙ e in
+      let same : first.0 ≡ c = cc in
+      other (sym same ∙ eqb-true first.0 letter first.3)
+
+-- a word is where its first letter is
+pub by_letter : (word more : List GlobToken) (letter : ℕ) (text rest : List ℕ) → word ≡ token.Literal letter ∷ more
+    → IsAhead (token.Literal letter ∷ []) text rest → IsAhead word text rest
+by_letter word more letter text rest e h = subst (λ x. IsAhead x text rest) (sym e) (λ behind. h (more ++ behind))

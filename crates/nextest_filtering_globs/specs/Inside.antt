@@ -170,6 +170,11 @@ abbrev pub GoesOn : List GlobToken → List ℕ → List GlobToken → List ℕ 
 GoesOn word text left rest = (more : List GlobToken) → (Matches (word ++ more) text ↔ Matches (left ++ more) rest)
     × (Matches (token.ZeroOrMore ∷ (word ++ more)) text → Matches (token.ZeroOrMore ∷ (left ++ more)) rest)
 
+-- a word behind an asterisk is still to be found in what is left of the text
+abbrev pub IsAhead : List GlobToken → List ℕ → List ℕ → Type 0
+IsAhead word text rest = (more : List GlobToken)
+    → Matches (token.ZeroOrMore ∷ (word ++ more)) text ↔ Matches (token.ZeroOrMore ∷ (word ++ more)) rest
+
 -- a word between asterisks was found, and this is what is left of the text behind it
 abbrev pub IsFound : List GlobToken → List ℕ → List ℕ → Type 0
 IsFound word text rest = (more : List GlobToken)

@@ -66,7 +66,8 @@ fn is_ended_matched(
 ) -> Result<bool, AllocError>
     requires balanced { IsBalanced front.now }
     requires singles { AreSingle alternative.now }
-    ensures { IfOk result (λ answer. IsTrue answer ↔ Matches (front.now ++ alternative.now) text.now) }
+    ensures { IfOk result
+        (λ answer. IsTrue answer ↔ Matches (front.now ++ alternative.now) text.now) }
 {
     let Some(rest) = before_word(alternative, text) else {
         return Ok(false);
@@ -87,7 +88,8 @@ fn is_some_matched(
 ) -> Result<bool, AllocError>
     requires balanced { IsBalanced front.now }
     requires plain { ArePlain alternatives.now }
-    ensures { IfOk result (λ answer. IsTrue answer ↔ Matches (front.now ++ in_braces alternatives.now) text.now) }
+    ensures { IfOk result
+        (λ answer. IsTrue answer ↔ Matches (front.now ++ in_braces alternatives.now) text.now) }
 {
     let mut left = alternatives;
     loop {

@@ -1,6 +1,6 @@
 // Words of tokens that match one character each, between two asterisks.
 ghost use Rattle.std.specs.Prelude.{◌≤◌, ◌++◌, ◌∷◌, [], List, ⊤, length, take, MatchOption};
-ghost use Rattle.nextest_filtering_globs.specs.Inside.{AreSingle, GoesOn, IsFound, IsWord, Leaves};
+ghost use Rattle.nextest_filtering_globs.specs.Inside.{AreSingle, GoesOn, IsAhead, IsFound, IsWord, Leaves};
 ghost use Rattle.nextest_filtering_globs.specs.Meaning.{Matches};
 ghost use Rattle.nextest_filtering_globs.specs.declared.token.GlobToken.{GlobToken};
 ghost use Rattle.nextest_filtering_globs.specs.declared.token.GlobToken.TheVariants as token;
@@ -22,7 +22,7 @@ fn word_len(tokens: &[GlobToken]) -> usize
     tokens.len()
 }
 
-// The word between the first two tokens that are asterisks, and the tokens from the second of them on.
+// The word between the first token and the next asterisk, where the first is one too, and the tokens from the next on.
 fn split_word(tokens: &[GlobToken]) -> Option<(&[GlobToken], &[GlobToken])>
     ensures { MatchOption result ⊤ (λ split. IsWord tokens.now split.0.now split.1.now) }
 {
@@ -55,6 +55,32 @@ fn behind_word<'a>(word: &[GlobToken], text: &'a [char]) -> Option<&'a [char]>
     Some(rest)
 }
 
+// The text from the first place on where the letter stands, or nothing of it.
+fn from_letter(letter: char, text: &[char]) -> &[char]
+    ensures within { length result.now ≤ length text.now }
+    ensures ahead { IsAhead (token.Literal letter ∷ []) text.now result.now }
+{
+    let mut rest = text;
+    while let Some((c, later)) = rest.split_first() {
+        if *c == letter {
+            return rest;
+        }
+        rest = later;
+    }
+    rest
+}
+
+// The text from a place on in front of which the word stands nowhere in it.
+fn from_first<'a>(word: &[GlobToken], text: &'a [char]) -> &'a [char]
+    ensures within { length result.now ≤ length text.now }
+    ensures ahead { IsAhead word.now text.now result.now }
+{
+    match word.split_first() {
+        Some((GlobToken::Literal(letter), _)) => from_letter(*letter, text),
+        _ => text,
+    }
+}
+
 // What is left of the text behind the first place where the word stands in it.
 fn behind_found<'a>(word: &[GlobToken], text: &'a [char]) -> Option<&'a [char]>
     requires { AreSingle word.now }
@@ -62,7 +88,7 @@ fn behind_found<'a>(word: &[GlobToken], text: &'a [char]) -> Option<&'a [char]>
         ((more : List GlobToken) → Matches (token.ZeroOrMore ∷ (word.now ++ more)) text.now → ⊥)
         (λ rest. IsFound word.now text.now rest.now) }
 {
-    let mut rest = text;
+    let mut rest = from_first(word, text);
     loop {
         if let Some(behind) = behind_word(word, rest) {
             return Some(behind);
@@ -70,7 +96,7 @@ fn behind_found<'a>(word: &[GlobToken], text: &'a [char]) -> Option<&'a [char]>
         let Some((_, later)) = rest.split_first() else {
             return None;
         };
-        rest = later;
+        rest = from_first(word, later);
     }
 }
 

@@ -1,5 +1,5 @@
 use Rattle.std.proofs.Common.{length}
-use Rattle.nextest_filtering_globs.proofs.Gaps.{IsAhead}
+use Rattle.nextest_filtering_globs.specs.Inside.{IsAhead}
 use Rattle.nextest_filtering_globs.proofs.words.behind_found.Given as goal
 
 abbrev pub invariant-loop-behind : goal.invariant-loop-behind
