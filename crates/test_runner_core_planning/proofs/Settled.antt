@@ -1,10 +1,14 @@
 -- The settings that are shared by rows, and the places of names.
-use Rattle.std.proofs.Common.{◌≡◌, ℕ, ◌+◌, ◌<◌, Bool, List, [], ◌∷◌, ◌++◌, Option, Some, IfSome, Result, Ok, Err, MatchResult, IfOk, Ordering, nat_cmp, length, map, get_or, slice_get, All, refl, sym, ap, ◌∙◌, subst, zero-add, append_assoc}
+use Rattle.std.proofs.Common.{◌≡◌, ℕ, ◌+◌, ◌<◌, Bool, true, false, true≢false, not, List, [], ◌∷◌, ◌++◌, Option, Some, IfSome, Result, Ok, Err, MatchResult, IfOk, Ordering, nat_cmp, length, map, get_or, slice_get, All, refl, sym, ap, ◌∙◌, subst, zero-add, append_assoc}
 use Rattle.std.specs.BTreeMap.{BTreeMap, get_by, insert_entry, is_at}
 use Rattle.std.specs.List.{enumerate_from}
 use Rattle.std.specs.Map.{values_of}
 use Rattle.std.proofs.lemmas.List.{map_push}
 use Rattle.std.proofs.lemmas.Map.Views.{All-values-insert_entry, IfSome-lookup_from_All}
+use Rattle.std.proofs.lemmas.Slice.Eq.{slice_eq-Decides}
+use Rattle.std.specs.Bool.{beq}
+use Rattle.std.specs.Cmp.{booleans_Decides}
+use Rattle.std.specs.Cmp.Lexicographic.{pointwise}
 use Rattle.std.proofs.lemmas.List.FromFn.{get_or-enumerate_from, length-enumerate_from}
 use Rattle.std.proofs.lemmas.Option.{slice_get_read}
 use Rattle.nextest_config_elements_plain.specs.declared.run_mode.NextestRunMode.{NextestRunMode}
@@ -49,6 +53,15 @@ shared_more profile mode before after number row settings it are has under same 
     let has_it : HasOwn profile mode it
     = subst (λ (under : List Bool). HasForRow profile mode under it.settings) (sym under) (subst (HasForRow profile mode row) (sym same) has) in
     subst (λ (entries : List (ℕ × RowSettings)). All (HasOwn profile mode) (values_of entries)) (sym is) (All-values-insert_entry nat_cmp number it (HasOwn profile mode) before.entries are has_it)
+
+-- what isn't denied is so
+affirmed : (value : Bool) → not value ≡ false → value ≡ true
+affirmed true is = refl
+affirmed false is = absurd (true≢false is)
+
+-- rows of which it isn't true that they differ are one
+pub one_row : (row other : List Bool) (differ : Bool) → differ ≡ not (pointwise beq row other) → differ ≡ false → row ≡ other
+one_row row other differ is same = (slice_eq-Decides booleans_Decides row other (pointwise beq row other) refl).0 (affirmed (pointwise beq row other) (sym is ∙ same))
 
 -- a copy is what it is a copy of
 pub copied : {X E : Type 0} (Fails : E → Type 0) (P : X → Type 0) (it : X) (result : Result X E) → MatchResult result (λ (copy : X). copy ≡ it) Fails → P it → IfOk result P
