@@ -20,8 +20,11 @@ fn is_in_some(ranges: &[ClassRange], c: char) -> bool
 pub fn fits(token: &GlobToken, c: char) -> bool
     ensures { result ≡ fits token.now c }
 {
+    // Most tokens are such ones, and are told by one comparison.
+    if let GlobToken::Literal(wanted) = token {
+        return c == *wanted;
+    }
     match token {
-        GlobToken::Literal(wanted) => c == *wanted,
         GlobToken::Any => true,
         GlobToken::Class { negated, ranges } => is_in_some(ranges.as_slice(), c) != *negated,
         _ => false,

@@ -22,7 +22,8 @@ fn word_len(tokens: &[GlobToken]) -> usize
     tokens.len()
 }
 
-// The word between the first token and the next asterisk, where the first is one too, and the tokens from the next on.
+// The word between two asterisks, and the tokens from the second one on; where the tokens begin with an asterisk, and
+// each that stands in front of the next one matches one character.
 fn split_word(tokens: &[GlobToken]) -> Option<(&[GlobToken], &[GlobToken])>
     ensures { MatchOption result ⊤ (λ split. IsWord tokens.now split.0.now split.1.now) }
 {
