@@ -7,6 +7,8 @@ how much longer than the size before it took for so many times the bytes (1.0 is
   binaries N   N binaries with one test each, and no log: the report has a line for each test, which didn't run
   tests N      one binary with N tests, which all pass: 2 N lines of log, and N of the report
   shuffled N   the same, where the log has the tests in another order
+  ranked N     the same as tests N, where two overrides give a priority to six tests of ten, and the log has them in the plan's order
+  ranked shuffled N   the same, where the log has the tests in another order
   places N     inputs of N bytes that are made to take much memory, and no log
   passing N    1,000 tests which all pass, each of which writes N bytes, a half to each stream: none of them is in the report
   failing N    the same, where all fail, the last line of each standard error tells of a panic, and no failure stops the run: the report has
@@ -50,19 +52,44 @@ def binaries(count):
     return inputs([binary(f"b{i:06}", ["t"]) for i in range(count)]), ""
 
 
-def run_of(names, order):
+def run_of(names, order, settings=""):
     log = "".join(f"start\tp\t{name}\nend\tp\t{name}\tpass\t-\t1\t-\t-\n" for name in order)
-    return inputs([binary("p", names)]), log
+    return inputs([binary("p", names)], settings), log
+
+
+def names_of(count):
+    return [f"module::case_{i:07}" for i in range(count)]
 
 
 def tests(count):
-    names = [f"module::case_{i:07}" for i in range(count)]
+    names = names_of(count)
     return run_of(names, names)
 
 
 def shuffled(count):
-    names = [f"module::case_{i:07}" for i in range(count)]
+    names = names_of(count)
     return run_of(names, random.Random(1).sample(names, count))
+
+
+# By the last digit of a test's name: its priority.
+RANKS = {**dict.fromkeys("123", 5), **dict.fromkeys("789", -5)}
+RANKED = """[[profile.default.overrides]]
+filter = "test(/[123]$/)"
+priority = 5
+[[profile.default.overrides]]
+filter = "test(/[789]$/)"
+priority = -5
+"""
+
+
+def ranked(count):
+    names = names_of(count)
+    return run_of(names, sorted(names, key=lambda it: (-RANKS.get(it[-1], 0), it)), RANKED)
+
+
+def ranked_shuffled(count):
+    names = names_of(count)
+    return run_of(names, random.Random(1).sample(names, count), RANKED)
 
 
 def places(count):
@@ -80,7 +107,7 @@ def written(count, last=b""):
 
 
 def outputs(count, result, last):
-    names = [f"module::case_{i:07}" for i in range(1_000)]
+    names = names_of(1_000)
     ended = f"{result}\t-\t1\t{written(count - count // 2)}\t{written(count // 2, last)}\n"
     log = "".join(f"start\tp\t{name}\nend\tp\t{name}\t{ended}" for name in names)
     return inputs([binary("p", names)], "[profile.default]\nfail-fast = false\n"), log
@@ -181,9 +208,9 @@ def one_by_one(_before, count):
 
 
 def colliding(count):
-    def load(names_of, before):
+    def load(chosen, before):
         def make(size):
-            names = sorted(names_of(before, size), reverse=True)
+            names = sorted(chosen(before, size), reverse=True)
             return run_of(names, names)
 
         return make
@@ -196,7 +223,7 @@ def colliding(count):
         ("near listing", near, b""),
         ("near session", near, MAP_KEY),
     ]
-    return [(name, load(names_of, before), sizes) for name, names_of, before in makers]
+    return [(name, load(chosen, before), sizes) for name, chosen, before in makers]
 
 
 def report_length(load):
@@ -226,6 +253,8 @@ def main():
         ("binaries", binaries, (1_000, 10_000, 100_000)),
         ("tests", tests, (1_000, 10_000, 100_000, 300_000)),
         ("shuffled", shuffled, (300_000,)),
+        ("ranked", ranked, (300_000,)),
+        ("ranked shuffled", ranked_shuffled, (300_000,)),
         ("places", places, (1_000_000, 16_000_000)),
         ("passing", passing, (0, 1_024, 16_384, 65_536)),
         ("failing", failing, (0, 1_024, 16_384, 65_536)),
