@@ -1,0 +1,4 @@
+pub mod Below
+pub mod Commands
+pub mod Programs
+pub mod Splitting

@@ -1,0 +1,11 @@
+//! The commands of scripts: the names of scripts, how a command is read, and where its program stands.
+#![tactic(auto)]
+
+mod reading;
+mod script_command;
+mod script_id;
+mod values_below;
+
+pub use script_command::{ScriptCommand, ScriptCommandEnvMap, ScriptCommandRelativeTo};
+pub use script_id::ScriptId;
+pub use values_below::{below, defaulted_value, optional_value, required_value};

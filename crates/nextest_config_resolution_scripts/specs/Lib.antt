@@ -1,0 +1,4 @@
+pub mod Defined
+pub mod Paths
+pub mod Rules
+pub mod Scripts
