@@ -1,4 +1,8 @@
+pub mod Accepted
 pub mod Below
 pub mod Commands
+pub mod Laws
 pub mod Programs
+pub mod SoFar
 pub mod Splitting
+pub mod Words

@@ -20,9 +20,15 @@ use toml::Value;
 use uuid::Uuid;
 
 /// The name of a script: an identifier. In a clause it is the list of its bytes.
-#[derive(Drop)]
 pub struct ScriptId {
     name: ConfigIdentifier,
+}
+
+// One call drops it, whoever holds it.
+impl Drop for ScriptId {
+    fn drop(self) {
+        let Self { name: _ } = self;
+    }
 }
 
 impl Model for ScriptId {

@@ -5,7 +5,7 @@ use Rattle.std.specs.Cmp.Lexicographic.{slice_cmp}
 use Rattle.std.specs.List.Sorted.{IsStrictlySortedBy}
 use Rattle.std.specs.Result.{is_ok}
 use Rattle.toml.specs.Data.{table, Members, get_member}
-use Rattle.nextest_config_elements_reading.specs.Reading.{Reading}
+use Rattle.nextest_config_elements_reading.specs.Reading.{Reading, ◌>>=◌}
 use Rattle.nextest_config_elements_reading.specs.declared.bad_value.BadValue.{BadValue}
 use Rattle.nextest_config_elements_reading.specs.declared.value_error.ValueError.{ValueError}
 use Rattle.nextest_config_elements_reading.specs.declared.value_error.ValueError.TheVariants as value_error
@@ -23,6 +23,8 @@ use Rattle.nextest_config_resolution_tree.specs.Tree.{merge, AreSorted}
 use Rattle.nextest_config_resolution_tree.proofs.Looked.{sorted_path}
 use Rattle.nextest_config_resolution_overrides.specs.Groups.{groups_at}
 use Rattle.nextest_config_resolution_overrides.specs.declared.groups.NamedGroup.{NamedGroup}
+use Rattle.nextest_config_resolution_scripts.specs.Scripts.{scripts_at}
+use Rattle.nextest_config_resolution_scripts.specs.declared.script_config.ScriptConfig.{ScriptConfig}
 use Rattle.nextest_config_resolution_values.specs.File.{Named, profiles_at, store_dir_at}
 use Rattle.nextest_config_resolution_load.proofs.Profiles.{profiles_rise}
 use Rattle.nextest_config_resolution_load.proofs.Tops.{only_some}
@@ -31,14 +33,20 @@ pub profiles_refused : (top : Members) (told : ValueError) → GivesSeen (map na
 profiles_refused top (value_error.Refused bad) e = rw e refl
 profiles_refused top value_error.OutOfMemory e = tt
 
-pub store_refused : (top : Members) (all : List Named) (told : ValueError) → profiles_at top ≡ Ok all → GivesSeen {A = Option (List ℕ)} (λ it. it) (Err told) (store_dir_at top) → GivesSeen values_of (Err told) (config_in top)
-store_refused top all (value_error.Refused bad) e f = rw (e, f) refl
-store_refused top all value_error.OutOfMemory e f = tt
+pub scripts_refused : (top : Members) (all : List Named) (told : ValueError) → profiles_at top ≡ Ok all → GivesSeen {A = ScriptConfig} (λ it. it) (Err told) (scripts_at top)
+    → GivesSeen values_of (Err told) (config_in top)
+scripts_refused top all (value_error.Refused bad) e f = rw (e, f) refl
+scripts_refused top all value_error.OutOfMemory e f = tt
 
-pub groups_refused : (top : Members) (all : List Named) (dir : Option (List ℕ)) (told : ValueError) → profiles_at top ≡ Ok all → store_dir_at top ≡ Ok dir
-    → GivesSeen {A = List NamedGroup} (λ it. it) (Err told) (groups_at top) → GivesSeen values_of (Err told) (config_in top)
-groups_refused top all dir (value_error.Refused bad) e f g = rw (e, f, g) refl
-groups_refused top all dir value_error.OutOfMemory e f g = tt
+pub store_refused : (top : Members) (all : List Named) (scripts : ScriptConfig) (told : ValueError) → profiles_at top ≡ Ok all → scripts_at top ≡ Ok scripts
+    → GivesSeen {A = Option (List ℕ)} (λ it. it) (Err told) (store_dir_at top) → GivesSeen values_of (Err told) (config_in top)
+store_refused top all scripts (value_error.Refused bad) e f g = rw (e, f, g) refl
+store_refused top all scripts value_error.OutOfMemory e f g = tt
+
+pub groups_refused : (top : Members) (all : List Named) (scripts : ScriptConfig) (dir : Option (List ℕ)) (told : ValueError) → profiles_at top ≡ Ok all → scripts_at top ≡ Ok scripts
+    → store_dir_at top ≡ Ok dir → GivesSeen {A = List NamedGroup} (λ it. it) (Err told) (groups_at top) → GivesSeen values_of (Err told) (config_in top)
+groups_refused top all scripts dir (value_error.Refused bad) e f g h = rw (e, f, g, h) refl
+groups_refused top all scripts dir value_error.OutOfMemory e f g h = tt
 
 pub seen_refused : {A B : Type 0} (view : A → B) (reading : Reading B) (told : ValueError) (bad : BadValue) → told ≡ value_error.Refused bad → GivesSeen view (Err told) reading → reading ≡ Err bad.path.keys
 seen_refused view reading told bad e given = subst (λ it. GivesSeen view (Err it) reading) e given
@@ -64,22 +72,18 @@ abbrev profiles_or : List Named → Reading MergedConfig → List Named
 profiles_or otherwise (Ok it) = it.profiles
 profiles_or otherwise (Err path) = otherwise
 
+-- what is read first, where all is read
+read_first : {A B : Type 0} (reading : Reading A) (next : A → Reading B) (all : B) → reading >>= next ≡ Ok all → (x : A) × (reading ≡ Ok x) × (next x ≡ Ok all)
+read_first (Ok x) next all is = (x, refl, is)
+read_first (Err path) next all is = absurd (cc)
+
 pub profiles_of_config : (top : Members) (config : MergedConfig) → config_in top ≡ Ok config → profiles_at top ≡ Ok config.profiles
-profiles_of_config top config e = by_parts (profiles_at top) refl (store_dir_at top) refl (groups_at top) refl e where
-  by_parts : (first : Reading (List Named)) → profiles_at top ≡ first → (second : Reading (Option (List ℕ))) → store_dir_at top ≡ second
-      → (third : Reading (List NamedGroup)) → groups_at top ≡ third → config_in top ≡ Ok config → first ≡ Ok config.profiles
-  by_parts (Ok all) f (Ok dir) g (Ok groups) h e =
-      let is : config_in top ≡ Ok (record { profiles = all; store_dir = dir; groups = groups }) = rw (f, g, h) refl in
-      ap (λ it. Ok it) (ap (profiles_or all) (sym is ∙ e))
-  by_parts (Ok all) f (Ok dir) g (Err path) h e =
-      let is : config_in top ≡ Err path = rw (f, g, h) refl in
-      absurd (false≢true (ap is_ok (sym is ∙ e)))
-  by_parts (Ok all) f (Err path) g third h e =
-      let is : config_in top ≡ Err path = rw (f, g) refl in
-      absurd (false≢true (ap is_ok (sym is ∙ e)))
-  by_parts (Err path) f second g third h e =
-      let is : config_in top ≡ Err path = rw f refl in
-      absurd (false≢true (ap is_ok (sym is ∙ e)))
+profiles_of_config top config e =
+    let profiles = read_first (profiles_at top) _ config e in
+    let scripts = read_first (scripts_at top) _ config profiles.2 in
+    let store = read_first (store_dir_at top) _ config scripts.2 in
+    let groups = read_first (groups_at top) _ config store.2 in
+    profiles.1 ∙ ap (λ it. Ok it) (ap (profiles_or profiles.0) groups.2)
 
 pub config_rises : (top : Members) (config : MergedConfig) → AreSorted top → config_in top ≡ Ok config → Rise (parents_of config.profiles)
 config_rises top config sorted e =

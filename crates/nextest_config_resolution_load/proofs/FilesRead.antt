@@ -11,18 +11,17 @@ use Rattle.nextest_config_elements_reading.specs.Paths.{at}
 use Rattle.nextest_config_elements_reading.specs.Reading.{Path, Reading, ◌>>=◌, under}
 use Rattle.nextest_config_elements_reading.specs.declared.bad_value.BadValue.{BadValue}
 use Rattle.nextest_config_elements_readers.specs.Paths.{profile_path}
-use Rattle.nextest_config_resolution_load.specs.File.{by_keys, first_key, first_path, overrides_of_profile, profiles_in_file}
+use Rattle.nextest_config_resolution_load.specs.File.{by_keys, first_key, first_path, rules_of_profile, profiles_in_file}
 use Rattle.nextest_config_resolution_load.specs.Reading.{refused_values, third}
-use Rattle.nextest_config_resolution_load.specs.declared.file_config.ProfileOverrides.{ProfileOverrides}
+use Rattle.nextest_config_resolution_load.specs.declared.file_config.ProfileRules.{ProfileRules}
 use Rattle.nextest_config_resolution_overrides.proofs.Listed.{joined, value_more}
-use Rattle.nextest_config_resolution_overrides.specs.declared.override_config.OverrideConfig.{OverrideConfig}
 
 -- one more profile
-pub profile_more : (found : List ProfileOverrides) (told : List ℕ) (one : ProfileOverrides) (added : List ProfileOverrides) (key : String Global) (given : Value)
+pub profile_more : (found : List ProfileRules) (told : List ℕ) (one : ProfileRules) (added : List ProfileRules) (key : String Global) (given : Value)
     (entries more : List (String Global × Value)) → entries ≡ (key, given) ∷ more → told ≡ string_bytes key → added ≡ found ++ one ∷ []
-    → overrides_of_profile told (view given) ≡ Ok one → joined found (profiles_in_file (members_view entries)) ≡ joined added (profiles_in_file (members_view more))
+    → rules_of_profile told (view given) ≡ Ok one → joined found (profiles_in_file (members_view entries)) ≡ joined added (profiles_in_file (members_view more))
 profile_more found told one added key given entries more here says adds is =
-    rw (here, sym says, adds) (value_more told found one (overrides_of_profile told (view given)) (profiles_in_file (members_view more)) is)
+    rw (here, sym says, adds) (value_more told found one (rules_of_profile told (view given)) (profiles_in_file (members_view more)) is)
 
 -- ---- two values that are refused in one profile
 
@@ -37,7 +36,7 @@ below_first front one other Equal = refl
 below_first front one other Greater = refl
 
 -- the one that stands first is the one that is refused
-pub first_refused : (name : List ℕ) (value other told : BadValue) (path : Path) (overrides : Reading (List OverrideConfig)) → value.path.keys ≡ profile_path name ++ path
+pub first_refused : {A : Type 0} (name : List ℕ) (value other told : BadValue) (path : Path) (overrides : Reading A) → value.path.keys ≡ profile_path name ++ path
     → at (profile_path name) overrides ≡ Err other.path.keys
     → told.path.keys ≡ match_ordering (slice_cmp nat_cmp (third value.path.keys) (third other.path.keys)) value.path.keys value.path.keys other.path.keys
     → at (profile_path name) (by_keys (refused_values path) overrides) ≡ Err told.path.keys
@@ -51,6 +50,6 @@ first_refused name value other told path (Err inner) is also says =
     ap Err (sym keys)
 
 -- a value alone
-pub only_refused : (name : List ℕ) (value : BadValue) (path : Path) (overrides : Reading (List OverrideConfig)) (given : List OverrideConfig) → value.path.keys ≡ profile_path name ++ path
+pub only_refused : {A : Type 0} (name : List ℕ) (value : BadValue) (path : Path) (overrides : Reading A) (given : A) → value.path.keys ≡ profile_path name ++ path
     → overrides ≡ Ok given → at (profile_path name) (by_keys (refused_values path) overrides) ≡ Err value.path.keys
 only_refused name value path overrides given is also = rw also (ap Err (sym is))

@@ -4,10 +4,11 @@ use Rattle.std.specs.List.{AllByRecursion, flat_map}
 use Rattle.toml.specs.Data.{Members}
 use Rattle.nextest_config_resolution_inheritance.specs.Inheritance.{IsAccepted}
 use Rattle.nextest_config_resolution_inheritance.proofs.Faults.{no_fault, one_fault}
-use Rattle.nextest_config_resolution_load.specs.Checks.{Check, broken, is_filter, is_spec, inheritance, Refusal, inherits_badly, MergedConfig, checks_of, config_in, default_checks, merged_checks, merged_in, parents_of, rules_upward, source_checks}
+use Rattle.nextest_config_resolution_load.specs.Checks.{Check, broken, is_filter, is_spec, inheritance, Refusal, inherits_badly, MergedConfig, checks_of, config_in, default_checks, merged_checks, merged_in, named_checks, parents_of, rules_upward, script_rules_upward, source_checks}
 use Rattle.nextest_config_resolution_load.specs.Load.{Breaks, BreaksFirst, IsFilterBy, IsKept, IsSpecBy}
-use Rattle.nextest_config_resolution_load.specs.Rules.{group_checks, is_defined}
 use Rattle.nextest_config_resolution_overrides.specs.declared.placed_override.PlacedOverride.{PlacedOverride}
+use Rattle.nextest_config_elements_versions.specs.declared.feature.FeatureSet.{FeatureSet}
+use Rattle.nextest_config_resolution_scripts.specs.declared.script_rule.PlacedScriptRule.{PlacedScriptRule}
 use Rattle.nextest_config_resolution_sources.specs.Counting.{counted}
 use Rattle.nextest_config_resolution_sources.specs.declared.source.ConfigSource.{ConfigSource}
 
@@ -23,30 +24,30 @@ module _ {F S : Type 0} (Is : IsFilterBy F) (IsSpec : IsSpecBy S) where
   kept_behind (check ∷ checks) more kept = kept_behind checks more kept.1
 
   -- those of sources
-  pub kept_sources : (built_in : Members) (sources : List ConfigSource) → AllByRecursion (IsKept Is IsSpec) (checks_of built_in sources)
-      → AllByRecursion (IsKept Is IsSpec) (flat_map source_checks (counted sources))
-  kept_sources built_in sources kept =
-      kept_before (flat_map source_checks (counted sources)) (merged_checks (rules_upward sources) (config_in (merged_in built_in sources))) kept
+  pub kept_sources : (features : FeatureSet) (built_in : Members) (sources : List ConfigSource) → AllByRecursion (IsKept Is IsSpec) (checks_of features built_in sources)
+      → AllByRecursion (IsKept Is IsSpec) (flat_map (source_checks features) (counted sources))
+  kept_sources features built_in sources kept =
+      kept_before (flat_map (source_checks features) (counted sources)) (merged_checks (rules_upward sources) (script_rules_upward sources) (config_in (merged_in built_in sources))) kept
 
   -- and of what they come to
-  pub kept_merged : (built_in : Members) (sources : List ConfigSource) → AllByRecursion (IsKept Is IsSpec) (checks_of built_in sources)
-      → AllByRecursion (IsKept Is IsSpec) (merged_checks (rules_upward sources) (config_in (merged_in built_in sources)))
-  kept_merged built_in sources kept =
-      kept_behind (flat_map source_checks (counted sources)) (merged_checks (rules_upward sources) (config_in (merged_in built_in sources))) kept
+  pub kept_merged : (features : FeatureSet) (built_in : Members) (sources : List ConfigSource) → AllByRecursion (IsKept Is IsSpec) (checks_of features built_in sources)
+      → AllByRecursion (IsKept Is IsSpec) (merged_checks (rules_upward sources) (script_rules_upward sources) (config_in (merged_in built_in sources)))
+  kept_merged features built_in sources kept =
+      kept_behind (flat_map (source_checks features) (counted sources)) (merged_checks (rules_upward sources) (script_rules_upward sources) (config_in (merged_in built_in sources))) kept
 
-  -- behind its groups
-  pub kept_profiles : (rules : List PlacedOverride) (config : MergedConfig) → AllByRecursion (IsKept Is IsSpec) (merged_checks rules (Ok config))
+  -- behind what rules name
+  pub kept_profiles : (rules : List PlacedOverride) (scripts : List PlacedScriptRule) (config : MergedConfig) → AllByRecursion (IsKept Is IsSpec) (merged_checks rules scripts (Ok config))
       → AllByRecursion (IsKept Is IsSpec) (inheritance (parents_of config.profiles) ∷ default_checks config.profiles)
-  kept_profiles rules config kept =
-      kept_behind (flat_map (group_checks (is_defined config.groups)) rules) (inheritance (parents_of config.profiles) ∷ default_checks config.profiles) kept
+  kept_profiles rules scripts config kept =
+      kept_behind (named_checks rules scripts config) (inheritance (parents_of config.profiles) ∷ default_checks config.profiles) kept
 
   -- whose profiles inherit as they may
-  pub kept_inherits : (built_in : Members) (sources : List ConfigSource) (config : MergedConfig) → AllByRecursion (IsKept Is IsSpec) (checks_of built_in sources)
+  pub kept_inherits : (features : FeatureSet) (built_in : Members) (sources : List ConfigSource) (config : MergedConfig) → AllByRecursion (IsKept Is IsSpec) (checks_of features built_in sources)
       → config_in (merged_in built_in sources) ≡ Ok config → IsAccepted (parents_of config.profiles)
-  kept_inherits built_in sources config kept is =
-      let merged : AllByRecursion (IsKept Is IsSpec) (merged_checks (rules_upward sources) (Ok config)) =
-      subst (λ reading. AllByRecursion (IsKept Is IsSpec) (merged_checks (rules_upward sources) reading)) is (kept_merged built_in sources kept) in
-      (kept_profiles (rules_upward sources) config merged).0
+  kept_inherits features built_in sources config kept is =
+      let merged : AllByRecursion (IsKept Is IsSpec) (merged_checks (rules_upward sources) (script_rules_upward sources) (Ok config)) =
+      subst (λ reading. AllByRecursion (IsKept Is IsSpec) (merged_checks (rules_upward sources) (script_rules_upward sources) reading)) is (kept_merged features built_in sources kept) in
+      (kept_profiles (rules_upward sources) (script_rules_upward sources) config merged).0
 
 -- ---- a check is not both, and is broken for one reason
 

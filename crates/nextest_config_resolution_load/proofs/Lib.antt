@@ -2,11 +2,12 @@ pub mod Completing
 pub mod Configs
 pub mod Downward
 pub mod FilesRead
-pub mod GroupChecks
 pub mod Kept
 pub mod LaterFiles
 pub mod Loads
+pub mod NameChecks
 pub mod Passing
+pub mod ProfileReading
 pub mod Profiles
 pub mod SomeLoad
 pub mod Sources

@@ -29,12 +29,12 @@ config_or otherwise (Ok config) = config
 config_or otherwise (Err keys) = otherwise
 
 pub one_load : {F S : Type 0} (Is : IsFilterBy F) (IsSpec : IsSpecBy S) (IsTooDeep : List ℕ → Type 0) → OneLoad Is IsSpec IsTooDeep
-one_load Is IsSpec IsTooDeep built_in sources one other a b = ap (config_or (seen one)) (sym a.values ∙ b.values)
+one_load Is IsSpec IsTooDeep features built_in sources one other a b = ap (config_or (seen one)) (sym a.values ∙ b.values)
 
 pub none_refused : {F S : Type 0} (Is : IsFilterBy F) (IsSpec : IsSpecBy S) (IsTooDeep : List ℕ → Type 0) → NoFault Is IsSpec IsTooDeep
-none_refused Is IsSpec IsTooDeep none_too_deep built_in sources config fault loaded refused =
-    none_breaks Is IsSpec IsTooDeep none_too_deep (checks_of built_in sources) (reason_of fault) loaded.kept refused
+none_refused Is IsSpec IsTooDeep none_too_deep features built_in sources config fault loaded refused =
+    none_breaks Is IsSpec IsTooDeep none_too_deep (checks_of features built_in sources) (reason_of fault) loaded.kept refused
 
 pub one_reason : {F S : Type 0} (Is : IsFilterBy F) (IsSpec : IsSpecBy S) (IsTooDeep : List ℕ → Type 0) → OneReason Is IsSpec IsTooDeep
-one_reason Is IsSpec IsTooDeep none_too_deep built_in sources one other a b =
-    one_first Is IsSpec IsTooDeep none_too_deep (checks_of built_in sources) (reason_of one) (reason_of other) a b
+one_reason Is IsSpec IsTooDeep none_too_deep features built_in sources one other a b =
+    one_first Is IsSpec IsTooDeep none_too_deep (checks_of features built_in sources) (reason_of one) (reason_of other) a b

@@ -1,14 +1,16 @@
 -- What is checked of the sources of a configuration, in the written order.
-use Rattle.std.specs.Prelude.{ℕ, Bool, true, false, not, List, [], ◌∷◌, ◌++◌, map, reverse, filter_map, Option, None, Some, option_map, option_to_list, Ok, Err}
+use Rattle.std.specs.Prelude.{ℕ, Bool, true, false, not, ◌&&◌, ◌||◌, codes, List, [], ◌∷◌, ◌++◌, map, reverse, filter_map, Option, None, Some, option_map, option_to_list, Ok, Err}
 use Rattle.std.specs.List.{flat_map}
 use Rattle.std.specs.Str.{bytes_eq}
-use Rattle.toml.specs.Data.{Data, table, Members, no_members}
+use Rattle.toml.specs.Data.{Data, table, Members, no_members, member, get_member}
 use Rattle.toml.specs.Parse.{parse_document}
 use Rattle.nextest_config_elements_identifiers.specs.Config.{is_tool}
 use Rattle.nextest_config_elements_identifiers.specs.Parts.{tool_parts}
 use Rattle.nextest_config_elements_identifiers.specs.declared.source_kind.ConfigSourceKind.{ConfigSourceKind}
 use Rattle.nextest_config_elements_identifiers.specs.declared.source_kind.ConfigSourceKind.TheVariants as kinds
 use Rattle.nextest_config_elements_reading.specs.Reading.{Path, Reading, ◌>>=◌}
+use Rattle.nextest_config_elements_versions.specs.declared.feature.ConfigExperimental.TheVariants as feature
+use Rattle.nextest_config_elements_versions.specs.declared.feature.FeatureSet.{FeatureSet}
 use Rattle.nextest_config_resolution_inheritance.specs.Inheritance.{Parents}
 use Rattle.nextest_config_resolution_sources.specs.Counting.{counted}
 use Rattle.nextest_config_resolution_sources.specs.declared.source.ConfigSource.{ConfigSource}
@@ -18,10 +20,15 @@ use Rattle.nextest_config_resolution_tree.specs.Tree.{over}
 use Rattle.nextest_config_resolution_overrides.specs.Groups.{groups_at}
 use Rattle.nextest_config_resolution_overrides.specs.declared.groups.NamedGroup.{NamedGroup}
 use Rattle.nextest_config_resolution_overrides.specs.declared.placed_override.PlacedOverride.{PlacedOverride}
+use Rattle.nextest_config_resolution_scripts.specs.Scripts.{scripts_at}
+use Rattle.nextest_config_resolution_scripts.specs.declared.script_config.NamedScript.{NamedScript}
+use Rattle.nextest_config_resolution_scripts.specs.declared.script_config.ScriptConfig.{ScriptConfig}
+use Rattle.nextest_config_resolution_scripts.specs.declared.script_config.ScriptType.TheVariants as script
+use Rattle.nextest_config_resolution_scripts.specs.declared.script_rule.PlacedScriptRule.{PlacedScriptRule}
 use Rattle.nextest_config_resolution_values.specs.File.{Named, profiles_at, store_dir_at}
 use Rattle.nextest_config_resolution_load.specs.File.{file_in}
-pub use Rattle.nextest_config_resolution_load.specs.Refusal.{Check, broken, is_filter, is_spec, inheritance, Refusal, unread, no_toml, bad_value, bad_name, no_constraint, filter_and_default_filter, bad_spec, bad_override_filter, bad_merged, unknown_group, inherits_badly, bad_filter, must_hold}
-use Rattle.nextest_config_resolution_load.specs.Rules.{group_checks, is_defined, rule_checks, rules_at}
+pub use Rattle.nextest_config_resolution_load.specs.Refusal.{Check, broken, is_filter, is_spec, inheritance, Refusal, unread, no_toml, bad_value, both_script_tables, feature_not_enabled, bad_name, repeated_script, no_constraint, filter_and_default_filter, bad_spec, bad_rule_filter, bad_merged, unknown_group, unknown_script, unknown_wrapper, inherits_badly, bad_filter, must_hold}
+use Rattle.nextest_config_resolution_load.specs.Rules.{group_checks, is_defined, has_script, profile_checks, rules_at, script_checks, script_rules_at}
 use Rattle.nextest_config_resolution_load.specs.declared.file_config.FileConfig.{FileConfig}
 use Rattle.nextest_config_resolution_load.specs.declared.languages.FilterPurpose.TheVariants as purpose
 
@@ -42,18 +49,60 @@ may_define (kinds.Tool tool) name = is_of_tool tool (tool_parts name)
 may_define kinds.ExplicitRepository name = not (is_tool name)
 may_define kinds.DiscoveredRepository name = not (is_tool name)
 
-abbrev pub name_checks : List ℕ → ConfigSourceKind → NamedGroup → List Check
-name_checks path kind it = must_hold (may_define kind it.name) (bad_name path it.name)
+abbrev pub may_name : List ℕ → ConfigSourceKind → List ℕ → List Check
+may_name path kind name = must_hold (may_define kind name) (bad_name path name)
 
--- that each value of a file can stand at its key, that it may define its groups, and what is checked of its overrides
-abbrev pub file_checks : List ℕ → ConfigSourceKind → Reading FileConfig → List Check
-file_checks path kind (Err keys) = broken (bad_value path keys) ∷ []
-file_checks path kind (Ok config) = flat_map (name_checks path kind) config.groups ++ flat_map rule_checks (rules_at path config.profiles)
+abbrev pub name_checks : List ℕ → ConfigSourceKind → FileConfig → List Check
+name_checks path kind config =
+    flat_map (λ group. may_name path kind group.name) config.groups
+    ++ (flat_map (λ it. may_name path kind it.id) config.old_scripts
+    ++ (flat_map (λ it. may_name path kind it.id) config.scripts.setup
+    ++ flat_map (λ it. may_name path kind it.id) config.scripts.wrapper))
+
+-- its setup scripts stand in one of the two tables that may have them
+abbrev pub has_some : {A : Type 0} → List A → Bool
+has_some [] = false
+has_some (it ∷ more) = true
+
+abbrev pub has_scripts : FileConfig → Bool
+has_scripts config = has_some config.scripts.setup || has_some config.scripts.wrapper
+
+abbrev pub table_checks : List ℕ → FileConfig → List Check
+table_checks path config = must_hold (not (has_some config.old_scripts && has_scripts config)) (both_script_tables path)
+
+-- it has setup scripts
+abbrev pub has_setup : FileConfig → Bool
+has_setup config = has_some config.old_scripts || has_some config.scripts.setup
+
+-- scripts of a kind need its feature
+abbrev pub feature_checks : FeatureSet → List ℕ → FileConfig → List Check
+feature_checks features path config =
+    must_hold (features.setup_scripts || not (has_setup config)) (feature_not_enabled path feature.SetupScripts)
+    ++ must_hold (features.wrapper_scripts || not (has_some config.scripts.wrapper)) (feature_not_enabled path feature.WrapperScripts)
+
+-- no name is that of a setup script and of a wrapper script
+abbrev pub not_among : {A : Type 0} → List ℕ → List (NamedScript A) → List ℕ → List Check
+not_among path scripts id = must_hold (not (has_script scripts id)) (repeated_script path id)
+
+abbrev pub repeated_checks : List ℕ → FileConfig → List Check
+repeated_checks path config =
+    flat_map (λ it. not_among path config.scripts.wrapper it.id) config.old_scripts
+    ++ flat_map (λ it. not_among path config.scripts.wrapper it.id) config.scripts.setup
+
+-- what it defines
+abbrev pub defined_checks : FeatureSet → List ℕ → ConfigSourceKind → FileConfig → List Check
+defined_checks features path kind config =
+    table_checks path config ++ (feature_checks features path config ++ (name_checks path kind config ++ repeated_checks path config))
+
+-- that each value of a file can stand at its key, that it may define what it does, and what is checked of its rules
+abbrev pub file_checks : FeatureSet → List ℕ → ConfigSourceKind → Reading FileConfig → List Check
+file_checks features path kind (Err keys) = broken (bad_value path keys) ∷ []
+file_checks features path kind (Ok config) = defined_checks features path kind config ++ flat_map (profile_checks path) config.profiles
 
 -- that a text is TOML
-abbrev pub document_checks : List ℕ → ConfigSourceKind → Option Members → List Check
-document_checks path kind None = broken (no_toml path) ∷ []
-document_checks path kind (Some file) = file_checks path kind (file_in file)
+abbrev pub document_checks : FeatureSet → List ℕ → ConfigSourceKind → Option Members → List Check
+document_checks features path kind None = broken (no_toml path) ∷ []
+document_checks features path kind (Some file) = file_checks features path kind (file_in file)
 
 -- only a file that was looked for may be missing
 abbrev pub missing_checks : List ℕ → ConfigSourceKind → List Check
@@ -61,13 +110,13 @@ missing_checks path (kinds.Tool name) = broken (unread path) ∷ []
 missing_checks path kinds.ExplicitRepository = broken (unread path) ∷ []
 missing_checks path kinds.DiscoveredRepository = []
 
-abbrev pub outcome_checks : List ℕ → ConfigSourceKind → ConfigSourceOutcome → List Check
-outcome_checks path kind (outcome.Text text) = document_checks path kind (parse_document text)
-outcome_checks path kind outcome.NotFound = missing_checks path kind
-outcome_checks path kind (outcome.Failed cause) = broken (unread path) ∷ []
+abbrev pub outcome_checks : FeatureSet → List ℕ → ConfigSourceKind → ConfigSourceOutcome → List Check
+outcome_checks features path kind (outcome.Text text) = document_checks features path kind (parse_document text)
+outcome_checks features path kind outcome.NotFound = missing_checks path kind
+outcome_checks features path kind (outcome.Failed cause) = broken (unread path) ∷ []
 
-abbrev pub source_checks : ConfigSource → List Check
-source_checks source = outcome_checks source.path source.kind source.outcome
+abbrev pub source_checks : FeatureSet → ConfigSource → List Check
+source_checks features source = outcome_checks features source.path source.kind source.outcome
 
 -- ---- of what all come to
 
@@ -80,24 +129,37 @@ document_of (outcome.Failed cause) = None
 abbrev pub file_of : ConfigSource → Option Members
 file_of source = document_of source.outcome
 
--- the overrides of a source, by the names of their profiles, and those of a profile in their order
-abbrev pub rules_in_file : List ℕ → Reading FileConfig → List PlacedOverride
-rules_in_file path (Ok config) = rules_at path config.profiles
-rules_in_file path (Err keys) = []
+-- the rules of a file, by the names of their profiles, and those of a profile in their order
+pub record FileRules : Type 0 where
+  pub overrides : List PlacedOverride
+  pub scripts : List PlacedScriptRule
 
-abbrev pub rules_in : List ℕ → Option Members → List PlacedOverride
-rules_in path None = []
+abbrev pub no_rules : FileRules
+no_rules = record { overrides = []; scripts = [] }
+
+abbrev pub rules_in_file : List ℕ → Reading FileConfig → FileRules
+rules_in_file path (Ok config) = record { overrides = rules_at path config.profiles; scripts = script_rules_at path config.profiles }
+rules_in_file path (Err keys) = no_rules
+
+abbrev pub rules_in : List ℕ → Option Members → FileRules
+rules_in path None = no_rules
 rules_in path (Some file) = rules_in_file path (file_in file)
 
-abbrev pub rules_of_source : ConfigSource → List PlacedOverride
+abbrev pub rules_of_source : ConfigSource → FileRules
 rules_of_source source = rules_in source.path (file_of source)
 
 -- those of all sources that count: the highest file first, as rules are asked, and the lowest first, as they are checked
 abbrev pub rules_downward : List ConfigSource → List PlacedOverride
-rules_downward sources = flat_map rules_of_source (reverse (counted sources))
+rules_downward sources = flat_map (λ source. (rules_of_source source).overrides) (reverse (counted sources))
 
 abbrev pub rules_upward : List ConfigSource → List PlacedOverride
-rules_upward sources = flat_map rules_of_source (counted sources)
+rules_upward sources = flat_map (λ source. (rules_of_source source).overrides) (counted sources)
+
+abbrev pub script_rules_downward : List ConfigSource → List PlacedScriptRule
+script_rules_downward sources = flat_map (λ source. (rules_of_source source).scripts) (reverse (counted sources))
+
+abbrev pub script_rules_upward : List ConfigSource → List PlacedScriptRule
+script_rules_upward sources = flat_map (λ source. (rules_of_source source).scripts) (counted sources)
 
 -- what files come to, the lowest first, each over the lower ones
 abbrev pub raised : Data → List Members → Data
@@ -109,22 +171,35 @@ abbrev pub members_of : Data → Members
 members_of (table members) = members
 members_of other = no_members
 
+-- a file whose setup scripts under `script` stand under `scripts.setup`, over those that stand there
+abbrev pub as_setup : Data → Members
+as_setup given = member (codes "scripts") (table (member (codes "setup") given no_members)) no_members
+
+abbrev pub layered : Option Members → Members → Members
+layered None file = file
+layered (Some scripts) file = members_of (over (table scripts) (Some (table file)))
+
+abbrev pub moved : Members → Members
+moved file = layered (option_map as_setup (get_member (codes "script") file)) file
+
 -- what the sources that count come to, over what is built in
 abbrev pub merged_in : Members → List ConfigSource → Members
-merged_in built_in sources = members_of (raised (table built_in) (filter_map file_of (counted sources)))
+merged_in built_in sources = members_of (raised (table built_in) (map moved (filter_map file_of (counted sources))))
 
--- what a merged tree says of profiles, groups and the store
+-- what a merged tree says of profiles, scripts, the store and groups
 pub record MergedConfig : Type 0 where
   pub profiles : List Named
   pub store_dir : Option (List ℕ)
   pub groups : List NamedGroup
+  pub scripts : ScriptConfig
 
 abbrev pub config_in : Members → Reading MergedConfig
 config_in top = do
   profiles ← profiles_at top
+  scripts ← scripts_at top
   store_dir ← store_dir_at top
   groups ← groups_at top
-  Ok (record { profiles = profiles; store_dir = store_dir; groups = groups })
+  Ok (record { profiles = profiles; store_dir = store_dir; groups = groups; scripts = scripts })
 
 -- the profiles with their parents
 abbrev pub parents_of : List Named → Parents
@@ -138,11 +213,20 @@ default_check profile text = option_to_list (option_map (λ it. is_filter purpos
 abbrev pub default_checks : List Named → List Check
 default_checks profiles = flat_map (λ profile. default_check profile.0 profile.1.default_filter) profiles
 
--- each value can stand at its key; each group that an override names is defined; profiles inherit as they may; default filters are some
-abbrev pub merged_checks : List PlacedOverride → Reading MergedConfig → List Check
-merged_checks rules (Err keys) = broken (bad_merged keys) ∷ []
-merged_checks rules (Ok config) = flat_map (group_checks (is_defined config.groups)) rules ++ (inheritance (parents_of config.profiles) ∷ default_checks config.profiles)
+-- each value can stand at its key; the groups, setup scripts and wrapper scripts that rules name are defined; profiles inherit as
+-- they may; default filters are some
+abbrev pub named_checks : List PlacedOverride → List PlacedScriptRule → MergedConfig → List Check
+named_checks rules scripts config =
+    flat_map (group_checks (is_defined config.groups)) rules
+    ++ (flat_map (script_checks script.Setup (has_script config.scripts.setup)) scripts
+    ++ flat_map (script_checks script.Wrapper (has_script config.scripts.wrapper)) scripts)
+
+abbrev pub merged_checks : List PlacedOverride → List PlacedScriptRule → Reading MergedConfig → List Check
+merged_checks rules scripts (Err keys) = broken (bad_merged keys) ∷ []
+merged_checks rules scripts (Ok config) = named_checks rules scripts config ++ (inheritance (parents_of config.profiles) ∷ default_checks config.profiles)
 
 -- all checks: of each source that counts, the lowest first, then of what all of them come to
-abbrev pub checks_of : Members → List ConfigSource → List Check
-checks_of built_in sources = flat_map source_checks (counted sources) ++ merged_checks (rules_upward sources) (config_in (merged_in built_in sources))
+abbrev pub checks_of : FeatureSet → Members → List ConfigSource → List Check
+checks_of features built_in sources =
+    flat_map (source_checks features) (counted sources)
+    ++ merged_checks (rules_upward sources) (script_rules_upward sources) (config_in (merged_in built_in sources))

@@ -1,4 +1,4 @@
--- What a file says, whatever stands in others: each value can stand at its key, and it has these overrides and groups.
+-- What a file says, whatever stands in others: each value can stand at its key, and it has these rules, groups and scripts.
 use Rattle.std.specs.Prelude.{ℕ, List, [], ◌∷◌, Option, None, Some, Ok, Err, codes}
 use Rattle.std.specs.Cmp.Lexicographic.{slice_cmp}
 use Rattle.std.specs.Ordering.{match_ordering, nat_cmp}
@@ -7,10 +7,13 @@ use Rattle.nextest_config_elements_reading.specs.Reading.{Path, Reading, ◌>>=�
 use Rattle.nextest_config_elements_readers.specs.Keys.{table_by}
 use Rattle.nextest_config_elements_versions.specs.Demand.{experimental_in, nextest_version_in}
 use Rattle.nextest_config_resolution_load.specs.declared.file_config.FileConfig.{FileConfig}
-use Rattle.nextest_config_resolution_load.specs.declared.file_config.ProfileOverrides.{ProfileOverrides}
+use Rattle.nextest_config_resolution_load.specs.declared.file_config.ProfileRules.{ProfileRules}
 use Rattle.nextest_config_resolution_overrides.specs.Groups.{groups_at}
 use Rattle.nextest_config_resolution_overrides.specs.Overrides.{overrides_at}
 use Rattle.nextest_config_resolution_overrides.specs.declared.override_config.OverrideConfig.{OverrideConfig}
+use Rattle.nextest_config_resolution_scripts.specs.Rules.{script_rules_at}
+use Rattle.nextest_config_resolution_scripts.specs.Scripts.{old_scripts_at, scripts_at}
+use Rattle.nextest_config_resolution_scripts.specs.declared.script_rule.ScriptRuleConfig.{ScriptRuleConfig}
 use Rattle.nextest_config_resolution_values.specs.File.{store_dir_at}
 use Rattle.nextest_config_resolution_values.specs.Profile.{profile_in}
 
@@ -33,30 +36,37 @@ by_keys (Ok x) reading = reading
 by_keys (Err path) (Ok y) = Err path
 by_keys (Err path) (Err other) = Err (first_path path other)
 
--- the overrides of a profile whose values can stand at their keys
-abbrev pub overrides_in_file : Members → Reading (List OverrideConfig)
-overrides_in_file members = by_keys (profile_in members) (overrides_at members)
+-- the overrides and the script rules of a profile
+abbrev pub rules_in_table : Members → Reading (List OverrideConfig × List ScriptRuleConfig)
+rules_in_table members = do
+  overrides ← overrides_at members
+  scripts ← script_rules_at members
+  Ok (overrides, scripts)
 
--- those of a profile, with its name
-abbrev pub overrides_of_profile : List ℕ → Data → Reading ProfileOverrides
-overrides_of_profile name given = do
-  overrides ← table_by overrides_in_file given
-  Ok (record { profile = name; overrides = overrides })
+-- those of a profile whose values can stand at their keys
+abbrev pub rules_in_profile : Members → Reading (List OverrideConfig × List ScriptRuleConfig)
+rules_in_profile members = by_keys (profile_in members) (rules_in_table members)
+
+-- with its name
+abbrev pub rules_of_profile : List ℕ → Data → Reading ProfileRules
+rules_of_profile name given = do
+  rules ← table_by rules_in_profile given
+  Ok (record { profile = name; overrides = rules.0; scripts = rules.1 })
 
 -- those of each profile of a table, in the order of their names
-abbrev pub profiles_in_file : Members → Reading (List ProfileOverrides)
+abbrev pub profiles_in_file : Members → Reading (List ProfileRules)
 profiles_in_file no_members = Ok []
 profiles_in_file (member name given more) = do
-  one ← under name (overrides_of_profile name given)
+  one ← under name (rules_of_profile name given)
   more_profiles ← profiles_in_file more
   Ok (one ∷ more_profiles)
 
 -- what stands under `profile`: a table of them, or nothing
-abbrev pub profiles_of_file : Option Data → Reading (List ProfileOverrides)
+abbrev pub profiles_of_file : Option Data → Reading (List ProfileRules)
 profiles_of_file None = Ok []
 profiles_of_file (Some given) = table_by profiles_in_file given
 
-abbrev pub profiles_at_file : Members → Reading (List ProfileOverrides)
+abbrev pub profiles_at_file : Members → Reading (List ProfileRules)
 profiles_at_file top = under (codes "profile") (profiles_of_file (get_member (codes "profile") top))
 
 -- a file, by the bytes of its keys; what it asks for of features and versions is kept elsewhere
@@ -65,6 +75,8 @@ file_in top = do
   features ← checked (experimental_in top)
   versions ← checked (nextest_version_in top)
   profiles ← profiles_at_file top
+  old_scripts ← old_scripts_at top
+  scripts ← scripts_at top
   store ← checked (store_dir_at top)
   groups ← groups_at top
-  Ok (record { profiles = profiles; groups = groups })
+  Ok (record { profiles = profiles; groups = groups; old_scripts = old_scripts; scripts = scripts })

@@ -9,5 +9,7 @@ pub mod Load
 pub mod Reading
 pub mod Refusal
 pub mod Refusing
+pub mod RuleIds
+pub mod RuleTexts
 pub mod Rules
 pub mod Telling

@@ -7,14 +7,15 @@ use Rattle.toml.specs.Data.{Members}
 use Rattle.nextest_config_resolution_inheritance.specs.Inheritance.{IsAccepted}
 use Rattle.nextest_config_resolution_inheritance.specs.Refusals.{IsFirstFault}
 use Rattle.nextest_config_resolution_inheritance.specs.declared.inheritance_fault.InheritanceFault.{InheritanceFault}
-use Rattle.nextest_config_resolution_overrides.specs.declared.override_config.OverrideConfig.{OverrideConfig}
+use Rattle.nextest_config_elements_versions.specs.declared.feature.FeatureSet.{FeatureSet}
 use Rattle.nextest_config_resolution_overrides.specs.declared.placed_override.PlacedOverride.{PlacedOverride}
+use Rattle.nextest_config_resolution_scripts.specs.declared.script_rule.PlacedScriptRule.{PlacedScriptRule}
 use Rattle.nextest_config_resolution_sources.specs.Counting.{counted}
 use Rattle.nextest_config_resolution_sources.specs.declared.source.ConfigSource.{ConfigSource}
 use Rattle.nextest_config_resolution_values.specs.File.{Named}
-use Rattle.nextest_config_resolution_load.specs.Checks.{Check, broken, is_filter, is_spec, inheritance, Refusal, unread, no_toml, bad_value, bad_name, no_constraint, filter_and_default_filter, bad_spec, bad_override_filter, bad_merged, unknown_group, inherits_badly, bad_filter, MergedConfig, checks_of, config_in, file_of, merged_in, rules_downward}
+use Rattle.nextest_config_resolution_load.specs.Checks.{Check, broken, is_filter, is_spec, inheritance, Refusal, unread, no_toml, bad_value, both_script_tables, feature_not_enabled, bad_name, repeated_script, no_constraint, filter_and_default_filter, bad_spec, bad_rule_filter, bad_merged, unknown_group, unknown_script, unknown_wrapper, inherits_badly, bad_filter, MergedConfig, checks_of, config_in, file_of, merged_in, rules_downward, script_rules_downward}
 use Rattle.nextest_config_resolution_load.specs.Later.{is_later}
-use Rattle.nextest_config_resolution_load.specs.Rules.{host_of, target_of}
+use Rattle.nextest_config_resolution_load.specs.Rules.{Conditions, conditions_of, script_conditions_of}
 use Rattle.nextest_config_resolution_load.specs.declared.languages.FilterPurpose.{FilterPurpose}
 use Rattle.nextest_config_resolution_load.specs.declared.languages.FilterPurpose.TheVariants as purpose
 use Rattle.nextest_config_resolution_load.specs.declared.load_error.LoadError.{LoadError}
@@ -23,8 +24,8 @@ use Rattle.nextest_config_resolution_load.specs.declared.load_fault.LoadFault.{L
 use Rattle.nextest_config_resolution_load.specs.declared.load_fault.LoadFault.TheVariants as fault
 use Rattle.nextest_config_resolution_load.specs.declared.loaded_config.LoadedConfig.{LoadedConfig}
 use Rattle.nextest_config_resolution_load.specs.declared.loaded_config.NamedProfile.{NamedProfile}
-use Rattle.nextest_config_resolution_load.specs.declared.loaded_override.CompiledOverride.{CompiledOverride}
-use Rattle.nextest_config_resolution_load.specs.declared.loaded_override.LoadedOverride.{LoadedOverride}
+use Rattle.nextest_config_resolution_load.specs.declared.loaded_rule.CompiledRule.{CompiledRule}
+use Rattle.nextest_config_resolution_load.specs.declared.loaded_rule.LoadedRule.{LoadedRule}
 
 -- which filter a text is, by what it is for, and which platform spec
 abbrev pub IsFilterBy : Type 0 → Type 1
@@ -61,7 +62,7 @@ abbrev pub named : NamedProfile → Named
 named it = (it.name, it.config)
 
 abbrev pub seen : {F S : Type 0} → LoadedConfig F S → MergedConfig
-seen it = record { profiles = map named it.profiles; store_dir = it.store_dir; groups = it.groups }
+seen it = record { profiles = map named it.profiles; store_dir = it.store_dir; groups = it.groups; scripts = it.scripts }
 
 -- what a text is, where there is a text
 abbrev pub IsReadAs : {A : Type 0} → (List ℕ → A → Type 0) → Option (List ℕ) → Option A → Type 0
@@ -70,20 +71,36 @@ IsReadAs {A} Is None (Some it) = ⊥
 IsReadAs {A} Is (Some text) None = ⊥
 IsReadAs {A} Is (Some text) (Some it) = Is text it
 
--- what the texts of an override are
-pub record IsCompiledOverride {F S : Type 0} (Is : IsFilterBy F) (IsSpec : IsSpecBy S) (config : OverrideConfig) (it : CompiledOverride F S) : Type 0 where
-  pub host : IsReadAs IsSpec (host_of config) it.host
-  pub target : IsReadAs IsSpec (target_of config) it.target
-  pub filter : IsReadAs (Is purpose.Override) config.filter it.filter
-  pub default_filter : IsReadAs (Is purpose.Default) config.default_filter it.default_filter
+-- what the texts of a rule are
+pub record IsCompiledRule {F S : Type 0} (Is : IsFilterBy F) (IsSpec : IsSpecBy S) (texts : Conditions) (it : CompiledRule F S) : Type 0 where
+  pub host : IsReadAs IsSpec texts.host it.host
+  pub target : IsReadAs IsSpec texts.target it.target
+  pub filter : IsReadAs (Is purpose.Override) texts.filter it.filter
+  pub default_filter : IsReadAs (Is purpose.Default) texts.default_filter it.default_filter
 
--- an override, with what its texts are
-pub record IsReadRule {F S : Type 0} (Is : IsFilterBy F) (IsSpec : IsSpecBy S) (rule : PlacedOverride) (it : LoadedOverride F S) : Type 0 where
+-- a rule, with what its texts are
+pub record IsReadBy {P F S : Type 0} (conditions : P → Conditions) (Is : IsFilterBy F) (IsSpec : IsSpecBy S) (rule : P) (it : LoadedRule P F S) : Type 0 where
   pub same : it.placed ≡ rule
-  pub compiled : IsCompiledOverride Is IsSpec rule.config it.compiled
+  pub compiled : IsCompiledRule Is IsSpec (conditions rule) it.compiled
+
+abbrev pub AreReadBy : {P F S : Type 0} → (P → Conditions) → IsFilterBy F → IsSpecBy S → List P → List (LoadedRule P F S) → Type 0
+AreReadBy conditions Is IsSpec rules loaded = AllZip (IsReadBy conditions Is IsSpec) rules loaded
+
+-- overrides, and script rules
+abbrev pub LoadedOverride : Type 0 → Type 0 → Type 0
+LoadedOverride F S = LoadedRule PlacedOverride F S
+
+abbrev pub LoadedScriptRule : Type 0 → Type 0 → Type 0
+LoadedScriptRule F S = LoadedRule PlacedScriptRule F S
+
+abbrev pub IsReadRule : {F S : Type 0} → IsFilterBy F → IsSpecBy S → PlacedOverride → LoadedOverride F S → Type 0
+IsReadRule Is IsSpec rule it = IsReadBy conditions_of Is IsSpec rule it
 
 abbrev pub AreReadRules : {F S : Type 0} → IsFilterBy F → IsSpecBy S → List PlacedOverride → List (LoadedOverride F S) → Type 0
-AreReadRules Is IsSpec rules loaded = AllZip (IsReadRule Is IsSpec) rules loaded
+AreReadRules Is IsSpec rules loaded = AreReadBy conditions_of Is IsSpec rules loaded
+
+abbrev pub AreReadScriptRules : {F S : Type 0} → IsFilterBy F → IsSpecBy S → List PlacedScriptRule → List (LoadedScriptRule F S) → Type 0
+AreReadScriptRules Is IsSpec rules loaded = AreReadBy script_conditions_of Is IsSpec rules loaded
 
 -- some source that counts has a file that sets a key that isn't read yet; what is built in is no source
 abbrev pub is_later_source : ConfigSource → Bool
@@ -93,11 +110,13 @@ abbrev pub sets_later_keys : List ConfigSource → Bool
 sets_later_keys sources = list_any is_later_source (counted sources)
 
 -- a configuration is what sources come to: all checks are kept, and these are its values, filters and rules
-pub record IsLoadedAs {F S : Type 0} (Is : IsFilterBy F) (IsSpec : IsSpecBy S) (built_in : Members) (sources : List ConfigSource) (it : LoadedConfig F S) : Type 0 where
-  pub kept : AllByRecursion (IsKept Is IsSpec) (checks_of built_in sources)
+pub record IsLoadedAs {F S : Type 0} (Is : IsFilterBy F) (IsSpec : IsSpecBy S) (features : FeatureSet) (built_in : Members)
+    (sources : List ConfigSource) (it : LoadedConfig F S) : Type 0 where
+  pub kept : AllByRecursion (IsKept Is IsSpec) (checks_of features built_in sources)
   pub values : config_in (merged_in built_in sources) ≡ Ok (seen it)
   pub filters : AllZip (λ profile found. IsReadAs (Is purpose.Default) profile.1.default_filter found) (seen it).profiles it.default_filters
   pub rules : AreReadRules Is IsSpec (rules_downward sources) it.rules
+  pub script_rules : AreReadScriptRules Is IsSpec (script_rules_downward sources) it.script_rules
   pub later : it.sets_later_keys ≡ sets_later_keys sources
 
 -- what a fault tells, without its words
@@ -105,18 +124,25 @@ abbrev pub reason_of : LoadFault → Refusal
 reason_of (fault.Unread path cause) = unread path
 reason_of (fault.Toml path message) = no_toml path
 reason_of (fault.BadValue path value) = bad_value path value.path.keys
+reason_of (fault.BothScriptTables path) = both_script_tables path
+reason_of (fault.FeatureNotEnabled path feature) = feature_not_enabled path feature
 reason_of (fault.BadName path name) = bad_name path name
+reason_of (fault.RepeatedScript path script) = repeated_script path script
 reason_of (fault.NoConstraint rule) = no_constraint rule
 reason_of (fault.FilterAndDefaultFilter rule) = filter_and_default_filter rule
 reason_of (fault.BadSpec rule side text) = bad_spec rule side
-reason_of (fault.BadOverrideFilter rule of_purpose text) = bad_override_filter rule of_purpose
+reason_of (fault.BadRuleFilter rule of_purpose text) = bad_rule_filter rule of_purpose
 reason_of (fault.BadMergedValue value) = bad_merged value.path.keys
 reason_of (fault.UnknownGroup rule group) = unknown_group rule group
+reason_of (fault.UnknownScript rule script) = unknown_script rule script
+reason_of (fault.UnknownWrapper rule script) = unknown_wrapper rule script
 reason_of (fault.Inheritance told) = inherits_badly told
 reason_of (fault.BadFilter profile text) = bad_filter profile
 
 -- sources are loaded, or refused for the first check that is broken; want of memory says nothing of them
-abbrev pub IsLoaded : {F S : Type 0} → IsFilterBy F → IsSpecBy S → (List ℕ → Type 0) → Members → List ConfigSource → Result (LoadedConfig F S) LoadError → Type 0
-IsLoaded Is IsSpec IsTooDeep built_in sources (Ok it) = IsLoadedAs Is IsSpec built_in sources it
-IsLoaded Is IsSpec IsTooDeep built_in sources (Err (error.Refused told)) = BreaksFirst Is IsSpec IsTooDeep (checks_of built_in sources) (reason_of told)
-IsLoaded Is IsSpec IsTooDeep built_in sources (Err error.OutOfMemory) = ⊤
+abbrev pub IsLoaded : {F S : Type 0} → IsFilterBy F → IsSpecBy S → (List ℕ → Type 0) → FeatureSet → Members → List ConfigSource
+    → Result (LoadedConfig F S) LoadError → Type 0
+IsLoaded Is IsSpec IsTooDeep features built_in sources (Ok it) = IsLoadedAs Is IsSpec features built_in sources it
+IsLoaded Is IsSpec IsTooDeep features built_in sources (Err (error.Refused told)) =
+    BreaksFirst Is IsSpec IsTooDeep (checks_of features built_in sources) (reason_of told)
+IsLoaded Is IsSpec IsTooDeep features built_in sources (Err error.OutOfMemory) = ⊤

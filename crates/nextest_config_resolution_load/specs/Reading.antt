@@ -1,5 +1,5 @@
 -- What calls of this crate give on their way to a configuration.
-use Rattle.std.specs.Prelude.{◌≡◌, ℕ, Bool, List, [], ◌∷◌, ◌++◌, codes, get_or, map, reverse, filter_map, Option, None, Some, option_map, Result, Ok, Err, ⊤}
+use Rattle.std.specs.Prelude.{◌≡◌, ℕ, Bool, not, List, [], ◌∷◌, ◌++◌, codes, get_or, map, reverse, filter_map, Option, None, Some, option_map, Result, Ok, Err, ⊤}
 use Rattle.std.specs.BTreeSet.{BTreeSet, contains_by}
 use Rattle.std.specs.Cmp.Lexicographic.{slice_cmp}
 use Rattle.std.specs.List.{AllZip, flat_map}
@@ -11,20 +11,24 @@ use Rattle.nextest_config_elements_reading.specs.Reading.{Path, Reading, ◌>>=�
 use Rattle.nextest_config_elements_reading.specs.declared.value_error.ValueError.{ValueError}
 use Rattle.nextest_config_elements_reading.specs.declared.value_error.ValueError.TheVariants as error
 use Rattle.nextest_config_resolution_inheritance.specs.Inheritance.{Rise}
-use Rattle.nextest_config_resolution_load.specs.Checks.{Check, MergedConfig, bad_merged, config_in, file_of, merged_in, no_toml, parents_of, rules_in, rules_of_source, source_checks, value_checks}
+use Rattle.nextest_config_resolution_load.specs.Checks.{Check, FileRules, must_hold, repeated_script, MergedConfig, bad_merged, config_in, file_of, merged_in, no_toml, parents_of, rules_in, rules_of_source, source_checks, value_checks}
 use Rattle.nextest_config_resolution_load.specs.Files.{members_in, told_in}
-use Rattle.nextest_config_resolution_load.specs.Load.{AreReadRules, IsFilterBy, IsReadAs, IsSpecBy, named, reason_of, seen, sets_later_keys}
+use Rattle.nextest_config_resolution_load.specs.Load.{AreReadRules, AreReadScriptRules, IsFilterBy, IsReadAs, IsSpecBy, LoadedOverride, LoadedScriptRule, named, reason_of, seen, sets_later_keys}
+use Rattle.nextest_config_resolution_load.specs.Rules.{rules_at, script_placed_in, script_rules_at}
+use Rattle.nextest_config_resolution_load.specs.Rules as words
 use Rattle.nextest_config_resolution_load.specs.Telling.{told_of, warnings_in}
+use Rattle.nextest_config_resolution_load.specs.declared.file_config.ProfileRules.{ProfileRules}
 use Rattle.nextest_config_resolution_load.specs.declared.languages.FilterPurpose.TheVariants as purpose
 use Rattle.nextest_config_resolution_load.specs.declared.load_error.LoadError.{LoadError}
 use Rattle.nextest_config_resolution_load.specs.declared.load_error.LoadError.TheVariants as told_error
 use Rattle.nextest_config_resolution_load.specs.declared.loaded_config.LoadedConfig.{LoadedConfig}
 use Rattle.nextest_config_resolution_load.specs.declared.loaded_config.ReadConfig.{ReadConfig}
-use Rattle.nextest_config_resolution_load.specs.declared.loaded_override.LoadedOverride.{LoadedOverride}
+use Rattle.nextest_config_resolution_load.specs.declared.loaded_rule.LoadedRule.{LoadedRule}
 use Rattle.nextest_config_resolution_load.specs.declared.placed_file.ReadFile.{ReadFile}
 use Rattle.nextest_config_resolution_load.specs.declared.placed_file.ReadFiles.{ReadFiles}
 use Rattle.nextest_config_resolution_load.specs.declared.placed_file.ReadSources.{ReadSources}
-use Rattle.nextest_config_resolution_overrides.specs.declared.placed_override.PlacedOverride.{PlacedOverride}
+use Rattle.nextest_config_resolution_load.specs.declared.placed_file.SourceRules.{SourceRules}
+use Rattle.nextest_config_elements_versions.specs.declared.feature.FeatureSet.{FeatureSet}
 use Rattle.nextest_config_resolution_sources.specs.Counting.{counted}
 use Rattle.nextest_config_resolution_sources.specs.declared.source.ConfigSource.{ConfigSource}
 use Rattle.nextest_config_resolution_values.specs.File.{Named}
@@ -37,25 +41,44 @@ GivesSeen view (Ok x) reading = reading ≡ Ok (view x)
 GivesSeen view (Err (error.Refused bad)) reading = reading ≡ Err bad.path.keys
 GivesSeen view (Err error.OutOfMemory) reading = ⊤
 
--- ---- the overrides of sources
+-- ---- the rules of sources
+
+-- those of a file
+pub record AreReadInFile {F S : Type 0} (Is : IsFilterBy F) (IsSpec : IsSpecBy S) (rules : FileRules) (it : SourceRules F S) : Type 0 where
+  pub overrides : AreReadRules Is IsSpec rules.overrides it.overrides
+  pub scripts : AreReadScriptRules Is IsSpec rules.scripts it.scripts
+
+-- those of a profile, and of some profiles
+abbrev pub rules_of_profile : List ℕ → ProfileRules → FileRules
+rules_of_profile path it = record { overrides = words.placed_in path it; scripts = script_placed_in path it }
+
+abbrev pub rules_of_profiles : List ℕ → List ProfileRules → FileRules
+rules_of_profiles path profiles = record { overrides = rules_at path profiles; scripts = script_rules_at path profiles }
 
 -- those of each of some sources
-abbrev pub AreRulesOf : {F S : Type 0} → IsFilterBy F → IsSpecBy S → List ConfigSource → List (List (LoadedOverride F S)) → Type 0
-AreRulesOf Is IsSpec sources all = AllZip (λ source own. AreReadRules Is IsSpec (rules_of_source source) own) sources all
+abbrev pub AreRulesOf : {F S : Type 0} → IsFilterBy F → IsSpecBy S → List ConfigSource → List (SourceRules F S) → Type 0
+AreRulesOf Is IsSpec sources all = AllZip (λ source own. AreReadInFile Is IsSpec (rules_of_source source) own) sources all
 
--- what overrides say, of one source and of all
-abbrev pub placed_in : {F S : Type 0} → LoadedOverride F S → PlacedOverride
+-- what rules say, of one list and of some
+abbrev pub placed_in : {P F S : Type 0} → LoadedRule P F S → P
 placed_in it = it.placed
 
-abbrev pub placed_of : {F S : Type 0} → List (LoadedOverride F S) → List PlacedOverride
+abbrev pub placed_of : {P F S : Type 0} → List (LoadedRule P F S) → List P
 placed_of own = map placed_in own
 
-abbrev pub all_placed : {F S : Type 0} → List (List (LoadedOverride F S)) → List PlacedOverride
+abbrev pub all_placed : {P F S : Type 0} → List (List (LoadedRule P F S)) → List P
 all_placed all = flat_map placed_of all
 
--- overrides of sources one after another, the last source first
-abbrev pub downward : {F S : Type 0} → List (List (LoadedOverride F S)) → List (LoadedOverride F S)
-downward all = flat_map (λ own. own) (reverse all)
+-- lists of some, one behind another, the last first
+abbrev pub downward : {A B : Type 0} → (A → List B) → List A → List B
+downward own all = flat_map own (reverse all)
+
+-- the overrides of sources, and their script rules
+abbrev pub overrides_of : {F S : Type 0} → List (SourceRules F S) → List (List (LoadedOverride F S))
+overrides_of all = map (λ own. own.overrides) all
+
+abbrev pub scripts_of : {F S : Type 0} → List (SourceRules F S) → List (List (LoadedScriptRule F S))
+scripts_of all = map (λ own. own.scripts) all
 
 -- ---- a file
 
@@ -76,7 +99,7 @@ ParsesText view path given (Err told_error.OutOfMemory) = ⊤
 -- what was read of the file at a path, if there is one: its members, and its overrides
 pub record IsReadFile {F S : Type 0} (Is : IsFilterBy F) (IsSpec : IsSpecBy S) (path : List ℕ) (given : Option Members) (it : ReadFile F S) : Type 0 where
   pub table : given ≡ option_map table_view it.table
-  pub rules : AreReadRules Is IsSpec (rules_in path given) it.rules
+  pub rules : AreReadInFile Is IsSpec (rules_in path given) it.rules
 
 -- what was read of some sources
 pub record AreReadFiles {F S : Type 0} (Is : IsFilterBy F) (IsSpec : IsSpecBy S) (sources : List ConfigSource) (it : ReadFiles F S) : Type 0 where
@@ -84,11 +107,15 @@ pub record AreReadFiles {F S : Type 0} (Is : IsFilterBy F) (IsSpec : IsSpecBy S)
   pub told : flat_map told_in it.files.items ≡ flat_map told_of sources
   pub rules : AreRulesOf Is IsSpec sources it.rules.items
 
--- ---- the names of groups
+-- ---- names
 
 -- a set has a name
 abbrev pub has_name : BTreeSet (Bor (List ℕ)) → List ℕ → Bool
 has_name names name = contains_by (λ key. slice_cmp nat_cmp name key.now) names
+
+-- a name isn't in a set
+abbrev pub not_among : List ℕ → BTreeSet (Bor (List ℕ)) → List ℕ → List Check
+not_among path names id = must_hold (not (has_name names id)) (repeated_script path id)
 
 -- ---- the profiles and groups of a merged tree
 
@@ -100,7 +127,7 @@ profile_at name given = do
 
 -- what was read, as its values
 abbrev pub values_of : ReadConfig → MergedConfig
-values_of it = record { profiles = map named it.profiles; store_dir = it.store_dir; groups = it.groups }
+values_of it = record { profiles = map named it.profiles; store_dir = it.store_dir; groups = it.groups; scripts = it.scripts }
 
 abbrev pub read_as : ReadConfig → Reading MergedConfig
 read_as it = Ok (values_of it)
@@ -112,8 +139,8 @@ AreReadDefaults Is profiles found = AllZip (λ profile filter. IsReadAs (Is purp
 -- ---- all of it
 
 -- what is checked of sources, and of what they come to, before it is asked which groups there are and how profiles inherit
-abbrev pub early_checks : Members → List ConfigSource → List Check
-early_checks built_in sources = flat_map source_checks (counted sources) ++ value_checks bad_merged (config_in (merged_in built_in sources))
+abbrev pub early_checks : FeatureSet → Members → List ConfigSource → List Check
+early_checks features built_in sources = flat_map (source_checks features) (counted sources) ++ value_checks bad_merged (config_in (merged_in built_in sources))
 
 -- what was read of the sources that count
 pub record AreReadSources {F S : Type 0} (Is : IsFilterBy F) (IsSpec : IsSpecBy S) (built_in : Members) (sources : List ConfigSource) (it : ReadSources F S) : Type 0 where
@@ -124,8 +151,9 @@ pub record AreReadSources {F S : Type 0} (Is : IsFilterBy F) (IsSpec : IsSpecBy 
   pub rules : AreRulesOf Is IsSpec (counted sources) it.rules.items
 
 -- a configuration is what was read, with its default filters and the overrides of all sources
-pub record IsCompleted {F S : Type 0} (Is : IsFilterBy F) (read : ReadConfig) (of_sources : List (List (LoadedOverride F S))) (it : LoadedConfig F S) : Type 0 where
+pub record IsCompleted {F S : Type 0} (Is : IsFilterBy F) (read : ReadConfig) (of_sources : List (SourceRules F S)) (it : LoadedConfig F S) : Type 0 where
   pub same : seen it ≡ values_of read
   pub filters : AreReadDefaults Is (seen it).profiles it.default_filters
-  pub rules : it.rules ≡ downward of_sources
+  pub rules : it.rules ≡ downward (λ own. own.overrides) of_sources
+  pub script_rules : it.script_rules ≡ downward (λ own. own.scripts) of_sources
   pub later : it.sets_later_keys ≡ read.sets_later_keys

@@ -9,17 +9,21 @@ ghost use Rattle.nextest_config_resolution_load.specs.Reading.{refused_values, t
 ghost use Rattle.nextest_config_elements_readers.specs.Keys.{table_by};
 ghost use Rattle.nextest_config_elements_readers.specs.Paths.{GivesAt, profile_path};
 ghost use Rattle.nextest_config_elements_versions.specs.Demand as demand;
-ghost use Rattle.nextest_config_resolution_load.specs.File.{by_keys, checked, file_in, overrides_in_file, overrides_of_profile, profiles_at_file, profiles_in_file};
+ghost use Rattle.nextest_config_resolution_load.specs.File.{by_keys, checked, file_in, profiles_at_file, profiles_in_file, rules_in_profile, rules_in_table, rules_of_profile};
 ghost use Rattle.nextest_config_resolution_overrides.specs.Groups.{groups_at};
-ghost use Rattle.nextest_config_resolution_overrides.specs.Overrides.{overrides_at};
+ghost use Rattle.nextest_config_resolution_scripts.specs.Scripts.{old_scripts_at, scripts_at};
 ghost use Rattle.nextest_config_resolution_values.specs.File.{store_dir_at};
 
-use crate::file_config::{FileConfig, ProfileOverrides};
+use crate::file_config::{FileConfig, ProfileRules};
 use nextest_config_elements_readers::member;
 use nextest_config_elements_reading::{BadValue, ValueError, refused};
 use nextest_config_elements_versions::{deserialize_experimental, deserialize_nextest_version};
 use nextest_config_resolution_overrides::{
     NamedGroup, OverrideConfig, deserialize_overrides, deserialize_test_groups,
+};
+use nextest_config_resolution_scripts::{
+    NamedScript, ScriptConfig, ScriptRuleConfig, SetupScriptConfig, deserialize_old_scripts,
+    deserialize_script_rules, deserialize_scripts,
 };
 use nextest_config_resolution_values::{deserialize_profile, deserialize_store_dir};
 use nextest_text::{Listing, Text};
@@ -36,9 +40,16 @@ pub(crate) fn read_file(alloc: Global, table: &Table) -> Result<FileConfig, Valu
     check_experimental(alloc, table)?;
     check_nextest_version(alloc, table)?;
     let profiles = read_profiles(alloc, table)?;
+    let old_scripts = read_old_scripts(alloc, table)?;
+    let scripts = read_scripts(alloc, table)?;
     check_store(alloc, table)?;
     let groups = read_groups(alloc, table)?;
-    Ok(FileConfig { profiles, groups })
+    Ok(FileConfig {
+        profiles,
+        groups,
+        old_scripts,
+        scripts,
+    })
 }
 
 // The features that a file asks for.
@@ -76,8 +87,25 @@ fn read_groups(alloc: Global, table: &Table) -> Result<Listing<NamedGroup>, Valu
     deserialize_test_groups(alloc, member(table, "test-groups"))
 }
 
+// The setup scripts that a file defines under `script`.
+fn read_old_scripts(
+    alloc: Global,
+    table: &Table,
+) -> Result<Listing<NamedScript<SetupScriptConfig>>, ValueError>
+    ensures { Gives [] result (old_scripts_at (table_view table.now)) }
+{
+    deserialize_old_scripts(alloc, member(table, "script"))
+}
+
+// The scripts that a file defines under `scripts`.
+fn read_scripts(alloc: Global, table: &Table) -> Result<ScriptConfig, ValueError>
+    ensures { Gives [] result (scripts_at (table_view table.now)) }
+{
+    deserialize_scripts(alloc, member(table, "scripts"))
+}
+
 // What stands under `profile`.
-fn read_profiles(alloc: Global, table: &Table) -> Result<Listing<ProfileOverrides>, ValueError>
+fn read_profiles(alloc: Global, table: &Table) -> Result<Listing<ProfileRules>, ValueError>
     ensures { Gives [] result (profiles_at_file (table_view table.now)) }
 {
     match member(table, "profile") {
@@ -88,7 +116,7 @@ fn read_profiles(alloc: Global, table: &Table) -> Result<Listing<ProfileOverride
 }
 
 // Each profile of a table.
-fn read_each(alloc: Global, profiles: &Table) -> Result<Listing<ProfileOverrides>, ValueError>
+fn read_each(alloc: Global, profiles: &Table) -> Result<Listing<ProfileRules>, ValueError>
     ensures { GivesAt (codes "profile" ∷ []) result (profiles_in_file (table_view profiles.now)) }
 {
     let mut found = Listing::new(alloc);
@@ -99,14 +127,15 @@ fn read_each(alloc: Global, profiles: &Table) -> Result<Listing<ProfileOverrides
     Ok(found)
 }
 
-// The overrides of the profile of a name.
-fn read_profile(alloc: Global, name: &str, given: &Value) -> Result<ProfileOverrides, ValueError>
-    ensures { GivesAt (profile_path name.now) result (overrides_of_profile name.now (view given.now)) }
+// The rules of the profile of a name.
+fn read_profile(alloc: Global, name: &str, given: &Value) -> Result<ProfileRules, ValueError>
+    ensures { GivesAt (profile_path name.now) result (rules_of_profile name.now (view given.now)) }
 {
-    let overrides = read_value(alloc, name, given)?;
-    Ok(ProfileOverrides {
+    let (overrides, scripts) = read_value(alloc, name, given)?;
+    Ok(ProfileRules {
         profile: Text::from_str(alloc, name)?,
         overrides,
+        scripts,
     })
 }
 
@@ -115,8 +144,8 @@ fn read_value(
     alloc: Global,
     name: &str,
     given: &Value,
-) -> Result<Listing<OverrideConfig>, ValueError>
-    ensures { GivesAt (profile_path name.now) result (table_by overrides_in_file (view given.now)) }
+) -> Result<TableRules, ValueError>
+    ensures { GivesAt (profile_path name.now) result (table_by rules_in_profile (view given.now)) }
 {
     match given {
         Value::Table(table) => read_table(alloc, name, table),
@@ -124,19 +153,31 @@ fn read_value(
     }
 }
 
-// The overrides of a profile whose values can stand at their keys, or what is refused first.
+// The rules of a profile whose values can stand at their keys, or what is refused first.
 fn read_table(
     alloc: Global,
     name: &str,
     table: &Table,
-) -> Result<Listing<OverrideConfig>, ValueError>
-    ensures { GivesAt (profile_path name.now) result (overrides_in_file (table_view table.now)) }
+) -> Result<TableRules, ValueError>
+    ensures { GivesAt (profile_path name.now) result (rules_in_profile (table_view table.now)) }
 {
     match deserialize_profile(alloc, name, table) {
-        Ok(_) => deserialize_overrides(alloc, name, table),
+        Ok(_) => rules_in_table(alloc, name, table),
         Err(ValueError::Refused(value)) => refused_in(alloc, name, table, value),
         Err(ValueError::OutOfMemory) => Err(ValueError::OutOfMemory),
     }
+}
+
+// The rules of a profile.
+type TableRules = (Listing<OverrideConfig>, Listing<ScriptRuleConfig>);
+
+// The overrides and the script rules of a profile.
+fn rules_in_table(alloc: Global, name: &str, table: &Table) -> Result<TableRules, ValueError>
+    ensures { GivesAt (profile_path name.now) result (rules_in_table (table_view table.now)) }
+{
+    let overrides = deserialize_overrides(alloc, name, table)?;
+    let scripts = deserialize_script_rules(alloc, name, table)?;
+    Ok((overrides, scripts))
 }
 
 // What is refused first of a profile, of which this value is refused.
@@ -145,10 +186,10 @@ fn refused_in(
     name: &str,
     table: &Table,
     value: BadValue,
-) -> Result<Listing<OverrideConfig>, ValueError>
-    ensures { (path : Path) → value.path.keys ≡ profile_path name.now ++ path → GivesAt (profile_path name.now) result (by_keys (refused_values path) (overrides_at (table_view table.now))) }
+) -> Result<TableRules, ValueError>
+    ensures { (path : Path) → value.path.keys ≡ profile_path name.now ++ path → GivesAt (profile_path name.now) result (by_keys (refused_values path) (rules_in_table (table_view table.now))) }
 {
-    match deserialize_overrides(alloc, name, table) {
+    match rules_in_table(alloc, name, table) {
         Ok(_) => Err(ValueError::Refused(value)),
         Err(ValueError::Refused(other)) => Err(ValueError::Refused(first_of(value, other))),
         Err(ValueError::OutOfMemory) => Err(ValueError::OutOfMemory),

@@ -1,46 +1,45 @@
 // The files of sources.
-ghost use Rattle.std.specs.Prelude.{◌≡◌, ◌++◌, None, Some, Ok, map, option_map, option_to_list, IfOk};
+ghost use Rattle.std.specs.Prelude.{◌≡◌, ◌++◌, [], None, Some, Ok, map, option_map, option_to_list, IfOk};
 ghost use Rattle.std.specs.List.{flat_map};
 ghost use Rattle.toml.specs.Parse.{parse_document};
 ghost use Rattle.toml.specs.View.{table_view};
 ghost use Rattle.nextest_config_resolution_load.specs.Checks.{document_checks, file_checks, file_of, missing_checks, rules_in_file, source_checks};
 ghost use Rattle.nextest_config_resolution_load.specs.File.{file_in};
 ghost use Rattle.nextest_config_resolution_load.specs.Files.{members_in, told_in};
-ghost use Rattle.nextest_config_resolution_load.specs.Load.{AreReadRules};
-ghost use Rattle.nextest_config_resolution_load.specs.Reading.{AreReadFiles, IsReadFile, ParsesText};
+ghost use Rattle.nextest_config_resolution_load.specs.Reading.{AreReadFiles, AreReadInFile, IsReadFile, ParsesText};
 ghost use Rattle.nextest_config_resolution_load.specs.Refusing.{Passes};
-ghost use Rattle.nextest_config_resolution_load.specs.Rules.{rules_at};
 ghost use Rattle.nextest_config_resolution_load.specs.Telling.{told_at};
 
+use crate::defined::check_defined;
 use crate::file_config::FileConfig;
 use crate::file_reading::read_file;
-use crate::groups::check_names;
 use crate::languages::Languages;
 use crate::load_error::LoadError;
-use crate::loaded_override::LoadedOverride;
-use crate::placed_file::{PlacedFile, ReadFile, ReadFiles};
+use crate::placed_file::{PlacedFile, ReadFile, ReadFiles, SourceRules};
+use crate::profile_rules::load_profiles;
 use crate::refusing::{bad_value, no_toml, unread};
-use crate::rules::{load_rules, placed_rules};
 use nextest_config_elements_identifiers::ConfigSourceKind;
 use nextest_config_elements_reading::ValueError;
+use nextest_config_elements_versions::FeatureSet;
 use nextest_config_resolution_sources::{ConfigSource, ConfigSourceOutcome};
 use nextest_text::{Listing, Text};
 use std::alloc::{AllocError, Global};
 use toml::Table;
 
-// The files of some sources, in their order, each at the path of its source, and the overrides of each source.
+// The files of some sources, in their order, each at the path of its source, and the rules of each source.
 pub(crate) fn read_files<'s, R: Languages>(
     alloc: Global,
     cx: &R::Cx,
+    features: FeatureSet,
     sources: &[&'s ConfigSource],
 ) -> Result<ReadFiles<'s, R::Filter, R::Spec>, LoadError>
     ensures { let all = map (λ it. it.now) sources.now in
-        Passes (R.is_filter cx.now) R.is_spec R.is_too_deep (flat_map source_checks all) (AreReadFiles (R.is_filter cx.now) R.is_spec all) result }
+        Passes (R.is_filter cx.now) R.is_spec R.is_too_deep (flat_map (source_checks features) all) (AreReadFiles (R.is_filter cx.now) R.is_spec all) result }
 {
     let mut files = Vec::new(alloc);
     let mut rules = Vec::new(alloc);
     for source in sources {
-        let read = read_source::<R>(alloc, cx, source)?;
+        let read = read_source::<R>(alloc, cx, features, source)?;
         push_file(&mut files, source.path.as_str(), read.table)?;
         rules.push(read.rules)?;
     }
@@ -62,19 +61,20 @@ fn push_file<'s>(
     }
 }
 
-// The file of a source, if there is one, and its overrides.
+// The file of a source, if there is one, and its rules.
 fn read_source<R: Languages>(
     alloc: Global,
     cx: &R::Cx,
+    features: FeatureSet,
     source: &ConfigSource,
 ) -> Result<ReadFile<R::Filter, R::Spec>, LoadError>
-    ensures { Passes (R.is_filter cx.now) R.is_spec R.is_too_deep (source_checks source.now)
+    ensures { Passes (R.is_filter cx.now) R.is_spec R.is_too_deep (source_checks features source.now)
         (IsReadFile (R.is_filter cx.now) R.is_spec source.now.path (file_of source.now)) result }
 {
     let path = source.path.as_str();
     match &source.outcome {
         ConfigSourceOutcome::Text(text) => {
-            read_text::<R>(alloc, cx, path, &source.kind, text.as_str())
+            read_text::<R>(alloc, cx, features, path, &source.kind, text.as_str())
         }
         ConfigSourceOutcome::NotFound => read_missing::<R>(alloc, cx, path, &source.kind),
         ConfigSourceOutcome::Failed(cause) => Err(unread(alloc, path, cause.as_str())),
@@ -94,7 +94,7 @@ fn read_missing<R: Languages>(
     match kind {
         ConfigSourceKind::DiscoveredRepository => Ok(ReadFile {
             table: None,
-            rules: Listing::new(alloc),
+            rules: no_rules(alloc),
         }),
         ConfigSourceKind::Tool(_) | ConfigSourceKind::ExplicitRepository => {
             Err(unread(alloc, path, "there is no such file"))
@@ -102,20 +102,32 @@ fn read_missing<R: Languages>(
     }
 }
 
-// The file of a text, and its overrides.
+// No rules.
+fn no_rules<F: Drop, S: Drop>(alloc: Global) -> SourceRules<F, S>
+    ensures overrides { result.overrides ≡ [] }
+    ensures scripts { result.scripts ≡ [] }
+{
+    SourceRules {
+        overrides: Listing::new(alloc),
+        scripts: Listing::new(alloc),
+    }
+}
+
+// The file of a text, and its rules.
 fn read_text<R: Languages>(
     alloc: Global,
     cx: &R::Cx,
+    features: FeatureSet,
     path: &str,
     kind: &ConfigSourceKind,
     text: &str,
 ) -> Result<ReadFile<R::Filter, R::Spec>, LoadError>
     ensures { let given = parse_document text.now in
-        Passes (R.is_filter cx.now) R.is_spec R.is_too_deep (document_checks path.now kind.now given)
+        Passes (R.is_filter cx.now) R.is_spec R.is_too_deep (document_checks features path.now kind.now given)
         (IsReadFile (R.is_filter cx.now) R.is_spec path.now given) result }
 {
     let table = parse_text(alloc, path, text)?;
-    let rules = read_rules::<R>(alloc, cx, path, kind, &table)?;
+    let rules = read_rules::<R>(alloc, cx, features, path, kind, &table)?;
     Ok(ReadFile {
         table: Some(table),
         rules,
@@ -136,38 +148,38 @@ fn parse_text(alloc: Global, path: &str, text: &str) -> Result<Table, LoadError>
     }
 }
 
-// The overrides of a file, whose values are all such as their keys can have.
+// The rules of a file, whose values are all such as their keys can have.
 fn read_rules<R: Languages>(
     alloc: Global,
     cx: &R::Cx,
+    features: FeatureSet,
     path: &str,
     kind: &ConfigSourceKind,
     table: &Table,
-) -> Result<Listing<LoadedOverride<R::Filter, R::Spec>>, LoadError>
+) -> Result<SourceRules<R::Filter, R::Spec>, LoadError>
     ensures { let given = file_in (table_view table.now) in
-        Passes (R.is_filter cx.now) R.is_spec R.is_too_deep (file_checks path.now kind.now given)
-        (λ it. AreReadRules (R.is_filter cx.now) R.is_spec (rules_in_file path.now given) it) result }
+        Passes (R.is_filter cx.now) R.is_spec R.is_too_deep (file_checks features path.now kind.now given)
+        (λ it. AreReadInFile (R.is_filter cx.now) R.is_spec (rules_in_file path.now given) it) result }
 {
     match read_file(alloc, table) {
-        Ok(config) => rules_of::<R>(alloc, cx, path, kind, config),
+        Ok(config) => rules_of::<R>(alloc, cx, features, path, kind, config),
         Err(ValueError::Refused(bad)) => Err(bad_value(alloc, path, bad)),
         Err(ValueError::OutOfMemory) => Err(LoadError::OutOfMemory),
     }
 }
 
-// The overrides of a file that says this.
+// The rules of a file that says this.
 fn rules_of<R: Languages>(
     alloc: Global,
     cx: &R::Cx,
+    features: FeatureSet,
     path: &str,
     kind: &ConfigSourceKind,
     config: FileConfig,
-) -> Result<Listing<LoadedOverride<R::Filter, R::Spec>>, LoadError>
-    ensures { Passes (R.is_filter cx.now) R.is_spec R.is_too_deep (file_checks path.now kind.now (Ok config))
-        (λ it. AreReadRules (R.is_filter cx.now) R.is_spec (rules_at path.now config.profiles) it) result }
+) -> Result<SourceRules<R::Filter, R::Spec>, LoadError>
+    ensures { Passes (R.is_filter cx.now) R.is_spec R.is_too_deep (file_checks features path.now kind.now (Ok config))
+        (λ it. AreReadInFile (R.is_filter cx.now) R.is_spec (rules_in_file path.now (Ok config)) it) result }
 {
-    let FileConfig { profiles, groups } = config;
-    check_names::<R>(alloc, cx, path, kind, groups.as_slice())?;
-    let rules = placed_rules(alloc, path, profiles)?;
-    load_rules::<R>(alloc, cx, rules)
+    check_defined::<R>(alloc, cx, features, path, kind, &config)?;
+    load_profiles::<R>(alloc, cx, path, config.profiles)
 }

@@ -1,7 +1,8 @@
 // How the filters and platform specs of a configuration are read.
 ghost use Rattle.std.specs.Prelude.{IfOk};
-ghost use Rattle.nextest_config_resolution_load.specs.Languages.{ReadsFilter, ReadsSpec};
+ghost use Rattle.nextest_config_resolution_load.specs.Languages.{ReadsFilter, ReadsSpec, Serves};
 ghost use Rattle.nextest_config_resolution_load.specs.Load.{IsFilterBy, IsSpecBy};
+ghost use Rattle.nextest_config_resolution_load.specs.declared.languages.FilterPurpose.TheVariants.{ListWrapper, Override};
 ghost use Rattle.std.specs.Prelude.{ℕ, List};
 
 use nextest_text::Text;
@@ -12,8 +13,10 @@ use std::alloc::{AllocError, Global};
 pub enum FilterPurpose {
     /// It tells which tests are run where none is asked for.
     Default,
-    /// It tells on which tests an override holds.
+    /// It tells on which tests a rule holds.
     Override,
+    /// It tells on which tests a rule with a `list-wrapper` holds: it is such a one, and asks nothing that only tests tell.
+    ListWrapper,
 }
 
 /// How the filters and platform specs of a configuration are read.
@@ -48,4 +51,9 @@ pub trait Languages {
     /// The platform spec of a text; `None` where it is none. It fails only on allocation.
     fn read_spec(alloc: Global, text: &str) -> Result<Option<Self::Spec>, AllocError>
         ensures { IfOk result (ReadsSpec (is_spec text.now)) };
+
+    /// Whether a filter of a rule may also be that of a rule with a `list-wrapper`: whether it asks nothing that only tests tell.
+    fn serves_listing(cx: &Self::Cx, filter: &Self::Filter) -> bool
+        ensures { (text : List ℕ) → is_filter cx.now Override text filter.now
+            → Serves (is_filter cx.now ListWrapper text) filter.now result };
 }

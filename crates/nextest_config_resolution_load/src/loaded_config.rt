@@ -1,7 +1,8 @@
 // What a configuration comes to.
-use crate::loaded_override::LoadedOverride;
+use crate::loaded_rule::{LoadedOverride, LoadedScriptRule};
 use nextest_config_resolution_inheritance::Inherits;
 use nextest_config_resolution_overrides::NamedGroup;
+use nextest_config_resolution_scripts::ScriptConfig;
 use nextest_config_resolution_values::ProfileConfig;
 use nextest_text::{Listing, Text};
 
@@ -46,8 +47,12 @@ pub struct LoadedConfig<Filter, Spec> {
     /// The overrides of all files: the highest file first, in a file by the bytes of the profiles' names, and those of a profile in
     /// their order.
     pub rules: Listing<LoadedOverride<Filter, Spec>>,
+    /// The script rules of all files, in the same order.
+    pub script_rules: Listing<LoadedScriptRule<Filter, Spec>>,
     /// The groups of tests, by the bytes of their keys. Of several with one name the last holds.
     pub groups: Listing<NamedGroup>,
+    /// The scripts that are defined.
+    pub scripts: ScriptConfig,
     /// The directory of the store, if one is set.
     pub store_dir: Option<Text>,
     /// Whether a file that counts sets a key that isn't read yet: `script` or `scripts`, or, in a profile, `scripts`.
@@ -61,7 +66,9 @@ impl<Filter: Drop, Spec: Drop> Drop for LoadedConfig<Filter, Spec> {
             profiles: _,
             default_filters: _,
             rules: _,
+            script_rules: _,
             groups: _,
+            scripts: _,
             store_dir: _,
             sets_later_keys: _,
         } = self;
@@ -73,6 +80,7 @@ impl<Filter: Drop, Spec: Drop> Drop for LoadedConfig<Filter, Spec> {
 pub(crate) struct ReadConfig {
     pub(crate) profiles: Listing<NamedProfile>,
     pub(crate) groups: Listing<NamedGroup>,
+    pub(crate) scripts: ScriptConfig,
     pub(crate) store_dir: Option<Text>,
     pub(crate) sets_later_keys: bool,
 }

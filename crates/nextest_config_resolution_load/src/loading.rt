@@ -4,11 +4,11 @@ ghost use Rattle.std.specs.List.{list_any};
 ghost use Rattle.toml.specs.Data.{table};
 ghost use Rattle.toml.specs.View.{table_view};
 ghost use Rattle.nextest_config_resolution_inheritance.specs.Inheritance.{Rise};
-ghost use Rattle.nextest_config_resolution_load.specs.Checks.{bad_merged, config_in, default_checks, inheritance, members_of, merged_checks, parents_of, raised, value_checks};
+ghost use Rattle.nextest_config_resolution_load.specs.Checks.{bad_merged, config_in, inheritance, members_of, merged_checks, moved, named_checks, parents_of, raised, value_checks};
 ghost use Rattle.nextest_config_resolution_load.specs.Files.{members_in};
 ghost use Rattle.nextest_config_resolution_load.specs.Later.{is_later};
 ghost use Rattle.nextest_config_resolution_load.specs.Load.{IsLoaded, seen};
-ghost use Rattle.nextest_config_resolution_load.specs.Reading.{AreReadSources, IsCompleted, all_placed, downward, early_checks, read_as, values_of};
+ghost use Rattle.nextest_config_resolution_load.specs.Reading.{AreReadSources, IsCompleted, all_placed, downward, early_checks, overrides_of, read_as, scripts_of, values_of};
 ghost use Rattle.nextest_config_resolution_load.specs.Refusing.{Passes};
 ghost use Rattle.nextest_config_resolution_load.specs.Telling.{TellsAs, warnings_in};
 
@@ -20,13 +20,15 @@ use crate::later::set_later_keys;
 use crate::load_error::LoadError;
 use crate::load_fault::LoadFault;
 use crate::loaded_config::{LoadedConfig, ReadConfig};
-use crate::loaded_override::LoadedOverride;
-use crate::merging::merge_files;
-use crate::placed_file::{PlacedFile, ReadSources};
+use crate::merging::{layered, merge_files};
+use crate::named_scripts::check_scripts;
+use crate::placed_file::{PlacedFile, ReadSources, SourceRules};
 use crate::reading::read_config;
 use crate::telling::tell_files;
 use nextest_config_elements_reading::ValueError;
+use nextest_config_elements_versions::FeatureSet;
 use nextest_config_resolution_inheritance::{InheritanceError, check_inheritance};
+use nextest_config_resolution_scripts::ScriptType;
 use nextest_config_resolution_sources::{ConfigSource, counted};
 use nextest_config_resolution_warnings::ConfigWarnings;
 use nextest_text::Listing;
@@ -34,28 +36,33 @@ use std::alloc::{AllocError, Global};
 use toml::Table;
 
 /// What the sources of a configuration come to, those that count, each over the lower ones and over what is built in. Filters are
-/// read in `cx`.
+/// read in `cx`, and `features` are the experimental ones that are known. Setup scripts that a file has under `script` count as if
+/// they stood under `scripts.setup`.
 ///
 /// # Errors
 ///
 /// `Refused` tells of the first rule that is broken. They are looked at in this order. Of each source, the lowest first: that it
-/// was read (a file that was looked for may be missing), that its text is TOML, that each value can stand at its key, by the
-/// bytes of the keys, that it may define its groups, in their order, and of each of its overrides, by the names of their profiles
-/// and in their order, that it says on which platforms or tests it holds, that it has no filter beside a default filter, and that
-/// the specs of host and target, its filter and its default filter are some. Then, of what the sources come to: that each value
-/// can stand at its key; that each group that an override names is defined; how profiles inherit, as `check_inheritance` says; and
-/// of each profile that sets a default filter, by the bytes of their names, that it is a filter. A filter that is too deep for the
+/// was read (a file that was looked for may be missing); that its text is TOML; that each value can stand at its key, by the bytes
+/// of the keys; that it doesn't define scripts under `script` and under `scripts`; that the features of its scripts are known, first
+/// that of setup scripts; that it may define its groups, its setup scripts and its wrapper scripts; that no setup script has the name
+/// of a wrapper script; and of each profile, by their names, of its overrides and then of its script rules, in their order: that it
+/// says on which platforms or tests it holds, that it has no filter beside a default filter, that the specs of host and target, its
+/// filter and its default filter are some, and that a filter beside a `list-wrapper` asks nothing that only tests tell. Then, of
+/// what the sources come to: that each value can stand at its key; that each group that an override names is defined, then each
+/// setup script that a script rule names, and then each wrapper script; how profiles inherit, as `check_inheritance` says; and of
+/// each profile that sets a default filter, by the bytes of their names, that it is a filter. A filter that is too deep for the
 /// reader may be refused, too. Want of memory says nothing of the sources.
 pub fn load<R: Languages>(
     alloc: Global,
     built_in: &Table,
     cx: &R::Cx,
     sources: &[ConfigSource],
+    features: FeatureSet,
 ) -> Result<LoadedConfig<R::Filter, R::Spec>, LoadError>
-    ensures loaded { IsLoaded (R.is_filter cx.now) R.is_spec R.is_too_deep (table_view built_in.now) sources.now result }
+    ensures loaded { IsLoaded (R.is_filter cx.now) R.is_spec R.is_too_deep features (table_view built_in.now) sources.now result }
     ensures rises { IfOk result (λ it. Rise (parents_of (seen it).profiles)) }
 {
-    let read = read_sources::<R>(alloc, built_in, cx, sources)?;
+    let read = read_sources::<R>(alloc, built_in, cx, sources, features)?;
     accepted::<R>(alloc, cx, read.config, read.rules)
 }
 
@@ -70,13 +77,14 @@ pub fn load_with_warnings<R: Languages, W: ConfigWarnings>(
     built_in: &Table,
     cx: &R::Cx,
     sources: &[ConfigSource],
+    features: FeatureSet,
     warnings: &mut W,
 ) -> Result<LoadedConfig<R::Filter, R::Spec>, LoadError>
-    ensures loaded { IsLoaded (R.is_filter cx.now) R.is_spec R.is_too_deep (table_view built_in.now) sources.now result }
+    ensures loaded { IsLoaded (R.is_filter cx.now) R.is_spec R.is_too_deep features (table_view built_in.now) sources.now result }
     ensures rises { IfOk result (λ it. Rise (parents_of (seen it).profiles)) }
     ensures told { TellsAs W.has_told warnings.old warnings.new (warnings_in sources.now) result }
 {
-    let read = read_sources::<R>(alloc, built_in, cx, sources)?;
+    let read = read_sources::<R>(alloc, built_in, cx, sources, features)?;
     match accepted::<R>(alloc, cx, read.config, read.rules) {
         Ok(config) => {
             tell_files(alloc, warnings, read.files.as_slice())?;
@@ -92,12 +100,13 @@ fn read_sources<'s, R: Languages>(
     built_in: &Table,
     cx: &R::Cx,
     sources: &'s [ConfigSource],
+    features: FeatureSet,
 ) -> Result<ReadSources<'s, R::Filter, R::Spec>, LoadError>
     ensures { let lowest = table_view built_in.now in
-        Passes (R.is_filter cx.now) R.is_spec R.is_too_deep (early_checks lowest sources.now) (AreReadSources (R.is_filter cx.now) R.is_spec lowest sources.now) result }
+        Passes (R.is_filter cx.now) R.is_spec R.is_too_deep (early_checks features lowest sources.now) (AreReadSources (R.is_filter cx.now) R.is_spec lowest sources.now) result }
 {
     let counted = counted(alloc, sources)?;
-    let read = read_files::<R>(alloc, cx, counted.as_slice())?;
+    let read = read_files::<R>(alloc, cx, features, counted.as_slice())?;
     let config = read_merged::<R>(alloc, built_in, cx, read.files.as_slice())?;
     Ok(ReadSources {
         config,
@@ -113,12 +122,13 @@ fn read_merged<R: Languages>(
     cx: &R::Cx,
     files: &[PlacedFile],
 ) -> Result<ReadConfig, LoadError>
-    ensures read { let given = config_in (members_of (raised (table (table_view built_in.now)) (map members_in files.now))) in
+    ensures read { let given = config_in (members_of (raised (table (table_view built_in.now)) (map moved (map members_in files.now)))) in
         Passes (R.is_filter cx.now) R.is_spec R.is_too_deep (value_checks bad_merged given) (λ it. given ≡ read_as it) result }
     ensures rises { IfOk result (λ it. Rise (parents_of (values_of it).profiles)) }
     ensures later { IfOk result (λ it. it.sets_later_keys ≡ list_any is_later (map members_in files.now)) }
 {
-    let tree = merge_files(alloc, built_in, files)?;
+    let layers = layered(alloc, files)?;
+    let tree = merge_files(alloc, built_in, layers.as_slice())?;
     match read_config(alloc, &tree, set_later_keys(files)) {
         Ok(config) => Ok(config),
         Err(ValueError::Refused(value)) => {
@@ -128,36 +138,55 @@ fn read_merged<R: Languages>(
     }
 }
 
-// A configuration, where the groups that its overrides name are defined, its profiles inherit as they may, and what they set as
-// their default filters is some.
+// A configuration, where what its rules name is defined, its profiles inherit as they may, and what they set as their default
+// filters is some.
 fn accepted<R: Languages>(
     alloc: Global,
     cx: &R::Cx,
     read: ReadConfig,
-    rules: Vec<Listing<LoadedOverride<R::Filter, R::Spec>>>,
+    rules: Vec<SourceRules<R::Filter, R::Spec>>,
 ) -> Result<LoadedConfig<R::Filter, R::Spec>, LoadError>
     requires rises { Rise (parents_of (values_of read).profiles) }
-    ensures { Passes (R.is_filter cx.now) R.is_spec R.is_too_deep (merged_checks (all_placed rules.items) (read_as read))
+    ensures { Passes (R.is_filter cx.now) R.is_spec R.is_too_deep
+        (merged_checks (all_placed (overrides_of rules.items)) (all_placed (scripts_of rules.items)) (read_as read))
         (IsCompleted (R.is_filter cx.now) read rules.items) result }
 {
-    check_groups::<R>(alloc, cx, read.groups.as_slice(), rules.as_slice())?;
+    check_names::<R>(alloc, cx, &read, rules.as_slice())?;
     check_parents::<R>(alloc, cx, &read)?;
     let default_filters = read_defaults::<R>(alloc, cx, read.profiles.as_slice())?;
     let rules = gathered(alloc, rules)?;
     let ReadConfig {
         profiles,
         groups,
+        scripts,
         store_dir,
         sets_later_keys,
     } = read;
     Ok(LoadedConfig {
         profiles,
         default_filters,
-        rules,
+        rules: rules.overrides,
+        script_rules: rules.scripts,
         groups,
+        scripts,
         store_dir,
         sets_later_keys,
     })
+}
+
+// That the groups and scripts that rules name are defined.
+fn check_names<R: Languages>(
+    alloc: Global,
+    cx: &R::Cx,
+    read: &ReadConfig,
+    rules: &[SourceRules<R::Filter, R::Spec>],
+) -> Result<(), LoadError>
+    ensures { Passes (R.is_filter cx.now) R.is_spec R.is_too_deep
+        (named_checks (all_placed (overrides_of rules.now)) (all_placed (scripts_of rules.now)) (values_of read.now)) (λ _. ⊤) result }
+{
+    check_groups::<R>(alloc, cx, read.groups.as_slice(), rules)?;
+    check_scripts::<R, _>(alloc, cx, ScriptType::Setup, read.scripts.setup.as_slice(), rules)?;
+    check_scripts::<R, _>(alloc, cx, ScriptType::Wrapper, read.scripts.wrapper.as_slice(), rules)
 }
 
 // That profiles inherit as they may.
@@ -178,19 +207,26 @@ fn check_parents<R: Languages>(
     }
 }
 
-// The overrides of some sources, the last source first.
+// The rules of some sources, the last source first.
 fn gathered<F: Drop, S: Drop>(
     alloc: Global,
-    rules: Vec<Listing<LoadedOverride<F, S>>>,
-) -> Result<Listing<LoadedOverride<F, S>>, AllocError>
-    ensures { IfOk result (λ it. it ≡ downward rules.items) }
+    rules: Vec<SourceRules<F, S>>,
+) -> Result<SourceRules<F, S>, AllocError>
+    ensures overrides { IfOk result (λ it. it.overrides ≡ downward (λ own. own.overrides) rules.items) }
+    ensures scripts { IfOk result (λ it. it.scripts ≡ downward (λ own. own.scripts) rules.items) }
 {
     let mut sources = rules;
     sources.reverse();
-    let mut all = Vec::new(alloc);
+    let mut overrides = Vec::new(alloc);
+    let mut scripts = Vec::new(alloc);
     for own in sources {
-        let mut own = Vec::from(own);
-        all.append(&mut own)?;
+        let mut own_overrides = Vec::from(own.overrides);
+        overrides.append(&mut own_overrides)?;
+        let mut own_scripts = Vec::from(own.scripts);
+        scripts.append(&mut own_scripts)?;
     }
-    Ok(Listing::from(all))
+    Ok(SourceRules {
+        overrides: Listing::from(overrides),
+        scripts: Listing::from(scripts),
+    })
 }

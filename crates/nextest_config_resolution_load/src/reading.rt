@@ -4,6 +4,7 @@ ghost use Rattle.toml.specs.Data.{Data, table, Members};
 ghost use Rattle.toml.specs.View.{table_view, view};
 ghost use Rattle.nextest_config_elements_reading.specs.Reading.{under};
 ghost use Rattle.nextest_config_resolution_overrides.specs.Groups.{groups_at};
+ghost use Rattle.nextest_config_resolution_scripts.specs.Scripts.{scripts_at};
 ghost use Rattle.nextest_config_resolution_tree.specs.Tree.{get_path, keys, keys_in};
 ghost use Rattle.nextest_config_resolution_tree.specs.Whole.{IsTree};
 ghost use Rattle.nextest_config_resolution_values.specs.File.{profiles_at, profiles_in, profiles_of, store_dir_at};
@@ -15,13 +16,14 @@ ghost use Rattle.nextest_config_resolution_load.specs.Reading.{GivesSeen, profil
 use crate::loaded_config::{NamedProfile, ReadConfig};
 use nextest_config_elements_reading::{ValueError, refused};
 use nextest_config_resolution_overrides::{NamedGroup, deserialize_test_groups};
+use nextest_config_resolution_scripts::{ScriptConfig, deserialize_scripts};
 use nextest_config_resolution_tree::MergedTree;
 use nextest_config_resolution_values::{deserialize_profile_value, deserialize_store_dir};
 use nextest_text::{Listing, Text};
 use std::alloc::Global;
 use toml::{Table, Value};
 
-// What a tree says of profiles, groups and the store, beside what its files say of keys that aren't read yet.
+// What a tree says of profiles, scripts, the store and groups, beside what its files say of keys that aren't read yet.
 pub(crate) fn read_config(
     alloc: Global,
     tree: &MergedTree<'_>,
@@ -34,6 +36,10 @@ pub(crate) fn read_config(
         Ok(profiles) => profiles,
         Err(error) => return Err(error),
     };
+    let scripts = match read_scripts(alloc, tree) {
+        Ok(scripts) => scripts,
+        Err(error) => return Err(error),
+    };
     let store_dir = match read_store_dir(alloc, tree) {
         Ok(store_dir) => store_dir,
         Err(error) => return Err(error),
@@ -42,11 +48,20 @@ pub(crate) fn read_config(
         Ok(groups) => Ok(ReadConfig {
             profiles,
             groups,
+            scripts,
             store_dir,
             sets_later_keys,
         }),
         Err(error) => Err(error),
     }
+}
+
+// The scripts.
+fn read_scripts(alloc: Global, tree: &MergedTree<'_>) -> Result<ScriptConfig, ValueError>
+    ensures { (top : Members) → IsTree tree.now (table top) → GivesSeen (λ it. it) result (scripts_at top) }
+{
+    let scripts = tree.value_at(alloc, &["scripts"])?;
+    deserialize_scripts(alloc, scripts.as_ref())
 }
 
 // The groups of tests.

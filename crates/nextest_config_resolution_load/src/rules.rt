@@ -1,146 +1,97 @@
-// The overrides of a file as rules.
-ghost use Rattle.std.specs.Prelude.{◌≡◌, ◌++◌, ⊤, IfOk, Some, option_copied};
+// The rules of files, as they are checked and read.
+ghost use Rattle.std.specs.Prelude.{◌≡◌, Some, ⊤, option_copied};
 ghost use Rattle.std.specs.List.{flat_map};
-ghost use Rattle.nextest_config_resolution_load.specs.Load.{AreReadRules, IsCompiledOverride, IsReadAs};
+ghost use Rattle.nextest_config_resolution_load.specs.Load.{AreReadBy, IsCompiledRule, IsReadAs};
 ghost use Rattle.nextest_config_resolution_load.specs.Refusing.{Passes};
+ghost use Rattle.nextest_config_resolution_load.specs.RuleIds.{rule_of};
+ghost use Rattle.nextest_config_resolution_load.specs.RuleTexts.{checks_by, texts_of};
 ghost use Rattle.nextest_config_resolution_load.specs.Rules as words;
+ghost use Rattle.nextest_config_resolution_load.specs.declared.languages.FilterPurpose.TheVariants as purpose;
 
-use crate::file_config::ProfileOverrides;
 use crate::languages::{FilterPurpose, Languages};
 use crate::load_error::LoadError;
 use crate::load_fault::PlatformSide;
-use crate::loaded_override::{CompiledOverride, LoadedOverride};
-use crate::refusing::{bad_override_filter, bad_spec, both_filters, no_constraint};
-use nextest_config_resolution_overrides::{OverrideConfig, OverrideId, PlacedOverride};
+use crate::loaded_rule::{CompiledRule, LoadedRule};
+use crate::placed_rule::{PlacedRule, RuleTexts};
+use crate::refusing::{bad_rule_filter, bad_spec, both_filters, no_constraint};
+use crate::rule_id::RuleRef;
 use nextest_text::{Listing, Text};
-use std::alloc::{AllocError, Global};
+use std::alloc::Global;
 
-// The overrides of all profiles of the file at a path, each with where it is written.
-pub(crate) fn placed_rules(
-    alloc: Global,
-    path: &str,
-    profiles: Listing<ProfileOverrides>,
-) -> Result<Vec<PlacedOverride>, AllocError>
-    ensures { IfOk result (λ it. it.items ≡ words.rules_at path.now profiles) }
-{
-    let mut rules = Vec::new(alloc);
-    for profile in Vec::from(profiles) {
-        push_placed(alloc, path, profile, &mut rules)?;
-    }
-    Ok(rules)
-}
-
-// Adds the overrides of a profile.
-fn push_placed(
-    alloc: Global,
-    path: &str,
-    profile: ProfileOverrides,
-    rules: &mut Vec<PlacedOverride>,
-) -> Result<(), AllocError>
-    ensures { IfOk result (λ _. rules.new.items ≡ rules.old.items ++ words.placed_in path.now profile) }
-{
-    let ProfileOverrides { profile, overrides } = profile;
-    for (index, config) in Vec::from(overrides).into_iter().enumerate() {
-        let id = OverrideId {
-            file: Text::from_str(alloc, path)?,
-            profile: profile.clone()?,
-            index,
-        };
-        rules.push(PlacedOverride { id, config })?;
-    }
-    Ok(())
-}
-
-// Overrides with what their texts are, where each keeps what is checked of it.
-pub(crate) fn load_rules<R: Languages>(
+// Rules with what their texts are, where each keeps what is checked of it.
+pub(crate) fn load_rules<R: Languages, P: PlacedRule>(
     alloc: Global,
     cx: &R::Cx,
-    rules: Vec<PlacedOverride>,
-) -> Result<Listing<LoadedOverride<R::Filter, R::Spec>>, LoadError>
-    ensures { Passes (R.is_filter cx.now) R.is_spec R.is_too_deep (flat_map words.rule_checks rules.items)
-        (λ it. AreReadRules (R.is_filter cx.now) R.is_spec rules.items it) result }
+    rules: Vec<P>,
+) -> Result<Listing<LoadedRule<P, R::Filter, R::Spec>>, LoadError>
+    ensures { Passes (R.is_filter cx.now) R.is_spec R.is_too_deep (flat_map (checks_by P.wraps P.rule_id P.conditions) rules.items)
+        (λ it. AreReadBy P.conditions (R.is_filter cx.now) R.is_spec rules.items it) result }
 {
     let mut loaded = Listing::new(alloc);
     for placed in rules {
-        let compiled = compile::<R>(alloc, cx, &placed)?;
-        loaded.push(LoadedOverride { placed, compiled })?;
+        let compiled = compile::<R, P>(alloc, cx, &placed)?;
+        loaded.push(LoadedRule { placed, compiled })?;
     }
     Ok(loaded)
 }
 
-// What the texts of an override are, where it keeps what is checked of it.
-fn compile<R: Languages>(
+// What the texts of a rule are, where it keeps what is checked of it.
+fn compile<R: Languages, P: PlacedRule>(
     alloc: Global,
     cx: &R::Cx,
-    rule: &PlacedOverride,
-) -> Result<CompiledOverride<R::Filter, R::Spec>, LoadError>
-    ensures { Passes (R.is_filter cx.now) R.is_spec R.is_too_deep (words.rule_checks rule.now)
-        (IsCompiledOverride (R.is_filter cx.now) R.is_spec rule.now.config) result }
+    rule: &P,
+) -> Result<CompiledRule<R::Filter, R::Spec>, LoadError>
+    ensures { Passes (R.is_filter cx.now) R.is_spec R.is_too_deep (checks_by P.wraps P.rule_id P.conditions rule.now)
+        (IsCompiledRule (R.is_filter cx.now) R.is_spec (P.conditions rule.now)) result }
 {
-    if !is_constrained(&rule.config) {
-        return Err(no_constraint(&rule.id));
+    let texts = rule.texts();
+    let id = rule.id();
+    if !is_constrained(&texts) {
+        return Err(no_constraint(id));
     }
-    if sets_both(&rule.config) {
-        return Err(both_filters(&rule.id));
+    if sets_both(&texts) {
+        return Err(both_filters(id));
     }
-    compile_texts::<R>(alloc, cx, &rule.id, &rule.config)
+    compile_texts::<R>(alloc, cx, rule.wraps_lists(), id, &texts)
 }
 
-// Whether an override says on which platforms or tests it holds.
-fn is_constrained(config: &OverrideConfig) -> bool
-    ensures { result ≡ words.is_constrained config.now }
+// Whether a rule says on which platforms or tests it holds.
+fn is_constrained(texts: &RuleTexts<'_>) -> bool
+    ensures { result ≡ words.is_constrained (texts_of texts.now) }
 {
-    host_of(config).is_some() || target_of(config).is_some() || config.filter.is_some()
+    texts.host.is_some() || texts.target.is_some() || texts.filter.is_some()
 }
 
 // Whether it has a filter and a default filter.
-fn sets_both(config: &OverrideConfig) -> bool
-    ensures { result ≡ words.sets_both config.now }
+fn sets_both(texts: &RuleTexts<'_>) -> bool
+    ensures { result ≡ words.sets_both (texts_of texts.now) }
 {
-    config.filter.is_some() && config.default_filter.is_some()
+    texts.filter.is_some() && texts.default_filter.is_some()
 }
 
-// The spec of the platform on which tests are built and run.
-fn host_of(config: &OverrideConfig) -> Option<&Text>
-    ensures { option_copied result ≡ words.host_of config.now }
-{
-    match &config.platform {
-        Some(platforms) => platforms.host.as_ref(),
-        None => None,
-    }
-}
-
-// The spec of the platform for which they are built.
-fn target_of(config: &OverrideConfig) -> Option<&Text>
-    ensures { option_copied result ≡ words.target_of config.now }
-{
-    match &config.platform {
-        Some(platforms) => platforms.target.as_ref(),
-        None => None,
-    }
-}
-
-// What the texts of an override are.
+// What the texts of a rule are.
 fn compile_texts<R: Languages>(
     alloc: Global,
     cx: &R::Cx,
-    id: &OverrideId,
-    config: &OverrideConfig,
-) -> Result<CompiledOverride<R::Filter, R::Spec>, LoadError>
-    ensures { Passes (R.is_filter cx.now) R.is_spec R.is_too_deep (words.text_checks id.now config.now)
-        (IsCompiledOverride (R.is_filter cx.now) R.is_spec config.now) result }
+    wraps: bool,
+    id: RuleRef<'_>,
+    texts: &RuleTexts<'_>,
+) -> Result<CompiledRule<R::Filter, R::Spec>, LoadError>
+    ensures { Passes (R.is_filter cx.now) R.is_spec R.is_too_deep (words.text_checks wraps (rule_of id.entry) (texts_of texts.now))
+        (IsCompiledRule (R.is_filter cx.now) R.is_spec (texts_of texts.now)) result }
 {
-    let host = spec_of::<R>(alloc, cx, id, PlatformSide::Host, host_of(config))?;
-    let target = spec_of::<R>(alloc, cx, id, PlatformSide::Target, target_of(config))?;
-    let filter = filter_of::<R>(alloc, cx, id, FilterPurpose::Override, &config.filter)?;
+    let host = spec_of::<R>(alloc, cx, id, PlatformSide::Host, texts.host)?;
+    let target = spec_of::<R>(alloc, cx, id, PlatformSide::Target, texts.target)?;
+    let filter = filter_of::<R>(alloc, cx, id, FilterPurpose::Override, texts.filter)?;
     let default_filter = filter_of::<R>(
         alloc,
         cx,
         id,
         FilterPurpose::Default,
-        &config.default_filter,
+        texts.default_filter,
     )?;
-    Ok(CompiledOverride {
+    check_listing::<R>(alloc, cx, wraps, id, texts.filter, &filter)?;
+    Ok(CompiledRule {
         host,
         target,
         filter,
@@ -148,15 +99,53 @@ fn compile_texts<R: Languages>(
     })
 }
 
-// A spec that an override has.
+// That the filter of a rule with a `list-wrapper` asks nothing that only tests tell, where it has one.
+fn check_listing<R: Languages>(
+    alloc: Global,
+    cx: &R::Cx,
+    wraps: bool,
+    id: RuleRef<'_>,
+    text: Option<&Text>,
+    filter: &Option<R::Filter>,
+) -> Result<(), LoadError>
+    ensures { IsReadAs (R.is_filter cx.now purpose.Override) (option_copied text.entry) filter.now
+        → Passes (R.is_filter cx.now) R.is_spec R.is_too_deep (words.listing_checks wraps (rule_of id.entry) (option_copied text.entry)) (λ _. ⊤) result }
+{
+    if !wraps {
+        return Ok(());
+    }
+    match (text, filter) {
+        (Some(text), Some(filter)) => check_served::<R>(alloc, cx, id, text, filter),
+        _ => Ok(()),
+    }
+}
+
+// That the filter of a text, which is that of a rule with a `list-wrapper`, asks nothing that only tests tell.
+fn check_served<R: Languages>(
+    alloc: Global,
+    cx: &R::Cx,
+    id: RuleRef<'_>,
+    text: &Text,
+    filter: &R::Filter,
+) -> Result<(), LoadError>
+    ensures { R.is_filter cx.now purpose.Override text.now filter.now
+        → Passes (R.is_filter cx.now) R.is_spec R.is_too_deep (words.filter_checks (rule_of id.entry) purpose.ListWrapper (Some text.now)) (λ _. ⊤) result }
+{
+    if R::serves_listing(cx, filter) {
+        return Ok(());
+    }
+    Err(bad_rule_filter(alloc, id, FilterPurpose::ListWrapper, text.as_str()))
+}
+
+// A spec that a rule has.
 fn spec_of<R: Languages>(
     alloc: Global,
     cx: &R::Cx,
-    id: &OverrideId,
+    id: RuleRef<'_>,
     side: PlatformSide,
     text: Option<&Text>,
 ) -> Result<Option<R::Spec>, LoadError>
-    ensures { Passes (R.is_filter cx.now) R.is_spec R.is_too_deep (words.spec_checks id.now side (option_copied text.entry))
+    ensures { Passes (R.is_filter cx.now) R.is_spec R.is_too_deep (words.spec_checks (rule_of id.entry) side (option_copied text.entry))
         (IsReadAs R.is_spec (option_copied text.entry)) result }
 {
     match text {
@@ -168,22 +157,22 @@ fn spec_of<R: Languages>(
     }
 }
 
-// A filter that an override has.
+// A filter that a rule has.
 fn filter_of<R: Languages>(
     alloc: Global,
     cx: &R::Cx,
-    id: &OverrideId,
+    id: RuleRef<'_>,
     purpose: FilterPurpose,
-    text: &Option<Text>,
+    text: Option<&Text>,
 ) -> Result<Option<R::Filter>, LoadError>
-    ensures { Passes (R.is_filter cx.now) R.is_spec R.is_too_deep (words.filter_checks id.now purpose text.now)
-        (IsReadAs (R.is_filter cx.now purpose) text.now) result }
+    ensures { Passes (R.is_filter cx.now) R.is_spec R.is_too_deep (words.filter_checks (rule_of id.entry) purpose (option_copied text.entry))
+        (IsReadAs (R.is_filter cx.now purpose) (option_copied text.entry)) result }
 {
     match text {
         None => Ok(None),
         Some(text) => match R::read_filter(alloc, cx, purpose, text)? {
             Some(filter) => Ok(Some(filter)),
-            None => Err(bad_override_filter(alloc, id, purpose, text.as_str())),
+            None => Err(bad_rule_filter(alloc, id, purpose, text.as_str())),
         },
     }
 }

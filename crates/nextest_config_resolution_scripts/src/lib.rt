@@ -14,7 +14,7 @@ pub use nextest_config_resolution_commands::{
 };
 pub use script_config::{
     NamedScript, ProfileScriptType, ScriptConfig, ScriptInfo, ScriptType, deserialize_old_scripts,
-    deserialize_scripts,
+    deserialize_scripts, script_named,
 };
 pub use script_rule::{
     PlacedScriptRule, ScriptRuleConfig, ScriptRuleId, deserialize_script_rules,

@@ -61,19 +61,19 @@ impl ScriptConfig {
     pub fn setup_script(&self, id: &ScriptId) -> Option<&SetupScriptConfig>
         ensures { option_copied result ≡ script_named self.now.setup id.now }
     {
-        find(self.setup.as_slice(), id)
+        script_named(self.setup.as_slice(), id)
     }
 
     /// The wrapper script of a name, if one is defined.
     pub fn wrapper_script(&self, id: &ScriptId) -> Option<&WrapperScriptConfig>
         ensures { option_copied result ≡ script_named self.now.wrapper id.now }
     {
-        find(self.wrapper.as_slice(), id)
+        script_named(self.wrapper.as_slice(), id)
     }
 }
 
-// The script of a name, the last one of several.
-fn find<'s, Config>(scripts: &'s [NamedScript<Config>], id: &ScriptId) -> Option<&'s Config>
+/// What the script of a name is set to, the last one of several; `None` if there is none.
+pub fn script_named<'s, Config>(scripts: &'s [NamedScript<Config>], id: &ScriptId) -> Option<&'s Config>
     ensures { option_copied result ≡ script_named scripts.now id.now }
 {
     let mut found = None;

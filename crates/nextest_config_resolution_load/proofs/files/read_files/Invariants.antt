@@ -9,7 +9,7 @@ use Rattle.nextest_config_resolution_load.proofs.files.read_files.Given as goal
 
 abbrev pub invariant-loop-source : goal.invariant-loop-source
 invariant-loop-source g l = record {
-  kept : AllByRecursion (IsKept (g.R.Languages.is_filter l.cx) g.R.Languages.is_spec) (flat_map source_checks (take l.source-index (map (λ it. it.now) l.sources)));
+  kept : AllByRecursion (IsKept (g.R.Languages.is_filter l.cx) g.R.Languages.is_spec) (flat_map (source_checks l.features) (take l.source-index (map (λ it. it.now) l.sources)));
   files : map members_in l.files.items ≡ filter_map file_of (take l.source-index (map (λ it. it.now) l.sources));
   told : flat_map told_in l.files.items ≡ flat_map told_of (take l.source-index (map (λ it. it.now) l.sources));
   rules : AreRulesOf (g.R.Languages.is_filter l.cx) g.R.Languages.is_spec (take l.source-index (map (λ it. it.now) l.sources)) l.rules.items;

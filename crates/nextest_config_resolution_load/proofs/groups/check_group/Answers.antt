@@ -3,7 +3,7 @@ use Rattle.nextest_config_elements_identifiers.specs.declared.test_group.TestGro
 use Rattle.nextest_config_resolution_load.specs.Checks.{unknown_group}
 use Rattle.nextest_config_resolution_load.specs.Reading.{has_name}
 use Rattle.nextest_config_resolution_load.specs.Refusing.{IsRefused}
-use Rattle.nextest_config_resolution_load.proofs.GroupChecks.{kept_group, refused_group}
+use Rattle.nextest_config_resolution_load.proofs.NameChecks.{kept_group, refused_group}
 use Rattle.nextest_config_resolution_load.proofs.groups.check_group.Goals as goal
 
 pub returns-then-contains : goal.returns-then-contains

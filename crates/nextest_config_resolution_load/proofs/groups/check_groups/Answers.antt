@@ -1,12 +1,12 @@
-use Rattle.std.proofs.Common.{◌≡◌, List, map, ◌∙◌, subst}
+use Rattle.std.proofs.Common.{◌≡◌, List, map, ap, ◌∙◌, subst}
 use Rattle.std.specs.Prelude.{⊤}
 use Rattle.std.specs.List.{AllByRecursion, flat_map}
 use Rattle.nextest_config_resolution_load.specs.Checks.{Check}
 use Rattle.nextest_config_resolution_load.specs.Load.{IsKept}
-use Rattle.nextest_config_resolution_load.specs.Reading.{all_placed, has_name, placed_of}
+use Rattle.nextest_config_resolution_load.specs.Reading.{all_placed, has_name, overrides_of, placed_of}
 use Rattle.nextest_config_resolution_load.specs.Refusing.{Passes}
 use Rattle.nextest_config_resolution_load.specs.Rules.{group_checks, is_defined}
-use Rattle.nextest_config_resolution_load.proofs.GroupChecks.{nested, same_checks}
+use Rattle.nextest_config_resolution_load.proofs.NameChecks.{nested, same_checks, seen_placed}
 use Rattle.nextest_config_resolution_load.proofs.Passing.{kept_all, kept_at, passes_on, refuses_at}
 use Rattle.nextest_config_resolution_load.proofs.groups.check_groups.Goals as goal
 
@@ -18,17 +18,18 @@ returns-in_err-check_own g c =
     let rules = c.args.rules.now in
     let known = has_name c.in_ok-names.names in
     let told = c.in_err-check_own.field-0.0 in
-    let same = nested (group_checks known) placed_of rules ∙ same_checks known (is_defined c.args.groups.now) c.in_ok-names.ensures (all_placed rules) in
+    let same = nested (group_checks known) (λ own. placed_of own.overrides) rules ∙ ap (flat_map (group_checks known)) (seen_placed (λ own. own.overrides) rules)
+    ∙ same_checks known (is_defined c.args.groups.now) c.in_ok-names.ensures (all_placed (overrides_of rules)) in
     subst (λ (them : List Check). Passes Is IsSpec IsTooDeep them (λ _. ⊤) c.from_residual-in_err-check_own.result) same
-    (passes_on Is IsSpec IsTooDeep (λ _. ⊤) (flat_map (λ own. flat_map (group_checks known) (placed_of own)) rules) told c.from_residual-in_err-check_own.result
-    (refuses_at Is IsSpec IsTooDeep (λ own. flat_map (group_checks known) (placed_of own)) rules c.loop-own.own-index c.own-item.result told c.loop-own-test.true c.own-item.is c.loop-own.invariant
+    (passes_on Is IsSpec IsTooDeep (λ _. ⊤) (flat_map (λ own. flat_map (group_checks known) (placed_of own.overrides)) rules) told c.from_residual-in_err-check_own.result
+    (refuses_at Is IsSpec IsTooDeep (λ own. flat_map (group_checks known) (placed_of own.overrides)) rules c.loop-own.own-index c.own-item.result told c.loop-own-test.true c.own-item.is c.loop-own.invariant
     (rw c.as_slice.ensures at c.in_err-check_own.ensures))
     c.from_residual-in_err-check_own.ensures.1)
 
 pub loop-own-preserved : goal.loop-own-preserved
 loop-own-preserved g c =
     let known = has_name c.in_ok-names.names in
-    kept_at (g.R.Languages.is_filter c.args.cx.now) g.R.Languages.is_spec g.R.Languages.is_too_deep (λ own. flat_map (group_checks known) (placed_of own)) c.args.rules.now
+    kept_at (g.R.Languages.is_filter c.args.cx.now) g.R.Languages.is_spec g.R.Languages.is_too_deep (λ own. flat_map (group_checks known) (placed_of own.overrides)) c.args.rules.now
     c.loop-own.own-index c.own-item.result c.loop-own-test.true c.own-item.is c.loop-own.invariant (rw c.as_slice.ensures at c.in_ok-check_own.ensures.0)
 
 pub returns : goal.returns
@@ -37,8 +38,9 @@ returns g c =
     let IsSpec = g.R.Languages.is_spec in
     let rules = c.args.rules.now in
     let known = has_name c.in_ok-names.names in
-    let same = nested (group_checks known) placed_of rules ∙ same_checks known (is_defined c.args.groups.now) c.in_ok-names.ensures (all_placed rules) in (
+    let same = nested (group_checks known) (λ own. placed_of own.overrides) rules ∙ ap (flat_map (group_checks known)) (seen_placed (λ own. own.overrides) rules)
+    ∙ same_checks known (is_defined c.args.groups.now) c.in_ok-names.ensures (all_placed (overrides_of rules)) in (
       subst (λ (them : List Check). AllByRecursion (IsKept Is IsSpec) them) same
-          (kept_all Is IsSpec g.R.Languages.is_too_deep (λ own. flat_map (group_checks known) (placed_of own)) rules c.loop-own.own-index c.loop-own-test.false c.loop-own.invariant),
+          (kept_all Is IsSpec g.R.Languages.is_too_deep (λ own. flat_map (group_checks known) (placed_of own.overrides)) rules c.loop-own.own-index c.loop-own-test.false c.loop-own.invariant),
       tt,
     )

@@ -7,4 +7,4 @@ use Rattle.nextest_config_resolution_load.proofs.groups.check_groups.Given as go
 
 abbrev pub invariant-loop-own : goal.invariant-loop-own
 invariant-loop-own g l =
-    AllByRecursion (IsKept (g.R.Languages.is_filter l.cx) g.R.Languages.is_spec) (flat_map (λ own. flat_map (group_checks (has_name l.names)) (placed_of own)) (take l.own-index l.rules))
+    AllByRecursion (IsKept (g.R.Languages.is_filter l.cx) g.R.Languages.is_spec) (flat_map (λ own. flat_map (group_checks (has_name l.names)) (placed_of own.overrides)) (take l.own-index l.rules))

@@ -6,7 +6,7 @@ use Rattle.nextest_config_resolution_load.specs.Load.{IsKept}
 use Rattle.nextest_config_resolution_load.specs.Reading.{has_name, placed_in}
 use Rattle.nextest_config_resolution_load.specs.Refusing.{Passes}
 use Rattle.nextest_config_resolution_load.specs.Rules.{group_checks}
-use Rattle.nextest_config_resolution_load.proofs.GroupChecks.{mapped}
+use Rattle.nextest_config_resolution_load.proofs.NameChecks.{mapped}
 use Rattle.nextest_config_resolution_load.proofs.Passing.{kept_all, kept_at, passes_on, refuses_at}
 use Rattle.nextest_config_resolution_load.proofs.groups.check_own.Goals as goal
 

@@ -2,7 +2,7 @@ use Rattle.std.proofs.Common.{◌≡◌, Bor, List, filter_map, map, sym, ap, �
 use Rattle.std.specs.List.{AllByRecursion, flat_map, list_any}
 use Rattle.toml.specs.Data.{table, Members}
 use Rattle.toml.specs.View.{table_view}
-use Rattle.nextest_config_resolution_load.specs.Checks.{bad_merged, config_in, file_of, members_of, merged_in, raised, source_checks, value_checks}
+use Rattle.nextest_config_resolution_load.specs.Checks.{bad_merged, config_in, file_of, members_of, merged_in, moved, raised, source_checks, value_checks}
 use Rattle.nextest_config_resolution_load.specs.Files.{members_in}
 use Rattle.nextest_config_resolution_load.specs.Later.{is_later}
 use Rattle.nextest_config_resolution_load.specs.Load.{IsKept}
@@ -21,14 +21,15 @@ returns-in_err-read g c =
     let Is = g.R.Languages.is_filter c.args.cx.now in
     let IsSpec = g.R.Languages.is_spec in
     let IsTooDeep = g.R.Languages.is_too_deep in
+    let features = c.args.features in
     let built_in = table_view c.args.built_in.now in
     let sources = c.args.sources.now in
     let told = c.in_err-read.field-0.0 in
     let same : map (λ it. it.now) c.as_slice.result.now ≡ counted sources =
     ap (λ (lent : List (Bor ConfigSource)). map (λ it. it.now) lent) c.as_slice.ensures.value ∙ c.in_ok-counted.ensures in
-    passes_on Is IsSpec IsTooDeep (AreReadSources Is IsSpec built_in sources) (early_checks built_in sources) told c.from_residual-in_err-read.result
-    (refuses_before Is IsSpec IsTooDeep (flat_map source_checks (counted sources)) (value_checks bad_merged (config_in (merged_in built_in sources))) told
-    (subst (λ (all : List ConfigSource). RefusesFor Is IsSpec IsTooDeep (flat_map source_checks all) told) same c.in_err-read.ensures))
+    passes_on Is IsSpec IsTooDeep (AreReadSources Is IsSpec built_in sources) (early_checks features built_in sources) told c.from_residual-in_err-read.result
+    (refuses_before Is IsSpec IsTooDeep (flat_map (source_checks features) (counted sources)) (value_checks bad_merged (config_in (merged_in built_in sources))) told
+    (subst (λ (all : List ConfigSource). RefusesFor Is IsSpec IsTooDeep (flat_map (source_checks features) all) told) same c.in_err-read.ensures))
     c.from_residual-in_err-read.ensures.1
 
 pub returns-in_err-config : goal.returns-in_err-config
@@ -36,6 +37,7 @@ returns-in_err-config g c =
     let Is = g.R.Languages.is_filter c.args.cx.now in
     let IsSpec = g.R.Languages.is_spec in
     let IsTooDeep = g.R.Languages.is_too_deep in
+    let features = c.args.features in
     let built_in = table_view c.args.built_in.now in
     let sources = c.args.sources.now in
     let told = c.in_err-config.field-0.0 in
@@ -43,16 +45,17 @@ returns-in_err-config g c =
     ap (λ (lent : List (Bor ConfigSource)). map (λ it. it.now) lent) c.as_slice.ensures.value ∙ c.in_ok-counted.ensures in
     let files : map members_in c.as_slice-2.result.now ≡ filter_map file_of (counted sources) =
     ap (λ (them : List PlacedFile). map members_in them) c.as_slice-2.ensures.value ∙ c.in_ok-read.ensures.1.files ∙ ap (filter_map file_of) same in
-    passes_on Is IsSpec IsTooDeep (AreReadSources Is IsSpec built_in sources) (early_checks built_in sources) told c.from_residual-in_err-config.result
-    (refuses_behind Is IsSpec IsTooDeep (flat_map source_checks (counted sources)) (value_checks bad_merged (config_in (merged_in built_in sources))) told
-    (subst (λ (all : List ConfigSource). AllByRecursion (IsKept Is IsSpec) (flat_map source_checks all)) same c.in_ok-read.ensures.0)
-    (subst (λ (given : List Members). RefusesFor Is IsSpec IsTooDeep (value_checks bad_merged (config_in (members_of (raised (table built_in) given)))) told) files c.in_err-config.ensures.read))
+    passes_on Is IsSpec IsTooDeep (AreReadSources Is IsSpec built_in sources) (early_checks features built_in sources) told c.from_residual-in_err-config.result
+    (refuses_behind Is IsSpec IsTooDeep (flat_map (source_checks features) (counted sources)) (value_checks bad_merged (config_in (merged_in built_in sources))) told
+    (subst (λ (all : List ConfigSource). AllByRecursion (IsKept Is IsSpec) (flat_map (source_checks features) all)) same c.in_ok-read.ensures.0)
+    (subst (λ (given : List Members). RefusesFor Is IsSpec IsTooDeep (value_checks bad_merged (config_in (members_of (raised (table built_in) (map moved given))))) told) files c.in_err-config.ensures.read))
     c.from_residual-in_err-config.ensures.1
 
 pub returns : goal.returns
 returns g c =
     let Is = g.R.Languages.is_filter c.args.cx.now in
     let IsSpec = g.R.Languages.is_spec in
+    let features = c.args.features in
     let built_in = table_view c.args.built_in.now in
     let sources = c.args.sources.now in
     let config = c.in_ok-config.config in
@@ -61,11 +64,11 @@ returns g c =
     ap (λ (lent : List (Bor ConfigSource)). map (λ it. it.now) lent) c.as_slice.ensures.value ∙ c.in_ok-counted.ensures in
     let files : map members_in c.as_slice-2.result.now ≡ filter_map file_of (counted sources) =
     ap (λ (them : List PlacedFile). map members_in them) c.as_slice-2.ensures.value ∙ c.in_ok-read.ensures.1.files ∙ ap (filter_map file_of) same in (
-      kept_both Is IsSpec g.R.Languages.is_too_deep (flat_map source_checks (counted sources)) (value_checks bad_merged (config_in (merged_in built_in sources)))
-          (subst (λ (all : List ConfigSource). AllByRecursion (IsKept Is IsSpec) (flat_map source_checks all)) same c.in_ok-read.ensures.0)
-          (subst (λ (given : List Members). AllByRecursion (IsKept Is IsSpec) (value_checks bad_merged (config_in (members_of (raised (table built_in) given))))) files c.in_ok-config.ensures.read.0),
+      kept_both Is IsSpec g.R.Languages.is_too_deep (flat_map (source_checks features) (counted sources)) (value_checks bad_merged (config_in (merged_in built_in sources)))
+          (subst (λ (all : List ConfigSource). AllByRecursion (IsKept Is IsSpec) (flat_map (source_checks features) all)) same c.in_ok-read.ensures.0)
+          (subst (λ (given : List Members). AllByRecursion (IsKept Is IsSpec) (value_checks bad_merged (config_in (members_of (raised (table built_in) (map moved given)))))) files c.in_ok-config.ensures.read.0),
       record {
-        values = subst (λ (given : List Members). config_in (members_of (raised (table built_in) given)) ≡ read_as config) files c.in_ok-config.ensures.read.1;
+        values = subst (λ (given : List Members). config_in (members_of (raised (table built_in) (map moved given))) ≡ read_as config) files c.in_ok-config.ensures.read.1;
         rises = c.in_ok-config.ensures.rises;
         later = c.in_ok-config.ensures.later ∙ ap (list_any is_later) files ∙ later_files (counted sources);
         told = c.in_ok-read.ensures.1.told ∙ ap (flat_map told_of) same;

@@ -3,7 +3,7 @@ use Rattle.std.proofs.lemmas.Grind.{common_steps}
 use Rattle.std.proofs.lemmas.List.{drop_more}
 use Rattle.toml.specs.Data.{table}
 use Rattle.nextest_config_resolution_tree.specs.Tree.{over}
-use Rattle.nextest_config_resolution_load.specs.Files.{members_in}
+use Rattle.nextest_config_resolution_load.specs.Files.{layered_in}
 use Rattle.nextest_config_resolution_load.specs.Checks.{raised}
 use Rattle.nextest_config_resolution_load.proofs.merging.merge_files.Goals as goal
 
@@ -15,7 +15,7 @@ loop-file-preserved c =
     let before = c.loop-file.invariant.0 in
     let at : get_or files place file ≡ file = grind (arith, common_steps) in
     let step : drop place files ≡ file ∷ drop (place + 1) files = drop_more files place file c.loop-file-test.true ∙ ap (λ it. it ∷ drop (place + 1) files) at in (
-      over (table (members_in file)) (Some before),
-      c.in_ok-tree-2.ensures (table (members_in file)) before c.in_ok-from_table.ensures c.loop-file.invariant.1,
-      ap (λ left. raised before (map members_in left)) (sym step) ∙ c.loop-file.invariant.2,
+      over (table (layered_in file)) (Some before),
+      c.in_ok-tree-2.ensures (table (layered_in file)) before c.in_ok-file_tree.ensures c.loop-file.invariant.1,
+      ap (λ left. raised before (map layered_in left)) (sym step) ∙ c.loop-file.invariant.2,
     )

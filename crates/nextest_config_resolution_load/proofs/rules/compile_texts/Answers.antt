@@ -1,7 +1,8 @@
-use Rattle.std.proofs.Common.{List, ◌++◌, ℕ, Option, subst}
-use Rattle.std.specs.List.{AllByRecursion}
-use Rattle.nextest_config_resolution_load.specs.Load.{IsCompiledOverride, IsKept}
-use Rattle.nextest_config_resolution_load.specs.Rules.{filter_checks, host_of, spec_checks, target_of, text_checks}
+use Rattle.std.proofs.Common.{◌++◌}
+use Rattle.nextest_config_resolution_load.specs.Load.{IsCompiledRule}
+use Rattle.nextest_config_resolution_load.specs.RuleIds.{rule_of}
+use Rattle.nextest_config_resolution_load.specs.RuleTexts.{texts_of}
+use Rattle.nextest_config_resolution_load.specs.Rules.{filter_checks, listing_checks, spec_checks, text_checks}
 use Rattle.nextest_config_resolution_load.specs.declared.languages.FilterPurpose.TheVariants as purpose
 use Rattle.nextest_config_resolution_load.specs.declared.load_fault.PlatformSide.TheVariants as side
 use Rattle.nextest_config_resolution_load.proofs.Passing.{passes_on, refuses_before, refuses_behind}
@@ -12,15 +13,56 @@ returns-in_err-filter g c =
     let Is = g.R.Languages.is_filter c.args.cx.now in
     let IsSpec = g.R.Languages.is_spec in
     let IsTooDeep = g.R.Languages.is_too_deep in
-    let id = c.args.id.now in
-    let config = c.args.config.now in
+    let id = rule_of c.args.id in
+    let texts = texts_of c.args.texts.now in
+    let host = spec_checks id side.Host texts.host in
+    let target = spec_checks id side.Target texts.target in
+    let own = filter_checks id purpose.Override texts.filter in
+    let default = filter_checks id purpose.Default texts.default_filter in
+    let listing = listing_checks c.args.wraps id texts.filter in
     let told = c.in_err-filter.field-0.0 in
-    let target = spec_checks id side.Target (target_of config) in
-    let own = filter_checks id purpose.Override config.filter in
-    let default = filter_checks id purpose.Default config.default_filter in
-    let host_kept = subst (λ (text : Option (List ℕ)). AllByRecursion (IsKept Is IsSpec) (spec_checks id side.Host text)) c.host_of.ensures c.in_ok-host.ensures.0 in
-    let target_kept = subst (λ (text : Option (List ℕ)). AllByRecursion (IsKept Is IsSpec) (spec_checks id side.Target text)) c.target_of.ensures c.in_ok-target.ensures.0 in
-    passes_on Is IsSpec IsTooDeep (IsCompiledOverride Is IsSpec config) (text_checks id config) told c.from_residual-in_err-filter.result
-    (refuses_behind Is IsSpec IsTooDeep (spec_checks id side.Host (host_of config)) (target ++ (own ++ default)) told host_kept
-    (refuses_behind Is IsSpec IsTooDeep target (own ++ default) told target_kept (refuses_before Is IsSpec IsTooDeep own default told c.in_err-filter.ensures)))
+    passes_on Is IsSpec IsTooDeep (IsCompiledRule Is IsSpec texts) (text_checks c.args.wraps id texts) told c.from_residual-in_err-filter.result
+    (refuses_behind Is IsSpec IsTooDeep host (target ++ (own ++ (default ++ listing))) told c.in_ok-host.ensures.0
+    (refuses_behind Is IsSpec IsTooDeep target (own ++ (default ++ listing)) told c.in_ok-target.ensures.0
+    (refuses_before Is IsSpec IsTooDeep own (default ++ listing) told c.in_err-filter.ensures)))
     c.from_residual-in_err-filter.ensures.1
+
+pub returns-in_err-default_filter : goal.returns-in_err-default_filter
+returns-in_err-default_filter g c =
+    let Is = g.R.Languages.is_filter c.args.cx.now in
+    let IsSpec = g.R.Languages.is_spec in
+    let IsTooDeep = g.R.Languages.is_too_deep in
+    let id = rule_of c.args.id in
+    let texts = texts_of c.args.texts.now in
+    let host = spec_checks id side.Host texts.host in
+    let target = spec_checks id side.Target texts.target in
+    let own = filter_checks id purpose.Override texts.filter in
+    let default = filter_checks id purpose.Default texts.default_filter in
+    let listing = listing_checks c.args.wraps id texts.filter in
+    let told = c.in_err-default_filter.field-0.0 in
+    passes_on Is IsSpec IsTooDeep (IsCompiledRule Is IsSpec texts) (text_checks c.args.wraps id texts) told c.from_residual-in_err-default_filter.result
+    (refuses_behind Is IsSpec IsTooDeep host (target ++ (own ++ (default ++ listing))) told c.in_ok-host.ensures.0
+    (refuses_behind Is IsSpec IsTooDeep target (own ++ (default ++ listing)) told c.in_ok-target.ensures.0
+    (refuses_behind Is IsSpec IsTooDeep own (default ++ listing) told c.in_ok-filter.ensures.0
+    (refuses_before Is IsSpec IsTooDeep default listing told c.in_err-default_filter.ensures))))
+    c.from_residual-in_err-default_filter.ensures.1
+
+pub returns-in_err-check_listing : goal.returns-in_err-check_listing
+returns-in_err-check_listing g c =
+    let Is = g.R.Languages.is_filter c.args.cx.now in
+    let IsSpec = g.R.Languages.is_spec in
+    let IsTooDeep = g.R.Languages.is_too_deep in
+    let id = rule_of c.args.id in
+    let texts = texts_of c.args.texts.now in
+    let host = spec_checks id side.Host texts.host in
+    let target = spec_checks id side.Target texts.target in
+    let own = filter_checks id purpose.Override texts.filter in
+    let default = filter_checks id purpose.Default texts.default_filter in
+    let listing = listing_checks c.args.wraps id texts.filter in
+    let told = c.in_err-check_listing.field-0.0 in
+    passes_on Is IsSpec IsTooDeep (IsCompiledRule Is IsSpec texts) (text_checks c.args.wraps id texts) told c.from_residual-in_err-check_listing.result
+    (refuses_behind Is IsSpec IsTooDeep host (target ++ (own ++ (default ++ listing))) told c.in_ok-host.ensures.0
+    (refuses_behind Is IsSpec IsTooDeep target (own ++ (default ++ listing)) told c.in_ok-target.ensures.0
+    (refuses_behind Is IsSpec IsTooDeep own (default ++ listing) told c.in_ok-filter.ensures.0
+    (refuses_behind Is IsSpec IsTooDeep default listing told c.in_ok-default_filter.ensures.0 (c.in_err-check_listing.ensures c.in_ok-filter.ensures.1)))))
+    c.from_residual-in_err-check_listing.ensures.1
