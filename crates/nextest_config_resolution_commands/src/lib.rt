@@ -1,0 +1,8 @@
+//! The commands of scripts: the names of scripts, how a command is read, and where its program stands.
+#![tactic(auto)]
+
+mod script_command;
+mod script_id;
+
+pub use script_command::{ScriptCommand, ScriptCommandEnvMap, ScriptCommandRelativeTo};
+pub use script_id::ScriptId;
