@@ -3,6 +3,8 @@
 
 mod script_command;
 mod script_id;
+mod values_below;
 
 pub use script_command::{ScriptCommand, ScriptCommandEnvMap, ScriptCommandRelativeTo};
 pub use script_id::ScriptId;
+pub use values_below::{below, defaulted_value, optional_value, required_value};

@@ -1,0 +1,110 @@
+// Values that are read below a path of any length.
+ghost use Rattle.std.specs.Prelude.{◌≡◌, [], ◌∷◌, ◌++◌, None, Ok, Err, IfOk};
+ghost use Rattle.std.specs.Option.{option_map_or};
+ghost use Rattle.toml.specs.Data.{get_member};
+ghost use Rattle.toml.specs.View.{table_view, view};
+ghost use Rattle.nextest_config_elements_reading.specs.Paths.{Gives, texts};
+ghost use Rattle.nextest_config_elements_reading.specs.Reading.{under};
+ghost use Rattle.nextest_config_elements_readers.specs.Keys.{optional_by};
+ghost use Rattle.nextest_config_resolution_commands.specs.Below.{IsBelow, defaulted_by, required_by};
+
+use nextest_config_elements_readers::{DeserializeValue, member};
+use nextest_config_elements_reading::{KeyPath, ValueError, refused_below};
+use std::alloc::{AllocError, Global};
+use toml::{Table, Value};
+
+/// What was refused, told below a key of the table at a path: with these in front of its own path, and else as it was. Want of
+/// memory stays, and may be what comes of another error.
+pub fn below(alloc: Global, path: &[&str], key: &str, error: ValueError) -> ValueError
+    ensures { IsBelow (texts path.now ++ key.now ∷ []) error result }
+{
+    let ValueError::Refused(mut bad) = error else {
+        return ValueError::OutOfMemory;
+    };
+    match path_below(alloc, path, key, &bad.path) {
+        Ok(whole) => {
+            bad.path = whole;
+            ValueError::Refused(bad)
+        }
+        Err(AllocError) => ValueError::OutOfMemory,
+    }
+}
+
+// A path that begins with others.
+fn path_below(
+    alloc: Global,
+    path: &[&str],
+    key: &str,
+    inner: &KeyPath,
+) -> Result<KeyPath, AllocError>
+    ensures { IfOk result (λ whole. whole.keys ≡ (texts path.now ++ key.now ∷ []) ++ inner.now.keys) }
+{
+    let mut whole = KeyPath::of_keys(alloc, path, &[key])?;
+    for inner_key in inner.keys.as_slice() {
+        whole.keys.push(inner_key.clone()?)?;
+    }
+    Ok(whole)
+}
+
+/// The value of a key that may be left out, by the reader of its type.
+pub fn optional_value<T: DeserializeValue>(
+    alloc: Global,
+    table: &Table,
+    path: &[&str],
+    key: &str,
+) -> Result<Option<T>, ValueError>
+    ensures { Gives path.now result (optional_by key.now T.reading (table_view table.now)) }
+{
+    match member(table, key) {
+        None => Ok(None),
+        Some(value) => Ok(Some(value_below(alloc, value, path, key)?)),
+    }
+}
+
+/// The value of a key that must stand, by the reader of its type. Where it is missing, `expected` says what may stand there.
+pub fn required_value<T: DeserializeValue>(
+    alloc: Global,
+    table: &Table,
+    path: &[&str],
+    key: &str,
+    expected: &'static str,
+) -> Result<T, ValueError>
+    ensures { Gives path.now result (required_by key.now T.reading (table_view table.now)) }
+{
+    match member(table, key) {
+        None => Err(refused_below(alloc, path, key, None, expected)),
+        Some(value) => value_below(alloc, value, path, key),
+    }
+}
+
+/// The value of a key for which something else stands where it is left out, by the reader of its type.
+pub fn defaulted_value<T: DeserializeValue>(
+    alloc: Global,
+    table: &Table,
+    path: &[&str],
+    key: &str,
+    otherwise: T,
+) -> Result<T, ValueError>
+    ensures { Gives path.now result (defaulted_by key.now T.reading otherwise (table_view table.now)) }
+{
+    match member(table, key) {
+        None => Ok(otherwise),
+        Some(value) => value_below(alloc, value, path, key),
+    }
+}
+
+// The value of a key that stands.
+#[tactic(auto, using(crate::proofs::Giving::gives_below))]
+fn value_below<T: DeserializeValue>(
+    alloc: Global,
+    value: &Value,
+    path: &[&str],
+    key: &str,
+) -> Result<T, ValueError>
+    ensures { Gives path.now result (under key.now (T.reading (view value.now))) }
+{
+    match T::deserialize(alloc, value, &[]) {
+        Ok(found) => Ok(found),
+        Err(error) => Err(below(alloc, path, key, error)),
+    }
+}
