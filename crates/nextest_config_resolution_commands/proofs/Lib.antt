@@ -1,1 +1,4 @@
+pub mod Bytes
+pub mod Divided
 pub mod Giving
+pub mod Pieced

@@ -1,2 +1,5 @@
 pub mod Below
+pub mod Laws
 pub mod Programs
+pub mod Splitting
+pub mod Words

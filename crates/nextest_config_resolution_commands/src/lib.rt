@@ -1,8 +1,10 @@
 //! The commands of scripts: the names of scripts, how a command is read, and where its program stands.
 #![tactic(auto)]
 
+pub mod laws;
 mod script_command;
 mod script_id;
+mod steps;
 mod values_below;
 
 pub use script_command::{ScriptCommand, ScriptCommandEnvMap, ScriptCommandRelativeTo};

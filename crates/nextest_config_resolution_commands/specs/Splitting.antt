@@ -1,0 +1,104 @@
+-- The words of a text, read from the left, byte by byte.
+use Rattle.std.specs.Prelude.{ℕ, ◌==◌, List, [], ◌∷◌, ◌++◌, Option, None, Some, option_map, if◌then◌else◌}
+use Rattle.nextest_config_resolution_commands.specs.declared.steps.Kind.{Kind}
+use Rattle.nextest_config_resolution_commands.specs.declared.steps.Kind.TheVariants as kind
+use Rattle.nextest_config_resolution_commands.specs.declared.steps.Place.{Place}
+use Rattle.nextest_config_resolution_commands.specs.declared.steps.Place.TheVariants as place
+use Rattle.nextest_config_resolution_commands.specs.declared.steps.Step.{Step}
+use Rattle.nextest_config_resolution_commands.specs.declared.steps.Step.TheVariants as step
+
+-- what a byte is
+abbrev pub kind_of : ℕ → Kind
+kind_of byte =
+    if byte == 10 then kind.LineFeed
+    else if byte == 32 then kind.Blank
+    else if byte == 9 then kind.Blank
+    else if byte == 39 then kind.Quote
+    else if byte == 34 then kind.DoubleQuote
+    else if byte == 92 then kind.Backslash
+    else if byte == 35 then kind.Hash
+    else if byte == 36 then kind.Taken
+    else if byte == 96 then kind.Taken
+    else kind.Other
+
+-- what becomes of a byte, by where it stands
+abbrev pub between : Kind → Step
+between kind.LineFeed = step.Pass place.Between
+between kind.Blank = step.Pass place.Between
+between kind.Quote = step.Pass place.Literal
+between kind.DoubleQuote = step.Pass place.Quoted
+between kind.Backslash = step.Pass place.BetweenEscaped
+between kind.Hash = step.Pass place.Comment
+between kind.Taken = step.Take place.Inside
+between kind.Other = step.Take place.Inside
+
+abbrev pub inside : Kind → Step
+inside kind.LineFeed = step.End
+inside kind.Blank = step.End
+inside kind.Quote = step.Pass place.Literal
+inside kind.DoubleQuote = step.Pass place.Quoted
+inside kind.Backslash = step.Pass place.InsideEscaped
+inside kind.Hash = step.Take place.Inside
+inside kind.Taken = step.Take place.Inside
+inside kind.Other = step.Take place.Inside
+
+abbrev pub escaped : Place → Kind → Step
+escaped before kind.LineFeed = step.Pass before
+escaped before it = step.Take place.Inside
+
+abbrev pub literal : Kind → Step
+literal kind.Quote = step.Pass place.Inside
+literal it = step.Take place.Literal
+
+abbrev pub quoted : Kind → Step
+quoted kind.DoubleQuote = step.Pass place.Inside
+quoted kind.Backslash = step.Pass place.QuotedEscaped
+quoted it = step.Take place.Quoted
+
+abbrev pub quoted_escaped : Kind → Step
+quoted_escaped kind.LineFeed = step.Pass place.Quoted
+quoted_escaped kind.DoubleQuote = step.Take place.Quoted
+quoted_escaped kind.Backslash = step.Take place.Quoted
+quoted_escaped kind.Taken = step.Take place.Quoted
+quoted_escaped it = step.Keep place.Quoted
+
+abbrev pub comment : Kind → Step
+comment kind.LineFeed = step.Pass place.Between
+comment it = step.Pass place.Comment
+
+abbrev pub step_at : Place → Kind → Step
+step_at place.Between it = between it
+step_at place.BetweenEscaped it = escaped place.Between it
+step_at place.Inside it = inside it
+step_at place.InsideEscaped it = escaped place.Inside it
+step_at place.Literal it = literal it
+step_at place.Quoted it = quoted it
+step_at place.QuotedEscaped it = quoted_escaped it
+step_at place.Comment it = comment it
+
+-- the words of a text that ends here, the last of which was read so far
+abbrev pub at_end : Place → List ℕ → Option (List (List ℕ))
+at_end place.Between word = Some []
+at_end place.BetweenEscaped word = Some ((word ++ 92 ∷ []) ∷ [])
+at_end place.Inside word = Some (word ∷ [])
+at_end place.InsideEscaped word = Some ((word ++ 92 ∷ []) ∷ [])
+at_end place.Literal word = None
+at_end place.Quoted word = None
+at_end place.QuotedEscaped word = None
+at_end place.Comment word = Some []
+
+-- the words by a step: what comes behind is read on
+abbrev pub by_step : (Place → List ℕ → Option (List (List ℕ))) → Step → List ℕ → ℕ → Option (List (List ℕ))
+by_step further (step.Pass to) word byte = further to word
+by_step further (step.Take to) word byte = further to (word ++ byte ∷ [])
+by_step further (step.Keep to) word byte = further to (word ++ 92 ∷ byte ∷ [])
+by_step further step.End word byte = option_map (λ words. word ∷ words) (further place.Between [])
+
+-- the words from a place on, of which a word was read so far
+abbrev pub words_from : List ℕ → Place → List ℕ → Option (List (List ℕ))
+words_from [] at word = at_end at word
+words_from (byte ∷ text) at word = by_step (words_from text) (step_at at (kind_of byte)) word byte
+
+-- the words of a text; none where a quote isn't closed
+abbrev pub words_of : List ℕ → Option (List (List ℕ))
+words_of text = words_from text place.Between []
