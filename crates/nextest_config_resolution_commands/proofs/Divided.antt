@@ -247,8 +247,8 @@ against one byte = elim (cases_Bool (eqb byte one)) [
 ]
 
 -- what is read behind a step that is known
-known : (text word : List ℕ) (words : List (List ℕ)) (byte : ℕ) (a b : Step) → a ≡ b → by_step (words_from text) a word byte ≡ Some words
-    → by_step (words_from text) b word byte ≡ Some words
+known : (text word : List ℕ) (words : List (List ℕ)) (byte : ℕ) (a b : Step) → a ≡ b → by_step (words_from text) a word (byte ∷ []) ≡ Some words
+    → by_step (words_from text) b word (byte ∷ []) ≡ Some words
 known text word words byte a b is e = sym (stepped text word byte a b is) ∙ e
 
 at_between : (text : List ℕ) → Reads text → {byte : ℕ} → Byte byte → (word : List ℕ) (words : List (List ℕ))

@@ -1,4 +1,5 @@
 pub mod Bytes
+pub mod Characters
 pub mod Divided
 pub mod Giving
 pub mod Pieced

@@ -16,8 +16,8 @@ abbrev pub Split : Type 0
 Split = Option (List (List ℕ))
 
 -- a step that is known is taken
-pub stepped : (text word : List ℕ) (byte : ℕ) (a b : Step) → a ≡ b → by_step (words_from text) a word byte ≡ by_step (words_from text) b word byte
-stepped text word byte a b e = ap (λ (it : Step). by_step (words_from text) it word byte) e
+pub stepped : (text word : List ℕ) (byte : ℕ) (a b : Step) → a ≡ b → by_step (words_from text) a word (byte ∷ []) ≡ by_step (words_from text) b word (byte ∷ [])
+stepped text word byte a b e = ap (λ (it : Step). by_step (words_from text) it word (byte ∷ [])) e
 
 -- one byte more of a word, and what follows
 one_more : (at : Place) (rest word said : List ℕ) (byte : ℕ)

@@ -1,5 +1,6 @@
 pub mod Below
 pub mod Laws
 pub mod Programs
+pub mod SoFar
 pub mod Splitting
 pub mod Words

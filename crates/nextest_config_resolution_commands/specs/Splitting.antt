@@ -87,17 +87,17 @@ at_end place.Quoted word = None
 at_end place.QuotedEscaped word = None
 at_end place.Comment word = Some []
 
--- the words by a step: what comes behind is read on
-abbrev pub by_step : (Place → List ℕ → Option (List (List ℕ))) → Step → List ℕ → ℕ → Option (List (List ℕ))
-by_step further (step.Pass to) word byte = further to word
-by_step further (step.Take to) word byte = further to (word ++ byte ∷ [])
-by_step further (step.Keep to) word byte = further to (word ++ 92 ∷ byte ∷ [])
-by_step further step.End word byte = option_map (λ words. word ∷ words) (further place.Between [])
+-- the words by what becomes of a character, of these bytes: what comes behind is read on
+abbrev pub by_step : (Place → List ℕ → Option (List (List ℕ))) → Step → List ℕ → List ℕ → Option (List (List ℕ))
+by_step further (step.Pass to) word character = further to word
+by_step further (step.Take to) word character = further to (word ++ character)
+by_step further (step.Keep to) word character = further to (word ++ 92 ∷ character)
+by_step further step.End word character = option_map (λ words. word ∷ words) (further place.Between [])
 
 -- the words from a place on, of which a word was read so far
 abbrev pub words_from : List ℕ → Place → List ℕ → Option (List (List ℕ))
 words_from [] at word = at_end at word
-words_from (byte ∷ text) at word = by_step (words_from text) (step_at at (kind_of byte)) word byte
+words_from (byte ∷ text) at word = by_step (words_from text) (step_at at (kind_of byte)) word (byte ∷ [])
 
 -- the words of a text; none where a quote isn't closed
 abbrev pub words_of : List ℕ → Option (List (List ℕ))
