@@ -2,4 +2,5 @@ pub mod Bytes
 pub mod Characters
 pub mod Divided
 pub mod Giving
+pub mod Listed
 pub mod Pieced

@@ -1,4 +1,5 @@
 pub mod Below
+pub mod Commands
 pub mod Laws
 pub mod Programs
 pub mod SoFar

@@ -1,0 +1,74 @@
+// The environment variables of a command.
+ghost use Rattle.toml.specs.View.{table_view, view};
+ghost use Rattle.nextest_config_elements_reading.specs.Paths.{Gives};
+ghost use Rattle.nextest_config_elements_reading.specs.Reading.{under};
+ghost use Rattle.nextest_config_resolution_commands.specs.Commands as read;
+
+use crate::script_command::ScriptCommandEnvMap;
+use nextest_config_elements_readers::DeserializeValue;
+use nextest_config_elements_reading::{ValueError, refused, refused_below};
+use nextest_text::{Listing, Text};
+use std::alloc::Global;
+use toml::{Table, Value};
+
+impl DeserializeValue for ScriptCommandEnvMap {
+    ghost reading = { read.env_in };
+
+    fn deserialize(
+        alloc: Global,
+        value: &Value,
+        path: &[&str],
+    ) -> Result<ScriptCommandEnvMap, ValueError> {
+        env_in(alloc, value, path)
+    }
+}
+
+// A table of variables.
+fn env_in(alloc: Global, value: &Value, path: &[&str]) -> Result<ScriptCommandEnvMap, ValueError>
+    ensures { Gives path.now result (read.env_in (view value.now)) }
+{
+    match value {
+        Value::Table(table) => {
+            let variables = variables_in(alloc, table, path)?;
+            Ok(ScriptCommandEnvMap { variables })
+        }
+        _ => Err(refused(alloc, path, Some(value), "a table of texts")),
+    }
+}
+
+// Each key of a table is a variable.
+fn variables_in(
+    alloc: Global,
+    table: &Table,
+    path: &[&str],
+) -> Result<Listing<(Text, Text)>, ValueError>
+    ensures { Gives path.now result (read.variables_in (table_view table.now)) }
+{
+    let mut variables = Listing::new(alloc);
+    for (name, given) in table {
+        let variable = variable_of(alloc, name.as_str(), given, path)?;
+        variables.push(variable)?;
+    }
+    Ok(variables)
+}
+
+// The variable of a name, with what stands there.
+fn variable_of(
+    alloc: Global,
+    name: &str,
+    given: &Value,
+    path: &[&str],
+) -> Result<(Text, Text), ValueError>
+    ensures { Gives path.now result (under name.now (read.variable_in name.now (view given.now))) }
+{
+    if name.starts_with("NEXTEST") {
+        let expected = "nothing: names that begin with `NEXTEST` are taken";
+        return Err(refused_below(alloc, path, name, Some(given), expected));
+    }
+    let Value::String(text) = given else {
+        return Err(refused_below(alloc, path, name, Some(given), "a string"));
+    };
+    let name = Text::from_str(alloc, name)?;
+    let text = Text::from_str(alloc, text.as_str())?;
+    Ok((name, text))
+}
