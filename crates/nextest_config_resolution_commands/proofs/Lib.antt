@@ -1,6 +1,8 @@
+pub mod Accepting
 pub mod Bytes
 pub mod Characters
 pub mod Divided
 pub mod Giving
 pub mod Listed
 pub mod Pieced
+pub mod Stands

@@ -4,7 +4,7 @@ use Rattle.std.specs.Option.{option_map_or}
 use Rattle.std.specs.List.{starts_with}
 use Rattle.toml.specs.Data.{Data, string, table, Members, no_members, member, as_str}
 use Rattle.nextest_config_elements_reading.specs.Reading.{Reading, ◌>>=◌, defaulted, under}
-use Rattle.nextest_config_elements_readers.specs.Keys.{texts_of}
+use Rattle.nextest_config_elements_readers.specs.Keys.{table_by, texts_of}
 use Rattle.nextest_config_elements_readers.specs.Words.{one_of}
 use Rattle.nextest_config_resolution_commands.specs.Below.{defaulted_by, required_by}
 use Rattle.nextest_config_resolution_commands.specs.Splitting.{words_of}
@@ -48,12 +48,14 @@ variables_in (member name given more) = do
   variables ← variables_in more
   Ok (variable ∷ variables)
 
--- a table of variables
-abbrev pub env_in : Data → Reading ScriptCommandEnvMap
-env_in (table members) = do
+abbrev pub env_of : Members → Reading ScriptCommandEnvMap
+env_of members = do
   variables ← variables_in members
   Ok (record { variables = variables })
-env_in given = Err []
+
+-- a table of variables
+abbrev pub env_in : Data → Reading ScriptCommandEnvMap
+env_in = table_by env_of
 
 -- without the key there are none
 abbrev pub no_variables : ScriptCommandEnvMap
