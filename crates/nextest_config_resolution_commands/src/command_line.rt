@@ -41,9 +41,13 @@ pub(crate) fn line_in(
             let words = split_words(alloc, text.as_str())?;
             accepted_line(alloc, value, path, words)
         }
-        _ => {
+        Value::Array(_) => {
             let words = deserialize_texts(alloc, value, path)?;
             accepted_line(alloc, value, path, Some(words))
+        }
+        _ => {
+            let expected = "a command: a string or an array of strings";
+            Err(refused(alloc, path, Some(value), expected))
         }
     }
 }

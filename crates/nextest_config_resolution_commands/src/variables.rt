@@ -1,14 +1,15 @@
 // The environment variables of a command.
+ghost use Rattle.std.specs.Prelude.{◌≡◌, [], ◌∷◌, ◌++◌, IfOk};
 ghost use Rattle.toml.specs.View.{table_view, view};
-ghost use Rattle.nextest_config_elements_reading.specs.Paths.{Gives};
+ghost use Rattle.nextest_config_elements_reading.specs.Paths.{Gives, texts};
 ghost use Rattle.nextest_config_elements_reading.specs.Reading.{under};
 ghost use Rattle.nextest_config_resolution_commands.specs.Commands as read;
 
 use crate::script_command::ScriptCommandEnvMap;
 use nextest_config_elements_readers::DeserializeValue;
-use nextest_config_elements_reading::{ValueError, refused, refused_below};
+use nextest_config_elements_reading::{BadValue, KeyPath, ValueError, refused, refused_below};
 use nextest_text::{Listing, Text};
-use std::alloc::Global;
+use std::alloc::{AllocError, Global};
 use toml::{Table, Value};
 
 impl DeserializeValue for ScriptCommandEnvMap {
@@ -32,7 +33,7 @@ fn env_in(alloc: Global, value: &Value, path: &[&str]) -> Result<ScriptCommandEn
             let variables = variables_in(alloc, table, path)?;
             Ok(ScriptCommandEnvMap { variables })
         }
-        _ => Err(refused(alloc, path, Some(value), "a table of texts")),
+        _ => Err(refused(alloc, path, Some(value), "a table of strings")),
     }
 }
 
@@ -62,8 +63,7 @@ fn variable_of(
     ensures { Gives path.now result (under name.now (read.variable_in name.now (view given.now))) }
 {
     if name.starts_with("NEXTEST") {
-        let expected = "nothing: names that begin with `NEXTEST` are taken";
-        return Err(refused_below(alloc, path, name, Some(given), expected));
+        return Err(ValueError::Refused(bad_name(alloc, name, path)?));
     }
     let Value::String(text) = given else {
         return Err(refused_below(alloc, path, name, Some(given), "a string"));
@@ -71,4 +71,15 @@ fn variable_of(
     let name = Text::from_str(alloc, name)?;
     let text = Text::from_str(alloc, text.as_str())?;
     Ok((name, text))
+}
+
+// A name that is taken, told as it is written.
+fn bad_name(alloc: Global, name: &str, path: &[&str]) -> Result<BadValue, AllocError>
+    ensures { IfOk result (λ bad. bad.path.keys ≡ texts path.now ++ name.now ∷ []) }
+{
+    Ok(BadValue {
+        path: KeyPath::of_keys(alloc, path, &[name])?,
+        expected: "the name of a variable, which doesn't begin with `NEXTEST`",
+        found: Text::from(format!(in alloc; "{name:?}")?),
+    })
 }
