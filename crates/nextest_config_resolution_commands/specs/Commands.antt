@@ -31,11 +31,13 @@ line_in given = do
   words ← texts_of given
   accepted_line (Some words)
 
+-- a name with a text
+abbrev pub named_text : List ℕ → Data → Option (List ℕ × List ℕ)
+named_text name given = option_map_or (λ text. Some (name, text)) (as_str given) None
+
 -- a variable: any name but those that begin with `NEXTEST`, with a text
 abbrev pub variable_of : List ℕ → Data → Option (List ℕ × List ℕ)
-variable_of name given =
-    if starts_with nat_eq name (codes "NEXTEST") then None
-    else option_map_or (λ text. Some (name, text)) (as_str given) None
+variable_of name given = if starts_with nat_eq name (codes "NEXTEST") then None else named_text name given
 
 abbrev pub variable_in : List ℕ → Data → Reading (List ℕ × List ℕ)
 variable_in name given = option_map_or Ok (variable_of name given) (Err [])

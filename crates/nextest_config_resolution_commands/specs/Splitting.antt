@@ -21,7 +21,7 @@ kind_of byte =
     else if byte == 96 then kind.Taken
     else kind.Other
 
--- what becomes of a byte, by where it stands
+-- what becomes of a byte before a word
 abbrev pub between : Kind → Step
 between kind.LineFeed = step.Pass place.Between
 between kind.Blank = step.Pass place.Between
@@ -32,6 +32,7 @@ between kind.Hash = step.Pass place.Comment
 between kind.Taken = step.Take place.Inside
 between kind.Other = step.Take place.Inside
 
+-- in a word, outside of quotes
 abbrev pub inside : Kind → Step
 inside kind.LineFeed = step.End
 inside kind.Blank = step.End
@@ -42,19 +43,23 @@ inside kind.Hash = step.Take place.Inside
 inside kind.Taken = step.Take place.Inside
 inside kind.Other = step.Take place.Inside
 
+-- behind a backslash there, which stood at a place
 abbrev pub escaped : Place → Kind → Step
 escaped before kind.LineFeed = step.Pass before
 escaped before it = step.Take place.Inside
 
+-- between single quotes
 abbrev pub literal : Kind → Step
 literal kind.Quote = step.Pass place.Inside
 literal it = step.Take place.Literal
 
+-- between double quotes
 abbrev pub quoted : Kind → Step
 quoted kind.DoubleQuote = step.Pass place.Inside
 quoted kind.Backslash = step.Pass place.QuotedEscaped
 quoted it = step.Take place.Quoted
 
+-- there, behind a backslash
 abbrev pub quoted_escaped : Kind → Step
 quoted_escaped kind.LineFeed = step.Pass place.Quoted
 quoted_escaped kind.DoubleQuote = step.Take place.Quoted
@@ -62,10 +67,12 @@ quoted_escaped kind.Backslash = step.Take place.Quoted
 quoted_escaped kind.Taken = step.Take place.Quoted
 quoted_escaped it = step.Keep place.Quoted
 
+-- in a comment
 abbrev pub comment : Kind → Step
 comment kind.LineFeed = step.Pass place.Between
 comment it = step.Pass place.Comment
 
+-- at any place
 abbrev pub step_at : Place → Kind → Step
 step_at place.Between it = between it
 step_at place.BetweenEscaped it = escaped place.Between it
@@ -76,7 +83,7 @@ step_at place.Quoted it = quoted it
 step_at place.QuotedEscaped it = quoted_escaped it
 step_at place.Comment it = comment it
 
--- the words of a text that ends here, the last of which was read so far
+-- the words of a text that ends here, the last of them as far as it was read
 abbrev pub at_end : Place → List ℕ → Option (List (List ℕ))
 at_end place.Between word = Some []
 at_end place.BetweenEscaped word = Some ((word ++ 92 ∷ []) ∷ [])
@@ -94,7 +101,7 @@ by_step further (step.Take to) word character = further to (word ++ character)
 by_step further (step.Keep to) word character = further to (word ++ 92 ∷ character)
 by_step further step.End word character = option_map (λ words. word ∷ words) (further place.Between [])
 
--- the words from a place on, of which a word was read so far
+-- the words from a place on, the first of them with what was read of it before
 abbrev pub words_from : List ℕ → Place → List ℕ → Option (List (List ℕ))
 words_from [] at word = at_end at word
 words_from (byte ∷ text) at word = by_step (words_from text) (step_at at (kind_of byte)) word (byte ∷ [])

@@ -10,7 +10,7 @@ is_divider byte = byte == 32 || byte == 9 || byte == 10
 abbrev pub is_taken : ℕ → Bool
 is_taken byte = byte == 34 || byte == 92 || byte == 36 || byte == 96
 
--- bytes among which one isn't
+-- bytes among which this one isn't
 abbrev pub HasNo : ℕ → List ℕ → Type 0
 HasNo byte text = AllByRecursion (λ one. one ≢ byte) text
 

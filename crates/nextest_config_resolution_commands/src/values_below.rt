@@ -1,9 +1,8 @@
 // Values that are read below a path of any length.
-ghost use Rattle.std.specs.Prelude.{◌≡◌, [], ◌∷◌, ◌++◌, None, Ok, Err, IfOk};
-ghost use Rattle.std.specs.Option.{option_map_or};
+ghost use Rattle.std.specs.Prelude.{◌≡◌, [], ◌∷◌, ◌++◌, None, IfOk, IfErr};
 ghost use Rattle.toml.specs.Data.{get_member};
 ghost use Rattle.toml.specs.View.{table_view, view};
-ghost use Rattle.nextest_config_elements_reading.specs.Paths.{Gives, texts};
+ghost use Rattle.nextest_config_elements_reading.specs.Paths.{Gives, IsExpected, texts};
 ghost use Rattle.nextest_config_elements_reading.specs.Reading.{under};
 ghost use Rattle.nextest_config_elements_readers.specs.Keys.{optional_by};
 ghost use Rattle.nextest_config_resolution_commands.specs.Below.{IsBelow, defaulted_by, required_by};
@@ -69,7 +68,8 @@ pub fn required_value<T: DeserializeValue>(
     key: &str,
     expected: &'static str,
 ) -> Result<T, ValueError>
-    ensures { Gives path.now result (required_by key.now T.reading (table_view table.now)) }
+    ensures read { Gives path.now result (required_by key.now T.reading (table_view table.now)) }
+    ensures missing { get_member key.now (table_view table.now) ≡ None → IfErr result (IsExpected expected.now) }
 {
     match member(table, key) {
         None => Err(refused_below(alloc, path, key, None, expected)),

@@ -2,7 +2,7 @@
 ghost use Rattle.std.specs.Prelude.{◌≡◌, [], ◌∷◌, ◌++◌, IfOk};
 ghost use Rattle.toml.specs.View.{table_view, view};
 ghost use Rattle.nextest_config_elements_reading.specs.Paths.{Gives, texts};
-ghost use Rattle.nextest_config_elements_reading.specs.Reading.{under};
+ghost use Rattle.nextest_config_elements_reading.specs.Reading.{leaf, under};
 ghost use Rattle.nextest_config_resolution_commands.specs.Commands as read;
 
 use crate::script_command::ScriptCommandEnvMap;
@@ -65,12 +65,26 @@ fn variable_of(
     if name.starts_with("NEXTEST") {
         return Err(ValueError::Refused(bad_name(alloc, name, path)?));
     }
-    let Value::String(text) = given else {
-        return Err(refused_below(alloc, path, name, Some(given), "a string"));
-    };
-    let name = Text::from_str(alloc, name)?;
-    let text = Text::from_str(alloc, text.as_str())?;
-    Ok((name, text))
+    named_text(alloc, name, given, path)
+}
+
+// A name with the text that stands there.
+fn named_text(
+    alloc: Global,
+    name: &str,
+    given: &Value,
+    path: &[&str],
+) -> Result<(Text, Text), ValueError>
+    ensures { Gives path.now result (under name.now (leaf (read.named_text name.now) (view given.now))) }
+{
+    match given {
+        Value::String(text) => {
+            let name = Text::from_str(alloc, name)?;
+            let text = Text::from_str(alloc, text.as_str())?;
+            Ok((name, text))
+        }
+        _ => Err(refused_below(alloc, path, name, Some(given), "a string")),
+    }
 }
 
 // A name that is taken, told as it is written.
