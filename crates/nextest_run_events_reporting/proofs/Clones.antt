@@ -22,7 +22,7 @@ use Rattle.nextest_run_events_outputs.specs.declared.output.ChildExecutionOutput
 use Rattle.nextest_run_events_outputs.specs.declared.output.ChildExecutionOutputDescription.TheVariants as run
 use Rattle.nextest_run_events_outputs.specs.declared.output.ChildOutputDescription.{ChildOutputDescription}
 use Rattle.nextest_run_events_outputs.specs.declared.output.LiveSpec.{LiveSpec}
-use Rattle.nextest_run_events_reporting.specs.Parts.{variables, IsScriptRunAgain, IsAttemptsAgain}
+use Rattle.nextest_run_events_reporting.specs.Parts.{variables, IsScriptRunCopy, IsAttemptsCopy}
 
 -- of what came of running a process
 pub same_run : (x y : ChildExecutionOutputDescription LiveSpec ChildOutputDescription)
@@ -53,7 +53,7 @@ same_attempt x y is =
     rw (start_time, retry_data, output, result, time_taken, is_slow, delay, error_summary, slice) refl
 
 -- attempts, by what they are but for their room
-pub same_attempts : (x y : Attempts (ExecuteStatus LiveSpec ChildOutputDescription)) → y.statuses ≡ x.statuses → y.flaky_result ≡ x.flaky_result → IsAttemptsAgain x y
+pub same_attempts : (x y : Attempts (ExecuteStatus LiveSpec ChildOutputDescription)) → y.statuses ≡ x.statuses → y.flaky_result ≡ x.flaky_result → IsAttemptsCopy x y
 same_attempts x y statuses flaky_result = λ i. record { statuses = statuses i; flaky_result = flaky_result i; room = y.room }
 
 -- of the variables that a script sets
@@ -67,7 +67,7 @@ same_variables (Some x) (Some y) is =
 
 -- of a run of a setup script
 pub same_script_run : (x y : SetupScriptExecuteStatus LiveSpec ChildOutputDescription)
-    → (script_runs.ghosts live.the_row output.the_row kept.ghosts kept.dict outputs.ghosts outputs.dict kept.dict).is_clone x y → IsScriptRunAgain x y
+    → (script_runs.ghosts live.the_row output.the_row kept.ghosts kept.dict outputs.ghosts outputs.dict kept.dict).is_clone x y → IsScriptRunCopy x y
 same_script_run x y is =
     let output : y.output ≡ x.output = same_run x.output y.output is.0 in
     let result : y.result ≡ x.result = search (rules, is.1.0) in

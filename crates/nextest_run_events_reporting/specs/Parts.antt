@@ -1,4 +1,4 @@
--- Parts of events again, as clones have them.
+-- What copies of the parts of events are, where they aren't plainly equal.
 use Rattle.std.specs.Prelude.{ℕ, List, ◌≡◌, option_map}
 use Rattle.nextest_run_events_counters.specs.Attempts.{Attempts}
 use Rattle.nextest_run_events_outputs.specs.declared.execute_status.ExecuteStatus.{ExecuteStatus}
@@ -11,10 +11,10 @@ use Rattle.nextest_run_events_outputs.specs.declared.output.LiveSpec.{LiveSpec}
 abbrev pub variables : SetupScriptEnvMap → List (List ℕ × List ℕ)
 variables it = it.env_map.entries
 
--- a run of a setup script again: the same, but for how its variables lie in memory
-abbrev pub IsScriptRunAgain : SetupScriptExecuteStatus LiveSpec ChildOutputDescription → SetupScriptExecuteStatus LiveSpec ChildOutputDescription → Type 0
-IsScriptRunAgain original copy = (copy ≡ record original { env_map = copy.env_map }) × (option_map variables copy.env_map ≡ option_map variables original.env_map)
+-- a run of a setup script and a copy: equal, but for how the variables lie in memory
+abbrev pub IsScriptRunCopy : SetupScriptExecuteStatus LiveSpec ChildOutputDescription → SetupScriptExecuteStatus LiveSpec ChildOutputDescription → Type 0
+IsScriptRunCopy original copy = (copy ≡ record original { env_map = copy.env_map }) × (option_map variables copy.env_map ≡ option_map variables original.env_map)
 
--- the attempts of a test again: the same, but for how many more there is room for
-abbrev pub IsAttemptsAgain : Attempts (ExecuteStatus LiveSpec ChildOutputDescription) → Attempts (ExecuteStatus LiveSpec ChildOutputDescription) → Type 0
-IsAttemptsAgain original copy = copy ≡ record original { room = copy.room }
+-- the attempts of a test and a copy: equal, but for how many more attempts there is room for
+abbrev pub IsAttemptsCopy : Attempts (ExecuteStatus LiveSpec ChildOutputDescription) → Attempts (ExecuteStatus LiveSpec ChildOutputDescription) → Type 0
+IsAttemptsCopy original copy = copy ≡ record original { room = copy.room }

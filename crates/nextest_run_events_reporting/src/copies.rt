@@ -1,6 +1,6 @@
-// The parts of events copied, each equal to what it was copied from.
+// Copies of the parts of events.
 ghost use Rattle.std.specs.Prelude.{◌≡◌, IfOk};
-ghost use Rattle.nextest_run_events_reporting.specs.Parts.{IsScriptRunAgain, IsAttemptsAgain};
+ghost use Rattle.nextest_run_events_reporting.specs.Parts.{IsScriptRunCopy, IsAttemptsCopy};
 
 use crate::slot_assignment::TestSlotAssignment;
 use nextest_config_resolution_commands::ScriptId;
@@ -55,7 +55,7 @@ pub(crate) fn copied_start(
 pub(crate) fn copied_script_run(
     run: &SetupScriptExecuteStatus<LiveSpec>,
 ) -> Result<SetupScriptExecuteStatus<LiveSpec>, AllocError>
-    ensures { IfOk result (λ copy. IsScriptRunAgain run.now copy) }
+    ensures { IfOk result (λ copy. IsScriptRunCopy run.now copy) }
 {
     run.clone()
 }
@@ -73,7 +73,7 @@ pub(crate) fn copied_attempt(
 pub(crate) fn copied_attempts(
     attempts: &ExecutionStatuses<LiveSpec>,
 ) -> Result<ExecutionStatuses<LiveSpec>, AllocError>
-    ensures { IfOk result (λ copy. IsAttemptsAgain attempts.now copy) }
+    ensures { IfOk result (λ copy. IsAttemptsCopy attempts.now copy) }
 {
     attempts.clone()
 }

@@ -187,7 +187,7 @@ pub enum TestEventKind<'a> {
         /// How many tests still run.
         running: usize,
     },
-    /// A test is skipped.
+    /// A test was skipped.
     TestSkipped {
         /// Which sub-run it belongs to, if the run is a stress run.
         stress_index: Option<StressIndex>,
@@ -412,9 +412,9 @@ impl Drop for TestEventKind<'_> {
 }
 
 impl Clone for TestEventKind<'_> {
-    ghost use Rattle.nextest_run_events_reporting.specs.Kinds.{IsAgain};
+    ghost use Rattle.nextest_run_events_reporting.specs.Kinds.{IsEventCopy};
 
-    ghost is_clone = { IsAgain };
+    ghost is_clone = { IsEventCopy };
 
     fn clone(&self) -> Result<Self, AllocError> {
         match self {
