@@ -129,7 +129,7 @@ pub enum TestEventKind<'a> {
         test_instance: TestInstanceId<'a>,
         /// Which of its attempts runs.
         retry_data: RetryData,
-        /// How long that attempt has run.
+        /// How long it has run.
         elapsed: Duration,
         /// Whether it is about to be ended for that.
         will_terminate: bool,
