@@ -44,9 +44,20 @@ pub use Rattle.nextest_run_events_errors.specs.Collected
 pub use Rattle.nextest_run_events_errors.specs.Errors
 pub use Rattle.nextest_run_events_errors.specs.Lists as ErrorLists
 pub use Rattle.nextest_run_events_errors.specs.Texts as ErrorTexts
+-- copies of events
+pub use Rattle.nextest_run_events_reporting.specs.Kinds as EventCopies
+pub use Rattle.nextest_run_events_reporting.specs.Parts as EventParts
+-- names of groups and scripts
+pub use Rattle.nextest_config_elements_identifiers.specs.Config
+pub use Rattle.nextest_config_elements_identifiers.specs.Groups
+pub use Rattle.nextest_config_resolution_commands.specs.Programs
 -- clones of lists
 pub use Rattle.nextest_text.specs.Clones
 -- types
+pub use Rattle.nextest_config_elements_counts.specs.declared.junit.JunitFlakyFailStatus
+pub use Rattle.nextest_config_elements_counts.specs.declared.junit.MismatchReason
+pub use Rattle.nextest_config_elements_counts.specs.declared.junit.ReportSkipPolicy
+pub use Rattle.nextest_config_elements_identifiers.specs.declared.test_group.TestGroup
 pub use Rattle.nextest_config_elements_plain.specs.declared.timeouts.FlakyResult
 pub use Rattle.nextest_config_elements_plain.specs.declared.timeouts.LeakTimeoutResult
 pub use Rattle.nextest_config_elements_plain.specs.declared.timeouts.SlowTimeoutResult
@@ -118,3 +129,9 @@ pub use Rattle.nextest_run_events_errors.specs.declared.described.DescribedError
 pub use Rattle.nextest_run_events_errors.specs.declared.described.UnitAbortDescription
 pub use Rattle.nextest_run_events_errors.specs.declared.list.DescribedErrorList
 pub use Rattle.nextest_run_events_errors.specs.declared.unit_error.UnitErrorDescription
+pub use Rattle.nextest_run_events_reporting.specs.declared.event.ReporterEvent
+pub use Rattle.nextest_run_events_reporting.specs.declared.event.TestEvent
+pub use Rattle.nextest_run_events_reporting.specs.declared.info.InfoResponse
+pub use Rattle.nextest_run_events_reporting.specs.declared.info.SetupScriptInfoResponse
+pub use Rattle.nextest_run_events_reporting.specs.declared.kind.TestEventKind
+pub use Rattle.nextest_run_events_reporting.specs.declared.slot_assignment.TestSlotAssignment

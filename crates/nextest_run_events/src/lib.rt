@@ -4,15 +4,18 @@
 //! A runner describes how a process ended by `ExecutionResultDescription`, keeps a test's attempts as `ExecutionStatuses`,
 //! and counts each test and setup script that finishes in `RunStats`. A reporter asks attempts for their
 //! `ExecutionDescription`, counters for their `FinalRunStats`, `StatusLevels` for what is shown of a test that finishes, and
-//! `UnitErrorDescription` for what went wrong with an attempt.
+//! `UnitErrorDescription` for what went wrong with an attempt. What it is told while a run goes on are `ReporterEvent`s.
 #![tactic(auto)]
 
 pub mod laws;
 
+pub use nextest_config_elements_counts::{JunitFlakyFailStatus, MismatchReason, ReportSkipPolicy};
+pub use nextest_config_elements_identifiers::{CustomTestGroup, TestGroup};
 pub use nextest_config_elements_plain::{
     FinalStatusLevel, FlakyResult, LeakTimeoutResult, NextestRunMode, SlowTimeoutResult,
     StatusLevel, TestOutputDisplay,
 };
+pub use nextest_config_resolution_commands::ScriptId;
 pub use nextest_run_events_counters::{
     EmptyStatuses, ExecutionDescription, ExecutionStatuses, FinalRunStats, RunFailureStep,
     RunStats, RunStatsFailureKind,
@@ -34,6 +37,10 @@ pub use nextest_run_events_outputs::{
     ErrorList, ErrorSummary, EventTime, ExecuteStatus, LiveSpec, OutputErrorSlice, OutputSpec,
     RetryData, SerializableError, SerializableErrorSource, SerializableErrorSources,
     SetupScriptEnvMap, SetupScriptExecuteStatus,
+};
+pub use nextest_run_events_reporting::{
+    InfoResponse, ReporterEvent, SetupScriptInfoResponse, TestEvent, TestEventKind,
+    TestSlotAssignment,
 };
 pub use nextest_run_events_results::{
     AbortDescription, AbortStatus, CancelReason, ExecutionResult, ExecutionResultDescription,

@@ -1,0 +1,7 @@
+use Rattle.std.proofs.lemmas.Result.{MatchResult-weaker}
+use Rattle.nextest_run_events_reporting.proofs.Clones.{same_run}
+use Rattle.nextest_run_events_reporting.proofs.copies.copied_output.Goals as goal
+
+-- src/copies.rt
+pub returns : goal.returns
+returns c = MatchResult-weaker c.clone.result c.clone.ensures.cases (λ copy is. same_run c.args.output.now copy is) (λ _ _. tt)
