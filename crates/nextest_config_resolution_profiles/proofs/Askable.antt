@@ -8,7 +8,7 @@ use Rattle.nextest_filtering_filters.specs.declared.known_groups.KnownGroups.The
 use Rattle.nextest_config_resolution_filters.specs.Filters.{FiltersLaws}
 use Rattle.nextest_config_resolution_load.specs.Load.{AreReadRules, IsReadAs, IsSpecBy}
 use Rattle.nextest_config_resolution_load.specs.declared.languages.FilterPurpose.TheVariants as purpose
-use Rattle.nextest_config_resolution_load.specs.declared.loaded_override.LoadedOverride.{LoadedOverride}
+use Rattle.nextest_config_resolution_load.specs.Load.{LoadedOverride}
 use Rattle.nextest_config_resolution_overrides.specs.declared.placed_override.PlacedOverride.{PlacedOverride}
 use Rattle.nextest_config_resolution_profiles.specs.Asking.{AsksNoGroups, IsAskable, Serves}
 use Rattle.nextest_config_resolution_profiles.specs.Languages.{IsFilterIn}
@@ -19,19 +19,19 @@ module _ {F Cx : Type 0} {IsParsed : Cx → FiltersetKind → KnownGroups → Li
     {asks_groups has_runtime_leaves serves_as_default : F → Bool} (laws : FiltersLaws IsParsed OnBinary OnTest asks_groups has_runtime_leaves serves_as_default)
     (cx : Cx) where
   -- a default filter that is read serves as one
-  serves : (text : Option (List ℕ)) (found : Option F) → IsReadAs (IsFilterIn IsParsed cx purpose.Default) text found → Serves serves_as_default found
+  serves : (text : Option (List ℕ)) (found : Option F) → IsReadAs (IsFilterIn IsParsed has_runtime_leaves cx purpose.Default) text found → Serves serves_as_default found
   serves text None is = tt
   serves None (Some it) is = absurd is
   serves (Some text) (Some it) is = laws.default_serves cx groups.Unavailable text it is
 
   -- and the filter of a rule asks for no groups
-  asks_none : (text : Option (List ℕ)) (found : Option F) → IsReadAs (IsFilterIn IsParsed cx purpose.Override) text found → AsksNoGroups asks_groups found
+  asks_none : (text : Option (List ℕ)) (found : Option F) → IsReadAs (IsFilterIn IsParsed has_runtime_leaves cx purpose.Override) text found → AsksNoGroups asks_groups found
   asks_none text None is = tt
   asks_none None (Some it) is = absurd is
   asks_none (Some text) (Some it) is = laws.override_has_no_groups cx groups.Unavailable text it is
 
   pub all_serve : (profiles : List Named) (filters : List (Option F))
-      → AllZip (λ profile found. IsReadAs (IsFilterIn IsParsed cx purpose.Default) profile.1.default_filter found) profiles filters
+      → AllZip (λ profile found. IsReadAs (IsFilterIn IsParsed has_runtime_leaves cx purpose.Default) profile.1.default_filter found) profiles filters
       → AllByRecursion (Serves serves_as_default) filters
   all_serve [] [] all = tt
   all_serve [] (found ∷ filters) all = absurd all
@@ -39,7 +39,7 @@ module _ {F Cx : Type 0} {IsParsed : Cx → FiltersetKind → KnownGroups → Li
   all_serve (profile ∷ profiles) (found ∷ filters) all = (serves profile.1.default_filter found all.0, all_serve profiles filters all.1)
 
   pub all_askable : {S : Type 0} (IsSpec : IsSpecBy S) (rules : List PlacedOverride) (loaded : List (LoadedOverride F S))
-      → AreReadRules (IsFilterIn IsParsed cx) IsSpec rules loaded → AllByRecursion (IsAskable serves_as_default asks_groups) loaded
+      → AreReadRules (IsFilterIn IsParsed has_runtime_leaves cx) IsSpec rules loaded → AllByRecursion (IsAskable serves_as_default asks_groups) loaded
   all_askable IsSpec [] [] are = tt
   all_askable IsSpec [] (it ∷ loaded) are = absurd are
   all_askable IsSpec (rule ∷ rules) [] are = absurd are

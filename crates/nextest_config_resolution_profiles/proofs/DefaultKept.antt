@@ -24,6 +24,7 @@ use Rattle.nextest_config_resolution_values.specs.File.{Named, profiles_in, prof
 use Rattle.nextest_config_resolution_values.specs.Profile.{profile_in, profile_of}
 use Rattle.nextest_config_resolution_values.specs.declared.profile_config.ProfileConfig.{ProfileConfig}
 use Rattle.nextest_config_resolution_values.proofs.Accepting.{accepted_profile}
+use Rattle.nextest_config_elements_versions.specs.declared.feature.FeatureSet.{FeatureSet}
 
 -- ---- a profile by its name
 
@@ -128,8 +129,7 @@ built_in_has = record {
 }
 
 merged_has : (file lower : Members) → IsRead file → HasBuiltIn lower → HasBuiltIn (merge file lower)
-merged_has file lower (config, read) it =
-    let (all, dir, parts) = file_parts file config read in
+merged_has file lower (all, dir, parts) it =
     let profiles = below (codes "profile") file in
     let values = below default profiles in
     let bench = below (codes "bench") values in
@@ -155,9 +155,9 @@ merged_has file lower (config, read) it =
     }
 
 -- in what sources come to
-pub loaded_has : {F S : Type 0} (Is : IsFilterBy F) (IsSpec : IsSpecBy S) (sources : List ConfigSource) (loaded : LoadedConfig F S) → IsLoadedAs Is IsSpec built_in_members sources loaded
+pub loaded_has : {F S : Type 0} (Is : IsFilterBy F) (IsSpec : IsSpecBy S) (features : FeatureSet) (sources : List ConfigSource) (loaded : LoadedConfig F S) → IsLoadedAs Is IsSpec features built_in_members sources loaded
     → HasBuiltIn (merged_in built_in_members sources)
-loaded_has Is IsSpec sources loaded it = kept_in Is IsSpec built_in_members sources loaded HasBuiltIn merged_has it built_in_has
+loaded_has Is IsSpec features sources loaded it = kept_in Is IsSpec features built_in_members sources loaded HasBuiltIn merged_has it built_in_has
 
 -- ---- as it is read
 

@@ -65,7 +65,7 @@ all_filtered Is (profile ∷ profiles) (found ∷ filters) all = (shape Is profi
 
 -- a filter is the one of its text
 pub default_is_read : {F S : Type 0} (Is : IsFilterBy F) (IsSpec : IsSpecBy S) (IsTooDeep : List ℕ → Type 0) → DefaultIsRead Is IsSpec IsTooDeep
-default_is_read {F} {S} Is IsSpec IsTooDeep root sources config names chain it loaded of =
+default_is_read {F} {S} Is IsSpec IsTooDeep features root sources config names chain it loaded of =
     let profiles = config.loaded.profiles in
     let stands : slice_get (map named profiles) of.at ≡ Some (named of.from) = slice_get-map named profiles of.at ∙ ap (option_map named) of.stands in
     let found = zip_at (λ (profile : Named) (found : Option F). IsReadAs (Is purpose.Default) profile.1.default_filter found) (map named profiles) config.loaded.default_filters of.at (named of.from) loaded.1.filters stands in

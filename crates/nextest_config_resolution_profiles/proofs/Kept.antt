@@ -1,5 +1,5 @@
 -- A profile that is built in stays, since no file that is accepted has anything but tables in its place.
-use Rattle.std.proofs.Common.{◌≡◌, ℕ, suc, List, [], ◌∷◌, codes, Option, None, Some, Ok, Err, refl, sym, ap, ◌∙◌, subst, Ordering, Less, Equal, Greater, arith, is_some}
+use Rattle.std.proofs.Common.{◌≡◌, ℕ, suc, List, [], ◌∷◌, codes, Option, None, Some, Ok, Err, refl, sym, ap, ◌∙◌, subst, Ordering, Less, Equal, Greater, arith, is_some, map, option_map}
 use Rattle.std.proofs.lemmas.Bool.{false≢true}
 use Rattle.std.specs.List.{Contains, AllByRecursion, cons_option, filter_map, flat_map}
 use Rattle.std.specs.Ordering.{match_ordering}
@@ -8,7 +8,7 @@ use Rattle.toml.specs.Parse.{parse_document}
 use Rattle.nextest_config_elements_identifiers.specs.declared.source_kind.ConfigSourceKind.{ConfigSourceKind}
 use Rattle.nextest_config_elements_reading.specs.Reading.{Reading}
 use Rattle.nextest_config_resolution_inheritance.specs.Inheritance.{names}
-use Rattle.nextest_config_resolution_load.specs.Checks.{MergedConfig, config_in, document_checks, document_of, file_checks, file_of, members_of, merged_in, outcome_checks, parents_of, raised, source_checks}
+use Rattle.nextest_config_resolution_load.specs.Checks.{MergedConfig, as_setup, config_in, document_checks, document_of, file_checks, file_of, layered, members_of, merged_in, moved, outcome_checks, parents_of, raised, source_checks}
 use Rattle.nextest_config_resolution_load.specs.File.{file_in}
 use Rattle.nextest_config_resolution_load.specs.Load.{IsFilterBy, IsKept, IsLoadedAs, IsSpecBy, seen}
 use Rattle.nextest_config_resolution_load.specs.declared.file_config.FileConfig.{FileConfig}
@@ -24,8 +24,9 @@ use Rattle.nextest_config_resolution_sources.specs.declared.source.ConfigSourceO
 use Rattle.nextest_config_resolution_sources.specs.declared.source.ConfigSourceOutcome.TheVariants as outcome
 use Rattle.nextest_config_resolution_tree.specs.Tree.{keys, over, merge}
 use Rattle.nextest_config_resolution_tree.proofs.Keys.{key_cmp, equal_keys}
-use Rattle.nextest_config_resolution_tree.proofs.Standings.{get_merge}
-use Rattle.nextest_config_resolution_values.specs.File.{profiles_in, profiles_of}
+use Rattle.nextest_config_resolution_tree.proofs.Standings.{get_merge, joint}
+use Rattle.nextest_config_resolution_values.specs.File.{profiles_in, profiles_of, store_dir_of}
+use Rattle.nextest_config_elements_versions.specs.declared.feature.FeatureSet.{FeatureSet}
 
 -- ---- keys
 
@@ -48,33 +49,54 @@ key_there name (member other value more) given e = by_order (key_cmp name other)
 
 module _ {F S : Type 0} (Is : IsFilterBy F) (IsSpec : IsSpecBy S) where
   -- what is read without a fault
-  read_ok : (path : List ℕ) (kind : ConfigSourceKind) (reading : Reading FileConfig) → AllByRecursion (IsKept Is IsSpec) (file_checks path kind reading)
+  read_ok : (features : FeatureSet) (path : List ℕ) (kind : ConfigSourceKind) (reading : Reading FileConfig) → AllByRecursion (IsKept Is IsSpec) (file_checks features path kind reading)
       → (config : FileConfig) × (reading ≡ Ok config)
-  read_ok path kind (Ok config) kept = (config, refl)
-  read_ok path kind (Err keys) kept = absurd kept.0
+  read_ok features path kind (Ok config) kept = (config, refl)
+  read_ok features path kind (Err keys) kept = absurd kept.0
 
-  document_has : (path : List ℕ) (kind : ConfigSourceKind) (found : Option Members) → AllByRecursion (IsKept Is IsSpec) (document_checks path kind found)
+  document_has : (features : FeatureSet) (path : List ℕ) (kind : ConfigSourceKind) (found : Option Members) → AllByRecursion (IsKept Is IsSpec) (document_checks features path kind found)
       → AllByRecursion IsRead (cons_option found [])
-  document_has path kind None kept = tt
-  document_has path kind (Some file) kept = (read_ok path kind (file_in file) kept, tt)
+  document_has features path kind None kept = tt
+  document_has features path kind (Some file) kept = let (config, read) = read_ok features path kind (file_in file) kept in (file_parts file config read, tt)
 
-  outcome_has : (path : List ℕ) (kind : ConfigSourceKind) (outcome : ConfigSourceOutcome) → AllByRecursion (IsKept Is IsSpec) (outcome_checks path kind outcome)
+  outcome_has : (features : FeatureSet) (path : List ℕ) (kind : ConfigSourceKind) (outcome : ConfigSourceOutcome) → AllByRecursion (IsKept Is IsSpec) (outcome_checks features path kind outcome)
       → AllByRecursion IsRead (cons_option (document_of outcome) [])
-  outcome_has path kind (outcome.Text text) kept = document_has path kind (parse_document text) kept
-  outcome_has path kind outcome.NotFound kept = tt
-  outcome_has path kind (outcome.Failed cause) kept = tt
+  outcome_has features path kind (outcome.Text text) kept = document_has features path kind (parse_document text) kept
+  outcome_has features path kind outcome.NotFound kept = tt
+  outcome_has features path kind (outcome.Failed cause) kept = tt
 
 one_more : (file : Option Members) (files : List Members) → AllByRecursion IsRead (cons_option file []) → AllByRecursion IsRead files → AllByRecursion IsRead (cons_option file files)
 one_more None files here more = more
 one_more (Some file) files here more = (here.0, more)
 
-files_have : {F S : Type 0} (Is : IsFilterBy F) (IsSpec : IsSpecBy S) (sources : List ConfigSource) → AllByRecursion (IsKept Is IsSpec) (flat_map source_checks sources)
+files_have : {F S : Type 0} (Is : IsFilterBy F) (IsSpec : IsSpecBy S) (features : FeatureSet) (sources : List ConfigSource) → AllByRecursion (IsKept Is IsSpec) (flat_map (source_checks features) sources)
     → AllByRecursion IsRead (filter_map file_of sources)
-files_have Is IsSpec [] kept = tt
-files_have Is IsSpec (source ∷ more) kept =
-    let here = kept_before Is IsSpec (source_checks source) (flat_map source_checks more) kept in
-    let behind = kept_behind Is IsSpec (source_checks source) (flat_map source_checks more) kept in
-    one_more (file_of source) (filter_map file_of more) (outcome_has Is IsSpec source.path source.kind source.outcome here) (files_have Is IsSpec more behind)
+files_have Is IsSpec features [] kept = tt
+files_have Is IsSpec features (source ∷ more) kept =
+    let here = kept_before Is IsSpec (source_checks features source) (flat_map (source_checks features) more) kept in
+    let behind = kept_behind Is IsSpec (source_checks features source) (flat_map (source_checks features) more) kept in
+    one_more (file_of source) (filter_map file_of more) (outcome_has Is IsSpec features source.path source.kind source.outcome here) (files_have Is IsSpec features more behind)
+
+-- a file whose setup scripts are moved has the same profiles and the same store
+moved_at : (key : List ℕ) (file : Members) → ((given : Data) → get_member key (as_setup given) ≡ None) → get_member key (moved file) ≡ get_member key file
+moved_at key file none = by_scripts (get_member (codes "script") file) where
+  by_scripts : (found : Option Data) → get_member key (layered (option_map as_setup found) file) ≡ get_member key file
+  by_scripts None = refl
+  by_scripts (Some given) = get_merge key (as_setup given) file ∙ ap (λ (it : Option Data). joint it (get_member key file)) (none given)
+
+moved_read : (file : Members) → IsRead file → IsRead (moved file)
+moved_read file (profiles, store_dir, parts) = (
+  profiles,
+  store_dir,
+  record {
+    profiles_read = ap profiles_of (moved_at (codes "profile") file (λ given. refl)) ∙ parts.profiles_read;
+    store_read = ap store_dir_of (moved_at (codes "store") file (λ given. refl)) ∙ parts.store_read;
+  },
+)
+
+moved_have : (files : List Members) → AllByRecursion IsRead files → AllByRecursion IsRead (map moved files)
+moved_have [] read = tt
+moved_have (file ∷ files) read = (moved_read file read.0, moved_have files read.1)
 
 -- what each file that is read leaves over what is below it stays through all of them
 raised_keeps : (Keeps : Members → Type 0) → ((file lower : Members) → IsRead file → Keeps lower → Keeps (merge file lower))
@@ -82,10 +104,11 @@ raised_keeps : (Keeps : Members → Type 0) → ((file lower : Members) → IsRe
 raised_keeps Keeps one [] lower read it = it
 raised_keeps Keeps one (file ∷ files) lower read it = raised_keeps Keeps one files (merge file lower) read.1 (one file lower read.0 it)
 
-pub kept_in : {F S : Type 0} (Is : IsFilterBy F) (IsSpec : IsSpecBy S) (built_in : Members) (sources : List ConfigSource) (config : LoadedConfig F S) (Keeps : Members → Type 0)
-    → ((file lower : Members) → IsRead file → Keeps lower → Keeps (merge file lower)) → IsLoadedAs Is IsSpec built_in sources config → Keeps built_in → Keeps (merged_in built_in sources)
-kept_in Is IsSpec built_in sources config Keeps one loaded it =
-    raised_keeps Keeps one (filter_map file_of (counted sources)) built_in (files_have Is IsSpec (counted sources) (kept_sources Is IsSpec built_in sources loaded.kept)) it
+pub kept_in : {F S : Type 0} (Is : IsFilterBy F) (IsSpec : IsSpecBy S) (features : FeatureSet) (built_in : Members) (sources : List ConfigSource) (config : LoadedConfig F S) (Keeps : Members → Type 0)
+    → ((file lower : Members) → IsRead file → Keeps lower → Keeps (merge file lower)) → IsLoadedAs Is IsSpec features built_in sources config → Keeps built_in → Keeps (merged_in built_in sources)
+kept_in Is IsSpec features built_in sources config Keeps one loaded it =
+    raised_keeps Keeps one (map moved (filter_map file_of (counted sources))) built_in
+    (moved_have (filter_map file_of (counted sources)) (files_have Is IsSpec features (counted sources) (kept_sources Is IsSpec features built_in sources loaded.kept))) it
 
 -- ---- one file over what is below it
 
@@ -96,8 +119,7 @@ profile_kept name higher lower given there = by_found (get_member name higher) r
   by_found (Some value) f = (over value (get_member name lower), get_merge name higher lower ∙ rw f refl)
 
 merged_has : (name : List ℕ) (file lower : Members) → IsRead file → HasProfile name lower → HasProfile name (merge file lower)
-merged_has name file lower (config, read) it =
-    let (profiles, store_dir, parts) = file_parts file config read in
+merged_has name file lower (profiles, store_dir, parts) it =
     let may = profiles_table (get_member (codes "profile") file) profiles parts.profiles_read in
     let kept = profile_kept name (below (codes "profile") file) it.profiles it.given it.there in
     record {
@@ -115,5 +137,5 @@ read_has name top config it e =
     subst (λ all. Contains all name) (sym (names_read it.profiles config.profiles there) ∙ sym (same_names config.profiles)) (key_there name it.profiles it.given it.there)
 
 pub kept_profile : {F S : Type 0} (Is : IsFilterBy F) (IsSpec : IsSpecBy S) (IsTooDeep : List ℕ → Type 0) → KeptProfile Is IsSpec IsTooDeep
-kept_profile Is IsSpec IsTooDeep built_in sources config name has loaded =
-    read_has name (merged_in built_in sources) (seen config) (kept_in Is IsSpec built_in sources config (HasProfile name) (merged_has name) loaded has) loaded.values
+kept_profile Is IsSpec IsTooDeep features built_in sources config name has loaded =
+    read_has name (merged_in built_in sources) (seen config) (kept_in Is IsSpec features built_in sources config (HasProfile name) (merged_has name) loaded has) loaded.values

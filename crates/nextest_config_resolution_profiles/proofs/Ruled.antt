@@ -4,7 +4,7 @@ use Rattle.std.proofs.lemmas.Grind.{flat_map-append}
 use Rattle.std.proofs.lemmas.List.{map_push, take_more}
 use Rattle.nextest_config_resolution_inheritance.specs.Inheritance.{Name, name_at, names_at}
 use Rattle.nextest_config_resolution_load.specs.declared.loaded_config.NamedProfile.{NamedProfile}
-use Rattle.nextest_config_resolution_load.specs.declared.loaded_override.LoadedOverride.{LoadedOverride}
+use Rattle.nextest_config_resolution_load.specs.Load.{LoadedOverride}
 use Rattle.nextest_config_resolution_profiles.specs.Early.{id_of}
 use Rattle.nextest_config_resolution_profiles.proofs.Names.{all_of}
 use Rattle.nextest_config_resolution_settings.specs.Rules.{rules_of, rules_of_profile}

@@ -33,6 +33,7 @@ use Rattle.nextest_config_elements_readers.specs.Keys.{texts_of}
 use Rattle.nextest_config_resolution_values.specs.declared.bench.ProfileBench.{ProfileBench}
 use Rattle.nextest_config_resolution_values.specs.declared.junit.ProfileJunit.{ProfileJunit}
 use Rattle.nextest_config_resolution_values.specs.declared.profile_config.ProfileConfig.{ProfileConfig}
+use Rattle.nextest_config_elements_versions.specs.declared.feature.FeatureSet.{FeatureSet}
 
 -- ---- a key that has something is set
 
@@ -135,33 +136,33 @@ chain_sets_filter profiles value text found sets name chain it unset =
 -- ---- configurations
 
 -- `default` has values, and sets a default filter
-pub default_sets : {F S : Type 0} (Is : IsFilterBy F) (IsSpec : IsSpecBy S) (sources : List ConfigSource) (loaded : LoadedConfig F S) → IsLoadedAs Is IsSpec built_in_members sources loaded
+pub default_sets : {F S : Type 0} (Is : IsFilterBy F) (IsSpec : IsSpecBy S) (features : FeatureSet) (sources : List ConfigSource) (loaded : LoadedConfig F S) → IsLoadedAs Is IsSpec features built_in_members sources loaded
     → (value : ProfileConfig) × (values_of (seen loaded).profiles default ≡ Some value) × ((text : List ℕ) × (value.default_filter ≡ Some text))
-default_sets Is IsSpec sources loaded it =
-    let has = loaded_has Is IsSpec sources loaded it in
+default_sets Is IsSpec features sources loaded it =
+    let has = loaded_has Is IsSpec features sources loaded it in
     let (value, found, is) = values_read (merged_in built_in_members sources) (seen loaded) has it.values in
     let name : List ℕ = codes "default-filter" in
     (value, found, one_there value.default_filter (have_set has.values name as_str value.default_filter is.default_filter (has.has_values name refl)))
 
 -- the directory of the store is set
-pub store_sets : {F S : Type 0} (Is : IsFilterBy F) (IsSpec : IsSpecBy S) (sources : List ConfigSource) (loaded : LoadedConfig F S) → IsLoadedAs Is IsSpec built_in_members sources loaded
+pub store_sets : {F S : Type 0} (Is : IsFilterBy F) (IsSpec : IsSpecBy S) (features : FeatureSet) (sources : List ConfigSource) (loaded : LoadedConfig F S) → IsLoadedAs Is IsSpec features built_in_members sources loaded
     → (dir : List ℕ) × (loaded.store_dir ≡ Some dir)
-store_sets Is IsSpec sources loaded it =
-    let has = loaded_has Is IsSpec sources loaded it in
+store_sets Is IsSpec features sources loaded it =
+    let has = loaded_has Is IsSpec features sources loaded it in
     let name : List ℕ = codes "dir" in
     let may = optional_has name as_str has.store loaded.store_dir (store_read (merged_in built_in_members sources) (seen loaded) has it.values) in
     one_there loaded.store_dir (have_set has.store name as_str loaded.store_dir may (has.has_store name refl))
 
-chain_sets : {F S : Type 0} (Is : IsFilterBy F) (IsSpec : IsSpecBy S) (sources : List ConfigSource) (loaded : LoadedConfig F S) → IsLoadedAs Is IsSpec built_in_members sources loaded
+chain_sets : {F S : Type 0} (Is : IsFilterBy F) (IsSpec : IsSpecBy S) (features : FeatureSet) (sources : List ConfigSource) (loaded : LoadedConfig F S) → IsLoadedAs Is IsSpec features built_in_members sources loaded
     → (name : Name) (chain : List ProfileConfig) → IsChainOf (seen loaded).profiles name chain → SetsEach chain
-chain_sets Is IsSpec sources loaded it name chain in_chain =
-    let has = loaded_has Is IsSpec sources loaded it in
+chain_sets Is IsSpec features sources loaded it name chain in_chain =
+    let has = loaded_has Is IsSpec features sources loaded it in
     let (value, found, is) = values_read (merged_in built_in_members sources) (seen loaded) has it.values in
     let (front, same) = ends_with_default (seen loaded).profiles value found name chain in_chain in
     subst SetsEach (sym same) (sets_each (merged_in built_in_members sources) has value is front)
 
 pub never_falls_back : {F S : Type 0} (Is : IsFilterBy F) (IsSpec : IsSpecBy S) (IsTooDeep : List ℕ → Type 0) → NeverFallsBack Is IsSpec IsTooDeep
-never_falls_back Is IsSpec IsTooDeep root sources config loaded = record {
-  store = store_sets Is IsSpec sources config.loaded loaded.1;
-  each = chain_sets Is IsSpec sources config.loaded loaded.1;
+never_falls_back Is IsSpec IsTooDeep features root sources config loaded = record {
+  store = store_sets Is IsSpec features sources config.loaded loaded.1;
+  each = chain_sets Is IsSpec features sources config.loaded loaded.1;
 }

@@ -23,6 +23,7 @@ use Rattle.nextest_config_resolution_profiles.proofs.Names.{names_are}
 use Rattle.nextest_config_resolution_sources.specs.declared.source.ConfigSource.{ConfigSource}
 use Rattle.nextest_config_resolution_values.specs.File.{Named}
 use Rattle.nextest_config_resolution_values.specs.declared.profile_config.ProfileConfig.{ProfileConfig}
+use Rattle.nextest_config_elements_versions.specs.declared.feature.FeatureSet.{FeatureSet}
 
 -- ---- the names of a chain
 
@@ -66,20 +67,20 @@ built_in_has : HasProfile default built_in_members
 built_in_has = record { profiles = profiles_members; given = table default_members; listed = refl; there = refl }
 
 -- `default` is a profile of every configuration
-pub default_there : {F S : Type 0} (Is : IsFilterBy F) (IsSpec : IsSpecBy S) (IsTooDeep : List ℕ → Type 0) (sources : List ConfigSource) (config : LoadedConfig F S)
-    → IsLoaded Is IsSpec IsTooDeep built_in_members sources (Ok config) → Contains (names (parents_of (seen config).profiles)) default
-default_there Is IsSpec IsTooDeep sources config loaded = kept_profile Is IsSpec IsTooDeep built_in_members sources config default built_in_has loaded
+pub default_there : {F S : Type 0} (Is : IsFilterBy F) (IsSpec : IsSpecBy S) (IsTooDeep : List ℕ → Type 0) (features : FeatureSet) (sources : List ConfigSource) (config : LoadedConfig F S)
+    → IsLoaded Is IsSpec IsTooDeep features built_in_members sources (Ok config) → Contains (names (parents_of (seen config).profiles)) default
+default_there Is IsSpec IsTooDeep features sources config loaded = kept_profile Is IsSpec IsTooDeep features built_in_members sources config default built_in_has loaded
 
 pub some_chain : {F S : Type 0} (Is : IsFilterBy F) (IsSpec : IsSpecBy S) (IsTooDeep : List ℕ → Type 0) → SomeChain Is IsSpec IsTooDeep
-some_chain {F} {S} Is IsSpec IsTooDeep root sources config name loaded = by_value (values_of (profiles_of config) name) refl
+some_chain {F} {S} Is IsSpec IsTooDeep features root sources config name loaded = by_value (values_of (profiles_of config) name) refl
   where
     accepted : IsAccepted (parents_of (profiles_of config))
-    accepted = kept_inherits Is IsSpec built_in_members sources (seen config.loaded) loaded.1.kept loaded.1.values
+    accepted = kept_inherits Is IsSpec features built_in_members sources (seen config.loaded) loaded.1.kept loaded.1.values
 
     by_value : (found : Option ProfileConfig) → values_of (profiles_of config) name ≡ found
         → ((values : List ProfileConfig) × IsChainOf (profiles_of config) name values) ⊎ ¬ Contains (names_of config) name
     by_value (Some value) e =
-        inl (chain_there (profiles_of config) name accepted (default_there Is IsSpec IsTooDeep sources config.loaded loaded.1) (name_there name (profiles_of config) value e))
+        inl (chain_there (profiles_of config) name accepted (default_there Is IsSpec IsTooDeep features sources config.loaded loaded.1) (name_there name (profiles_of config) value e))
     by_value None e = inr (λ has.
         let there = subst (λ (all : List Name). Contains all name) (sym (names_are config.loaded.profiles)) has in
         false≢true (ap is_some (sym e ∙ (value_there name (profiles_of config) there).1)))

@@ -14,7 +14,7 @@ use Rattle.nextest_config_elements_identifiers.specs.declared.test_group.TestGro
 use Rattle.nextest_config_resolution_filters.specs.Filters.{FiltersLaws, IsRead}
 use Rattle.nextest_config_resolution_load.specs.Load.{IsReadAs, IsReadRule, IsSpecBy}
 use Rattle.nextest_config_resolution_load.specs.declared.languages.FilterPurpose.TheVariants as purpose
-use Rattle.nextest_config_resolution_load.specs.declared.loaded_override.LoadedOverride.{LoadedOverride}
+use Rattle.nextest_config_resolution_load.specs.Load.{LoadedOverride}
 use Rattle.nextest_config_resolution_profiles.specs.Config.{IsConfig, IsEarly}
 use Rattle.nextest_config_resolution_profiles.specs.Early.{Early}
 use Rattle.nextest_config_resolution_profiles.specs.Evaluatable.{Evaluatable, IsPutOn}
@@ -32,6 +32,7 @@ use Rattle.nextest_config_resolution_settings.specs.Tracking.{KeepsSome}
 use Rattle.nextest_config_resolution_settings.specs.declared.default_filter.CompiledDefaultFilter.{CompiledDefaultFilter}
 use Rattle.nextest_config_resolution_settings.proofs.Some.{some_settings}
 use Rattle.nextest_config_resolution_sources.specs.declared.source.ConfigSource.{ConfigSource}
+use Rattle.nextest_config_elements_versions.specs.declared.feature.FeatureSet.{FeatureSet}
 
 -- ---- rules of which each holds or doesn't
 
@@ -102,19 +103,19 @@ module _ {F Cx : Type 0} {IsParsed : Cx → FiltersetKind → KnownGroups → Li
     pub read : IsRead IsParsed default
     pub serves : serves_as_default default ≡ true
 
-  pub as_default : (text : List ℕ) (default : F) → IsFilterIn IsParsed cx purpose.Default text default → IsDefaultRead default
+  pub as_default : (text : List ℕ) (default : F) → IsFilterIn IsParsed has_runtime_leaves cx purpose.Default text default → IsDefaultRead default
   as_default text default is = record { read = (cx, kind_of purpose.Default, groups.Unavailable, text, is); serves = laws.default_serves cx groups.Unavailable text default is }
 
-  pub set_default : (text : Option (List ℕ)) (set : Option F) (default : F) → set ≡ Some default → IsReadAs (IsFilterIn IsParsed cx purpose.Default) text set → IsDefaultRead default
-  set_default text set default e is = by_text text (subst (IsReadAs (IsFilterIn IsParsed cx purpose.Default) text) e is)
+  pub set_default : (text : Option (List ℕ)) (set : Option F) (default : F) → set ≡ Some default → IsReadAs (IsFilterIn IsParsed has_runtime_leaves cx purpose.Default) text set → IsDefaultRead default
+  set_default text set default e is = by_text text (subst (IsReadAs (IsFilterIn IsParsed has_runtime_leaves cx purpose.Default) text) e is)
     where
-      by_text : (text : Option (List ℕ)) → IsReadAs (IsFilterIn IsParsed cx purpose.Default) text (Some default) → IsDefaultRead default
+      by_text : (text : Option (List ℕ)) → IsReadAs (IsFilterIn IsParsed has_runtime_leaves cx purpose.Default) text (Some default) → IsDefaultRead default
       by_text None read = absurd read
       by_text (Some text) read = as_default text default read
 
   module _ (default : F) (default_read : IsDefaultRead default) (test : Test) where
     -- the filter of a rule holds on a test or doesn't
-    pub filter_decided : (text : Option (List ℕ)) (found : Option F) → IsReadAs (IsFilterIn IsParsed cx purpose.Override) text found
+    pub filter_decided : (text : Option (List ℕ)) (found : Option F) → IsReadAs (IsFilterIn IsParsed has_runtime_leaves cx purpose.Override) text found
         → IfSome found (λ filter. OnTest filter default test true) ⊎ ¬ IfSome found (λ filter. OnTest filter default test true)
     filter_decided text None is = inl tt
     filter_decided None (Some filter) is = absurd is
@@ -128,7 +129,7 @@ module _ {F Cx : Type 0} {IsParsed : Cx → FiltersetKind → KnownGroups → Li
         by_value none false on = inr (λ other. false≢true (laws.one_on_test filter default test false true default_read.serves none on other))
 
     -- and so does the rule
-    pub rule_decided : {S : Type 0} (IsSpec : IsSpecBy S) (it : RuleOn F S) → IsReadRule (IsFilterIn IsParsed cx) IsSpec it.rule.placed it.rule → Decided (Holds OnTest default test) it
+    pub rule_decided : {S : Type 0} (IsSpec : IsSpecBy S) (it : RuleOn F S) → IsReadRule (IsFilterIn IsParsed has_runtime_leaves cx) IsSpec it.rule.placed it.rule → Decided (Holds OnTest default test) it
     rule_decided IsSpec it read = by_platform (holds_for test.binary.platform it) refl (filter_decided it.rule.placed.config.filter it.rule.compiled.filter read.compiled.filter)
       where
         by_platform : (holds : Bool) → holds_for test.binary.platform it ≡ holds
@@ -139,7 +140,7 @@ module _ {F Cx : Type 0} {IsParsed : Cx → FiltersetKind → KnownGroups → Li
         by_platform false e decided = inr (λ holds. false≢true (sym e ∙ holds.platform))
 
     pub rules_decided : {S Facts : Type 0} (IsSpec : IsSpecBy S) (value_on : S → Facts → Option Bool) (host target : Facts) (rules : List (LoadedOverride F S))
-        → AllByRecursion (λ rule. IsReadRule (IsFilterIn IsParsed cx) IsSpec rule.placed rule) rules
+        → AllByRecursion (λ rule. IsReadRule (IsFilterIn IsParsed has_runtime_leaves cx) IsSpec rule.placed rule) rules
         → AllByRecursion (Decided (Holds OnTest default test)) (map (on_platforms value_on host target) rules)
     rules_decided IsSpec value_on host target [] each = tt
     rules_decided IsSpec value_on host target (rule ∷ rules) each =
@@ -149,10 +150,10 @@ module _ {F Cx : Type 0} {IsParsed : Cx → FiltersetKind → KnownGroups → Li
 
   module _ {S Facts : Type 0} (IsSpec : IsSpecBy S) (IsTooDeep : List ℕ → Type 0) (value_on : S → Facts → Option Bool) where
     abbrev AreRead : List (LoadedOverride F S) → Type 0
-    AreRead rules = AllByRecursion (λ rule. IsReadRule (IsFilterIn IsParsed cx) IsSpec rule.placed rule) rules
+    AreRead rules = AllByRecursion (λ rule. IsReadRule (IsFilterIn IsParsed has_runtime_leaves cx) IsSpec rule.placed rule) rules
 
     put_have : (host target : Facts) (rules : List (LoadedOverride F S)) → AreRead rules
-        → AllByRecursion (λ it. IsReadRule (IsFilterIn IsParsed cx) IsSpec it.rule.placed it.rule) (map (on_platforms value_on host target) rules)
+        → AllByRecursion (λ it. IsReadRule (IsFilterIn IsParsed has_runtime_leaves cx) IsSpec it.rule.placed it.rule) (map (on_platforms value_on host target) rules)
     put_have host target [] each = tt
     put_have host target (rule ∷ rules) each = (each.0, put_have host target rules each.1)
 
@@ -161,34 +162,34 @@ module _ {F Cx : Type 0} {IsParsed : Cx → FiltersetKind → KnownGroups → Li
         → IsChosenDefault early (map (on_platforms value_on host target) rules) it → IsDefaultRead it.filter.now
     chosen_read early it host target rules each read (inr same) = subst (λ (default : CompiledDefaultFilter F). IsDefaultRead default.filter.now) (sym same.1) read
     chosen_read early it host target rules each read (inl found) =
-        let at = division_has (λ (rule : RuleOn F S). IsReadRule (IsFilterIn IsParsed cx) IsSpec rule.rule.placed rule.rule) found.least.front found.rule found.least.back
-        (subst (AllByRecursion (λ (rule : RuleOn F S). IsReadRule (IsFilterIn IsParsed cx) IsSpec rule.rule.placed rule.rule)) found.least.divided (put_have host target rules each)) in
+        let at = division_has (λ (rule : RuleOn F S). IsReadRule (IsFilterIn IsParsed has_runtime_leaves cx) IsSpec rule.rule.placed rule.rule) found.least.front found.rule found.least.back
+        (subst (AllByRecursion (λ (rule : RuleOn F S). IsReadRule (IsFilterIn IsParsed has_runtime_leaves cx) IsSpec rule.rule.placed rule.rule)) found.least.divided (put_have host target rules each)) in
         set_default found.rule.rule.placed.config.default_filter found.rule.rule.compiled.default_filter it.filter.now found.set.filter at.compiled.default_filter
 
     -- the rules that hold on a test
-    held_by : (root : List ℕ) (sources : List ConfigSource) (config : Whole F S) (name : List ℕ) (early : Early F S) (host target : Facts) (profile : Evaluatable F S) (test : Test)
-        → IsConfig (IsFilterIn IsParsed cx) IsSpec IsTooDeep root sources (Ok config) → IsEarly config name early → IsPutOn value_on host target early profile
+    held_by : (features : FeatureSet) (root : List ℕ) (sources : List ConfigSource) (config : Whole F S) (name : List ℕ) (early : Early F S) (host target : Facts) (profile : Evaluatable F S) (test : Test)
+        → IsConfig (IsFilterIn IsParsed has_runtime_leaves cx) IsSpec IsTooDeep features root sources (Ok config) → IsEarly config name early → IsPutOn value_on host target early profile
         → (held : List (RuleOn F S)) × AreHeld (Holds OnTest profile.default_filter.filter.now test) profile.rules held
-    held_by root sources config name early host target profile test loaded is put =
-        let Is = IsFilterIn IsParsed cx in
-        let IsThis = λ (rule : LoadedOverride F S). IsReadRule (IsFilterIn IsParsed cx) IsSpec rule.placed rule in
-        let all = recursion_from_All IsThis config.loaded.rules (rules_are_read Is IsSpec IsTooDeep root sources config loaded) in
+    held_by features root sources config name early host target profile test loaded is put =
+        let Is = IsFilterIn IsParsed has_runtime_leaves cx in
+        let IsThis = λ (rule : LoadedOverride F S). IsReadRule (IsFilterIn IsParsed has_runtime_leaves cx) IsSpec rule.placed rule in
+        let all = recursion_from_All IsThis config.loaded.rules (rules_are_read Is IsSpec IsTooDeep features root sources config loaded) in
         let own : AreRead early.rules = subst AreRead (sym is.ruled) (named_have IsThis config.loaded.rules is.chained.names all) in
         let default = chosen_read early.default_filter profile.default_filter host target early.rules own
         (as_default is.filtered.text early.default_filter.filter.now
-        (default_is_read Is IsSpec IsTooDeep root sources config is.chained.names early.chain early.default_filter loaded is.filtered))
+        (default_is_read Is IsSpec IsTooDeep features root sources config is.chained.names early.chain early.default_filter loaded is.filtered))
         (subst (λ (rules : List (RuleOn F S)). IsChosenDefault early.default_filter rules profile.default_filter) put.rules put.default_filter) in
         let decided = rules_decided profile.default_filter.filter.now default test IsSpec value_on host target early.rules own in
         some_held (Holds OnTest profile.default_filter.filter.now test) profile.rules
         (subst (AllByRecursion (Decided (Holds OnTest profile.default_filter.filter.now test))) (sym put.rules) decided)
 
-    pub some_settings_for : {T : Type 0} (Tells : T → Source → Type 0) → KeepsSome Tells → SomeSettingsFor (IsFilterIn IsParsed cx) IsSpec IsTooDeep value_on OnTest Tells
-    some_settings_for Tells keeps root sources config name early host target profile mode test loaded is put =
-        let (held, are) = held_by root sources config name early host target profile test loaded is put in
+    pub some_settings_for : {T : Type 0} (Tells : T → Source → Type 0) → KeepsSome Tells → SomeSettingsFor (IsFilterIn IsParsed has_runtime_leaves cx) IsSpec IsTooDeep value_on OnTest Tells
+    some_settings_for Tells keeps features root sources config name early host target profile mode test loaded is put =
+        let (held, are) = held_by features root sources config name early host target profile test loaded is put in
         let it = some_settings Tells keeps mode (map placed_of held) profile.chain in
         (it.0, record { held = held; are = are; settings = it.1 })
 
-    pub some_group_for : SomeGroupFor (IsFilterIn IsParsed cx) IsSpec IsTooDeep value_on OnTest
-    some_group_for root sources config name early host target profile test loaded is put =
-        let (held, are) = held_by root sources config name early host target profile test loaded is put in
+    pub some_group_for : SomeGroupFor (IsFilterIn IsParsed has_runtime_leaves cx) IsSpec IsTooDeep value_on OnTest
+    some_group_for features root sources config name early host target profile test loaded is put =
+        let (held, are) = held_by features root sources config name early host target profile test loaded is put in
         group_from (Holds OnTest profile.default_filter.filter.now test) are

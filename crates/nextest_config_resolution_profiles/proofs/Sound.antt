@@ -22,23 +22,24 @@ use Rattle.nextest_config_resolution_profiles.proofs.Askable.{all_askable, all_s
 use Rattle.nextest_config_resolution_profiles.proofs.Filtered.{all_filtered}
 use Rattle.nextest_config_resolution_profiles.proofs.Kept.{kept_profile}
 use Rattle.nextest_config_resolution_profiles.proofs.SetsAll.{default_sets, store_sets}
+use Rattle.nextest_config_elements_versions.specs.declared.feature.FeatureSet.{FeatureSet}
 
 pub sound : {F S Cx : Type 0} {IsParsed : Cx → FiltersetKind → KnownGroups → List ℕ → F → Type 0}
     {OnBinary : F → F → Binary → Option Bool → Type 0} {OnTest : F → F → Test → Bool → Type 0} {asks_groups has_runtime_leaves serves_as_default : F → Bool}
     (laws : FiltersLaws IsParsed OnBinary OnTest asks_groups has_runtime_leaves serves_as_default) (IsSpec : IsSpecBy S) (IsTooDeep : List ℕ → Type 0) (cx : Cx)
-    (members : Members) (sources : List ConfigSource) (it : LoadedConfig F S) → members ≡ built_in_members
-    → IsLoaded (IsFilterIn IsParsed cx) IsSpec IsTooDeep members sources (Ok it) → Rise (parents_of (seen it).profiles) → IsSound serves_as_default asks_groups it
-sound {IsParsed = IsParsed} {asks_groups = asks_groups} {serves_as_default = serves_as_default} laws IsSpec IsTooDeep cx members sources it same loaded rises =
-    let over = subst (λ (ms : Members). IsLoadedAs (IsFilterIn IsParsed cx) IsSpec ms sources it) same loaded in
-    let set = default_sets (IsFilterIn IsParsed cx) IsSpec sources it over in record {
-      accepted = kept_inherits (IsFilterIn IsParsed cx) IsSpec members sources (seen it) loaded.kept loaded.values;
+    (features : FeatureSet) (members : Members) (sources : List ConfigSource) (it : LoadedConfig F S) → members ≡ built_in_members
+    → IsLoaded (IsFilterIn IsParsed has_runtime_leaves cx) IsSpec IsTooDeep features members sources (Ok it) → Rise (parents_of (seen it).profiles) → IsSound serves_as_default asks_groups it
+sound {IsParsed = IsParsed} {asks_groups = asks_groups} {has_runtime_leaves = has_runtime_leaves} {serves_as_default = serves_as_default} laws IsSpec IsTooDeep cx features members sources it same loaded rises =
+    let over = subst (λ (ms : Members). IsLoadedAs (IsFilterIn IsParsed has_runtime_leaves cx) IsSpec features ms sources it) same loaded in
+    let set = default_sets (IsFilterIn IsParsed has_runtime_leaves cx) IsSpec features sources it over in record {
+      accepted = kept_inherits (IsFilterIn IsParsed has_runtime_leaves cx) IsSpec features members sources (seen it) loaded.kept loaded.values;
       rises = rises;
-      has_default = kept_profile (IsFilterIn IsParsed cx) IsSpec IsTooDeep members sources it default (subst (HasProfile default) (sym same) built_in_has) loaded;
+      has_default = kept_profile (IsFilterIn IsParsed has_runtime_leaves cx) IsSpec IsTooDeep features members sources it default (subst (HasProfile default) (sym same) built_in_has) loaded;
       sets_filter = record { values = set.0; text = set.2.0; there = set.1; sets = set.2.1 };
-      filtered = all_filtered (IsFilterIn IsParsed cx purpose.Default) it.profiles it.default_filters loaded.filters;
+      filtered = all_filtered (IsFilterIn IsParsed has_runtime_leaves cx purpose.Default) it.profiles it.default_filters loaded.filters;
       serve = All-from_recursion (Serves serves_as_default) it.default_filters (all_serve laws cx (seen it).profiles it.default_filters loaded.filters);
       askable = All-from_recursion (IsAskable serves_as_default asks_groups) it.rules (all_askable laws cx IsSpec (rules_downward sources) it.rules loaded.rules);
-      stored = store_sets (IsFilterIn IsParsed cx) IsSpec sources it over;
+      stored = store_sets (IsFilterIn IsParsed has_runtime_leaves cx) IsSpec features sources it over;
     }
   where
     built_in_has : HasProfile default built_in_members

@@ -4,11 +4,13 @@ use Rattle.toml.specs.Data.{Data, string, integer, float, boolean, datetime, arr
 use Rattle.nextest_config_elements_reading.specs.Reading.{Reading, ◌>>=◌, under}
 use Rattle.nextest_config_elements_versions.specs.Demand.{experimental_in, nextest_version_in}
 use Rattle.nextest_config_resolution_load.specs.Checks.{MergedConfig, config_in}
-use Rattle.nextest_config_resolution_load.specs.File.{by_keys, checked, file_in, overrides_in_file, overrides_of_profile, profiles_at_file, profiles_in_file, profiles_of_file}
+use Rattle.nextest_config_resolution_load.specs.File.{by_keys, checked, file_in, profiles_at_file, profiles_in_file, profiles_of_file, rules_in_profile, rules_in_table, rules_of_profile}
 use Rattle.nextest_config_resolution_load.specs.declared.file_config.FileConfig.{FileConfig}
-use Rattle.nextest_config_resolution_load.specs.declared.file_config.ProfileOverrides.{ProfileOverrides}
+use Rattle.nextest_config_resolution_load.specs.declared.file_config.ProfileRules.{ProfileRules}
 use Rattle.nextest_config_resolution_overrides.specs.Groups.{groups_at}
-use Rattle.nextest_config_resolution_overrides.specs.Overrides.{overrides_at}
+use Rattle.nextest_config_resolution_scripts.specs.Scripts.{old_scripts_at, scripts_at}
+use Rattle.nextest_config_resolution_scripts.specs.declared.script_config.ScriptConfig.{ScriptConfig}
+use Rattle.nextest_config_resolution_scripts.specs.declared.script_rule.ScriptRuleConfig.{ScriptRuleConfig}
 use Rattle.nextest_config_resolution_overrides.specs.declared.groups.NamedGroup.{NamedGroup}
 use Rattle.nextest_config_resolution_overrides.specs.declared.override_config.OverrideConfig.{OverrideConfig}
 use Rattle.nextest_config_resolution_tree.specs.Nesting.{inside}
@@ -79,14 +81,14 @@ store_table (Some given) dir e = let it = read_table store_dir_in given dir e in
 
 -- ---- files
 
--- a file that is read
-abbrev pub IsRead : Members → Type 0
-IsRead file = (config : FileConfig) × (file_in file ≡ Ok config)
-
 -- what stands under `profile` and `store` is read as these
 pub record AreRead (top : Members) (profiles : List Named) (store_dir : Option (List ℕ)) : Type 0 where
   pub profiles_read : profiles_of (get_member (codes "profile") top) ≡ Ok profiles
   pub store_read : store_dir_of (get_member (codes "store") top) ≡ Ok store_dir
+
+-- a file whose profiles and store are read
+abbrev pub IsRead : Members → Type 0
+IsRead file = (profiles : List Named) × (store_dir : Option (List ℕ)) × AreRead file profiles store_dir
 
 both_read : (top : Members) (profiles : List Named) (store_dir : Option (List ℕ)) → profiles_at top ≡ Ok profiles → store_dir_at top ≡ Ok store_dir → AreRead top profiles store_dir
 both_read top profiles store_dir first second = record {
@@ -95,24 +97,24 @@ both_read top profiles store_dir first second = record {
 }
 
 -- the values of profiles whose overrides are read are read, too
-values_too : (first : Reading ProfileConfig) (second : Reading (List OverrideConfig)) (found : List OverrideConfig) → by_keys first second ≡ Ok found
+values_too : (first : Reading ProfileConfig) (second : Reading (List OverrideConfig × List ScriptRuleConfig)) (found : List OverrideConfig × List ScriptRuleConfig) → by_keys first second ≡ Ok found
     → (values : ProfileConfig) × (first ≡ Ok values)
 values_too (Ok values) second found e = (values, refl)
 values_too (Err path) (Ok others) found e = absurd (cc)
 values_too (Err path) (Err other) found e = absurd (cc)
 
 -- a profile, and those behind it, by what is read of each
-with_others : (name : List ℕ) (first : Reading ProfileOverrides) (more : Reading (List ProfileOverrides)) (all : List ProfileOverrides)
+with_others : (name : List ℕ) (first : Reading ProfileRules) (more : Reading (List ProfileRules)) (all : List ProfileRules)
     → (under name first >>= (λ one. more >>= (λ others. Ok (one ∷ others)))) ≡ Ok all
-    → ((one : ProfileOverrides) × (first ≡ Ok one)) × ((others : List ProfileOverrides) × (more ≡ Ok others))
+    → ((one : ProfileRules) × (first ≡ Ok one)) × ((others : List ProfileRules) × (more ≡ Ok others))
 with_others name (Ok one) (Ok others) all e = ((one, refl), (others, refl))
 with_others name (Ok one) (Err path) all e = absurd (cc)
 with_others name (Err path) more all e = absurd (cc)
 
 -- the table of a profile, by its overrides
-of_table : (name : List ℕ) (reading : Reading (List OverrideConfig)) (one : ProfileOverrides)
-    → (reading >>= (λ found. Ok (record { profile = name; overrides = found }))) ≡ Ok one
-    → (found : List OverrideConfig) × (reading ≡ Ok found)
+of_table : (name : List ℕ) (reading : Reading (List OverrideConfig × List ScriptRuleConfig)) (one : ProfileRules)
+    → (reading >>= (λ found. Ok (record { profile = name; overrides = found.0; scripts = found.1 }))) ≡ Ok one
+    → (found : List OverrideConfig × List ScriptRuleConfig) × (reading ≡ Ok found)
 of_table name (Ok found) one e = (found, refl)
 of_table name (Err path) one e = absurd (cc)
 
@@ -121,22 +123,22 @@ listed : (name : List ℕ) (first : Reading ProfileConfig) (more : Reading (List
     → (under name first >>= (λ value. more >>= (λ others. Ok ((name, value) ∷ others)))) ≡ Ok ((name, value) ∷ others)
 listed name first more value others e f = rw (e, f) refl
 
-profile_value : (name : List ℕ) (given : Data) (one : ProfileOverrides) → overrides_of_profile name given ≡ Ok one → (value : ProfileConfig) × (profile_of given ≡ Ok value)
+profile_value : (name : List ℕ) (given : Data) (one : ProfileRules) → rules_of_profile name given ≡ Ok one → (value : ProfileConfig) × (profile_of given ≡ Ok value)
 profile_value name given one e =
-    let found = of_table name (table_by overrides_in_file given) one e in
-    let (members, same, read) = read_table overrides_in_file given found.0 found.1 in
-    let it = values_too (profile_in members) (overrides_at members) found.0 read in
+    let found = of_table name (table_by rules_in_profile given) one e in
+    let (members, same, read) = read_table rules_in_profile given found.0 found.1 in
+    let it = values_too (profile_in members) (rules_in_table members) found.0 read in
     (it.0, ap profile_of same ∙ it.1)
 
-profiles_too : (members : Members) (all : List ProfileOverrides) → profiles_in_file members ≡ Ok all → (profiles : List Named) × (profiles_in members ≡ Ok profiles)
+profiles_too : (members : Members) (all : List ProfileRules) → profiles_in_file members ≡ Ok all → (profiles : List Named) × (profiles_in members ≡ Ok profiles)
 profiles_too no_members all e = ([], refl)
 profiles_too (member name given more) all e =
-    let parts = with_others name (overrides_of_profile name given) (profiles_in_file more) all e in
+    let parts = with_others name (rules_of_profile name given) (profiles_in_file more) all e in
     let value = profile_value name given parts.0.0 parts.0.1 in
     let others = profiles_too more parts.1.0 parts.1.1 in
     ((name, value.0) ∷ others.0, listed name (profile_of given) (profiles_in more) value.0 others.0 value.1 others.1)
 
-all_too : (found : Option Data) (all : List ProfileOverrides) → profiles_of_file found ≡ Ok all → (profiles : List Named) × (profiles_of found ≡ Ok profiles)
+all_too : (found : Option Data) (all : List ProfileRules) → profiles_of_file found ≡ Ok all → (profiles : List Named) × (profiles_of found ≡ Ok profiles)
 all_too None all e = ([], refl)
 all_too (Some given) all e =
     let (members, same, read) = read_table profiles_in_file given all e in
@@ -155,21 +157,24 @@ record HasParts {A : Type 0} (profiles : Reading A) (store : Reading (Unit {0}))
   done : Unit {0}
   store_is : store ≡ Ok done
 
-parts_of : {A B C : Type 0} (features versions : Reading (Unit {0})) (profiles : Reading A) (store : Reading (Unit {0})) (groups : Reading B) (made : A → B → C) (it : C)
-    → (features >>= (λ a. versions >>= (λ b. profiles >>= (λ c. store >>= (λ d. groups >>= (λ e. Ok (made c e))))))) ≡ Ok it → HasParts profiles store
-parts_of (Ok a) (Ok b) (Ok all) (Ok done) groups made it e = record { all = all; profiles_are = refl; done = done; store_is = refl }
-parts_of (Ok a) (Ok b) (Ok all) (Err path) groups made it e = absurd (cc)
-parts_of (Ok a) (Ok b) (Err path) store groups made it e = absurd (cc)
-parts_of (Ok a) (Err path) profiles store groups made it e = absurd (cc)
-parts_of (Err path) versions profiles store groups made it e = absurd (cc)
+parts_of : {A B C D E : Type 0} (features versions : Reading (Unit {0})) (profiles : Reading A) (old : Reading D) (scripts : Reading E) (store : Reading (Unit {0})) (groups : Reading B)
+    (made : A → D → E → B → C) (it : C)
+    → (features >>= (λ a. versions >>= (λ b. profiles >>= (λ c. old >>= (λ o. scripts >>= (λ s. store >>= (λ d. groups >>= (λ e. Ok (made c o s e))))))))) ≡ Ok it → HasParts profiles store
+parts_of (Ok a) (Ok b) (Ok all) (Ok old) (Ok scripts) (Ok done) groups made it e = record { all = all; profiles_are = refl; done = done; store_is = refl }
+parts_of (Ok a) (Ok b) (Ok all) (Ok old) (Ok scripts) (Err path) groups made it e = absurd (cc)
+parts_of (Ok a) (Ok b) (Ok all) (Ok old) (Err path) store groups made it e = absurd (cc)
+parts_of (Ok a) (Ok b) (Ok all) (Err path) scripts store groups made it e = absurd (cc)
+parts_of (Ok a) (Ok b) (Err path) old scripts store groups made it e = absurd (cc)
+parts_of (Ok a) (Err path) profiles old scripts store groups made it e = absurd (cc)
+parts_of (Err path) versions profiles old scripts store groups made it e = absurd (cc)
 
 -- the values of the profiles of a file that is read are read, and so is where it stores
 pub file_parts : (file : Members) (config : FileConfig) → file_in file ≡ Ok config
     → (profiles : List Named) × (store_dir : Option (List ℕ)) × AreRead file profiles store_dir
 unfolding file_in
 file_parts file config e =
-    let parts = parts_of (checked (experimental_in file)) (checked (nextest_version_in file)) (profiles_at_file file) (checked (store_dir_at file)) (groups_at file)
-    (λ profiles groups. record { profiles = profiles; groups = groups }) config e in
+    let parts = parts_of (checked (experimental_in file)) (checked (nextest_version_in file)) (profiles_at_file file) (old_scripts_at file) (scripts_at file)
+    (checked (store_dir_at file)) (groups_at file) (λ profiles old scripts groups. record { profiles = profiles; groups = groups; old_scripts = old; scripts = scripts }) config e in
     let found = get_member (codes "profile") file in
     let all = all_too found parts.all (under_read (codes "profile") (profiles_of_file found) parts.all parts.profiles_are) in
     let store = value_checked (store_dir_at file) parts.done parts.store_is in (
@@ -182,15 +187,16 @@ file_parts file config e =
     )
 
 -- what a merged tree says of profiles and the store, by its readings
-merged_parts : (profiles : Reading (List Named)) (store_dir : Reading (Option (List ℕ))) (groups : Reading (List NamedGroup)) (config : MergedConfig)
-    → (profiles >>= (λ a. store_dir >>= (λ b. groups >>= (λ c. Ok (record { profiles = a; store_dir = b; groups = c }))))) ≡ Ok config
+merged_parts : (profiles : Reading (List Named)) (scripts : Reading ScriptConfig) (store_dir : Reading (Option (List ℕ))) (groups : Reading (List NamedGroup)) (config : MergedConfig)
+    → (profiles >>= (λ a. scripts >>= (λ s. store_dir >>= (λ b. groups >>= (λ c. Ok (record { profiles = a; store_dir = b; groups = c; scripts = s })))))) ≡ Ok config
     → (profiles ≡ Ok config.profiles) × (store_dir ≡ Ok config.store_dir)
-merged_parts (Ok all) (Ok dir) (Ok groups) config e = (cc, cc)
-merged_parts (Ok all) (Ok dir) (Err path) config e = absurd (cc)
-merged_parts (Ok all) (Err path) groups config e = absurd (cc)
-merged_parts (Err path) store_dir groups config e = absurd (cc)
+merged_parts (Ok all) (Ok scripts) (Ok dir) (Ok groups) config e = (cc, cc)
+merged_parts (Ok all) (Ok scripts) (Ok dir) (Err path) config e = absurd (cc)
+merged_parts (Ok all) (Ok scripts) (Err path) groups config e = absurd (cc)
+merged_parts (Ok all) (Err path) store_dir groups config e = absurd (cc)
+merged_parts (Err path) scripts store_dir groups config e = absurd (cc)
 
 pub config_parts : (top : Members) (config : MergedConfig) → config_in top ≡ Ok config → AreRead top config.profiles config.store_dir
 config_parts top config e =
-    let parts = merged_parts (profiles_at top) (store_dir_at top) (groups_at top) config e in
+    let parts = merged_parts (profiles_at top) (scripts_at top) (store_dir_at top) (groups_at top) config e in
     both_read top config.profiles config.store_dir parts.0 parts.1

@@ -1,6 +1,6 @@
 -- What it takes to ask the filters of a configuration.
 use Rattle.std.specs.Prelude.{◌≡◌, Bool, true, false, List, Option, All, IfSome}
-use Rattle.nextest_config_resolution_load.specs.declared.loaded_override.LoadedOverride.{LoadedOverride}
+use Rattle.nextest_config_resolution_load.specs.Load.{LoadedOverride}
 
 -- a filter, where there is one, serves as a default filter
 abbrev pub Serves : {F : Type 0} → (F → Bool) → Option F → Type 0

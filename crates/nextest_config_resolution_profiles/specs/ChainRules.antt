@@ -1,6 +1,6 @@
 -- The rules of a chain, as code keeps them.
 use Rattle.std.specs.Prelude.{Bool, List, Option, map}
-use Rattle.nextest_config_resolution_load.specs.declared.loaded_override.LoadedOverride.{LoadedOverride}
+use Rattle.nextest_config_resolution_load.specs.Load.{LoadedOverride}
 use Rattle.nextest_config_resolution_profiles.specs.Platforms.{RuleOn, holds_for_host, holds_for_target}
 use Rattle.nextest_config_resolution_profiles.specs.declared.chain_rule.ChainRule.{ChainRule}
 

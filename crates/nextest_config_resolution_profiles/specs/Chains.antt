@@ -4,7 +4,7 @@ use Rattle.nextest_config_resolution_inheritance.specs.Inheritance.{Name, names_
 use Rattle.nextest_config_resolution_load.specs.Checks.{parents_of}
 use Rattle.nextest_config_resolution_load.specs.Load.{named}
 use Rattle.nextest_config_resolution_load.specs.declared.loaded_config.NamedProfile.{NamedProfile}
-use Rattle.nextest_config_resolution_load.specs.declared.loaded_override.LoadedOverride.{LoadedOverride}
+use Rattle.nextest_config_resolution_load.specs.Load.{LoadedOverride}
 use Rattle.nextest_config_resolution_settings.specs.Nearest.{lent}
 use Rattle.nextest_config_resolution_settings.specs.Rules.{rules_of}
 use Rattle.nextest_config_resolution_values.specs.File.{Named}

@@ -1,6 +1,6 @@
 -- A profile before anything is known of the platforms, as clauses see it.
 use Rattle.std.specs.Prelude.{ℕ, List}
-use Rattle.nextest_config_resolution_load.specs.declared.loaded_override.LoadedOverride.{LoadedOverride}
+use Rattle.nextest_config_resolution_load.specs.Load.{LoadedOverride}
 use Rattle.nextest_config_resolution_overrides.specs.declared.groups.NamedGroup.{NamedGroup}
 use Rattle.nextest_config_resolution_overrides.specs.declared.override_id.OverrideId.{OverrideId}
 use Rattle.nextest_config_resolution_settings.specs.declared.default_filter.CompiledDefaultFilter.{CompiledDefaultFilter}

@@ -12,6 +12,7 @@ use Rattle.nextest_config_resolution_profiles.specs.BuiltInLaws.{SetsEach}
 use Rattle.nextest_config_resolution_profiles.specs.Config.{IsChainOf, IsConfig, IsDefaultFilterOf, names_of, profiles_of, values_of}
 use Rattle.nextest_config_resolution_profiles.specs.Whole.{Whole}
 use Rattle.nextest_config_resolution_settings.specs.declared.default_filter.CompiledDefaultFilter.{CompiledDefaultFilter}
+use Rattle.nextest_config_elements_versions.specs.declared.feature.FeatureSet.{FeatureSet}
 
 -- the chain of a profile has one list of values
 abbrev pub OneProfile : Type 0
@@ -19,12 +20,12 @@ OneProfile = (profiles : List Named) (name : Name) (a b : List ProfileConfig) �
 
 -- It can't be that sources neither come to a configuration nor break a rule. No law decides whether a text is a filter, so it is said in this form.
 abbrev pub SomeConfig : {F S : Type 0} → IsFilterBy F → IsSpecBy S → (List ℕ → Type 0) → Type 0
-SomeConfig {F} {S} Is IsSpec IsTooDeep = (root : List ℕ) (sources : List ConfigSource)
-    → ¬ ¬ (((config : Whole F S) × IsConfig Is IsSpec IsTooDeep root sources (Ok config)) ⊎ ((fault : LoadFault) × IsConfig Is IsSpec IsTooDeep root sources (Err (Refused fault))))
+SomeConfig {F} {S} Is IsSpec IsTooDeep = (features : FeatureSet) (root : List ℕ) (sources : List ConfigSource)
+    → ¬ ¬ (((config : Whole F S) × IsConfig Is IsSpec IsTooDeep features root sources (Ok config)) ⊎ ((fault : LoadFault) × IsConfig Is IsSpec IsTooDeep features root sources (Err (Refused fault))))
 
 -- a name has a chain in a configuration, or none of its profiles has the name
 abbrev pub SomeChain : {F S : Type 0} → IsFilterBy F → IsSpecBy S → (List ℕ → Type 0) → Type 0
-SomeChain {F} {S} Is IsSpec IsTooDeep = (root : List ℕ) (sources : List ConfigSource) (config : Whole F S) (name : Name) → IsConfig Is IsSpec IsTooDeep root sources (Ok config)
+SomeChain {F} {S} Is IsSpec IsTooDeep = (features : FeatureSet) (root : List ℕ) (sources : List ConfigSource) (config : Whole F S) (name : Name) → IsConfig Is IsSpec IsTooDeep features root sources (Ok config)
     → ((values : List ProfileConfig) × IsChainOf (profiles_of config) name values) ⊎ ¬ Contains (names_of config) name
 
 -- the chain of a profile hangs on the profiles in it alone
@@ -34,8 +35,8 @@ SameChain = (profiles others : List Named) (name : Name) (values : List ProfileC
 
 -- the default filter of a chain is the one of its text
 abbrev pub DefaultIsRead : {F S : Type 0} → IsFilterBy F → IsSpecBy S → (List ℕ → Type 0) → Type 0
-DefaultIsRead {F} {S} Is IsSpec IsTooDeep = (root : List ℕ) (sources : List ConfigSource) (config : Whole F S) (names : List Name) (chain : List ProfileConfig) (it : CompiledDefaultFilter F)
-    → IsConfig Is IsSpec IsTooDeep root sources (Ok config) → (of : IsDefaultFilterOf config.loaded.profiles config.loaded.default_filters names chain it) → Is purpose.Default of.text it.filter.now
+DefaultIsRead {F} {S} Is IsSpec IsTooDeep = (features : FeatureSet) (root : List ℕ) (sources : List ConfigSource) (config : Whole F S) (names : List Name) (chain : List ProfileConfig) (it : CompiledDefaultFilter F)
+    → IsConfig Is IsSpec IsTooDeep features root sources (Ok config) → (of : IsDefaultFilterOf config.loaded.profiles config.loaded.default_filters names chain it) → Is purpose.Default of.text it.filter.now
 
 -- a configuration sets the directory of its store, and each of its chains sets each setting but the path of JUnit's report, whatever files say
 pub record SetsAll {F S : Type 0} (config : Whole F S) : Type 0 where
@@ -43,9 +44,9 @@ pub record SetsAll {F S : Type 0} (config : Whole F S) : Type 0 where
   pub each : (name : Name) (chain : List ProfileConfig) → IsChainOf (profiles_of config) name chain → SetsEach chain
 
 abbrev pub NeverFallsBack : {F S : Type 0} → IsFilterBy F → IsSpecBy S → (List ℕ → Type 0) → Type 0
-NeverFallsBack {F} {S} Is IsSpec IsTooDeep = (root : List ℕ) (sources : List ConfigSource) (config : Whole F S) → IsConfig Is IsSpec IsTooDeep root sources (Ok config) → SetsAll config
+NeverFallsBack {F} {S} Is IsSpec IsTooDeep = (features : FeatureSet) (root : List ℕ) (sources : List ConfigSource) (config : Whole F S) → IsConfig Is IsSpec IsTooDeep features root sources (Ok config) → SetsAll config
 
 -- each rule of a configuration has the filters and specs of its texts
 abbrev pub RulesAreRead : {F S : Type 0} → IsFilterBy F → IsSpecBy S → (List ℕ → Type 0) → Type 0
-RulesAreRead {F} {S} Is IsSpec IsTooDeep = (root : List ℕ) (sources : List ConfigSource) (config : Whole F S) → IsConfig Is IsSpec IsTooDeep root sources (Ok config)
+RulesAreRead {F} {S} Is IsSpec IsTooDeep = (features : FeatureSet) (root : List ℕ) (sources : List ConfigSource) (config : Whole F S) → IsConfig Is IsSpec IsTooDeep features root sources (Ok config)
     → All (λ rule. IsReadRule Is IsSpec rule.placed rule) config.loaded.rules

@@ -63,11 +63,17 @@ built_in_config = record {
   profiles = (codes "default", default_profile) ∷ (codes "default-miri", miri_profile) ∷ [];
   store_dir = Some (codes "target/nextest");
   groups = [];
+  scripts = record { setup = []; wrapper = [] };
 }
 
--- neither has an override
+-- neither has a rule
 abbrev pub built_in_file : FileConfig
 built_in_file = record {
-  profiles = record { profile = codes "default"; overrides = [] } ∷ record { profile = codes "default-miri"; overrides = [] } ∷ [];
+  profiles =
+      record { profile = codes "default"; overrides = []; scripts = [] }
+      ∷ record { profile = codes "default-miri"; overrides = []; scripts = [] }
+      ∷ [];
   groups = [];
+  old_scripts = [];
+  scripts = record { setup = []; wrapper = [] };
 }

@@ -16,6 +16,7 @@ use Rattle.nextest_config_resolution_settings.specs.declared.test_settings.TestS
 use Rattle.nextest_config_resolution_profiles.specs.Whole.{Whole}
 use Rattle.nextest_config_resolution_sources.specs.declared.source.ConfigSource.{ConfigSource}
 use Rattle.nextest_filtering_filters.specs.Query.{Test}
+use Rattle.nextest_config_elements_versions.specs.declared.feature.FeatureSet.{FeatureSet}
 
 -- where no rule holds for the target and sets a default filter, it is that of the profiles
 abbrev pub EarlyDefault : Type 0 → Type 0 → Type 0
@@ -50,12 +51,12 @@ NoRules {F} {T} OnTest S Tells = (profile : Evaluatable F S) (mode : NextestRunM
 -- each test has settings, by each profile of a configuration and on each platforms, and so it has a group
 abbrev pub SomeSettingsFor : {F S Facts T : Type 0} → IsFilterBy F → IsSpecBy S → (List ℕ → Type 0) → (S → Facts → Option Bool) → (F → F → Test → Bool → Type 0) → (T → Source → Type 0) → Type 0
 SomeSettingsFor {F} {S} {Facts} {T} Is IsSpec IsTooDeep value_on OnTest Tells =
-    (root : List ℕ) (sources : List ConfigSource) (config : Whole F S) (name : List ℕ) (early : Early F S) (host target : Facts) (profile : Evaluatable F S) (mode : NextestRunMode) (test : Test)
-    → IsConfig Is IsSpec IsTooDeep root sources (Ok config) → IsEarly config name early → IsPutOn value_on host target early profile
+    (features : FeatureSet) (root : List ℕ) (sources : List ConfigSource) (config : Whole F S) (name : List ℕ) (early : Early F S) (host target : Facts) (profile : Evaluatable F S) (mode : NextestRunMode) (test : Test)
+    → IsConfig Is IsSpec IsTooDeep features root sources (Ok config) → IsEarly config name early → IsPutOn value_on host target early profile
     → (it : TestSettings T) × AreSettingsFor OnTest Tells profile mode test it
 
 abbrev pub SomeGroupFor : {F S Facts : Type 0} → IsFilterBy F → IsSpecBy S → (List ℕ → Type 0) → (S → Facts → Option Bool) → (F → F → Test → Bool → Type 0) → Type 0
 SomeGroupFor {F} {S} {Facts} Is IsSpec IsTooDeep value_on OnTest =
-    (root : List ℕ) (sources : List ConfigSource) (config : Whole F S) (name : List ℕ) (early : Early F S) (host target : Facts) (profile : Evaluatable F S) (test : Test)
-    → IsConfig Is IsSpec IsTooDeep root sources (Ok config) → IsEarly config name early → IsPutOn value_on host target early profile
+    (features : FeatureSet) (root : List ℕ) (sources : List ConfigSource) (config : Whole F S) (name : List ℕ) (early : Early F S) (host target : Facts) (profile : Evaluatable F S) (test : Test)
+    → IsConfig Is IsSpec IsTooDeep features root sources (Ok config) → IsEarly config name early → IsPutOn value_on host target early profile
     → (group : TestGroup) × IsGroupFor OnTest profile test group

@@ -50,7 +50,7 @@ impl<F: Filters, S: Specs> NextestConfig<F, S> {
     ghost use Rattle.std.specs.Prelude.{◌≡◌, Some};
 
     /// What sources come to, those that count, each over the lower ones and over what is built in, in the workspace at `root`,
-    /// which `cx` is to filters. No rule asks for the `experimental` features yet.
+    /// which `cx` is to filters, where the `experimental` features are known.
     ///
     /// # Errors
     ///
@@ -61,12 +61,12 @@ impl<F: Filters, S: Specs> NextestConfig<F, S> {
         root: &str,
         cx: &F::Cx,
         sources: &[ConfigSource],
-        _experimental: FeatureSet,
+        experimental: FeatureSet,
     ) -> Result<NextestConfig<F, S>, LoadError>
-        ensures { IsConfig (IsFilterIn F.is_parsed cx.now) S.is_parsed F.is_too_deep root.now sources.now result }
+        ensures { IsConfig (IsFilterIn F.is_parsed F.has_runtime_leaves cx.now) S.is_parsed F.is_too_deep experimental root.now sources.now result }
     {
         let lowest = built_in(alloc)?;
-        match load::<ConfigLanguages<F, S>>(alloc, &lowest, cx, sources) {
+        match load::<ConfigLanguages<F, S>>(alloc, &lowest, cx, sources, experimental) {
             Ok(loaded) => Ok(NextestConfig {
                 root: Text::from_str(alloc, root)?,
                 loaded,
@@ -86,16 +86,21 @@ impl<F: Filters, S: Specs> NextestConfig<F, S> {
         root: &str,
         cx: &F::Cx,
         sources: &[ConfigSource],
-        _experimental: FeatureSet,
+        experimental: FeatureSet,
         warnings: &mut W,
     ) -> Result<NextestConfig<F, S>, LoadError>
-        ensures config { IsConfig (IsFilterIn F.is_parsed cx.now) S.is_parsed F.is_too_deep root.now sources.now result }
+        ensures config { IsConfig (IsFilterIn F.is_parsed F.has_runtime_leaves cx.now) S.is_parsed F.is_too_deep experimental root.now sources.now result }
         ensures told { TellsAs W.has_told warnings.old warnings.new (warnings_in sources.now) result }
     {
         let lowest = built_in(alloc)?;
         let root = Text::from_str(alloc, root)?;
         match load_with_warnings::<ConfigLanguages<F, S>, W>(
-            alloc, &lowest, cx, sources, warnings,
+            alloc,
+            &lowest,
+            cx,
+            sources,
+            experimental,
+            warnings,
         ) {
             Ok(loaded) => Ok(NextestConfig { root, loaded }),
             Err(error) => Err(error),
@@ -118,8 +123,8 @@ impl<F: Filters, S: Specs> NextestConfig<F, S> {
         experimental: FeatureSet,
         warnings: &mut W,
     ) -> Result<NextestConfig<F, S>, LoadError>
-        ensures config { IsConfig (IsFilterIn F.is_parsed cx.now) S.is_parsed F.is_too_deep
-            root.now (selected_by selection.now sources.now) result }
+        ensures config { IsConfig (IsFilterIn F.is_parsed F.has_runtime_leaves cx.now) S.is_parsed F.is_too_deep
+            experimental root.now (selected_by selection.now sources.now) result }
         ensures told { TellsAs W.has_told warnings.old warnings.new (warnings_in (selected_by selection.now sources.now)) result }
     {
         let sources = selected(alloc, selection, sources)?;
@@ -147,8 +152,8 @@ impl<F: Filters, S: Specs> NextestConfig<F, S> {
         experimental: FeatureSet,
         warnings: &mut W,
     ) -> Result<NextestConfig<F, S>, LoadError>
-        ensures config { IsConfig (IsFilterIn F.is_parsed cx.now) S.is_parsed F.is_too_deep
-            paths.now.workspace_root (selected_by selection.now sources.now) result }
+        ensures config { IsConfig (IsFilterIn F.is_parsed F.has_runtime_leaves cx.now) S.is_parsed F.is_too_deep
+            experimental paths.now.workspace_root (selected_by selection.now sources.now) result }
         ensures told { TellsAs W.has_told warnings.old warnings.new (warnings_in (selected_by selection.now sources.now)) result }
     {
         let root = paths.workspace_root.as_str();

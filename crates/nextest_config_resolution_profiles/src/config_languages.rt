@@ -1,6 +1,6 @@
 // How the filters and platform specs of a configuration are read.
 ghost use Rattle.std.specs.Prelude.{◌≡◌};
-ghost use Rattle.nextest_config_resolution_profiles.specs.Languages.{kind_of};
+ghost use Rattle.nextest_config_resolution_profiles.specs.Languages.{kind_of, served};
 
 use nextest_config_resolution_filters::{FilterError, Filters, SpecError, Specs};
 use nextest_config_resolution_load::{FilterPurpose, Languages};
@@ -26,7 +26,7 @@ impl<F: Filters, S: Specs> Languages for ConfigLanguages<F, S> {
 
     type Spec = S;
 
-    ghost is_filter = { IsFilterIn F.is_parsed };
+    ghost is_filter = { IsFilterIn F.is_parsed F.has_runtime_leaves };
 
     ghost is_spec = { S.is_parsed };
 
@@ -40,10 +40,14 @@ impl<F: Filters, S: Specs> Languages for ConfigLanguages<F, S> {
     ) -> Result<Option<F>, AllocError> {
         let kind = kind_of(purpose);
         match F::parse(alloc, text.clone()?, cx, kind, &KnownGroups::Unavailable) {
-            Ok(filter) => Ok(Some(filter)),
+            Ok(filter) => Ok(served(purpose, filter)),
             Err(FilterError::Refused) => Ok(None),
             Err(FilterError::OutOfMemory) => Err(AllocError),
         }
+    }
+
+    fn serves_listing(_cx: &F::Cx, filter: &F) -> bool {
+        !filter.has_runtime_leaves()
     }
 
     fn read_spec(alloc: Global, text: &str) -> Result<Option<S>, AllocError> {
@@ -61,6 +65,21 @@ fn kind_of(purpose: FilterPurpose) -> FiltersetKind
 {
     match purpose {
         FilterPurpose::Default => FiltersetKind::DefaultFilter,
-        FilterPurpose::Override => FiltersetKind::OverrideFilter,
+        FilterPurpose::Override | FilterPurpose::ListWrapper => FiltersetKind::OverrideFilter,
+    }
+}
+
+// A filter that was parsed for a purpose, if it serves it.
+fn served<F: Filters>(purpose: FilterPurpose, filter: F) -> Option<F>
+    ensures { result ≡ served F.has_runtime_leaves purpose filter }
+{
+    match purpose {
+        FilterPurpose::Default | FilterPurpose::Override => Some(filter),
+        FilterPurpose::ListWrapper => {
+            if filter.has_runtime_leaves() {
+                return None;
+            }
+            Some(filter)
+        }
     }
 }

@@ -11,7 +11,7 @@ use nextest_config_resolution_settings::TrackSource;
 
 /// A profile of what is built in is one of every configuration that is loaded over it.
 pub fn kept_profile<F: Filters, S: Specs>()
-    ensures { (cx : F.Cx) → KeptProfile (IsFilterIn F.is_parsed cx) S.is_parsed F.is_too_deep }
+    ensures { (cx : F.Cx) → KeptProfile (IsFilterIn F.is_parsed F.has_runtime_leaves cx) S.is_parsed F.is_too_deep }
 {}
 
 /// The chain of a profile has one list of values.
@@ -22,18 +22,18 @@ pub fn one_profile()
 /// It can't be that sources neither come to a configuration nor break a rule; and in a configuration a name has a chain, or no
 /// profile has that name.
 pub fn some_profile<F: Filters, S: Specs>()
-    ensures config { (cx : F.Cx) → SomeConfig (IsFilterIn F.is_parsed cx) S.is_parsed F.is_too_deep }
-    ensures chain { (cx : F.Cx) → SomeChain (IsFilterIn F.is_parsed cx) S.is_parsed F.is_too_deep }
+    ensures config { (cx : F.Cx) → SomeConfig (IsFilterIn F.is_parsed F.has_runtime_leaves cx) S.is_parsed F.is_too_deep }
+    ensures chain { (cx : F.Cx) → SomeChain (IsFilterIn F.is_parsed F.has_runtime_leaves cx) S.is_parsed F.is_too_deep }
 {}
 
 /// The default filter that a profile of a configuration tells is the one that its text is in the workspace.
 pub fn default_is_read<F: Filters, S: Specs>()
-    ensures { (cx : F.Cx) → DefaultIsRead (IsFilterIn F.is_parsed cx) S.is_parsed F.is_too_deep }
+    ensures { (cx : F.Cx) → DefaultIsRead (IsFilterIn F.is_parsed F.has_runtime_leaves cx) S.is_parsed F.is_too_deep }
 {}
 
 /// Each rule of a configuration has the filters and platform specs that its texts are in the workspace.
 pub fn rules_are_read<F: Filters, S: Specs>()
-    ensures { (cx : F.Cx) → RulesAreRead (IsFilterIn F.is_parsed cx) S.is_parsed F.is_too_deep }
+    ensures { (cx : F.Cx) → RulesAreRead (IsFilterIn F.is_parsed F.has_runtime_leaves cx) S.is_parsed F.is_too_deep }
 {}
 
 /// The chain of a profile hangs on the profiles in it alone: others that have the same values under their names have the same one.
@@ -64,7 +64,7 @@ pub fn no_fallback()
 
 /// A configuration sets the directory of its store, and each of its chains sets each setting but the path of JUnit's report, so that no fallback is ever used.
 pub fn never_falls_back<F: Filters, S: Specs>()
-    ensures { (cx : F.Cx) → NeverFallsBack (IsFilterIn F.is_parsed cx) S.is_parsed F.is_too_deep }
+    ensures { (cx : F.Cx) → NeverFallsBack (IsFilterIn F.is_parsed F.has_runtime_leaves cx) S.is_parsed F.is_too_deep }
 {}
 
 /// Where no rule holds for what is built for the target and sets a default filter, it is that of the profiles.
@@ -81,9 +81,9 @@ pub fn one_held<'p, F: Filters, S: Specs, T: TrackSource<'p>, U: TrackSource<'p>
 
 /// By each profile of a configuration, and on each platforms, each test has settings, and a group.
 pub fn some_settings<'p, F: Filters, S: Specs, T: TrackSource<'p>>()
-    ensures settings { (cx : F.Cx) → SomeSettingsFor (IsFilterIn F.is_parsed cx) S.is_parsed F.is_too_deep
+    ensures settings { (cx : F.Cx) → SomeSettingsFor (IsFilterIn F.is_parsed F.has_runtime_leaves cx) S.is_parsed F.is_too_deep
         S.value_on F.on_test T.tells }
-    ensures group { (cx : F.Cx) → SomeGroupFor (IsFilterIn F.is_parsed cx) S.is_parsed F.is_too_deep
+    ensures group { (cx : F.Cx) → SomeGroupFor (IsFilterIn F.is_parsed F.has_runtime_leaves cx) S.is_parsed F.is_too_deep
         S.value_on F.on_test }
 {}
 

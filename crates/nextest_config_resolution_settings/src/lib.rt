@@ -19,17 +19,16 @@ mod rule_keys;
 mod source;
 mod test_settings;
 mod tracking;
-mod wrapper_script;
 
 pub use default_filter::{CompiledDefaultFilter, CompiledDefaultFilterSection};
 pub use layers::{Rule, Sets, Setting, find_in_profiles, find_setting, nearest};
 pub use list_settings::ListSettings;
 pub use nextest_config_resolution_overrides::{OverrideId, PlacedOverride};
+pub use nextest_config_resolution_scripts::{
+    ScriptCommand, ScriptCommandEnvMap, ScriptCommandRelativeTo, WrapperScriptConfig,
+    WrapperScriptTargetRunner,
+};
 pub use profiles::{of_profiles, set_by, value_or};
 pub use source::{SettingSource, TrackSource};
 pub use test_settings::{TestGroupRef, TestSettings};
 pub use tracking::settings_by;
-pub use wrapper_script::{
-    ScriptCommand, ScriptCommandEnvMap, ScriptCommandRelativeTo, WrapperScriptConfig,
-    WrapperScriptTargetRunner,
-};

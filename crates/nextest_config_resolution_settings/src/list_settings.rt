@@ -2,7 +2,7 @@
 ghost use Rattle.std.specs.Prelude.{◌≡◌, None, Some};
 ghost use Rattle.std.specs.Option.{option_copied};
 
-use crate::wrapper_script::WrapperScriptConfig;
+use nextest_config_resolution_scripts::WrapperScriptConfig;
 
 /// The settings with which the tests of a binary are listed. With each stands what is kept of where it is taken from.
 #[derive(Drop)]

@@ -1,13 +1,13 @@
 // The settings of a test.
 ghost use Rattle.std.specs.Prelude.{◌≡◌};
 
-use crate::wrapper_script::WrapperScriptConfig;
 use nextest_config_elements_counts::{
     JunitFlakyFailStatus, LeakTimeout, ReportSkipPolicy, RetryPolicy, SlowTimeout, TestPriority,
     ThreadsRequired,
 };
 use nextest_config_elements_identifiers::CustomTestGroup;
 use nextest_config_elements_plain::{FlakyResult, TestOutputDisplay};
+use nextest_config_resolution_scripts::WrapperScriptConfig;
 use nextest_text::Text;
 
 /// The group that a test is in, lent.

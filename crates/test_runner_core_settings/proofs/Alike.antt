@@ -5,7 +5,7 @@ use Rattle.std.specs.Option.{IfSome, unwrap_or}
 use Rattle.std.proofs.lemmas.Bool.{false≢true}
 use Rattle.nextest_config_resolution_load.specs.Load.{IsReadAs, IsReadRule}
 use Rattle.nextest_config_resolution_load.specs.declared.languages.FilterPurpose.TheVariants as purpose
-use Rattle.nextest_config_resolution_load.specs.declared.loaded_override.LoadedOverride.{LoadedOverride}
+use Rattle.nextest_config_resolution_load.specs.Load.{LoadedOverride}
 use Rattle.nextest_config_resolution_profiles.specs.Held.{Holds, holds_for, placed_of}
 use Rattle.nextest_config_resolution_profiles.specs.Platforms.{ForTarget, RuleOn, on_platforms, spec_holds}
 use Rattle.nextest_filtering_compiling.proofs.Trees.{is_on_as_compiled}

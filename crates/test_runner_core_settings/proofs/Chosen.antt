@@ -3,7 +3,7 @@ use Rattle.std.proofs.Common.{◌≡◌, ◌||◌, ℕ, Bool, true, false, List,
 use Rattle.std.specs.List.{Contains}
 use Rattle.std.specs.Option.{option_map, option_map_or, unwrap_or}
 use Rattle.nextest_config_elements_identifiers.specs.declared.test_group.TestGroup.{TestGroup}
-use Rattle.nextest_config_resolution_load.specs.declared.loaded_override.LoadedOverride.{LoadedOverride}
+use Rattle.nextest_config_resolution_load.specs.Load.{LoadedOverride}
 use Rattle.nextest_config_resolution_overrides.specs.declared.groups.NamedGroup.{NamedGroup}
 use Rattle.nextest_config_resolution_overrides.specs.declared.placed_override.PlacedOverride.{PlacedOverride}
 use Rattle.nextest_config_resolution_profiles.specs.Config.{IsEarly, IsProfile, names_of}

@@ -11,11 +11,12 @@ use Rattle.nextest_config_elements_plain.specs.declared.run_mode.NextestRunMode.
 use Rattle.nextest_config_resolution_inheritance.specs.Inheritance.{Name, IsChain, ends, goes_on}
 use Rattle.nextest_config_resolution_inheritance.specs.declared.inheritance_fault.InheritanceFault.TheVariants as inheritance
 use Rattle.nextest_config_resolution_load.specs.Kinds.{kind_of}
-use Rattle.nextest_config_resolution_load.specs.Checks.{MergedConfig, Refusal, unread, no_toml, bad_value, bad_name, no_constraint, filter_and_default_filter, bad_spec, bad_override_filter, bad_merged, unknown_group, inherits_badly, bad_filter, parents_of}
+use Rattle.nextest_config_resolution_load.specs.Checks.{MergedConfig, Refusal, unread, no_toml, both_script_tables, feature_not_enabled, repeated_script, unknown_script, unknown_wrapper, bad_value, bad_name, no_constraint, filter_and_default_filter, bad_spec, bad_rule_filter, bad_merged, unknown_group, inherits_badly, bad_filter, parents_of}
 use Rattle.nextest_config_resolution_load.specs.Load.{named, reason_of, seen}
 use Rattle.nextest_config_resolution_load.specs.declared.load_error.LoadError.TheVariants as load_error
 use Rattle.nextest_config_resolution_load.specs.declared.load_fault.LoadFault.{LoadFault}
 use Rattle.nextest_config_resolution_load.specs.declared.load_fault.LoadFault.TheVariants as load
+use Rattle.nextest_config_resolution_load.specs.declared.languages.FilterPurpose.TheVariants as use_for
 use Rattle.nextest_config_resolution_load.specs.declared.load_fault.LoadKind.{LoadKind}
 use Rattle.nextest_config_resolution_load.specs.declared.load_fault.LoadKind.TheVariants as kind
 use Rattle.nextest_config_resolution_load.specs.declared.loaded_config.NamedProfile.{NamedProfile}
@@ -55,6 +56,7 @@ use Rattle.test_runner_core_settings.specs.Sets.{HasNoProfile, IsChosen, IsFilte
 use Rattle.test_runner_core_plan.specs.declared.plan_settings.PlanSettings.{PlanSettings}
 use Rattle.test_runner_core_settings.specs.declared.configured.RunSettings.{RunSettings}
 use Rattle.test_runner_core_settings.specs.declared.settings_fault.SettingsFault.TheVariants as fault
+use Rattle.test_runner_core_settings.specs.Pass.{features_of}
 
 -- ---- the settings of tests
 
@@ -126,13 +128,20 @@ abbrev kind_in : Refusal → LoadKind
 kind_in (unread path) = kind.Unread
 kind_in (no_toml path) = kind.Toml
 kind_in (bad_value path keys) = kind.BadValue
+kind_in (both_script_tables path) = kind.BothScriptTables
+kind_in (feature_not_enabled path feature) = kind.FeatureNotEnabled
 kind_in (bad_name path name) = kind.BadName
+kind_in (repeated_script path script) = kind.RepeatedScript
 kind_in (no_constraint rule) = kind.NoConstraint
 kind_in (filter_and_default_filter rule) = kind.FilterAndDefaultFilter
 kind_in (bad_spec rule side) = kind.BadSpec
-kind_in (bad_override_filter rule use_for) = kind.BadFilter
+kind_in (bad_rule_filter rule use_for.Default) = kind.BadFilter
+kind_in (bad_rule_filter rule use_for.Override) = kind.BadFilter
+kind_in (bad_rule_filter rule use_for.ListWrapper) = kind.ListWrapperRunFilter
 kind_in (bad_merged keys) = kind.BadValue
 kind_in (unknown_group rule group) = kind.UnknownGroup
+kind_in (unknown_script rule script) = kind.UnknownScript
+kind_in (unknown_wrapper rule script) = kind.UnknownWrapper
 kind_in (inherits_badly (inheritance.InheritsInDefault profile)) = kind.InheritsInDefault
 kind_in (inherits_badly (inheritance.UnknownParent profile parent)) = kind.UnknownParent
 kind_in (inherits_badly (inheritance.Cycle profile)) = kind.Cycle
@@ -142,13 +151,20 @@ told_kind : (told : LoadFault) → kind_of told ≡ kind_in (reason_of told)
 told_kind (load.Unread path cause) = refl
 told_kind (load.Toml path message) = refl
 told_kind (load.BadValue path value) = refl
+told_kind (load.BothScriptTables path) = refl
+told_kind (load.FeatureNotEnabled path feature) = refl
 told_kind (load.BadName path name) = refl
+told_kind (load.RepeatedScript path script) = refl
 told_kind (load.NoConstraint rule) = refl
 told_kind (load.FilterAndDefaultFilter rule) = refl
 told_kind (load.BadSpec rule side text) = refl
-told_kind (load.BadOverrideFilter rule use_for text) = refl
+told_kind (load.BadRuleFilter rule use_for.Default text) = refl
+told_kind (load.BadRuleFilter rule use_for.Override text) = refl
+told_kind (load.BadRuleFilter rule use_for.ListWrapper text) = refl
 told_kind (load.BadMergedValue value) = refl
 told_kind (load.UnknownGroup rule group) = refl
+told_kind (load.UnknownScript rule script) = refl
+told_kind (load.UnknownWrapper rule script) = refl
 told_kind (load.Inheritance (inheritance.InheritsInDefault profile)) = refl
 told_kind (load.Inheritance (inheritance.UnknownParent profile parent)) = refl
 told_kind (load.Inheritance (inheritance.Cycle profile)) = refl
@@ -156,18 +172,18 @@ told_kind (load.BadFilter profile text) = refl
 
 one_kind : (cx : Context) (inputs : Inputs) (one other : LoadFault) → Loads cx inputs (Err (load_error.Refused one)) → Loads cx inputs (Err (load_error.Refused other)) → kind_of one ≡ kind_of other
 one_kind cx inputs one other a b =
-    told_kind one ∙ ap kind_in (one_reason (IsFilter cx) IsPlatformSpec IsTooDeep (λ text deep. deep) _ inputs.sources one other a b) ∙ sym (told_kind other)
+    told_kind one ∙ ap kind_in (one_reason (IsFilter cx) IsPlatformSpec IsTooDeep (λ text deep. deep) (features_of inputs) _ inputs.sources one other a b) ∙ sym (told_kind other)
 
 -- ---- configurations
 
 pub same_seen : (cx : Context) (inputs : Inputs) (one other : Whole Filterset PlatformSpec) → Loads cx inputs (Ok one) → Loads cx inputs (Ok other) → seen one.loaded ≡ seen other.loaded
-same_seen cx inputs one other a b = one_load (IsFilter cx) IsPlatformSpec IsTooDeep _ inputs.sources one.loaded other.loaded a.1 b.1
+same_seen cx inputs one other a b = one_load (IsFilter cx) IsPlatformSpec IsTooDeep (features_of inputs) _ inputs.sources one.loaded other.loaded a.1 b.1
 
 never_later : (cx : Context) (inputs : Inputs) (one other : Whole Filterset PlatformSpec) → Reads cx inputs one → Loads cx inputs (Ok other) → other.loaded.sets_later_keys ≡ true → ⊥
 never_later cx inputs one other reads loaded later = false≢true (sym reads.later ∙ reads.loaded.1.later ∙ sym loaded.1.later ∙ later)
 
 never_refused : (cx : Context) (inputs : Inputs) (config : Whole Filterset PlatformSpec) (told : LoadFault) → Loads cx inputs (Ok config) → Loads cx inputs (Err (load_error.Refused told)) → ⊥
-never_refused cx inputs config told loaded refused = none_refused (IsFilter cx) IsPlatformSpec IsTooDeep (λ text deep. deep) _ inputs.sources config.loaded told loaded.1 refused
+never_refused cx inputs config told loaded refused = none_refused (IsFilter cx) IsPlatformSpec IsTooDeep (λ text deep. deep) (features_of inputs) _ inputs.sources config.loaded told loaded.1 refused
 
 -- the names of profiles
 names_seen : (profiles : List NamedProfile) → map (λ (it : Named). it.0) (map named profiles) ≡ map (λ (it : NamedProfile). it.name) profiles

@@ -8,7 +8,7 @@ use Rattle.nextest_config_resolution_inheritance.specs.Inheritance.{Name}
 use Rattle.nextest_config_resolution_load.specs.Checks.{rules_downward}
 use Rattle.nextest_config_resolution_load.specs.Load.{AreReadRules, IsReadAs}
 use Rattle.nextest_config_resolution_load.specs.declared.languages.FilterPurpose.TheVariants as purpose
-use Rattle.nextest_config_resolution_load.specs.declared.loaded_override.LoadedOverride.{LoadedOverride}
+use Rattle.nextest_config_resolution_load.specs.Load.{LoadedOverride}
 use Rattle.nextest_config_resolution_overrides.specs.declared.placed_override.PlacedOverride.{PlacedOverride}
 use Rattle.nextest_config_resolution_profiles.specs.Config.{IsEarly}
 use Rattle.nextest_config_resolution_profiles.specs.Early.{Early, id_of}
@@ -34,6 +34,7 @@ use Rattle.test_runner_core_settings.specs.Platforms.{Platforms, platforms_of}
 use Rattle.test_runner_core_settings.specs.Sets.{IsDefault, IsFilter, IsPlatformSpec, IsTooDeep, Reads, rules_in}
 use Rattle.test_runner_core_settings.proofs.Alike.{IsRead, put, targets_alike, value_on}
 use Rattle.test_runner_core_settings.proofs.Mapped.{SetsToo, least_mapped, none_mapped}
+use Rattle.test_runner_core_settings.specs.Pass.{features_of}
 
 -- ---- the overrides of a chain
 
@@ -83,7 +84,7 @@ module _ (cx : Context) (inputs : Inputs) (config : Whole Filterset PlatformSpec
   each_read names =
       named_have (IsRead cx (platforms_of inputs)) config.loaded.rules names
       (recursion_from_All (IsRead cx (platforms_of inputs)) config.loaded.rules
-      (rules_are_read (IsFilter cx) IsPlatformSpec IsTooDeep inputs.root inputs.sources config reads.loaded))
+      (rules_are_read (IsFilter cx) IsPlatformSpec IsTooDeep (features_of inputs) inputs.root inputs.sources config reads.loaded))
 
   -- and they are the overrides of the chain
   pub rules_placed : (names : List Name) → map placed_of (put_own names) ≡ rules_in inputs names
@@ -150,7 +151,7 @@ module _ (cx : Context) (inputs : Inputs) (config : Whole Filterset PlatformSpec
       let least = least_placed is.chained.names found.rule it.filter.now found.least in
       (inl (placed_of found.rule, least.0), least.1)
   default_text name early is it (inr (none, same)) =
-      let read = default_is_read (IsFilter cx) IsPlatformSpec IsTooDeep inputs.root inputs.sources config is.chained.names early.chain early.default_filter reads.loaded is.filtered in
+      let read = default_is_read (IsFilter cx) IsPlatformSpec IsTooDeep (features_of inputs) inputs.root inputs.sources config is.chained.names early.chain early.default_filter reads.loaded is.filtered in
       let filter : early.default_filter.filter.now ≡ it.filter.now = ap (λ (d : CompiledDefaultFilter Filterset). d.filter.now) (sym same) in
       let text : is.filtered.text ≡ it.filter.now.input = sym read.0 ∙ ap (λ (f : Filterset). f.input) filter in (
         inr (none_placed is.chained.names none, subst (IsSetTo key.default_filter early.chain) text (is.filtered.place, is.filtered.nearest)),

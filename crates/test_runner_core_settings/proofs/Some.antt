@@ -52,6 +52,7 @@ use Rattle.test_runner_core_settings.specs.declared.settings_fault.SettingsFault
 use Rattle.test_runner_core_settings.proofs.Alike.{rules_alike, value_on}
 use Rattle.test_runner_core_settings.proofs.Mapped.{held_mapped}
 use Rattle.test_runner_core_settings.proofs.Profile.{each_read, least_placed, none_placed, own, put_own, rules_placed}
+use Rattle.test_runner_core_settings.specs.Pass.{features_of}
 
 -- ---- the first rule that holds and sets a value
 
@@ -130,7 +131,7 @@ module _ (cx : Context) (inputs : Inputs) (config : Whole Filterset PlatformSpec
   some_default = by_found (first_set (λ (it : RuleOn Filterset PlatformSpec). it.for_target) on_platforms.default_set (put_own cx inputs config reads chained.names))
     where
       unset : ¬ SetsNone key.default_filter chain
-      unset = ((never_falls_back (IsFilter cx) IsPlatformSpec IsTooDeep inputs.root inputs.sources config reads.loaded).each inputs.profile chain chained).default_filter
+      unset = ((never_falls_back (IsFilter cx) IsPlatformSpec IsTooDeep (features_of inputs) inputs.root inputs.sources config reads.loaded).each inputs.profile chain chained).default_filter
 
       by_found : ((rule : RuleOn Filterset PlatformSpec) × (filter : Filterset) × IsLeast ForTarget on_platforms.default_set (put_own cx inputs config reads chained.names) rule filter)
           ⊎ NoneHoldsAndSets ForTarget on_platforms.default_set (put_own cx inputs config reads chained.names) → InForce
@@ -201,7 +202,7 @@ pub some_test : SomeTest
 some_test cx inputs run test sets = some_of_test cx inputs sets.chosen.config sets.chosen.reads sets.chain sets.chosen.chained test
 
 pub some_settings : SomeSettings
-some_settings cx inputs never = some_config (IsFilter cx) IsPlatformSpec IsTooDeep inputs.root inputs.sources (λ some. never (by_config some))
+some_settings cx inputs never = some_config (IsFilter cx) IsPlatformSpec IsTooDeep (features_of inputs) inputs.root inputs.sources (λ some. never (by_config some))
   where
     by_repeat : (config : Whole Filterset PlatformSpec) (reads : Reads cx inputs config) (values : List ProfileConfig) (chained : IsChainOf (profiles_of config) inputs.profile values) (repeated : Bool)
         → has_repeated_fact inputs ≡ repeated → (given : Result RunSettings SettingsFault) × Sets cx inputs given
@@ -218,7 +219,7 @@ some_settings cx inputs never = some_config (IsFilter cx) IsPlatformSpec IsTooDe
     by_later : (config : Whole Filterset PlatformSpec) (later : Bool) → Loads cx inputs (Ok config) → config.loaded.sets_later_keys ≡ later
         → (given : Result RunSettings SettingsFault) × Sets cx inputs given
     by_later config true loaded e = (Err fault.NotYet, record { config = config; loaded = loaded; later = e })
-    by_later config false loaded e = by_chain config (record { loaded = loaded; later = e }) (some_chain (IsFilter cx) IsPlatformSpec IsTooDeep inputs.root inputs.sources config inputs.profile loaded)
+    by_later config false loaded e = by_chain config (record { loaded = loaded; later = e }) (some_chain (IsFilter cx) IsPlatformSpec IsTooDeep (features_of inputs) inputs.root inputs.sources config inputs.profile loaded)
 
     by_config : ((config : Whole Filterset PlatformSpec) × Loads cx inputs (Ok config)) ⊎ ((told : LoadFault) × Loads cx inputs (Err (load.Refused told)))
         → (given : Result RunSettings SettingsFault) × Sets cx inputs given

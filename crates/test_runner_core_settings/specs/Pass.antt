@@ -3,6 +3,7 @@ use Rattle.std.specs.Prelude.{◌≡◌, ℕ, Bool, true, false, not, nat_lt, le
 use Rattle.semver.specs.Parse.{Parts}
 use Rattle.nextest_config_elements_versions.specs.Sources.{Asking, Refusal, askings, config_in}
 use Rattle.nextest_config_elements_versions.specs.Verdict.{Verdict, satisfied, error, warn, verdict}
+use Rattle.nextest_config_elements_versions.specs.declared.feature.FeatureSet.{FeatureSet}
 use Rattle.nextest_config_elements_versions.specs.declared.version_only.VersionOnlyConfig.{VersionOnlyConfig}
 use Rattle.test_runner_core_inputs.specs.declared.inputs.Inputs.{Inputs}
 use Rattle.test_runner_core_settings.specs.Sources.{sources_of}
@@ -41,6 +42,14 @@ pass_by current is_overridden (Err refusal) = Err refused.VersionSource
 -- what inputs come to: each reason is looked for in all sources before the next
 unfoldable pub pass_of : Inputs → Result VersionPass VersionPassFault
 pass_of inputs = pass_by inputs.current_version inputs.override_version_check (askings (sources_of inputs.sources))
+
+-- the features that are known then; none where the inputs are refused
+abbrev pub features_by : Result VersionPass VersionPassFault → FeatureSet
+features_by (Ok passed) = passed.experimental
+features_by (Err refusal) = record { setup_scripts = false; wrapper_scripts = false; benchmarks = false }
+
+abbrev pub features_of : Inputs → FeatureSet
+features_of inputs = features_by (pass_of inputs)
 
 -- a call gives what the inputs come to; want of memory says nothing
 abbrev pub GivesPass : Result VersionPass VersionPassError → Result VersionPass VersionPassFault → Type 0

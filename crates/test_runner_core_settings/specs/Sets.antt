@@ -1,5 +1,5 @@
 -- What inputs set for their run and for its tests, or why they set nothing.
-use Rattle.std.specs.Prelude.{◌≡◌, ℕ, true, false, List, Result, Ok, Err, Contains, map}
+use Rattle.std.specs.Prelude.{◌≡◌, ℕ, Bool, true, false, List, Result, Ok, Err, Contains, map}
 use Rattle.nextest_config_elements_identifiers.specs.declared.test_group.TestGroup.{TestGroup}
 use Rattle.nextest_config_resolution_load.specs.Checks.{rules_downward}
 use Rattle.nextest_config_resolution_load.specs.Load.{IsFilterBy}
@@ -15,7 +15,8 @@ use Rattle.nextest_config_resolution_settings.specs.Rules.{id_of, rules_of}
 use Rattle.nextest_config_resolution_values.specs.declared.profile_config.ProfileConfig.{ProfileConfig}
 use Rattle.nextest_config_resolution_warnings.specs.Warnings.{text_of}
 use Rattle.nextest_filtering_compiling.specs.Context.{Context}
-use Rattle.nextest_filtering_compiling.specs.Filtersets.{IsFilterset}
+use Rattle.nextest_filtering_compiling.specs.Filtersets.{IsFilterset, asked_in}
+use Rattle.nextest_filtering_compiling.specs.declared.questions.Question.TheVariants as about
 use Rattle.nextest_filtering_compiling.specs.declared.filterset.Filterset.{Filterset}
 use Rattle.nextest_filtering_filters.specs.Query.{Test}
 use Rattle.nextest_filtering_filters.specs.declared.known_groups.KnownGroups.{KnownGroups}
@@ -27,15 +28,20 @@ use Rattle.test_runner_core_platforms.specs.Grammar.{IsSpec}
 use Rattle.test_runner_core_platforms.specs.Trees.{spec_of}
 use Rattle.test_runner_core_platforms.specs.declared.platform_spec.PlatformSpec.{PlatformSpec}
 use Rattle.test_runner_core_settings.specs.Holding.{IsDefaultText, IsDefaultTree}
+use Rattle.test_runner_core_settings.specs.Pass.{features_of}
 use Rattle.test_runner_core_settings.specs.Platforms.{has_repeated_fact, platforms_of}
 use Rattle.test_runner_core_settings.specs.Settings.{AreOfRun, AreOfTest}
 use Rattle.test_runner_core_settings.specs.declared.configured.RunSettings.{RunSettings}
 use Rattle.test_runner_core_settings.specs.declared.settings_fault.SettingsFault.{SettingsFault}
 use Rattle.test_runner_core_settings.specs.declared.settings_fault.SettingsFault.TheVariants as fault
 
+-- a filterset asks what only a test tells
+abbrev pub asks_tests : Filterset → Bool
+asks_tests = asked_in about.Test
+
 -- which filterset a text is in a workspace, by what it is for, and which one as a default filter
 abbrev pub IsFilter : Context → IsFilterBy Filterset
-IsFilter cx = IsFilterIn IsFilterset cx
+IsFilter cx = IsFilterIn IsFilterset asks_tests cx
 
 abbrev pub IsDefault : Context → List ℕ → Filterset → Type 0
 IsDefault cx = IsFilter cx purpose.Default
@@ -50,7 +56,7 @@ IsPlatformSpec text it = IsSpec text (spec_of it)
 
 -- what the sources of inputs come to, or why they are refused
 abbrev pub Loads : Context → Inputs → Result (Whole Filterset PlatformSpec) LoadError → Type 0
-Loads cx inputs = IsConfig (IsFilter cx) IsPlatformSpec IsTooDeep inputs.root inputs.sources
+Loads cx inputs = IsConfig (IsFilter cx) IsPlatformSpec IsTooDeep (features_of inputs) inputs.root inputs.sources
 
 -- the sources of inputs come to this configuration, and all that it has is read
 pub record Reads (cx : Context) (inputs : Inputs) (config : Whole Filterset PlatformSpec) : Type 0 where

@@ -2,6 +2,7 @@
 ghost use Rattle.std.specs.Prelude.{◌≡◌, IfOk};
 ghost use Rattle.nextest_filtering_compiling.specs.Context.{Context};
 ghost use Rattle.test_runner_core_settings.specs.Calls.{Chooses, Configures};
+ghost use Rattle.test_runner_core_settings.specs.Pass.{features_of};
 ghost use Rattle.test_runner_core_settings.specs.Sets.{Reads};
 ghost use Rattle.test_runner_core_settings.specs.Settings.{IsOfChain};
 
@@ -78,7 +79,7 @@ pub fn configure(
     inputs: &Inputs,
     experimental: FeatureSet,
 ) -> Result<ConfiguredRun, SettingsError>
-    ensures { Configures cx.now inputs.now result }
+    ensures { experimental ≡ features_of inputs.now → Configures cx.now inputs.now result }
 {
     let mut warnings = DefaultConfigWarnings::new(alloc);
     let sources = inputs.sources.as_slice();

@@ -3,4 +3,4 @@ use Rattle.nextest_config_resolution_profiles.proofs.Filtered.{default_is_read}
 use Rattle.nextest_config_resolution_profiles.proofs.laws.default_is_read.Goals as goal
 
 pub returns : goal.returns
-returns g c = λ cx. default_is_read (IsFilterIn g.F.Filters.is_parsed cx) g.S.Specs.is_parsed g.F.Filters.is_too_deep
+returns g c = λ cx. default_is_read (IsFilterIn g.F.Filters.is_parsed g.F.Filters.has_runtime_leaves cx) g.S.Specs.is_parsed g.F.Filters.is_too_deep

@@ -3,4 +3,4 @@ use Rattle.nextest_config_resolution_profiles.proofs.Kept.{kept_profile}
 use Rattle.nextest_config_resolution_profiles.proofs.laws.kept_profile.Goals as goal
 
 pub returns : goal.returns
-returns g c = λ cx. kept_profile (IsFilterIn g.F.Filters.is_parsed cx) g.S.Specs.is_parsed g.F.Filters.is_too_deep
+returns g c = λ cx. kept_profile (IsFilterIn g.F.Filters.is_parsed g.F.Filters.has_runtime_leaves cx) g.S.Specs.is_parsed g.F.Filters.is_too_deep

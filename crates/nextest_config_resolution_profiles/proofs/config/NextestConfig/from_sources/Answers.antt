@@ -3,5 +3,5 @@ use Rattle.nextest_config_resolution_profiles.proofs.config.NextestConfig.from_s
 
 pub invariant_of-result : goal.invariant_of-result
 invariant_of-result g c =
-    sound g.met.F.Filters.laws g.S.Specs.is_parsed g.F.Filters.is_too_deep c.args.cx.now _ c.args.sources.now c.in-Ok.loaded c.in_ok-lowest.ensures c.in-Ok.ensures.loaded
+    sound g.met.F.Filters.laws g.S.Specs.is_parsed g.F.Filters.is_too_deep c.args.cx.now c.args.experimental _ c.args.sources.now c.in-Ok.loaded c.in_ok-lowest.ensures c.in-Ok.ensures.loaded
     c.in-Ok.ensures.rises

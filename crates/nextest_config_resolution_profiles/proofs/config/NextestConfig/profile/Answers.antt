@@ -1,7 +1,7 @@
 use Rattle.std.proofs.Common.{◌≡◌, List, Option, ap, ◌∙◌, subst}
 use Rattle.nextest_config_resolution_inheritance.specs.Inheritance.{name_at}
 use Rattle.nextest_config_resolution_load.specs.declared.loaded_config.NamedProfile.{NamedProfile}
-use Rattle.nextest_config_resolution_load.specs.declared.loaded_override.LoadedOverride.{LoadedOverride}
+use Rattle.nextest_config_resolution_load.specs.Load.{LoadedOverride}
 use Rattle.nextest_config_resolution_profiles.specs.Chains.{IsChained}
 use Rattle.nextest_config_resolution_profiles.specs.Config.{dir_in_store}
 use Rattle.nextest_config_resolution_profiles.proofs.Names.{all_of, name_is}

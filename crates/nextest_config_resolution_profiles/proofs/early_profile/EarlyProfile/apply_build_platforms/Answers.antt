@@ -1,5 +1,5 @@
 use Rattle.std.proofs.Common.{◌≡◌, List, ap, map, subst, sym, ◌∙◌}
-use Rattle.nextest_config_resolution_load.specs.declared.loaded_override.LoadedOverride.{LoadedOverride}
+use Rattle.nextest_config_resolution_load.specs.Load.{LoadedOverride}
 use Rattle.nextest_config_resolution_profiles.specs.Asking.{AreAskable}
 use Rattle.nextest_config_resolution_profiles.specs.ChainRules.{rules_in, seen_rules}
 use Rattle.nextest_config_resolution_profiles.specs.Early.{Early}
