@@ -55,6 +55,10 @@ any_leaf asks (set it) = asks it
 abbrev pub asked_in : Question → Filterset → Bool
 asked_in question it = list_any (is_asking question) it.compiled.leaves
 
+-- a filterset asks what only a test tells: its name, its group, or the default filter
+abbrev pub asks_tests : Filterset → Bool
+asks_tests = asked_in about.Test
+
 -- its filter asks what its tree asks
 abbrev pub AsksAsWritten : Filterset → Type 0
 AsksAsWritten it = (question : Question) → asked_in question it ≡ any_leaf (asks question) (tree_of it.parsed)

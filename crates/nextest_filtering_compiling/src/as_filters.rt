@@ -1,5 +1,5 @@
 // Filtersets as filters.
-ghost use Rattle.nextest_filtering_compiling.specs.Filtersets.{HasOnBinary, HasOnTest, IsFilterset, asked_in, can_be_default};
+ghost use Rattle.nextest_filtering_compiling.specs.Filtersets.{HasOnBinary, HasOnTest, IsFilterset, asked_in, asks_tests, can_be_default};
 ghost use Rattle.nextest_filtering_compiling.specs.declared.questions.Question.TheVariants as about;
 ghost use Rattle.nextest_filtering_compiling.specs.FiltersetLaws.{filterset_laws};
 
@@ -27,7 +27,7 @@ impl Filters for Filterset {
 
     ghost asks_groups = { asked_in about.Group };
 
-    ghost has_runtime_leaves = { asked_in about.Test };
+    ghost has_runtime_leaves = { asks_tests };
 
     ghost serves_as_default = { can_be_default };
 

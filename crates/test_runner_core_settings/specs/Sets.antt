@@ -1,5 +1,5 @@
 -- What inputs set for their run and for its tests, or why they set nothing.
-use Rattle.std.specs.Prelude.{◌≡◌, ℕ, Bool, true, false, List, Result, Ok, Err, Contains, map}
+use Rattle.std.specs.Prelude.{◌≡◌, ℕ, true, false, List, Result, Ok, Err, Contains, map}
 use Rattle.nextest_config_elements_identifiers.specs.declared.test_group.TestGroup.{TestGroup}
 use Rattle.nextest_config_resolution_load.specs.Checks.{rules_downward}
 use Rattle.nextest_config_resolution_load.specs.Load.{IsFilterBy}
@@ -15,8 +15,7 @@ use Rattle.nextest_config_resolution_settings.specs.Rules.{id_of, rules_of}
 use Rattle.nextest_config_resolution_values.specs.declared.profile_config.ProfileConfig.{ProfileConfig}
 use Rattle.nextest_config_resolution_warnings.specs.Warnings.{text_of}
 use Rattle.nextest_filtering_compiling.specs.Context.{Context}
-use Rattle.nextest_filtering_compiling.specs.Filtersets.{IsFilterset, asked_in}
-use Rattle.nextest_filtering_compiling.specs.declared.questions.Question.TheVariants as about
+use Rattle.nextest_filtering_compiling.specs.Filtersets.{IsFilterset, asks_tests}
 use Rattle.nextest_filtering_compiling.specs.declared.filterset.Filterset.{Filterset}
 use Rattle.nextest_filtering_filters.specs.Query.{Test}
 use Rattle.nextest_filtering_filters.specs.declared.known_groups.KnownGroups.{KnownGroups}
@@ -34,10 +33,6 @@ use Rattle.test_runner_core_settings.specs.Settings.{AreOfRun, AreOfTest}
 use Rattle.test_runner_core_settings.specs.declared.configured.RunSettings.{RunSettings}
 use Rattle.test_runner_core_settings.specs.declared.settings_fault.SettingsFault.{SettingsFault}
 use Rattle.test_runner_core_settings.specs.declared.settings_fault.SettingsFault.TheVariants as fault
-
--- a filterset asks what only a test tells
-abbrev pub asks_tests : Filterset → Bool
-asks_tests = asked_in about.Test
 
 -- which filterset a text is in a workspace, by what it is for, and which one as a default filter
 abbrev pub IsFilter : Context → IsFilterBy Filterset
