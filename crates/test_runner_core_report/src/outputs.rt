@@ -58,13 +58,10 @@ pub(crate) fn push_script_outputs(
     ensures ok { OnOk result (string_bytes text.new ≡ string_bytes text.old ++ script_outputs (script_told status.entry)) }
     ensures kept { Extends (string_bytes text.old) (string_bytes text.new) }
 {
-    let Some(status) = status else {
-        return Ok(());
-    };
-    if status.result.is_success() {
-        return Ok(());
+    match status {
+        Some(status) if !status.result.is_success() => push_written(text, &status.output),
+        _ => Ok(()),
     }
-    push_written(text, &status.output)
 }
 
 // What was written to standard output, where it was captured. Both streams in one count as that.
