@@ -135,7 +135,8 @@ fn push_end(
     slow: bool,
     time: Duration,
 ) -> Result<(), AllocError>
-    ensures ok { OnOk result (string_bytes text.new ≡ string_bytes text.old ++ 9 ∷ end_by told.now slow (as_nanos time)) }
+    ensures ok { OnOk result (string_bytes text.new
+        ≡ string_bytes text.old ++ 9 ∷ end_by told.now slow (as_nanos time)) }
     ensures kept { Extends (string_bytes text.old) (string_bytes text.new) }
 {
     push_text(text, "\t")?;
@@ -149,7 +150,8 @@ fn push_script_end(
     text: &mut String,
     status: Option<&SetupScriptExecuteStatus<LiveSpec>>,
 ) -> Result<(), AllocError>
-    ensures ok { OnOk result (string_bytes text.new ≡ string_bytes text.old ++ 9 ∷ script_end (script_told status.entry)) }
+    ensures ok { OnOk result (string_bytes text.new
+        ≡ string_bytes text.old ++ 9 ∷ script_end (script_told status.entry)) }
     ensures kept { Extends (string_bytes text.old) (string_bytes text.new) }
 {
     match status {
@@ -164,7 +166,8 @@ pub(crate) fn push_script_line(
     id: &str,
     status: Option<&SetupScriptExecuteStatus<LiveSpec>>,
 ) -> Result<(), AllocError>
-    ensures ok { OnOk result (string_bytes text.new ≡ string_bytes text.old ++ script_line id.now (script_told status.entry)) }
+    ensures ok { OnOk result (string_bytes text.new
+        ≡ string_bytes text.old ++ script_line id.now (script_told status.entry)) }
     ensures kept { Extends (string_bytes text.old) (string_bytes text.new) }
 {
     push_text(text, "script")?;

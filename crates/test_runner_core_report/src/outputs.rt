@@ -55,7 +55,8 @@ pub(crate) fn push_script_outputs(
     text: &mut String,
     status: Option<&SetupScriptExecuteStatus<LiveSpec>>,
 ) -> Result<(), AllocError>
-    ensures ok { OnOk result (string_bytes text.new ≡ string_bytes text.old ++ script_outputs (script_told status.entry)) }
+    ensures ok { OnOk result (string_bytes text.new
+        ≡ string_bytes text.old ++ script_outputs (script_told status.entry)) }
     ensures kept { Extends (string_bytes text.old) (string_bytes text.new) }
 {
     match status {

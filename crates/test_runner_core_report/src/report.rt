@@ -48,7 +48,8 @@ pub fn push_script(
     id: &str,
     status: Option<&SetupScriptExecuteStatus<LiveSpec>>,
 ) -> Result<(), AllocError>
-    ensures ok { OnOk result (string_bytes text.new ≡ string_bytes text.old ++ script_text id.now (script_told status.entry)) }
+    ensures ok { OnOk result (string_bytes text.new
+        ≡ string_bytes text.old ++ script_text id.now (script_told status.entry)) }
     ensures err { OnErr result (string_bytes text.new ≡ string_bytes text.old) }
 {
     let length = text.len();
@@ -62,7 +63,8 @@ fn push_script_lines(
     id: &str,
     status: Option<&SetupScriptExecuteStatus<LiveSpec>>,
 ) -> Result<(), AllocError>
-    ensures ok { OnOk result (string_bytes text.new ≡ string_bytes text.old ++ script_text id.now (script_told status.entry)) }
+    ensures ok { OnOk result (string_bytes text.new
+        ≡ string_bytes text.old ++ script_text id.now (script_told status.entry)) }
     ensures kept { Extends (string_bytes text.old) (string_bytes text.new) }
 {
     push_script_line(text, id, status)?;

@@ -66,7 +66,7 @@ fn push_chunk(text: &mut String, bytes: &[u8]) -> Result<(), AllocError>
     }
 }
 
-// What adding to a text answered that had so many bytes before. Where that failed, the text has these alone again.
+// The answer `added` of what added to a text that had so many bytes. Where that failed, the text has these alone again.
 pub(crate) fn all_or_nothing(
     text: &mut String,
     length: usize,

@@ -91,8 +91,10 @@ fn tell_scripts<W: ReportWriter>(
     session: &Session<'_>,
 ) -> Result<(), TellFault>
     requires writes_fit { W.failures report.old < 2 ^ 63 }
-    ensures tells { Tells result (script_parts session.now.plan session.now.run) (W.taken report.old) (string_bytes text.old) (W.taken report.new) (string_bytes text.new) }
-    ensures failures { TellsWrite result (W.failures report.old) (W.failures report.new) (W.last_failed report.new) }
+    ensures tells { Tells result (script_parts session.now.plan session.now.run)
+        (W.taken report.old) (string_bytes text.old) (W.taken report.new) (string_bytes text.new) }
+    ensures failures { TellsWrite result
+        (W.failures report.old) (W.failures report.new) (W.last_failed report.new) }
 {
     let scripts = session.plan().scripts.as_slice();
     for (place, id) in scripts.iter().enumerate() {

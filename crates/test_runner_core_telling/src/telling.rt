@@ -93,8 +93,10 @@ pub fn tell_script<W: ReportWriter>(
     status: Option<&SetupScriptExecuteStatus<LiveSpec>>,
 ) -> Result<(), TellFault>
     requires writes_fit { W.failures report.old < 2 ^ 63 }
-    ensures tells { Tells result (Said (script_text id.now (script_told status.entry)) ∷ []) (W.taken report.old) (string_bytes text.old) (W.taken report.new) (string_bytes text.new) }
-    ensures failures { TellsWrite result (W.failures report.old) (W.failures report.new) (W.last_failed report.new) }
+    ensures tells { Tells result (Said (script_text id.now (script_told status.entry)) ∷ [])
+        (W.taken report.old) (string_bytes text.old) (W.taken report.new) (string_bytes text.new) }
+    ensures failures { TellsWrite result
+        (W.failures report.old) (W.failures report.new) (W.last_failed report.new) }
 {
     push_script(text, id, status)?;
     write_if_long(text, report)
