@@ -14,7 +14,7 @@ use Rattle.test_runner_core_runs.specs.Step.{step}
 use Rattle.test_runner_core_runs.specs.declared.event.Event.{Event}
 use Rattle.test_runner_core_runs.specs.declared.step_refusal.StepRefusal.{StepRefusal}
 use Rattle.test_runner_core_session.specs.Session.{run_plan}
-use Rattle.test_runner_core_telling.specs.Final.{shown_part, shown_tests, shows_of}
+use Rattle.test_runner_core_telling.specs.Final.{script_parts, shown_part, shown_tests, shows_of}
 use Rattle.test_runner_core_telling.specs.Opening.{opening}
 use Rattle.test_runner_core_telling.specs.Parts.{Part, Said}
 use Rattle.test_runner_core_telling.specs.RunEnd.{end_of, end_text}
@@ -88,7 +88,7 @@ progress_aside warnings plan (Ok state) (event ∷ more) =
 
 ending_aside : (warnings : List (List ℕ)) (plan : Plan) (last : State) (found : Option RefusedLine) → ending (with_warnings warnings plan) last found ≡ ending plan last found
 ending_aside warnings plan last None =
-    ap (λ (tests : List ShownTest). Said (end_text (end_of last)) ∷ map shown_part tests) (shown_aside warnings plan plan.tests last.tests)
+    ap (λ (tests : List ShownTest). Said (end_text (end_of last)) ∷ (script_parts plan last ++ map shown_part tests)) (shown_aside warnings plan plan.tests last.tests)
 ending_aside warnings plan last (Some found) = refl
 
 -- ---- reports

@@ -1,8 +1,9 @@
 -- Statuses keep the records that they were made of.
-use Rattle.std.proofs.Common.{◌≡◌, ℕ, ◌+◌, ◌≤◌, suc, Bool, true, false, List, [], ◌∷◌, ◌++◌, Option, Some, length, map, refl, sym, ap, subst, ◌∙◌, arith}
+use Rattle.std.proofs.Common.{◌≡◌, ℕ, ◌+◌, ◌≤◌, suc, Bool, Bor, true, false, List, [], ◌∷◌, ◌++◌, Option, None, Some, length, map, refl, sym, ap, subst, ◌∙◌, arith}
 use Rattle.std.specs.Prelude.{◌<◌, ◌-◌, zero, slice_get, is_some, nat_lt}
 use Rattle.std.specs.Option.{option_map, option_map_or}
 use Rattle.std.specs.Duration.{as_nanos}
+use Rattle.std.specs.Slice.{IsItemAt}
 use Rattle.nextest_config_elements_plain.specs.declared.timeouts.FlakyResult.{FlakyResult}
 use Rattle.nextest_run_events_counters.specs.Attempts.{Attempts, last}
 use Rattle.nextest_run_events_counters.specs.Counting.{with_test, with_attempts, finished_as}
@@ -12,6 +13,7 @@ use Rattle.test_runner_core_runs.specs.State.{is_finished, last_record}
 use Rattle.test_runner_core_runs.specs.declared.mark.Mark.{Mark}
 use Rattle.std.specs.Prelude.{cond, ◌||◌, nat_le}
 use Rattle.std.proofs.lemmas.List.{length-append}
+use Rattle.std.proofs.lemmas.Option.{slice_get_read}
 use Rattle.std.proofs.lemmas.Bool.Decides.{nat_tests}
 use Rattle.nextest_run_events_results.specs.Result.{is_success}
 use Rattle.nextest_run_events_results.specs.declared.cancel_reason.CancelReason.{CancelReason}
@@ -26,7 +28,7 @@ use Rattle.nextest_run_events_results.specs.declared.result.ExecutionResultDescr
 use Rattle.nextest_run_events_results.specs.declared.record.Record.{Record}
 use Rattle.nextest_run_events_results.specs.declared.record.RecordOutput.{RecordOutput}
 use Rattle.nextest_run_events_results.specs.declared.record.RecordOutput.TheVariants as wrote
-use Rattle.test_runner_core_progress.specs.Statuses.{Status, ScriptStatus, IsStatusOf, IsScriptStatusOf, AreStatusesFrom, AreScriptStatuses, output_of, told_of, record_of, script_record_of}
+use Rattle.test_runner_core_progress.specs.Statuses.{Output, Status, ScriptStatus, IsStatusOf, IsScriptStatus, IsScriptStatusOf, AreStatusesFrom, AreScriptStatuses, output_of, told_of, record_of, script_record_of, script_told}
 
 told_back : (told : RecordOutput) → told_of (output_of told) ≡ told
 told_back (wrote.Streams out err) = refl
@@ -35,13 +37,31 @@ told_back (wrote.Message message) = refl
 abbrev made_of : ExecutionResultDescription → Bool → ℕ → RecordOutput → Record
 made_of result slow nanos output = record { result = result; slow = slow; nanos = nanos; output = output }
 
+-- what is kept of a record makes it up again
+made_again : (told : Record) (result : ExecutionResultDescription) (slow : Bool) (nanos : ℕ) (output : Output)
+    → result ≡ told.result → slow ≡ told.slow → nanos ≡ told.nanos → output ≡ output_of told.output → made_of result slow nanos (told_of output) ≡ told
+made_again told result slow nanos output same_result same_slow same_nanos same_output =
+    ap (λ (r : ExecutionResultDescription). made_of r slow nanos (told_of output)) same_result
+    ∙ ap (λ (s : Bool). made_of told.result s nanos (told_of output)) same_slow
+    ∙ ap (λ (n : ℕ). made_of told.result told.slow n (told_of output)) same_nanos
+    ∙ ap (λ (o : RecordOutput). made_of told.result told.slow told.nanos o) (ap told_of same_output ∙ told_back told.output)
+
 -- a status tells the record that it was made of
 pub record_back : (attempt total : ℕ) (told : Record) (status : Status) → IsStatusOf attempt total told status → record_of status ≡ told
 record_back attempt total told status made =
-    ap (λ (r : ExecutionResultDescription). made_of r status.is_slow (as_nanos status.time_taken) (told_of status.output)) made.result
-    ∙ ap (λ (s : Bool). made_of told.result s (as_nanos status.time_taken) (told_of status.output)) made.is_slow
-    ∙ ap (λ (n : ℕ). made_of told.result told.slow n (told_of status.output)) made.time_taken
-    ∙ ap (λ (o : RecordOutput). made_of told.result told.slow told.nanos o) (ap told_of made.output ∙ told_back told.output)
+    made_again told status.result status.is_slow (as_nanos status.time_taken) status.output made.result made.is_slow made.time_taken made.output
+
+-- and so does a script's
+pub script_record_back : (told : Record) (status : ScriptStatus) → IsScriptStatusOf told status → script_record_of status ≡ told
+script_record_back told status made =
+    made_again told status.result status.is_slow (as_nanos status.time_taken) status.output made.result made.is_slow made.time_taken made.output
+
+-- the record that the status of a script tells is the script's
+pub script_told_back : (told : Option Record) (status : Option (Bor ScriptStatus)) → IsScriptStatus told status → script_told status ≡ told
+script_told_back None None is = refl
+script_told_back None (Some status) is = absurd is
+script_told_back (Some told) None is = absurd is
+script_told_back (Some told) (Some status) is = ap (λ (t : Record). Some t) (script_record_back told status.now is)
 
 pub length_map : {X Y : Type 0} (f : X → Y) (xs : List X) → length (map f xs) ≡ length xs
 length_map f [] = refl
@@ -130,3 +150,23 @@ test_more plan old new before after told status reason finished many kept count 
     tries_left size open_still =
         let more = middle (is_success told.result) (nat_le plan.tries (many + 1)) (is_some reason) (sym finishes ∙ open_still) in
         grind (arith, nat_tests, more, size, count)
+
+-- the status at a place tells the record there, and past the end there is none
+pub script_status_at : (statuses : List ScriptStatus) (place : ℕ) (found : Option (Bor ScriptStatus))
+    → AreScriptStatuses (map script_record_of statuses) statuses → IsItemAt statuses place found
+    → IsScriptStatus (slice_get (map script_record_of statuses) place) found
+script_status_at statuses place None made is =
+    subst (λ (told : Option Record). IsScriptStatus told None) (sym (past statuses place is.3)) tt
+  where
+    past : (statuses : List ScriptStatus) (place : ℕ) → length statuses ≤ place → slice_get (map script_record_of statuses) place ≡ None
+    past [] place over = refl
+    past (first ∷ statuses) zero over = absurd (omega (arith, over))
+    past (first ∷ statuses) (suc place) over = past statuses place (omega (arith, over))
+script_status_at statuses place (Some status) made is =
+    here statuses place made (slice_get_read statuses (length statuses) place status.now refl is.3.0 is.1)
+  where
+    here : (statuses : List ScriptStatus) (place : ℕ) → AreScriptStatuses (map script_record_of statuses) statuses
+        → slice_get statuses place ≡ Some status.now → IsScriptStatus (slice_get (map script_record_of statuses) place) (Some status)
+    here [] place made found = absurd (let e = found in cc)
+    here (first ∷ statuses) zero made found = subst (IsScriptStatusOf (script_record_of first)) (let e = found in cc) made.0
+    here (first ∷ statuses) (suc place) made found = here statuses place made.1 found

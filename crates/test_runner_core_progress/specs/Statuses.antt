@@ -72,6 +72,13 @@ pub record IsScriptStatusOf (told : Record) (status : ScriptStatus) : Type 0 whe
   pub env_map : status.env_map ≡ None
   pub error_summary : status.error_summary ≡ None
 
+-- the status of a script that ended, if it did
+abbrev pub IsScriptStatus : Option Record → Option (Bor ScriptStatus) → Type 0
+IsScriptStatus None None = ⊤
+IsScriptStatus None (Some status) = ⊥
+IsScriptStatus (Some told) None = ⊥
+IsScriptStatus (Some told) (Some status) = IsScriptStatusOf told status.now
+
 abbrev pub AreScriptStatuses : List Record → List ScriptStatus → Type 0
 AreScriptStatuses [] [] = ⊤
 AreScriptStatuses [] (status ∷ statuses) = ⊥
@@ -91,3 +98,8 @@ record_of status = record { result = status.result; slow = status.is_slow; nanos
 
 abbrev pub script_record_of : ScriptStatus → Record
 script_record_of status = record { result = status.result; slow = status.is_slow; nanos = as_nanos status.time_taken; output = told_of status.output }
+
+-- the record that a script's status tells, where it has one
+abbrev pub script_told : Option (Bor ScriptStatus) → Option Record
+script_told None = None
+script_told (Some status) = Some (script_record_of status.now)

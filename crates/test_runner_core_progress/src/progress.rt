@@ -14,7 +14,7 @@ ghost use Rattle.test_runner_core_runs.specs.declared.event.Event.TheVariants as
 ghost use Rattle.test_runner_core_progress.specs.Counted.{CountsNoTest, recounted, with_tests};
 ghost use Rattle.test_runner_core_progress.specs.Parts.{IsRunningAt};
 ghost use Rattle.test_runner_core_progress.specs.Progress.{Takes, Starts, EndsAttempt};
-ghost use Rattle.test_runner_core_progress.specs.Statuses.{IsAttempts};
+ghost use Rattle.test_runner_core_progress.specs.Statuses.{IsAttempts, IsScriptStatus};
 
 use crate::all_tests::AllTests;
 use crate::recorded::script_status;
@@ -22,7 +22,7 @@ use crate::scripts::Scripts;
 use crate::start_fault::StartFault;
 use nextest_config_elements_plain::{MaxFail, TerminateMode};
 use nextest_run_events_counters::{ExecutionStatuses, FinalRunStats, RunStats};
-use nextest_run_events_outputs::LiveSpec;
+use nextest_run_events_outputs::{LiveSpec, SetupScriptExecuteStatus};
 use nextest_run_events_results::{CancelReason, Record};
 use std::alloc::{AllocError, Global};
 use std::marker::Model;
@@ -305,6 +305,13 @@ impl Progress {
         ensures { IsAttempts (slice_get self.now.tests test) result }
     {
         self.tests.attempts(test)
+    }
+
+    /// The status of the script at a place; `None` where the plan has no such place, or it didn't end.
+    pub fn ended_script(&self, script: usize) -> Option<&SetupScriptExecuteStatus<LiveSpec>>
+        ensures { IsScriptStatus (slice_get self.now.scripts script) result }
+    {
+        self.scripts.status(script)
     }
 }
 

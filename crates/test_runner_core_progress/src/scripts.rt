@@ -1,6 +1,6 @@
 // The setup scripts of a run.
-ghost use Rattle.std.specs.Prelude.{◌≡◌, ◌^◌, ◌<◌, [], ◌∷◌, ◌++◌, IfOk, length};
-ghost use Rattle.test_runner_core_progress.specs.Statuses.{IsScriptStatusOf, script_record_of};
+ghost use Rattle.std.specs.Prelude.{◌≡◌, ◌^◌, ◌<◌, [], ◌∷◌, ◌++◌, IfOk, length, slice_get};
+ghost use Rattle.test_runner_core_progress.specs.Statuses.{IsScriptStatus, IsScriptStatusOf, script_record_of};
 
 use nextest_run_events_outputs::{LiveSpec, SetupScriptExecuteStatus};
 use std::alloc::{AllocError, Global};
@@ -49,6 +49,13 @@ impl Scripts {
         ensures bound { result < 2 ^ 63 }
     {
         self.statuses.len()
+    }
+
+    // The status of the script at a place; `None` where it didn't end.
+    pub(crate) fn status(&self, place: usize) -> Option<&SetupScriptExecuteStatus<LiveSpec>>
+        ensures { IsScriptStatus (slice_get self.now.ended place) result }
+    {
+        self.statuses.as_slice().get(place)
     }
 
     // The next script ended. Takes no memory.

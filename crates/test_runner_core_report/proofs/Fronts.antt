@@ -1,12 +1,12 @@
 -- What stands in front of a text stays there.
-use Rattle.std.proofs.Common.{◌≡◌, ℕ, List, [], ◌∷◌, ◌++◌, length, take, refl, String, string_bytes, sym, subst, ap, ◌∙◌, append_assoc}
-use Rattle.std.specs.Prelude.{◌/◌, ◌%◌, slice_index}
+use Rattle.std.proofs.Common.{◌≡◌, ℕ, List, [], ◌∷◌, ◌++◌, length, take, refl, Result, Ok, Err, String, string_bytes, sym, subst, ap, ◌∙◌, append_assoc}
+use Rattle.std.specs.Prelude.{◌/◌, ◌%◌, slice_index, OnOk, OnErr}
 use Rattle.std.proofs.Math.Seq.{take-append_seam}
 use Rattle.std.specs.Str.{IsUtf8}
 use Rattle.std.specs.String.{string_len}
 use Rattle.std.proofs.lemmas.Str.{IsUtf8-string_bytes}
 use Rattle.hex.specs.Hex.{encode_with, encode_lower, lower_digits}
-use Rattle.test_runner_core_report.specs.Writing.{Extends}
+use Rattle.test_runner_core_report.specs.Writing.{Extends, kept_by}
 
 pub extends_then : (old middle new : List ℕ) → Extends old middle → Extends middle new → Extends old new
 extends_then old middle new first second =
@@ -40,3 +40,15 @@ hex_more rest front behind whole old new split grown so_far =
     ∙ append_assoc old (encode_lower front) (encode_lower behind)
     ∙ ap (λ (t : List ℕ). old ++ t) (sym (ap encode_lower split ∙ hex_append lower_digits front behind))
     ∙ so_far
+
+-- where adding answered this, all that it added stands, or the text is as it was
+pub all_stands : {T E : Type 0} (added result : Result T E) (IsNew : List ℕ → Type 0) (count : ℕ) (middle new : List ℕ) → result ≡ added → new ≡ kept_by added count middle
+    → OnOk added (IsNew middle) → OnOk result (IsNew new)
+all_stands (Ok value) result IsNew count middle new same kept is = subst (λ (r : Result _ _). OnOk r (IsNew new)) (sym same) (subst IsNew (sym kept) is)
+all_stands (Err fault) result IsNew count middle new same kept is = subst (λ (r : Result _ _). OnOk r (IsNew new)) (sym same) tt
+
+pub nothing_stands : {T E : Type 0} (added result : Result T E) (count : ℕ) (old middle new : List ℕ) → result ≡ added → new ≡ kept_by added count middle
+    → count ≡ length old → Extends old middle → OnErr result (new ≡ old)
+nothing_stands (Ok value) result count old middle new same kept is grown = subst (λ (r : Result _ _). OnErr r (new ≡ old)) (sym same) tt
+nothing_stands (Err fault) result count old middle new same kept is grown =
+    subst (λ (r : Result _ _). OnErr r (new ≡ old)) (sym same) (kept ∙ front_taken old middle count is grown)

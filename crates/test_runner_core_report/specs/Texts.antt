@@ -1,4 +1,4 @@
--- The lines that a report can have of a test.
+-- The lines that a report can have of a test, and of a script.
 use Rattle.std.specs.Prelude.{◌≡◌, ℕ, ◌+◌, Bool, true, false, not, List, [], ◌∷◌, ◌++◌, Option, Some, None, length, codes, decimal, map, if◌then◌else◌}
 use Rattle.std.specs.Fmt.{signed_decimal}
 use denote.Ref.{Bor}
@@ -110,9 +110,12 @@ abbrev pub slow_word : Bool → List ℕ
 slow_word true = codes "slow"
 slow_word false = codes "-"
 
--- how an attempt ended
+-- how an attempt or a script ended: its result, whether it was slow, and how long it took
+abbrev pub end_by : ExecutionResultDescription → Bool → ℕ → List ℕ
+end_by result slow nanos = joined (result_text result ∷ slow_word slow ∷ decimal nanos ∷ [])
+
 abbrev pub end_text : Record → List ℕ
-end_text told = joined (result_text told.result ∷ slow_word told.slow ∷ decimal told.nanos ∷ [])
+end_text told = end_by told.result told.slow told.nanos
 
 -- the line of an attempt with this number
 abbrev pub try_line : ℕ → Record → List ℕ
@@ -165,3 +168,21 @@ IsToldSlice false output slice = IsSlice (captured (out_of output)) (captured (e
 -- the outputs of an attempt
 abbrev pub IsOutputs : Record → List ℕ → Type 0
 IsOutputs told text = (slice : Option TestOutputErrorSlice) × IsToldSlice (is_success told.result) told.output slice × (text ≡ written_text told.output ++ slice_line slice)
+
+-- how a script ended, if it did
+abbrev pub script_end : Option Record → List ℕ
+script_end None = codes "not-run"
+script_end (Some told) = end_text told
+
+-- the line of a script with this id
+abbrev pub script_line : List ℕ → Option Record → List ℕ
+script_line id told = line (codes "script" ∷ id ∷ script_end told ∷ [])
+
+-- its outputs, where it ended and is no success
+abbrev pub script_outputs : Option Record → List ℕ
+script_outputs None = []
+script_outputs (Some told) = if is_success told.result then [] else written_text told.output
+
+-- what the final text says of a script with this id
+abbrev pub script_text : List ℕ → Option Record → List ℕ
+script_text id told = script_line id told ++ script_outputs told

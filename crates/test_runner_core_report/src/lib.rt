@@ -1,4 +1,5 @@
-//! What a report says of tests: the lines that are written as a test finishes, and its lines in the final text.
+//! What a report says of tests: the lines that are written as a test finishes, and its lines in the final text; and of
+//! scripts, which have lines in the final text alone.
 #![tactic(auto)]
 
 mod fate;
@@ -11,6 +12,6 @@ mod told_test;
 mod writing;
 
 pub use fate::Fate;
-pub use report::{push_done, push_shown};
+pub use report::{push_done, push_script, push_shown};
 pub use shows::Shows;
 pub use told_test::ToldTest;

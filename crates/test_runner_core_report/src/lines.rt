@@ -1,18 +1,20 @@
-// The lines of a test and of its attempts.
+// The lines of a test, of its attempts and of a script.
 ghost use Rattle.std.specs.Prelude.{◌≡◌, ◌∷◌, ◌++◌, OnOk, decimal, map, string_bytes};
-ghost use Rattle.test_runner_core_progress.specs.Statuses.{record_of};
-ghost use Rattle.test_runner_core_report.specs.Texts.{end_text, failure_text, fate_of, fate_word, result_text, slow_word, test_line, tries_text, try_line, try_lines};
+ghost use Rattle.std.specs.Duration.{as_nanos};
+ghost use Rattle.test_runner_core_progress.specs.Statuses.{record_of, script_told};
+ghost use Rattle.test_runner_core_report.specs.Texts.{end_by, failure_text, fate_of, fate_word, result_text, script_end, script_line, slow_word, test_line, tries_text, try_line, try_lines};
 ghost use Rattle.test_runner_core_report.specs.Writing.{Extends};
 
 use crate::told_test::ToldTest;
 use crate::writing::{push_feed, push_field, push_text};
 use itoa::Buffer;
 use nextest_config_elements_plain::{LeakTimeoutResult, SlowTimeoutResult};
-use nextest_run_events_outputs::{ExecuteStatus, LiveSpec};
+use nextest_run_events_outputs::{ExecuteStatus, LiveSpec, SetupScriptExecuteStatus};
 use nextest_run_events_results::{
     AbortDescription, ExecutionResultDescription, FailureDescription,
 };
 use std::alloc::AllocError;
+use std::time::Duration;
 
 // Adds a line of this kind on the test.
 pub(crate) fn push_test_line(
@@ -122,19 +124,56 @@ fn push_try(
 {
     push_text(text, "try")?;
     push_field(text, Buffer::new().format(number))?;
-    push_end(text, status)?;
+    push_end(text, &status.result, status.is_slow, status.time_taken)?;
     push_feed(text)
 }
 
-// Adds a tab, and how an attempt ended.
-fn push_end(text: &mut String, status: &ExecuteStatus<LiveSpec>) -> Result<(), AllocError>
-    ensures ok { OnOk result (string_bytes text.new ≡ string_bytes text.old ++ 9 ∷ end_text (record_of status.now)) }
+// Adds a tab, and how an attempt or a script ended: with this result, slow or not, after this time.
+fn push_end(
+    text: &mut String,
+    told: &ExecutionResultDescription,
+    slow: bool,
+    time: Duration,
+) -> Result<(), AllocError>
+    ensures ok { OnOk result (string_bytes text.new
+        ≡ string_bytes text.old ++ 9 ∷ end_by told.now slow (as_nanos time)) }
     ensures kept { Extends (string_bytes text.old) (string_bytes text.new) }
 {
     push_text(text, "\t")?;
-    push_result(text, &status.result)?;
-    push_field(text, slow_word(status.is_slow))?;
-    push_field(text, Buffer::new().format(status.time_taken.as_nanos()))
+    push_result(text, told)?;
+    push_field(text, slow_word(slow))?;
+    push_field(text, Buffer::new().format(time.as_nanos()))
+}
+
+// Adds a tab, and how a script ended, if it did.
+fn push_script_end(
+    text: &mut String,
+    status: Option<&SetupScriptExecuteStatus<LiveSpec>>,
+) -> Result<(), AllocError>
+    ensures ok { OnOk result (string_bytes text.new
+        ≡ string_bytes text.old ++ 9 ∷ script_end (script_told status.entry)) }
+    ensures kept { Extends (string_bytes text.old) (string_bytes text.new) }
+{
+    match status {
+        Some(status) => push_end(text, &status.result, status.is_slow, status.time_taken),
+        None => push_field(text, "not-run"),
+    }
+}
+
+// Adds the line of the script with this id.
+pub(crate) fn push_script_line(
+    text: &mut String,
+    id: &str,
+    status: Option<&SetupScriptExecuteStatus<LiveSpec>>,
+) -> Result<(), AllocError>
+    ensures ok { OnOk result (string_bytes text.new
+        ≡ string_bytes text.old ++ script_line id.now (script_told status.entry)) }
+    ensures kept { Extends (string_bytes text.old) (string_bytes text.new) }
+{
+    push_text(text, "script")?;
+    push_field(text, id)?;
+    push_script_end(text, status)?;
+    push_feed(text)
 }
 
 // Adds the lines of all attempts.

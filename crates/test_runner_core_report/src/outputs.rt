@@ -1,16 +1,16 @@
-// The outputs of an attempt.
+// The outputs of an attempt and of a script.
 ghost use Rattle.std.specs.Prelude.{◌≡◌, ◌∷◌, ◌++◌, [], OnOk, decimal, length, option_copied, string_bytes};
 ghost use Rattle.hex.specs.Hex.{encode_lower};
 ghost use Rattle.nextest_run_events_results.specs.Result.{is_success};
-ghost use Rattle.test_runner_core_progress.specs.Statuses.{record_of, told_of};
-ghost use Rattle.test_runner_core_report.specs.Texts.{IsOutputs, IsToldSlice, err_of, line, message_line, out_of, part_line, slice_line, stream_line, written_text};
+ghost use Rattle.test_runner_core_progress.specs.Statuses.{record_of, script_told, told_of};
+ghost use Rattle.test_runner_core_report.specs.Texts.{IsOutputs, IsToldSlice, err_of, line, message_line, out_of, part_line, script_outputs, slice_line, stream_line, written_text};
 ghost use Rattle.test_runner_core_report.specs.Writing.{Adds, Extends};
 
 use crate::writing::{push_feed, push_field, push_hex, push_text};
 use itoa::Buffer;
 use nextest_run_events_outputs::{
     ChildExecutionOutputDescription, ChildOutputDescription, ChildSingleOutput,
-    ChildStartErrorDescription, ExecuteStatus, LiveSpec,
+    ChildStartErrorDescription, ExecuteStatus, LiveSpec, SetupScriptExecuteStatus,
 };
 use nextest_run_events_slices::{ByteSubslice, TestOutputErrorSlice};
 use std::alloc::AllocError;
@@ -27,7 +27,7 @@ pub(crate) fn push_outputs(
     push_slice(text, slice_of(status))
 }
 
-// Adds what an attempt wrote, or why it could not be started.
+// Adds what an attempt or a script wrote, or why it could not be started.
 fn push_written(
     text: &mut String,
     output: &ChildExecutionOutputDescription<LiveSpec>,
@@ -47,6 +47,21 @@ fn lent(stream: &Option<ChildSingleOutput>) -> Option<&[u8]>
     match stream {
         Some(output) => Some(output.buf()),
         None => None,
+    }
+}
+
+// Adds what a script wrote, or why it could not be started; nothing of a success, or of one that didn't end.
+pub(crate) fn push_script_outputs(
+    text: &mut String,
+    status: Option<&SetupScriptExecuteStatus<LiveSpec>>,
+) -> Result<(), AllocError>
+    ensures ok { OnOk result (string_bytes text.new
+        ≡ string_bytes text.old ++ script_outputs (script_told status.entry)) }
+    ensures kept { Extends (string_bytes text.old) (string_bytes text.new) }
+{
+    match status {
+        Some(status) if !status.result.is_success() => push_written(text, &status.output),
+        _ => Ok(()),
     }
 }
 
@@ -106,7 +121,7 @@ fn push_hex_line(text: &mut String, word: &str, bytes: &[u8]) -> Result<(), Allo
     push_feed(text)
 }
 
-// Adds the line that says why an attempt could not be started.
+// Adds the line that says why an attempt or a script could not be started.
 fn push_message(
     text: &mut String,
     output: &ChildExecutionOutputDescription<LiveSpec>,

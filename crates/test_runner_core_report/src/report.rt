@@ -1,17 +1,19 @@
-// What a report says of a test: as it finishes, and in the final text.
+// What a report says of a test, as it finishes and in the final text, and of a script.
 ghost use Rattle.std.specs.Prelude.{◌≡◌, ◌||◌, true, [], ◌++◌, OnOk, OnErr, Some, codes, if◌then◌else◌, string_bytes};
 ghost use Rattle.nextest_run_events_visibility.specs.declared.visibility.OutputStoreFinal.TheVariants.{Yes};
+ghost use Rattle.test_runner_core_progress.specs.Statuses.{script_told};
 ghost use Rattle.test_runner_core_runs.specs.State.{last_record};
 ghost use Rattle.test_runner_core_report.specs.Due.{due_of};
 ghost use Rattle.test_runner_core_report.specs.Report.{IsDone, IsDoneBy, IsShown, IsShownBy, IsShownOutputs, kept_of};
-ghost use Rattle.test_runner_core_report.specs.Texts.{test_line, try_lines};
+ghost use Rattle.test_runner_core_report.specs.Texts.{script_text, test_line, try_lines};
 ghost use Rattle.test_runner_core_report.specs.Writing.{Adds, Extends};
 
-use crate::lines::{push_attempts, push_test_line};
-use crate::outputs::push_outputs;
+use crate::lines::{push_attempts, push_script_line, push_test_line};
+use crate::outputs::{push_outputs, push_script_outputs};
 use crate::shows::Shows;
 use crate::told_test::ToldTest;
-use crate::writing::take_back;
+use crate::writing::all_or_nothing;
+use nextest_run_events_outputs::{LiveSpec, SetupScriptExecuteStatus};
 use nextest_run_events_visibility::{OutputOnTestFinished, OutputStoreFinal};
 use std::alloc::AllocError;
 
@@ -23,13 +25,8 @@ pub fn push_done(text: &mut String, shows: &Shows, test: &ToldTest<'_>) -> Resul
     ensures err { OnErr result (string_bytes text.new ≡ string_bytes text.old) }
 {
     let length = text.len();
-    match push_if_due(text, shows, test) {
-        Ok(()) => Ok(()),
-        Err(error) => {
-            take_back(text, length);
-            Err(error)
-        }
-    }
+    let added = push_if_due(text, shows, test);
+    all_or_nothing(text, length, added)
 }
 
 /// Adds the part of a test in the final text: its line, a line for each of its ended attempts and then its outputs,
@@ -40,13 +37,38 @@ pub fn push_shown(text: &mut String, shows: &Shows, test: &ToldTest<'_>) -> Resu
     ensures err { OnErr result (string_bytes text.new ≡ string_bytes text.old) }
 {
     let length = text.len();
-    match push_if_kept(text, shows, test) {
-        Ok(()) => Ok(()),
-        Err(error) => {
-            take_back(text, length);
-            Err(error)
-        }
-    }
+    let added = push_if_kept(text, shows, test);
+    all_or_nothing(text, length, added)
+}
+
+/// Adds what the final text says of the script with this id: its line, and its outputs where it ended and is no
+/// success. `None` is the status of one that didn't end. It fails only on allocation, and then the text stays as it was.
+pub fn push_script(
+    text: &mut String,
+    id: &str,
+    status: Option<&SetupScriptExecuteStatus<LiveSpec>>,
+) -> Result<(), AllocError>
+    ensures ok { OnOk result (string_bytes text.new
+        ≡ string_bytes text.old ++ script_text id.now (script_told status.entry)) }
+    ensures err { OnErr result (string_bytes text.new ≡ string_bytes text.old) }
+{
+    let length = text.len();
+    let added = push_script_lines(text, id, status);
+    all_or_nothing(text, length, added)
+}
+
+// Adds the line of a script, and the outputs that the final text has of it.
+fn push_script_lines(
+    text: &mut String,
+    id: &str,
+    status: Option<&SetupScriptExecuteStatus<LiveSpec>>,
+) -> Result<(), AllocError>
+    ensures ok { OnOk result (string_bytes text.new
+        ≡ string_bytes text.old ++ script_text id.now (script_told status.entry)) }
+    ensures kept { Extends (string_bytes text.old) (string_bytes text.new) }
+{
+    push_script_line(text, id, status)?;
+    push_script_outputs(text, status)
 }
 
 // Adds what is due of a test as it finishes, if anything is.

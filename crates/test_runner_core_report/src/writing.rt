@@ -2,7 +2,7 @@
 ghost use Rattle.std.specs.Prelude.{◌≡◌, ◌≤◌, [], ◌∷◌, ◌++◌, OnOk, length, string_bytes, take};
 ghost use Rattle.std.specs.Str.{IsUtf8};
 ghost use Rattle.hex.specs.Hex.{encode_lower};
-ghost use Rattle.test_runner_core_report.specs.Writing.{Extends};
+ghost use Rattle.test_runner_core_report.specs.Writing.{Extends, kept_by};
 
 use std::alloc::AllocError;
 use std::str;
@@ -66,10 +66,18 @@ fn push_chunk(text: &mut String, bytes: &[u8]) -> Result<(), AllocError>
     }
 }
 
-// Takes back what stands behind the first bytes of the text, so many, that were the whole text before.
-pub(crate) fn take_back(text: &mut String, length: usize)
+// The answer `added` of what added to a text that had so many bytes. Where that failed, the text has these alone again.
+pub(crate) fn all_or_nothing(
+    text: &mut String,
+    length: usize,
+    added: Result<(), AllocError>,
+) -> Result<(), AllocError>
     requires { IsUtf8 (take length (string_bytes text.old)) }
-    ensures { string_bytes text.new ≡ take length (string_bytes text.old) }
+    ensures answer { result ≡ added }
+    ensures bytes { string_bytes text.new ≡ kept_by added length (string_bytes text.old) }
 {
-    text.truncate(length);
+    if added.is_err() {
+        text.truncate(length);
+    }
+    added
 }

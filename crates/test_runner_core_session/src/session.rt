@@ -1,6 +1,7 @@
 // A run of a plan.
 ghost use Rattle.std.specs.Prelude.{◌≡◌, IfOk, is_some, map, slice_get};
 ghost use Rattle.test_runner_core_progress.specs.Progress.{Takes, Starts};
+ghost use Rattle.test_runner_core_progress.specs.Statuses.{IsScriptStatus};
 ghost use Rattle.test_runner_core_runs.specs.Counters as counters;
 ghost use Rattle.test_runner_core_runs.specs.Runs as runs;
 ghost use Rattle.test_runner_core_runs.specs.declared.event.Event.TheVariants as events;
@@ -9,7 +10,7 @@ ghost use Rattle.test_runner_core_session.specs.Session.{place_in, session_of, r
 
 use crate::places::Places;
 use nextest_run_events_counters::{ExecutionStatuses, FinalRunStats, RunStats};
-use nextest_run_events_outputs::LiveSpec;
+use nextest_run_events_outputs::{LiveSpec, SetupScriptExecuteStatus};
 use nextest_run_events_results::{CancelReason, Record, TestInstanceId};
 use nextest_text::Text;
 use std::alloc::{AllocError, Global};
@@ -190,6 +191,13 @@ impl<'a> Session<'a> {
             plan,
             attempts: self.progress.attempts(place),
         })
+    }
+
+    /// The status of the script at a place; `None` where the plan has no such place, or it didn't end.
+    pub fn ended_script(&self, place: usize) -> Option<&SetupScriptExecuteStatus<LiveSpec>>
+        ensures { IsScriptStatus (slice_get self.now.run.scripts place) result }
+    {
+        self.progress.ended_script(place)
     }
 }
 

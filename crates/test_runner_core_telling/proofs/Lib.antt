@@ -1,4 +1,5 @@
 pub mod Told
 pub mod Named
 pub mod Done
-pub mod Opened
+pub mod Each
+pub mod Scripts

@@ -14,6 +14,7 @@ use Rattle.test_runner_core_telling.specs.Final.{shown, shown_part, shown_tests,
 use Rattle.test_runner_core_telling.specs.Parts.{Part}
 use Rattle.test_runner_core_telling.specs.Telling.{TellsAll, TellsFront}
 use Rattle.test_runner_core_telling.specs.declared.final_text.ShownTest.{ShownTest}
+use Rattle.test_runner_core_telling.proofs.Each.{take_next}
 use Rattle.test_runner_core_telling.proofs.Told.{all_then, front_more, front_then}
 
 -- a test of a plan that is so far
@@ -85,12 +86,7 @@ shown_within plan [] states = omega arith
 shown_within plan (first ∷ tests) [] = omega arith
 shown_within plan (first ∷ tests) (one ∷ states) = let within = shown_within plan tests states in omega arith
 
--- one more
-pub take_next : {X : Type 0} (xs : List X) (place : ℕ) (x : X) → slice_get xs place ≡ Some x → take (suc place) xs ≡ take place xs ++ x ∷ []
-take_next [] place x here = absurd (let e = here in cc)
-take_next (first ∷ xs) zero x here = ap (λ (y : _). y ∷ []) (let e = here in cc)
-take_next (first ∷ xs) (suc place) x here = ap (λ (ys : List _). first ∷ ys) (take_next xs place x here)
-
+-- none more
 pub take_same : {X : Type 0} (xs : List X) (place : ℕ) → slice_get xs place ≡ None → take (suc place) xs ≡ take place xs
 take_same [] zero none = refl
 take_same [] (suc place) none = refl

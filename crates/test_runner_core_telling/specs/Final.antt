@@ -1,7 +1,9 @@
 -- What the final text of a run tells.
-use Rattle.std.specs.Prelude.{List, [], ◌∷◌, map, Option, None, Some}
+use Rattle.std.specs.Prelude.{ℕ, List, [], ◌∷◌, ◌++◌, map, Option, None, Some}
+use Rattle.nextest_run_events_results.specs.declared.record.Record.{Record}
 use Rattle.test_runner_core_plan.specs.declared.plan.Plan.{Plan}
 use Rattle.test_runner_core_plan.specs.declared.plan.PlanTest.{PlanTest}
+use Rattle.test_runner_core_report.specs.Texts.{script_text}
 use Rattle.test_runner_core_report.specs.declared.shows.Shows.{Shows}
 use Rattle.test_runner_core_runs.specs.State.{State, TestState}
 use Rattle.test_runner_core_telling.specs.Parts.{Part, Done, Said, Shown}
@@ -35,6 +37,21 @@ abbrev pub shown : Option ShownTest → List Part
 shown None = []
 shown (Some told) = shown_part told ∷ []
 
--- the final text: where the run ended, and then the tests in the plan's order
+-- the texts of scripts with these ids, in their order: of those that ended with these records, and behind them of those
+-- that didn't end
+abbrev pub script_texts : List (List ℕ) → List Record → List (List ℕ)
+script_texts [] records = []
+script_texts (id ∷ ids) [] = script_text id None ∷ script_texts ids []
+script_texts (id ∷ ids) (told ∷ records) = script_text id (Some told) ∷ script_texts ids records
+
+-- the scripts of a plan in the final text, as far as its run is
+abbrev pub script_parts : Plan → State → List Part
+script_parts plan state = map Said (script_texts plan.scripts state.scripts)
+
+-- and its tests
+abbrev pub test_parts : Plan → State → List Part
+test_parts plan state = map shown_part (shown_tests plan plan.tests state.tests)
+
+-- the final text: where the run ended, then the scripts and the tests in the plan's order
 abbrev pub final_parts : Plan → State → List Part
-final_parts plan state = Said (end_text (end_of state)) ∷ map shown_part (shown_tests plan plan.tests state.tests)
+final_parts plan state = Said (end_text (end_of state)) ∷ (script_parts plan state ++ test_parts plan state)

@@ -1,13 +1,13 @@
 // Telling the final text of a run.
-ghost use Rattle.std.specs.Prelude.{◌≡◌, ◌^◌, ◌<◌, [], ◌∷◌, map, slice_get, string_bytes};
+ghost use Rattle.std.specs.Prelude.{◌≡◌, ◌^◌, ◌<◌, [], ◌∷◌, slice_get, string_bytes};
 ghost use Rattle.test_runner_core_telling.specs.Parts.{Said};
-ghost use Rattle.test_runner_core_telling.specs.Final.{final_parts, shown, shown_part, shown_tests, shows_of};
+ghost use Rattle.test_runner_core_telling.specs.Final.{final_parts, script_parts, shown, shown_tests, shows_of, test_parts};
 ghost use Rattle.test_runner_core_telling.specs.RunEnd.{end_of, end_text};
 ghost use Rattle.test_runner_core_telling.specs.Telling.{Tells, TellsWrite};
 
 use crate::fault::TellFault;
 use crate::run_end::RunEnd;
-use crate::telling::{tell_done, tell_shown, tell_words};
+use crate::telling::{tell_done, tell_script, tell_shown, tell_words};
 use std::alloc::Global;
 use test_runner_core_plan::{Plan, PlanTest};
 use test_runner_core_report::{Shows, ToldTest};
@@ -61,6 +61,7 @@ pub fn tell_final<W: ReportWriter>(
     ensures failures { TellsWrite result (W.failures report.old) (W.failures report.new) (W.last_failed report.new) }
 {
     tell_end(alloc, text, report, session)?;
+    tell_scripts(text, report, session)?;
     tell_tests(text, report, session)
 }
 
@@ -83,6 +84,25 @@ fn tell_end<W: ReportWriter>(
     tell_words(text, report, words.as_str())
 }
 
+// Tells the scripts in the plan's order.
+fn tell_scripts<W: ReportWriter>(
+    text: &mut String,
+    report: &mut W,
+    session: &Session<'_>,
+) -> Result<(), TellFault>
+    requires writes_fit { W.failures report.old < 2 ^ 63 }
+    ensures tells { Tells result (script_parts session.now.plan session.now.run)
+        (W.taken report.old) (string_bytes text.old) (W.taken report.new) (string_bytes text.new) }
+    ensures failures { TellsWrite result
+        (W.failures report.old) (W.failures report.new) (W.last_failed report.new) }
+{
+    let scripts = session.plan().scripts.as_slice();
+    for (place, id) in scripts.iter().enumerate() {
+        tell_script(text, report, id.as_str(), session.ended_script(place))?;
+    }
+    Ok(())
+}
+
 // Tells the tests in the plan's order.
 fn tell_tests<W: ReportWriter>(
     text: &mut String,
@@ -90,7 +110,7 @@ fn tell_tests<W: ReportWriter>(
     session: &Session<'_>,
 ) -> Result<(), TellFault>
     requires writes_fit { W.failures report.old < 2 ^ 63 }
-    ensures tells { Tells result (map shown_part (shown_tests session.now.plan session.now.plan.tests session.now.run.tests)) (W.taken report.old) (string_bytes text.old) (W.taken report.new) (string_bytes text.new) }
+    ensures tells { Tells result (test_parts session.now.plan session.now.run) (W.taken report.old) (string_bytes text.old) (W.taken report.new) (string_bytes text.new) }
     ensures failures { TellsWrite result (W.failures report.old) (W.failures report.new) (W.last_failed report.new) }
 {
     for place in 0..session.plan().tests.len() {

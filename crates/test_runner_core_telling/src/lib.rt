@@ -13,4 +13,4 @@ pub use final_text::{ShownTest, tell_final};
 pub use opening::tell_opening;
 pub use run_end::RunEnd;
 pub use steps::tell_step;
-pub use telling::{tell_done, tell_shown, tell_words, write_waiting};
+pub use telling::{tell_done, tell_script, tell_shown, tell_words, write_waiting};

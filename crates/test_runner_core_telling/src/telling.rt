@@ -1,10 +1,13 @@
 // Telling parts of a report. What is told waits in a text, which is written in few calls.
 ghost use Rattle.std.specs.Prelude.{◌≡◌, ◌^◌, ◌<◌, [], ◌∷◌, OnOk, string_bytes};
+ghost use Rattle.test_runner_core_progress.specs.Statuses.{script_told};
+ghost use Rattle.test_runner_core_report.specs.Texts.{script_text};
 ghost use Rattle.test_runner_core_telling.specs.Parts.{Done, Said, Shown};
 ghost use Rattle.test_runner_core_telling.specs.Telling.{Tells, TellsWrite};
 
 use crate::fault::TellFault;
-use test_runner_core_report::{Shows, ToldTest, push_done, push_shown};
+use nextest_run_events_outputs::{LiveSpec, SetupScriptExecuteStatus};
+use test_runner_core_report::{Shows, ToldTest, push_done, push_script, push_shown};
 use test_runner_core_streams::{ReportWriter, write_all};
 
 // What waits is written once it has so many bytes.
@@ -79,5 +82,22 @@ pub fn tell_shown<W: ReportWriter>(
     ensures failures { TellsWrite result (W.failures report.old) (W.failures report.new) (W.last_failed report.new) }
 {
     push_shown(text, shows, test)?;
+    write_if_long(text, report)
+}
+
+/// Tells what the final text says of the script with this id. `None` is the status of one that didn't end.
+pub fn tell_script<W: ReportWriter>(
+    text: &mut String,
+    report: &mut W,
+    id: &str,
+    status: Option<&SetupScriptExecuteStatus<LiveSpec>>,
+) -> Result<(), TellFault>
+    requires writes_fit { W.failures report.old < 2 ^ 63 }
+    ensures tells { Tells result (Said (script_text id.now (script_told status.entry)) ∷ [])
+        (W.taken report.old) (string_bytes text.old) (W.taken report.new) (string_bytes text.new) }
+    ensures failures { TellsWrite result
+        (W.failures report.old) (W.failures report.new) (W.last_failed report.new) }
+{
+    push_script(text, id, status)?;
     write_if_long(text, report)
 }

@@ -1,6 +1,5 @@
 use Rattle.std.proofs.Common.{◌≡◌, ℕ, ◌+◌, ◌<◌, ◌++◌, ◌∷◌, [], Bool, true, false, cond, List, length, Option, refl, ap, sym, subst, ◌∙◌, arith, count_by}
 use Rattle.std.specs.Int.{from_bool}
-use Rattle.std.specs.Duration.{as_nanos}
 use Rattle.std.proofs.lemmas.List.{length_push}
 use Rattle.std.proofs.lemmas.List.Sums.{sum_by-append, sum_by-cons}
 use Rattle.nextest_config_elements_plain.specs.declared.max_fail.MaxFail.{MaxFail}
@@ -9,31 +8,14 @@ use Rattle.nextest_run_events_counters.specs.Rows as rows
 use Rattle.nextest_run_events_counters.specs.declared.run_stats.RunStats.{RunStats}
 use Rattle.nextest_run_events_results.specs.declared.cancel_reason.CancelReason.{CancelReason}
 use Rattle.nextest_run_events_results.specs.declared.record.Record.{Record}
-use Rattle.nextest_run_events_results.specs.declared.record.RecordOutput.{RecordOutput}
-use Rattle.nextest_run_events_results.specs.declared.record.RecordOutput.TheVariants as wrote
-use Rattle.nextest_run_events_results.specs.declared.result.ExecutionResultDescription.{ExecutionResultDescription}
 use Rattle.test_runner_core_runs.specs.Counters.{counters}
 use Rattle.test_runner_core_runs.specs.State.{TestState, State}
 use Rattle.test_runner_core_progress.specs.Parts.{ScriptState, state_of}
-use Rattle.test_runner_core_progress.specs.Statuses.{IsScriptStatusOf, ScriptStatus, output_of, script_record_of, told_of}
+use Rattle.test_runner_core_progress.specs.Statuses.{IsScriptStatusOf, script_record_of}
 use Rattle.test_runner_core_progress.specs.contracts.progress.Progress.{the_view}
+use Rattle.test_runner_core_progress.proofs.Kept.{script_record_back}
 use Rattle.test_runner_core_progress.proofs.Totals.{Counts}
 use Rattle.test_runner_core_progress.proofs.progress.Progress.end_script.Goals as goal
-
-told_back : (told : RecordOutput) → told_of (output_of told) ≡ told
-told_back (wrote.Streams out err) = refl
-told_back (wrote.Message message) = refl
-
-abbrev made_of : ExecutionResultDescription → Bool → ℕ → RecordOutput → Record
-made_of result slow nanos output = record { result = result; slow = slow; nanos = nanos; output = output }
-
--- a script's status tells the record that it was made of
-record_back : (told : Record) (status : ScriptStatus) → IsScriptStatusOf told status → script_record_of status ≡ told
-record_back told status made =
-    ap (λ (r : ExecutionResultDescription). made_of r status.is_slow (as_nanos status.time_taken) (told_of status.output)) made.result
-    ∙ ap (λ (s : Bool). made_of told.result s (as_nanos status.time_taken) (told_of status.output)) made.is_slow
-    ∙ ap (λ (n : ℕ). made_of told.result told.slow n (told_of status.output)) made.time_taken
-    ∙ ap (λ (o : RecordOutput). made_of told.result told.slow told.nanos o) (ap told_of made.output ∙ told_back told.output)
 
 -- one more script is counted
 one_more : (state : State) (told : Record) → with_script told.result (counters state) ≡ counters (record state { scripts = state.scripts ++ told ∷ [] })
@@ -72,7 +54,7 @@ end-requires c =
     let made = c.script_status-status.ensures in
     record {
       planned = subst (λ (s : State). length s.scripts < s.planned_scripts) (sym c.self.view_is) c.requires;
-      made = subst (λ (told : Record). IsScriptStatusOf told status) (sym (record_back c.args.record status made)) made;
+      made = subst (λ (told : Record). IsScriptStatusOf told status) (sym (script_record_back c.args.record status made)) made;
     }
 
 pub invariant_of-self : goal.invariant_of-self
@@ -86,7 +68,7 @@ returns c =
     let state = the_view c.self.inside in
     let stats = c.on_setup_script_finished.new.self in
     let kept = c.on_setup_script_finished.ensures in
-    let back = record_back c.args.record c.script_status-status.result c.script_status-status.ensures in
+    let back = script_record_back c.args.record c.script_status-status.result c.script_status-status.ensures in
     let shown : ℕ → Option CancelReason → State = λ skipped reason. record state { scripts = state.scripts ++ c.args.record ∷ []; skipped = skipped; reason = reason } in
     let now = state_of c.end.new.self c.self.inside.tests stats c.self.inside.limit in
     subst (λ (s : State). now ≡ record s { scripts = s.scripts ++ c.args.record ∷ [] }) c.self.view_is

@@ -1,7 +1,7 @@
 use Rattle.std.proofs.Common.{◌≤◌, string_bytes, subst, ℕ}
 use Rattle.std.proofs.lemmas.Str.{IsCharBoundary-from_take, IsUtf8-string_bytes}
 use Rattle.test_runner_core_report.proofs.Fronts.{length_known}
-use Rattle.test_runner_core_report.proofs.writing.take_back.Goals as goal
+use Rattle.test_runner_core_report.proofs.writing.all_or_nothing.Goals as goal
 
 pub truncate-requires : goal.truncate-requires
 truncate-requires c within =
