@@ -4,8 +4,10 @@
 mod config_warning;
 mod default_warnings;
 mod keys;
+mod member;
 mod place;
 mod reserved;
+mod scripts;
 mod shown;
 mod step;
 mod telling;
