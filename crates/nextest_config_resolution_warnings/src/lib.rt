@@ -1,4 +1,5 @@
-//! What a configuration file has that no key of the configuration is, and how that is told.
+//! What is warned of in a configuration file, and how that is told: unknown keys and reserved profiles, scripts where they
+//! stood before, and script rules that name none.
 #![tactic(auto)]
 
 mod config_warning;
