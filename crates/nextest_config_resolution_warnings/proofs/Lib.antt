@@ -1,4 +1,6 @@
 pub mod Fronts
 mod Named
+mod Rules
+mod Sections
 mod Showing
 mod Ways

@@ -1,6 +1,7 @@
 pub mod Keys
 pub mod Places
 pub mod Reserved
+pub mod Scripts
 pub mod Shown
 pub mod Steps
 pub mod Telling

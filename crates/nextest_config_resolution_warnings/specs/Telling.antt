@@ -1,10 +1,11 @@
 -- What is told of configuration files.
-use Rattle.std.specs.Prelude.{◌≡◌, ℕ, List, ◌++◌, map}
+use Rattle.std.specs.Prelude.{◌≡◌, ℕ, Bool, List, [], ◌∷◌, ◌++◌, map, if◌then◌else◌}
 use Rattle.toml.specs.Data.{Members}
 use Rattle.nextest_config_resolution_warnings.specs.Reserved.{unknown_reserved}
+use Rattle.nextest_config_resolution_warnings.specs.Scripts.{defines_old_scripts, empty_sections}
 use Rattle.nextest_config_resolution_warnings.specs.Unknown.{unknown_keys}
 use Rattle.nextest_config_resolution_warnings.specs.declared.config_warning.ConfigWarning.{ConfigWarning}
-use Rattle.nextest_config_resolution_warnings.specs.declared.config_warning.ConfigWarning.TheVariants.{UnknownKey, UnknownReservedProfile}
+use Rattle.nextest_config_resolution_warnings.specs.declared.config_warning.ConfigWarning.TheVariants.{UnknownKey, UnknownReservedProfile, DeprecatedScriptConfig, EmptyScriptSections}
 
 -- these are the warnings that were told
 abbrev pub HasTold : Type 0 → Type 1
@@ -23,6 +24,24 @@ abbrev pub TellsFront : {W : Type 0} → HasTold W → W → W → List ConfigWa
 TellsFront has_told old new all =
     (front : List ConfigWarning) × (rest : List ConfigWarning) × (all ≡ front ++ rest) × Tells has_told old new front
 
--- what is told of the file at a path: its unknown keys, then its reserved profiles
+-- what is told of the file at a path: of its unknown keys, and then of its reserved profiles
+abbrev pub unknown_told : List ℕ → Members → List ConfigWarning
+unknown_told path file =
+    map (UnknownKey path) (unknown_keys file) ++ map (UnknownReservedProfile path) (unknown_reserved file)
+
+-- what is told where it defines scripts in the table that held them before
+abbrev pub old_scripts : List ℕ → Bool → List ConfigWarning
+old_scripts path are_defined = if are_defined then DeprecatedScriptConfig path ∷ [] else []
+
+-- what is told of profiles, each with how many of its rules name no script
+abbrev pub sections_told : List ℕ → List (List ℕ × ℕ) → List ConfigWarning
+sections_told path = map (λ section. EmptyScriptSections path section.0 section.1)
+
+-- of its scripts: that it defines some there, and then of its profiles with such rules
+abbrev pub scripts_told : List ℕ → Members → List ConfigWarning
+scripts_told path file =
+    old_scripts path (defines_old_scripts file) ++ sections_told path (empty_sections file)
+
+-- all that is told of it
 abbrev pub warnings_of : List ℕ → Members → List ConfigWarning
-warnings_of path file = map (UnknownKey path) (unknown_keys file) ++ map (UnknownReservedProfile path) (unknown_reserved file)
+warnings_of path file = unknown_told path file ++ scripts_told path file

@@ -1,10 +1,10 @@
 // Which keys a table at a place may have.
-ghost use Rattle.std.specs.Prelude.{◌≡◌, codes, map, option_map};
-ghost use Rattle.toml.specs.Data.{get_member};
-ghost use Rattle.toml.specs.View.{view, table_view};
+ghost use Rattle.std.specs.Prelude.{◌≡◌, map};
+ghost use Rattle.toml.specs.View.{table_view};
 ghost use Rattle.nextest_config_resolution_warnings.specs.Keys.{seen, seen_row};
 ghost use Rattle.nextest_config_resolution_warnings.specs.Places as places;
 
+use crate::member::member;
 use crate::place::Place;
 use toml::{Table, Value};
 
@@ -217,18 +217,10 @@ pub(crate) fn keys_in(place: Place, table: &Table) -> Keys
 fn has_fixed_delays(table: &Table) -> bool
     ensures { result ≡ places.has_fixed_delays (table_view table.now) }
 {
-    match backoff(table) {
+    match member(table, "backoff") {
         Some(Value::String(text)) => text.as_str() == "fixed",
         _ => false,
     }
-}
-
-// What stands at `backoff`.
-#[tactic(auto, using(toml::proofs::Views::table_get))]
-fn backoff(table: &Table) -> Option<&Value>
-    ensures { option_map (λ it. view it.now) result ≡ get_member (codes "backoff") (table_view table.now) }
-{
-    table.get("backoff")
 }
 
 // What stands at each position of a list at a place.

@@ -1,11 +1,14 @@
-//! What a configuration file has that no key of the configuration is, and how that is told.
+//! What is warned of in a configuration file, and how that is told: unknown keys and reserved profiles, scripts where they
+//! stood before, and script rules that name none.
 #![tactic(auto)]
 
 mod config_warning;
 mod default_warnings;
 mod keys;
+mod member;
 mod place;
 mod reserved;
+mod scripts;
 mod shown;
 mod step;
 mod telling;

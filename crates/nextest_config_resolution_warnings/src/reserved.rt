@@ -1,9 +1,9 @@
 // The names of profiles that are kept for the runner's own.
-ghost use Rattle.std.specs.Prelude.{◌≡◌, ◌++◌, [], ◌∷◌, IfOk, codes, filter, option_map};
-ghost use Rattle.toml.specs.Data.{get_member};
+ghost use Rattle.std.specs.Prelude.{◌≡◌, ◌++◌, [], ◌∷◌, IfOk, filter};
 ghost use Rattle.toml.specs.View.{table_view, view};
 ghost use Rattle.nextest_config_resolution_warnings.specs.Reserved as reserved;
 
+use crate::member::member;
 use nextest_text::{Listing, Text};
 use std::alloc::{AllocError, Global};
 use toml::{Table, Value};
@@ -14,18 +14,10 @@ use toml::{Table, Value};
 pub fn unknown_reserved_profiles(alloc: Global, file: &Table) -> Result<Listing<Text>, AllocError>
     ensures { IfOk result (λ names. names ≡ reserved.unknown_reserved (table_view file.now)) }
 {
-    match profiles(file) {
+    match member(file, "profile") {
         Some(profiles) => unknown_reserved_at(alloc, profiles),
         None => Ok(Listing::new(alloc)),
     }
-}
-
-// What stands at the profiles.
-#[tactic(auto, using(toml::proofs::Views::table_get))]
-fn profiles(file: &Table) -> Option<&Value>
-    ensures { option_map (λ it. view it.now) result ≡ get_member (codes "profile") (table_view file.now) }
-{
-    file.get("profile")
 }
 
 // The names of this kind that what stands at the profiles has.

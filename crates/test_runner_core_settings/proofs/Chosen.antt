@@ -38,6 +38,7 @@ use Rattle.test_runner_core_platforms.specs.declared.fact.PlatformFactsError.The
 use Rattle.test_runner_core_platforms.specs.declared.platform_spec.PlatformSpec.{PlatformSpec}
 use Rattle.test_runner_core_settings.specs.Calls.{AnswersTests, Chooses, KnowsPlatform, KnowsTarget, error_of_facts, error_of_profile}
 use Rattle.test_runner_core_settings.specs.Holding.{IsDefaultText, RuleHolds}
+use Rattle.test_runner_core_settings.specs.Pass.{features_of}
 use Rattle.test_runner_core_settings.specs.Platforms.{has_repeated_fact, platforms_of, repeats}
 use Rattle.test_runner_core_settings.specs.Settings.{AreOfRun, IsOfChain, owned_of}
 use Rattle.test_runner_core_settings.specs.Sets.{IsChosen, IsDefault, IsGroupOf, IsPlatformSpec, IsTooDeep, Reads, SetsTest, groups_in, rules_in}
@@ -111,7 +112,7 @@ module _ (cx : Context) (inputs : Inputs) (config : Whole Filterset PlatformSpec
 
     some_lent : (test : Test) → (it : TestSettings (Unit {0})) × AreSettingsFor HasOnTest TellsNothing profile inputs.mode test it
     some_lent test =
-        some_settings_for filterset_laws cx IsPlatformSpec IsTooDeep value_on TellsNothing nothing_kept inputs.root inputs.sources config inputs.profile early (platforms_of inputs).host (platforms_of inputs).target
+        some_settings_for filterset_laws cx IsPlatformSpec IsTooDeep value_on TellsNothing nothing_kept (features_of inputs) inputs.root inputs.sources config inputs.profile early (platforms_of inputs).host (platforms_of inputs).target
         profile inputs.mode test reads.loaded is on
 
     group_set : (test : Test) (it : TestGroup) → IsGroupFor HasOnTest profile test it → IsGroupOf cx inputs test it
@@ -125,7 +126,7 @@ module _ (cx : Context) (inputs : Inputs) (config : Whole Filterset PlatformSpec
       group = group_set;
       some = λ test. let lent = some_lent test in (owned_of lent.0, settings_set test lent.0 lent.1);
       some_group = λ test.
-          some_group_for filterset_laws cx IsPlatformSpec IsTooDeep value_on inputs.root inputs.sources config inputs.profile early (platforms_of inputs).host (platforms_of inputs).target
+          some_group_for filterset_laws cx IsPlatformSpec IsTooDeep value_on (features_of inputs) inputs.root inputs.sources config inputs.profile early (platforms_of inputs).host (platforms_of inputs).target
           profile test reads.loaded is on;
     }
 

@@ -20,6 +20,7 @@ use Rattle.nextest_config_resolution_settings.specs.Fallbacks as fallback
 use Rattle.nextest_config_resolution_settings.specs.Keys as key
 use Rattle.nextest_config_resolution_settings.specs.Nearest.{IsOfProfiles, Source, of_fallback, of_profile}
 use Rattle.nextest_config_elements_readers.specs.Tables.{MayBe, Reads}
+use Rattle.nextest_config_resolution_scripts.specs.Scripts.{scripts_at}
 use Rattle.nextest_config_resolution_values.specs.File.{Named, profiles_at, profiles_in, profiles_of, store_dir_at}
 use Rattle.nextest_config_resolution_values.specs.Profile.{profile_in, profile_of}
 use Rattle.nextest_config_resolution_values.specs.declared.profile_config.ProfileConfig.{ProfileConfig}
@@ -158,8 +159,9 @@ tree_has : (top : Members) → Holds (config_in top) AreLimited
 tree_has top =
     next_holds (profiles_at top) _ HaveLimits AreLimited
     (under_holds (codes "profile") (profiles_of (get_member (codes "profile") top)) HaveLimits (found_have (get_member (codes "profile") top)))
-    (λ profiles have. next_holds (store_dir_at top) _ (λ dir. ⊤) AreLimited (anything (store_dir_at top))
-    (λ dir _. next_holds (groups_at top) _ (λ groups. ⊤) AreLimited (anything (groups_at top)) (λ groups _. have)))
+    (λ profiles have. next_holds (scripts_at top) _ (λ scripts. ⊤) AreLimited (anything (scripts_at top))
+    (λ scripts _. next_holds (store_dir_at top) _ (λ dir. ⊤) AreLimited (anything (store_dir_at top))
+    (λ dir _. next_holds (groups_at top) _ (λ groups. ⊤) AreLimited (anything (groups_at top)) (λ groups _. have))))
 
 -- ---- a chain
 
