@@ -86,21 +86,16 @@ fn holds_on<S: Specs>(
 fn retries_of<F: Filters, S: Specs>(
     alloc: Global,
     cx: &F::Cx,
+    features: FeatureSet,
     sources: &[ConfigSource],
     name: &str,
     platforms: &BuildPlatforms<'_, S::Facts>,
     query: &TestQuery<'_>,
 ) -> Result<Option<(RetryPolicy, Option<usize>)>, AllocError>
-    ensures { IfOk result (AreRetriesOf (IsFilterIn F.is_parsed cx.now) S.is_parsed F.is_too_deep S.value_on F.on_test
-        sources.now name.now platforms.now (test_of query.now)) }
+    ensures { IfOk result (AreRetriesOf (IsFilterIn F.is_parsed F.has_runtime_leaves cx.now) S.is_parsed F.is_too_deep S.value_on F.on_test
+        features sources.now name.now platforms.now (test_of query.now)) }
 {
-    let config = match NextestConfig::<F, S>::from_sources(
-        alloc,
-        "",
-        cx,
-        sources,
-        FeatureSet::default(),
-    ) {
+    let config = match NextestConfig::<F, S>::from_sources(alloc, "", cx, sources, features) {
         Ok(config) => config,
         Err(LoadError::Refused(_)) => return Ok(None),
         Err(LoadError::OutOfMemory) => return Err(AllocError),
@@ -202,6 +197,7 @@ pub(crate) fn plain_configs(alloc: Global, input: &str) -> Option<String> {
     match retries_of::<PlainFilter, PlainSpec>(
         alloc,
         &(),
+        FeatureSet::default(),
         sources.as_slice(),
         name,
         &platforms,
