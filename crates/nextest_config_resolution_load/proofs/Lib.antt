@@ -1,5 +1,6 @@
 pub mod Completing
 pub mod Configs
+pub mod Defining
 pub mod Downward
 pub mod FilesRead
 pub mod Kept

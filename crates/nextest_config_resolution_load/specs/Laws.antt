@@ -1,11 +1,21 @@
 -- What the laws say.
-use Rattle.std.specs.Prelude.{◌≡◌, ◌⊎◌, ℕ, List, [], ◌∷◌, ◌++◌, map, reverse, Ok, Err}
+use Rattle.std.specs.Prelude.{◌≡◌, ◌⊎◌, ℕ, true, List, [], ◌∷◌, ◌++◌, map, reverse, Option, None, Some, is_some, Ok, Err, ⊤}
+use Rattle.std.specs.List.{AllByRecursion}
+use Rattle.std.specs.Option.{IfSome}
 use Rattle.toml.specs.Data.{table, Members}
+use Rattle.nextest_config_elements_identifiers.specs.declared.test_group.TestGroup.{TestGroup}
+use Rattle.nextest_config_elements_identifiers.specs.declared.test_group.TestGroup.TheVariants as group
 use Rattle.nextest_config_elements_versions.specs.declared.feature.FeatureSet.{FeatureSet}
+use Rattle.nextest_config_resolution_overrides.specs.declared.groups.NamedGroup.{NamedGroup}
+use Rattle.nextest_config_resolution_scripts.specs.Defined.{script_named}
+use Rattle.nextest_config_resolution_scripts.specs.declared.script_config.NamedScript.{NamedScript}
+use Rattle.nextest_config_resolution_scripts.specs.declared.script_config.ScriptConfig.{ScriptConfig}
+use Rattle.nextest_config_resolution_scripts.specs.declared.script_rule.ScriptRuleConfig.{ScriptRuleConfig}
 use Rattle.nextest_config_resolution_sources.specs.declared.source.ConfigSource.{ConfigSource}
 use Rattle.nextest_config_resolution_tree.specs.Merged.{IsMerged}
 use Rattle.nextest_config_resolution_load.specs.Checks.{raised}
-use Rattle.nextest_config_resolution_load.specs.Load.{IsFilterBy, IsLoaded, IsSpecBy, reason_of, seen}
+use Rattle.nextest_config_resolution_load.specs.Load.{IsFilterBy, IsLoaded, IsLoadedAs, IsSpecBy, reason_of, seen}
+use Rattle.nextest_config_resolution_load.specs.Rules.{is_defined}
 use Rattle.nextest_config_resolution_load.specs.declared.load_error.LoadError.TheVariants.{Refused}
 use Rattle.nextest_config_resolution_load.specs.declared.load_fault.LoadFault.{LoadFault}
 use Rattle.nextest_config_resolution_load.specs.declared.loaded_config.LoadedConfig.{LoadedConfig}
@@ -33,3 +43,31 @@ OneReason {F} {S} Is IsSpec IsTooDeep = ((text : List ℕ) → ¬ IsTooDeep text
 abbrev pub SomeLoad : {F S : Type 0} → IsFilterBy F → IsSpecBy S → (List ℕ → Type 0) → Type 0
 SomeLoad {F} {S} Is IsSpec IsTooDeep = (features : FeatureSet) (built_in : Members) (sources : List ConfigSource)
     → ¬ ¬ (((it : LoadedConfig F S) × IsLoaded Is IsSpec IsTooDeep features built_in sources (Ok it)) ⊎ ((told : LoadFault) × IsLoaded Is IsSpec IsTooDeep features built_in sources (Err (Refused told))))
+
+-- ---- what rules name
+
+-- a script of a name is found
+abbrev pub IsFound : {A : Type 0} → List (NamedScript A) → List ℕ → Type 0
+IsFound scripts id = is_some (script_named scripts id) ≡ true
+
+-- each script that a script rule names is found among those of its kind
+pub record HasScripts (scripts : ScriptConfig) (rule : ScriptRuleConfig) : Type 0 where
+  pub setup : AllByRecursion (IsFound scripts.setup) rule.setup
+  pub list_wrapper : IfSome rule.list_wrapper (IsFound scripts.wrapper)
+  pub run_wrapper : IfSome rule.run_wrapper (IsFound scripts.wrapper)
+
+-- the group that an override puts tests into is one of these, or is built in
+abbrev pub HasGroup : List NamedGroup → Option TestGroup → Type 0
+HasGroup groups None = ⊤
+HasGroup groups (Some group.Global) = ⊤
+HasGroup groups (Some (group.Custom name)) = is_defined groups name ≡ true
+
+-- in what sources come to, script rules have their scripts
+abbrev pub ScriptsAreDefined : {F S : Type 0} → IsFilterBy F → IsSpecBy S → Type 0
+ScriptsAreDefined {F} {S} Is IsSpec = (features : FeatureSet) (built_in : Members) (sources : List ConfigSource) (it : LoadedConfig F S)
+    → IsLoadedAs Is IsSpec features built_in sources it → AllByRecursion (λ rule. HasScripts it.scripts rule.placed.config) it.script_rules
+
+-- and overrides their groups
+abbrev pub GroupsAreDefined : {F S : Type 0} → IsFilterBy F → IsSpecBy S → Type 0
+GroupsAreDefined {F} {S} Is IsSpec = (features : FeatureSet) (built_in : Members) (sources : List ConfigSource) (it : LoadedConfig F S)
+    → IsLoadedAs Is IsSpec features built_in sources it → AllByRecursion (λ rule. HasGroup it.groups rule.placed.config.test_group) it.rules

@@ -140,11 +140,7 @@ fn read_profile(alloc: Global, name: &str, given: &Value) -> Result<ProfileRules
 }
 
 // What stands under the name of a profile: a table.
-fn read_value(
-    alloc: Global,
-    name: &str,
-    given: &Value,
-) -> Result<TableRules, ValueError>
+fn read_value(alloc: Global, name: &str, given: &Value) -> Result<TableRules, ValueError>
     ensures { GivesAt (profile_path name.now) result (table_by rules_in_profile (view given.now)) }
 {
     match given {
@@ -154,11 +150,7 @@ fn read_value(
 }
 
 // The rules of a profile whose values can stand at their keys, or what is refused first.
-fn read_table(
-    alloc: Global,
-    name: &str,
-    table: &Table,
-) -> Result<TableRules, ValueError>
+fn read_table(alloc: Global, name: &str, table: &Table) -> Result<TableRules, ValueError>
     ensures { GivesAt (profile_path name.now) result (rules_in_profile (table_view table.now)) }
 {
     match deserialize_profile(alloc, name, table) {

@@ -1,5 +1,5 @@
 //! What holds of loads. Each law is the contract of a function that does nothing.
-ghost use Rattle.nextest_config_resolution_load.specs.Laws.{MergedFiles, NoFault, OneLoad, OneReason, SomeLoad};
+ghost use Rattle.nextest_config_resolution_load.specs.Laws.{GroupsAreDefined, MergedFiles, NoFault, OneLoad, OneReason, ScriptsAreDefined, SomeLoad};
 
 use crate::languages::Languages;
 
@@ -20,4 +20,11 @@ pub fn one_load<R: Languages>()
 /// It can't be that sources are neither loaded nor refused.
 pub fn some_load<R: Languages>()
     ensures { (cx : R.Cx) → SomeLoad (R.is_filter cx) R.is_spec R.is_too_deep }
+{}
+
+/// In what sources come to, each script that a script rule names is found among those of its kind, and each group that an override
+/// names is defined.
+pub fn scripts_are_defined<R: Languages>()
+    ensures scripts { (cx : R.Cx) → ScriptsAreDefined (R.is_filter cx) R.is_spec }
+    ensures groups { (cx : R.Cx) → GroupsAreDefined (R.is_filter cx) R.is_spec }
 {}

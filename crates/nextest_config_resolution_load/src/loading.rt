@@ -185,8 +185,20 @@ fn check_names<R: Languages>(
         (named_checks (all_placed (overrides_of rules.now)) (all_placed (scripts_of rules.now)) (values_of read.now)) (λ _. ⊤) result }
 {
     check_groups::<R>(alloc, cx, read.groups.as_slice(), rules)?;
-    check_scripts::<R, _>(alloc, cx, ScriptType::Setup, read.scripts.setup.as_slice(), rules)?;
-    check_scripts::<R, _>(alloc, cx, ScriptType::Wrapper, read.scripts.wrapper.as_slice(), rules)
+    check_scripts::<R, _>(
+        alloc,
+        cx,
+        ScriptType::Setup,
+        read.scripts.setup.as_slice(),
+        rules,
+    )?;
+    check_scripts::<R, _>(
+        alloc,
+        cx,
+        ScriptType::Wrapper,
+        read.scripts.wrapper.as_slice(),
+        rules,
+    )
 }
 
 // That profiles inherit as they may.

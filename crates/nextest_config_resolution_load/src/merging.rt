@@ -89,10 +89,7 @@ pub(crate) fn merge_files<'a>(
 }
 
 // The tree of a file, with its scripts where they stand now.
-fn file_tree<'a>(
-    alloc: Global,
-    file: &'a LayeredFile<'_>,
-) -> Result<MergedTree<'a>, AllocError>
+fn file_tree<'a>(alloc: Global, file: &'a LayeredFile<'_>) -> Result<MergedTree<'a>, AllocError>
     ensures { IfOk result (λ it. IsTree it (table (layered_in file.now))) }
 {
     let tree = MergedTree::from_table(alloc, file.table)?;

@@ -3,7 +3,7 @@ use Rattle.std.proofs.Common.{◌≡◌, ℕ, List, ◌++◌, Ok, Err, sym, ap, 
 use Rattle.std.proofs.lemmas.Result.{err_from_is_err_and}
 use Rattle.std.specs.Result.{IsErrAnd}
 use denote.Ref.{Bor}
-use Rattle.nextest_config_elements_reading.specs.Paths.{Gives, at, texts}
+use Rattle.nextest_config_elements_reading.specs.Paths.{Gives, texts}
 use Rattle.nextest_config_elements_reading.specs.Reading.{Reading, ◌>>=◌}
 use Rattle.nextest_config_elements_reading.specs.declared.value_error.ValueError.{ValueError}
 use Rattle.nextest_config_elements_reading.specs.declared.value_error.ValueError.TheVariants as error

@@ -1,2 +1,4 @@
+pub mod Accepting
 pub mod Failing
+pub mod Finding
 pub mod Listed

@@ -1,5 +1,5 @@
 -- How scripts and lists are read, one by one.
-use Rattle.std.proofs.Common.{◌≡◌, ℕ, ◌+◌, ◌<◌, List, [], ◌∷◌, ◌++◌, Ok, Err, String, Global, string_bytes, decimal, drop, get_or, length, sym, ap, ◌∙◌}
+use Rattle.std.proofs.Common.{◌≡◌, ℕ, List, [], ◌∷◌, ◌++◌, Ok, Err, String, Global, string_bytes, sym, ap, ◌∙◌}
 use Rattle.std.proofs.lemmas.List.{append_assoc}
 use Rattle.toml.specs.Data.{Data}
 use Rattle.toml.specs.View.{members_view, view}

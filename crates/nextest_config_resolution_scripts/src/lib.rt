@@ -4,6 +4,7 @@
 //! reads past all others; the first value that is none is refused with its path.
 #![tactic(auto)]
 
+pub mod laws;
 mod script_config;
 mod script_rule;
 mod setup_script;
@@ -16,8 +17,6 @@ pub use script_config::{
     NamedScript, ProfileScriptType, ScriptConfig, ScriptInfo, ScriptType, deserialize_old_scripts,
     deserialize_scripts, script_named,
 };
-pub use script_rule::{
-    PlacedScriptRule, ScriptRuleConfig, ScriptRuleId, deserialize_script_rules,
-};
+pub use script_rule::{PlacedScriptRule, ScriptRuleConfig, ScriptRuleId, deserialize_script_rules};
 pub use setup_script::{SetupScriptConfig, SetupScriptJunitConfig, SetupScriptSlowTimeout};
 pub use wrapper_script::{WrapperScriptConfig, WrapperScriptTargetRunner};

@@ -73,7 +73,10 @@ impl ScriptConfig {
 }
 
 /// What the script of a name is set to, the last one of several; `None` if there is none.
-pub fn script_named<'s, Config>(scripts: &'s [NamedScript<Config>], id: &ScriptId) -> Option<&'s Config>
+pub fn script_named<'s, Config>(
+    scripts: &'s [NamedScript<Config>],
+    id: &ScriptId,
+) -> Option<&'s Config>
     ensures { option_copied result ≡ script_named scripts.now id.now }
 {
     let mut found = None;
@@ -172,10 +175,7 @@ impl fmt::Display for ProfileScriptType {
 /// # Errors
 ///
 /// `Refused` names the first key or value, by the bytes of the keys, that is none, and a key before its value.
-pub fn deserialize_scripts(
-    alloc: Global,
-    found: Option<&Value>,
-) -> Result<ScriptConfig, ValueError>
+pub fn deserialize_scripts(alloc: Global, found: Option<&Value>) -> Result<ScriptConfig, ValueError>
     ensures { GivesAt scripts_path result (scripts_of (option_map (λ it. view it.now) found.entry)) }
 {
     match found {

@@ -10,7 +10,9 @@ use nextest_config_elements_counts::{ConfigDuration, LeakTimeout, SlowTimeout};
 use nextest_config_elements_plain::SlowTimeoutResult;
 use nextest_config_elements_readers::{Any, DeserializeValue, defaulted};
 use nextest_config_elements_reading::{ValueError, refused};
-use nextest_config_resolution_commands::{ScriptCommand, defaulted_value, optional_value, required_value};
+use nextest_config_resolution_commands::{
+    ScriptCommand, defaulted_value, optional_value, required_value,
+};
 use std::alloc::Global;
 use toml::{Table, Value};
 
@@ -172,7 +174,12 @@ fn setup_script_in(
     let all = SetupScriptJunitConfig::default();
     let junit = defaulted_value::<SetupScriptJunitConfig>(alloc, table, path, "junit", all)?;
     let leak_timeout = optional_value::<LeakTimeout>(alloc, table, path, "leak-timeout")?;
-    let slow_timeout = optional_value::<SetupScriptSlowTimeout>(alloc, table, path, "slow-timeout")?;
+    let slow_timeout = optional_value::<SetupScriptSlowTimeout>(
+        alloc,
+        table,
+        path,
+        "slow-timeout",
+    )?;
     Ok(SetupScriptConfig {
         command,
         slow_timeout,

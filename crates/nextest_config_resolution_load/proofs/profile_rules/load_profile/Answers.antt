@@ -48,8 +48,7 @@ returns g c =
     let path = c.args.path.now in
     let it = c.args.rules in
     let overrides = flat_map rule_checks (placed_in path it) in
-    let scripts = flat_map script_rule_checks (script_placed_in path it) in
-    (
+    let scripts = flat_map script_rule_checks (script_placed_in path it) in (
       kept_both Is IsSpec IsTooDeep overrides scripts
           (subst (λ (all : List PlacedOverride). AllByRecursion (IsKept Is IsSpec) (flat_map rule_checks all)) c.in_ok-placed.ensures c.in_ok-overrides.ensures.0)
           (subst (λ (all : List PlacedScriptRule). AllByRecursion (IsKept Is IsSpec) (flat_map script_rule_checks all)) c.in_ok-placed-2.ensures c.in_ok-scripts.ensures.0),

@@ -1,4 +1,4 @@
-use Rattle.std.proofs.Common.{Ok, codes}
+use Rattle.std.proofs.Common.{Ok}
 use Rattle.toml.specs.View.{table_view}
 use Rattle.nextest_config_resolution_scripts.specs.Rules.{setup_at}
 use Rattle.nextest_config_resolution_scripts.proofs.Failing.{fails_on}
