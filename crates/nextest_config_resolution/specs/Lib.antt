@@ -51,7 +51,9 @@ pub use Rattle.nextest_config_resolution_commands.specs.Laws as CommandLaws
 pub use Rattle.nextest_config_resolution_commands.specs.Programs
 pub use Rattle.nextest_config_resolution_commands.specs.Splitting
 pub use Rattle.nextest_config_resolution_commands.specs.Words
+pub use Rattle.nextest_config_resolution_scripts.specs.Accepted as AcceptedScripts
 pub use Rattle.nextest_config_resolution_scripts.specs.Defined as DefinedScripts
+pub use Rattle.nextest_config_resolution_scripts.specs.Laws as ScriptLaws
 pub use Rattle.nextest_config_resolution_scripts.specs.Rules as ScriptRules
 pub use Rattle.nextest_config_resolution_scripts.specs.Scripts
 -- settings, and what is built in

@@ -4,13 +4,18 @@ pub use nextest_config_resolution_commands::laws::{accepted_command, one_split, 
 pub use nextest_config_resolution_inheritance::laws::{
     no_end, no_fault, one_chain, one_fault, one_verdict,
 };
-pub use nextest_config_resolution_load::laws::{merged_files, one_load, some_load};
+pub use nextest_config_resolution_load::laws::{
+    merged_files, one_load, scripts_are_defined, some_load,
+};
 pub use nextest_config_resolution_overrides::laws::accepted_override;
 pub use nextest_config_resolution_profiles::laws::{
     accepted as built_in_is_accepted, default_is_read, early_default, group_of_settings,
     kept_profile, never_falls_back, no_fallback, no_rules, one_held, one_profile,
     read_as as built_in_is_read_as, rules_are_read, same_chain, some_profile, some_settings,
     written_as as built_in_is_written_as,
+};
+pub use nextest_config_resolution_scripts::laws::{
+    accepted_script_rule, accepted_setup_script, accepted_wrapper_script, named_is_found,
 };
 pub use nextest_config_resolution_settings::laws::{
     held_rules, least_rule, one_least, one_setting, same_settings,
