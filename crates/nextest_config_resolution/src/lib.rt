@@ -5,51 +5,123 @@
 
 pub mod laws;
 
-pub use nextest_config_elements_identifiers::{ConfigSourceKind, ToolName};
-pub use nextest_config_elements_reading::{BadValue, KeyPath, ValueError};
-pub use nextest_config_resolution_filters::{FilterError, Filters, SpecError, Specs};
-pub use nextest_config_resolution_inheritance::{
-    InheritanceError, InheritanceFault, Inherits, chain_of, check_inheritance,
-};
-pub use nextest_config_resolution_commands::{
-    ScriptCommand, ScriptCommandEnvMap, ScriptCommandRelativeTo, ScriptId,
-    deserialize_script_command, split_words,
-};
-pub use nextest_config_resolution_load::{
-    CompiledRule, FeatureSet, FileConfig, FilterPurpose, Languages, LoadError, LoadFault, LoadKind,
-    LoadedConfig, LoadedOverride, LoadedRule, LoadedScriptRule, NamedProfile, PlatformSide,
-    ProfileRules, RuleId, load, load_with_warnings,
-};
-pub use nextest_config_resolution_overrides::{
-    NamedGroup, OverrideConfig, OverrideId, OverrideJunit, OverridePlatforms, PlacedOverride,
-    deserialize_overrides, deserialize_test_groups,
-};
-pub use nextest_config_resolution_profiles::{
-    BuildPlatforms, ConfigLanguages, DEFAULT_CONFIG, EarlyProfile, EvaluatableProfile, HeldRules,
-    NextestConfig, PrecomputedGroupMembership, ProfileError, ProfileNotFound, built_in,
-};
-pub use nextest_config_resolution_scripts::{
-    NamedScript, PlacedScriptRule, ProfileScriptType, ScriptConfig, ScriptInfo, ScriptRuleConfig,
-    ScriptRuleId, ScriptType, SetupScriptConfig, SetupScriptJunitConfig, SetupScriptSlowTimeout,
-    WrapperScriptConfig, WrapperScriptTargetRunner, deserialize_old_scripts,
-    deserialize_script_rules, deserialize_scripts, script_named,
-};
-pub use nextest_config_resolution_settings::{
-    CompiledDefaultFilter, CompiledDefaultFilterSection, ListSettings, Rule, Sets, Setting,
-    SettingSource, TestGroupRef, TestSettings, TrackSource, fallbacks, find_in_profiles,
-    find_setting, keys, nearest, settings_by,
-};
-pub use nextest_config_resolution_sources::{
-    CONFIG_PATH, ConfigFileSelection, ConfigPaths, ConfigSource, ConfigSourceOutcome,
-    DEFAULT_MIRI_PROFILE, DEFAULT_PROFILE, DEFAULT_PROFILES, ENVIRONMENT_PREFIX, counted,
-};
+pub use nextest_config_elements_identifiers::ConfigSourceKind;
+pub use nextest_config_elements_identifiers::ToolName;
+pub use nextest_config_elements_reading::BadValue;
+pub use nextest_config_elements_reading::KeyPath;
+pub use nextest_config_elements_reading::ValueError;
+pub use nextest_config_resolution_commands::ScriptCommand;
+pub use nextest_config_resolution_commands::ScriptCommandEnvMap;
+pub use nextest_config_resolution_commands::ScriptCommandRelativeTo;
+pub use nextest_config_resolution_commands::ScriptId;
+pub use nextest_config_resolution_commands::deserialize_script_command;
+pub use nextest_config_resolution_commands::split_words;
+pub use nextest_config_resolution_filters::FilterError;
+pub use nextest_config_resolution_filters::Filters;
+pub use nextest_config_resolution_filters::SpecError;
+pub use nextest_config_resolution_filters::Specs;
+pub use nextest_config_resolution_inheritance::InheritanceError;
+pub use nextest_config_resolution_inheritance::InheritanceFault;
+pub use nextest_config_resolution_inheritance::Inherits;
+pub use nextest_config_resolution_inheritance::chain_of;
+pub use nextest_config_resolution_inheritance::check_inheritance;
+pub use nextest_config_resolution_load::CompiledRule;
+pub use nextest_config_resolution_load::FeatureSet;
+pub use nextest_config_resolution_load::FileConfig;
+pub use nextest_config_resolution_load::FilterPurpose;
+pub use nextest_config_resolution_load::Languages;
+pub use nextest_config_resolution_load::LoadError;
+pub use nextest_config_resolution_load::LoadFault;
+pub use nextest_config_resolution_load::LoadKind;
+pub use nextest_config_resolution_load::LoadedConfig;
+pub use nextest_config_resolution_load::LoadedOverride;
+pub use nextest_config_resolution_load::LoadedRule;
+pub use nextest_config_resolution_load::LoadedScriptRule;
+pub use nextest_config_resolution_load::NamedProfile;
+pub use nextest_config_resolution_load::PlatformSide;
+pub use nextest_config_resolution_load::ProfileRules;
+pub use nextest_config_resolution_load::RuleId;
+pub use nextest_config_resolution_load::load;
+pub use nextest_config_resolution_load::load_with_warnings;
+pub use nextest_config_resolution_overrides::NamedGroup;
+pub use nextest_config_resolution_overrides::OverrideConfig;
+pub use nextest_config_resolution_overrides::OverrideId;
+pub use nextest_config_resolution_overrides::OverrideJunit;
+pub use nextest_config_resolution_overrides::OverridePlatforms;
+pub use nextest_config_resolution_overrides::PlacedOverride;
+pub use nextest_config_resolution_overrides::deserialize_overrides;
+pub use nextest_config_resolution_overrides::deserialize_test_groups;
+pub use nextest_config_resolution_profiles::BuildPlatforms;
+pub use nextest_config_resolution_profiles::ConfigLanguages;
+pub use nextest_config_resolution_profiles::DEFAULT_CONFIG;
+pub use nextest_config_resolution_profiles::EarlyProfile;
+pub use nextest_config_resolution_profiles::EvaluatableProfile;
+pub use nextest_config_resolution_profiles::HeldRules;
+pub use nextest_config_resolution_profiles::NextestConfig;
+pub use nextest_config_resolution_profiles::PrecomputedGroupMembership;
+pub use nextest_config_resolution_profiles::ProfileError;
+pub use nextest_config_resolution_profiles::ProfileNotFound;
+pub use nextest_config_resolution_profiles::built_in;
+pub use nextest_config_resolution_scripts::NamedScript;
+pub use nextest_config_resolution_scripts::PlacedScriptRule;
+pub use nextest_config_resolution_scripts::ProfileScriptType;
+pub use nextest_config_resolution_scripts::ScriptConfig;
+pub use nextest_config_resolution_scripts::ScriptInfo;
+pub use nextest_config_resolution_scripts::ScriptRuleConfig;
+pub use nextest_config_resolution_scripts::ScriptRuleId;
+pub use nextest_config_resolution_scripts::ScriptType;
+pub use nextest_config_resolution_scripts::SetupScriptConfig;
+pub use nextest_config_resolution_scripts::SetupScriptJunitConfig;
+pub use nextest_config_resolution_scripts::SetupScriptSlowTimeout;
+pub use nextest_config_resolution_scripts::WrapperScriptConfig;
+pub use nextest_config_resolution_scripts::WrapperScriptTargetRunner;
+pub use nextest_config_resolution_scripts::deserialize_old_scripts;
+pub use nextest_config_resolution_scripts::deserialize_script_rules;
+pub use nextest_config_resolution_scripts::deserialize_scripts;
+pub use nextest_config_resolution_scripts::script_named;
+pub use nextest_config_resolution_settings::CompiledDefaultFilter;
+pub use nextest_config_resolution_settings::CompiledDefaultFilterSection;
+pub use nextest_config_resolution_settings::ListSettings;
+pub use nextest_config_resolution_settings::Rule;
+pub use nextest_config_resolution_settings::Sets;
+pub use nextest_config_resolution_settings::Setting;
+pub use nextest_config_resolution_settings::SettingSource;
+pub use nextest_config_resolution_settings::TestGroupRef;
+pub use nextest_config_resolution_settings::TestSettings;
+pub use nextest_config_resolution_settings::TrackSource;
+pub use nextest_config_resolution_settings::fallbacks;
+pub use nextest_config_resolution_settings::find_in_profiles;
+pub use nextest_config_resolution_settings::find_setting;
+pub use nextest_config_resolution_settings::keys;
+pub use nextest_config_resolution_settings::nearest;
+pub use nextest_config_resolution_settings::settings_by;
+pub use nextest_config_resolution_sources::CONFIG_PATH;
+pub use nextest_config_resolution_sources::ConfigFileSelection;
+pub use nextest_config_resolution_sources::ConfigPaths;
+pub use nextest_config_resolution_sources::ConfigSource;
+pub use nextest_config_resolution_sources::ConfigSourceOutcome;
+pub use nextest_config_resolution_sources::DEFAULT_MIRI_PROFILE;
+pub use nextest_config_resolution_sources::DEFAULT_PROFILE;
+pub use nextest_config_resolution_sources::DEFAULT_PROFILES;
+pub use nextest_config_resolution_sources::ENVIRONMENT_PREFIX;
+pub use nextest_config_resolution_sources::counted;
 pub use nextest_config_resolution_tree::MergedTree;
-pub use nextest_config_resolution_values::{
-    ProfileBench, ProfileConfig, ProfileJunit, ProfileOutput, ProfileRun, ProfileTest,
-    deserialize_profile, deserialize_profile_value, deserialize_store_dir,
-};
-pub use nextest_config_resolution_warnings::{
-    ConfigWarning, ConfigWarnings, DefaultConfigWarnings, Place, Shown, tell_file, unknown_keys,
-    unknown_reserved_profiles,
-};
-pub use nextest_text::{Listing, Text};
+pub use nextest_config_resolution_values::ProfileBench;
+pub use nextest_config_resolution_values::ProfileConfig;
+pub use nextest_config_resolution_values::ProfileJunit;
+pub use nextest_config_resolution_values::ProfileOutput;
+pub use nextest_config_resolution_values::ProfileRun;
+pub use nextest_config_resolution_values::ProfileTest;
+pub use nextest_config_resolution_values::deserialize_profile;
+pub use nextest_config_resolution_values::deserialize_profile_value;
+pub use nextest_config_resolution_values::deserialize_store_dir;
+pub use nextest_config_resolution_warnings::ConfigWarning;
+pub use nextest_config_resolution_warnings::ConfigWarnings;
+pub use nextest_config_resolution_warnings::DefaultConfigWarnings;
+pub use nextest_config_resolution_warnings::Place;
+pub use nextest_config_resolution_warnings::Shown;
+pub use nextest_config_resolution_warnings::tell_file;
+pub use nextest_config_resolution_warnings::unknown_keys;
+pub use nextest_config_resolution_warnings::unknown_reserved_profiles;
+pub use nextest_text::Listing;
+pub use nextest_text::Text;
