@@ -2,8 +2,8 @@
 // of them is dear to prove.
 use crate::table::{Table, rows_hold};
 use crate::{
-    asking, attempts, compiled, configs, elements, ends, filter_texts, filter_trees, log_lines,
-    orders, outputs, platform_specs, stress, summaries, test_settings, values, verdicts,
+    asking, attempts, commands, compiled, configs, elements, ends, filter_texts, filter_trees,
+    log_lines, orders, outputs, platform_specs, stress, summaries, test_settings, values, verdicts,
     visibility,
 };
 use anyhow::Result;
@@ -67,6 +67,7 @@ flaky_messages
 priorities
 threads
 values
+commands
 verdicts
 loads
 test_settings
@@ -112,6 +113,7 @@ fn of_layers(name: &str, alloc: Global, input: &str) -> Option<String> {
         "platform_specs" => platform_specs::platform_specs(alloc, input),
         "plain_configs" => asking::plain_configs(alloc, input),
         "log_lines" => log_lines::log_lines(alloc, input),
+        "commands" => commands::commands(alloc, input),
         _ => of_filter_trees(name, alloc, input),
     }
 }

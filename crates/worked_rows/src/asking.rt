@@ -7,7 +7,7 @@ ghost use Rattle.nextest_config_resolution_settings.specs.Nearest.{seen};
 ghost use Rattle.worked_rows.specs.Configs.{AreRetriesOf, place_of};
 
 use crate::configs::{BAR, sources_of};
-use crate::parts::texts_of;
+use crate::parts::{texts_of, two};
 use crate::plain_filter::PlainFilter;
 use crate::plain_spec::PlainSpec;
 use nextest_config_elements::{FeatureSet, NextestRunMode, RetryPolicy};
@@ -123,7 +123,7 @@ fn place_of(source: SettingSource<'_>) -> Option<usize>
 
 // A filter and a default filter: whether the one holds on the test `slow` of a library.
 fn held<F: Filters>(alloc: Global, input: &str, cx: &F::Cx) -> Option<String> {
-    let (filter, default) = input.split_once(BAR)?;
+    let (filter, default) = two(input, BAR);
     let filter = Text::from_str(alloc, filter).ok()?;
     let default = Text::from_str(alloc, default).ok()?;
     match holds::<F>(
@@ -177,8 +177,8 @@ pub(crate) fn filters(alloc: Global, input: &str) -> Option<String> {
 
 // The names of a platform, each with a comma behind it, and a spec: whether it holds there.
 pub(crate) fn plain_specs(alloc: Global, input: &str) -> Option<String> {
-    let (words, spec) = input.split_once(BAR)?;
-    let names = texts_of(alloc, words)?;
+    let (words, spec) = two(input, BAR);
+    let names = texts_of(alloc, words, ",")?;
     match holds_on::<PlainSpec>(alloc, spec, &names) {
         Ok(value) => format!(in alloc; "{value:?}").ok(),
         Err(SpecError::Refused) => String::from_str(alloc, "refused").ok(),
@@ -188,7 +188,7 @@ pub(crate) fn plain_specs(alloc: Global, input: &str) -> Option<String> {
 
 // A profile and sources: its retries and where it takes them from, in a configuration of plain filters and plain specs.
 pub(crate) fn plain_configs(alloc: Global, input: &str) -> Option<String> {
-    let (name, sources) = input.split_once(BAR)?;
+    let (name, sources) = two(input, BAR);
     let sources = sources_of(alloc, sources)?;
     let platforms = BuildPlatforms {
         host: &Listing::new(alloc),

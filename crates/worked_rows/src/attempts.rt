@@ -1,6 +1,6 @@
 // Attempts of tests, and runs of setup scripts.
 use crate::ends::described_end;
-use crate::parts::{number, push_part};
+use crate::parts::{number, push_part, two};
 use crate::values::rule_of;
 use nextest_run_events::{
     ChildExecutionOutputDescription, ChildOutputDescription, ExecuteStatus, ExecutionStatuses,
@@ -23,6 +23,7 @@ fn attempt_of(alloc: Global, words: &str) -> Option<ExecuteStatus<NoOutput>> {
         Some(end) => (end, true),
         None => (words, false),
     };
+    let result = described_end(alloc, end)?;
     Some(ExecuteStatus {
         retry_data: RetryData {
             attempt: 1,
@@ -33,7 +34,7 @@ fn attempt_of(alloc: Global, words: &str) -> Option<ExecuteStatus<NoOutput>> {
             output: (),
             errors: None,
         },
-        result: described_end(alloc, end)?,
+        result,
         start_time: None,
         time_taken: Duration::from_nanos(1),
         is_slow,
@@ -46,7 +47,7 @@ fn attempt_of(alloc: Global, words: &str) -> Option<ExecuteStatus<NoOutput>> {
 // The flaky rule of a test and how its attempts ended: the two levels of what they come to, whether the last output is that of a
 // success, and the counters of a run of this test alone.
 pub(crate) fn attempts(alloc: Global, input: &str) -> Option<String> {
-    let (rule, ends) = input.split_once(": ")?;
+    let (rule, ends) = two(input, ": ");
     let rule = rule_of(alloc, rule)?;
     match ExecutionStatuses::from_parts(attempts_of(alloc, ends)?, rule) {
         Ok(attempts) => attempts_told(alloc, &attempts),
@@ -76,13 +77,14 @@ fn attempts_told(alloc: Global, attempts: &ExecutionStatuses<NoOutput>) -> Optio
 
 // How a setup script ended: the counters of a run of this script alone.
 pub(crate) fn scripts(alloc: Global, input: &str) -> Option<String> {
+    let result = described_end(alloc, input)?;
     let status: SetupScriptExecuteStatus<LiveSpec> = SetupScriptExecuteStatus {
         output: ChildExecutionOutputDescription::Output {
             result: None,
             output: ChildOutputDescription::NotLoaded,
             errors: None,
         },
-        result: described_end(alloc, input)?,
+        result,
         start_time: None,
         time_taken: Duration::from_nanos(1),
         is_slow: false,
@@ -128,11 +130,7 @@ fn counters_of(alloc: Global, stats: &RunStats) -> Option<String> {
     for place in 0..COUNTERS {
         let (name, number) = counter_at(stats, place);
         if number > 0 {
-            push_part(
-                &mut text,
-                ", ",
-                format!(in alloc; "{name} {number}").ok()?.as_str(),
-            )?;
+            push_part(&mut text, ", ", format_args!("{name} {number}"))?;
         }
     }
     Some(text)
@@ -140,7 +138,7 @@ fn counters_of(alloc: Global, stats: &RunStats) -> Option<String> {
 
 // An attempt's number and how many there are at most: whether it is the last.
 pub(crate) fn last_attempts(alloc: Global, input: &str) -> Option<String> {
-    let (attempt, total_attempts) = input.split_once(' ')?;
+    let (attempt, total_attempts) = two(input, " ");
     let data = RetryData {
         attempt: number(attempt)?,
         total_attempts: number(total_attempts)?,

@@ -1,5 +1,5 @@
 // Filtersets that a workspace accepts or not, and what they are on binaries and on tests.
-use crate::parts::{push_part, three};
+use crate::parts::{push_part, three, two};
 use crate::workspaces::{binary, workspace};
 use nextest_filtering::{
     BannedPredicateReason, BinaryEvaluator, CompiledExpr, EvalContext, Filterset, FiltersetError,
@@ -11,8 +11,8 @@ use std::alloc::{AllocError, Global};
 
 // A workspace, a kind, the known groups and a filterset: whether it is accepted, or its faults.
 pub(crate) fn compiled(alloc: Global, input: &str) -> Option<String> {
-    let (name, kind, rest) = three(input)?;
-    let (groups, text) = rest.split_once(' ')?;
+    let (name, kind, rest) = three(input);
+    let (groups, text) = two(rest, " ");
     let kind = kind_of(kind)?;
     let known = known_groups(alloc, groups).ok()?;
     verdict_told(alloc, &workspace(alloc, name)?, kind, &known, text)
@@ -68,8 +68,8 @@ fn faults_told(alloc: Global, faults: &[ParseSingleError]) -> Option<String> {
     let mut answer = String::new(alloc);
     for fault in faults {
         let (span, reason) = (fault.span(), reason_word(fault));
-        let told = format!(in alloc; "{} {} {}{reason}", fault.label(), span.offset, span.length);
-        push_part(&mut answer, "; ", told.ok()?.as_str())?;
+        let told = format_args!("{} {} {}{reason}", fault.label(), span.offset, span.length);
+        push_part(&mut answer, "; ", told)?;
     }
     Some(answer)
 }
@@ -91,9 +91,9 @@ fn reason_word(fault: &ParseSingleError) -> &'static str {
 
 // A workspace, the default filter, a binary, a test, its group, and a filterset: its value on the binary and on the test.
 pub(crate) fn answers(alloc: Global, input: &str) -> Option<String> {
-    let (name, default, rest) = three(input)?;
-    let (id, test_name, rest) = three(rest)?;
-    let (group, text) = rest.split_once(' ')?;
+    let (name, default, rest) = three(input);
+    let (id, test_name, rest) = three(rest);
+    let (group, text) = two(rest, " ");
     let binary_query = binary(name, id)?;
     let test = TestQuery {
         binary_query,

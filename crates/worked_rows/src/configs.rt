@@ -1,5 +1,5 @@
 // What sources of configurations come to, and what is told of a file.
-use crate::parts::{joined, push_part};
+use crate::parts::{joined, push_part, three, two};
 use crate::plain_filter::PlainFilter;
 use crate::plain_spec::PlainSpec;
 use crate::settings::setting;
@@ -29,8 +29,7 @@ pub(crate) fn sources_of(alloc: Global, sources: &str) -> Option<Vec<ConfigSourc
 }
 
 fn source_of(alloc: Global, source: &str) -> Option<ConfigSource> {
-    let (kind, rest) = source.split_once(' ')?;
-    let (path, outcome) = rest.split_once(' ')?;
+    let (kind, path, outcome) = three(source);
     Some(ConfigSource {
         kind: kind_of(alloc, kind)?,
         path: Text::from_str(alloc, path).ok()?,
@@ -50,7 +49,7 @@ pub(crate) fn kind_of(alloc: Global, word: &str) -> Option<ConfigSourceKind> {
 
 // What came of reading a source: `text` and the text, `missing`, or `failed` and the cause.
 fn outcome_of(alloc: Global, outcome: &str) -> Option<ConfigSourceOutcome> {
-    let (word, rest) = outcome.split_once(' ').unwrap_or((outcome, ""));
+    let (word, rest) = two(outcome, " ");
     let rest = Text::from_str(alloc, rest).ok()?;
     match word {
         "text" => Some(ConfigSourceOutcome::Text(rest)),
@@ -63,7 +62,7 @@ fn outcome_of(alloc: Global, outcome: &str) -> Option<ConfigSourceOutcome> {
 // A profile and the settings that are asked for, with commas between them, and then sources: what each setting is, or why the
 // sources are refused. Default filters are those without a language.
 pub(crate) fn loads(alloc: Global, input: &str) -> Option<String> {
-    let (head, sources) = input.split_once(BAR)?;
+    let (head, sources) = two(input, BAR);
     let sources = sources_of(alloc, sources)?;
     loaded(alloc, sources.as_slice(), head)
 }
@@ -89,7 +88,7 @@ fn refused(alloc: Global, fault: &LoadFault) -> Option<String> {
 
 // What the settings of a profile are.
 fn settings_told(alloc: Global, config: &PlainConfig, head: &str) -> Option<String> {
-    let (name, settings) = head.split_once(' ')?;
+    let (name, settings) = two(head, " ");
     let platforms = BuildPlatforms {
         host: &Listing::new(alloc),
         target: None,
@@ -114,19 +113,14 @@ fn each_told(
     let mut answer = String::new(alloc);
     for key in settings.split(',') {
         let value = setting(alloc, config, profile, key)?;
-        push_value(alloc, &mut answer, key, value.as_str())?;
+        push_part(&mut answer, "; ", format_args!("{key} = {value}"))?;
     }
     Some(answer)
 }
 
-fn push_value(alloc: Global, answer: &mut String, key: &str, value: &str) -> Option<()> {
-    let told = format!(in alloc; "{key} = {value}").ok()?;
-    push_part(answer, "; ", told.as_str())
-}
-
 // The path of a file and its text: what is told of it, one behind the other, or `-` where nothing is.
 pub(crate) fn warnings(alloc: Global, input: &str) -> Option<String> {
-    let (path, text) = input.split_once(' ')?;
+    let (path, text) = two(input, " ");
     let file = toml::table_from_str(alloc, text).ok()?;
     let mut warnings = DefaultConfigWarnings::new(alloc);
     match tell_file(alloc, &mut warnings, path, &file) {

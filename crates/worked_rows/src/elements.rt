@@ -1,5 +1,5 @@
 // Elements of configurations: names, numbers, limits, durations.
-use crate::parts::{joined, number, shown, three};
+use crate::parts::{joined, number, shown, three, two};
 use crate::values::{rule_of, toml_value};
 use nextest_config_elements::{
     ConfigDuration, ConfigIdentifier, MaxFail, NextestRunMode, TestGroup, TestPriority,
@@ -11,7 +11,7 @@ use toml::Value;
 
 // A type and a text: the number of that type that the text is in shortest decimal, if it is one.
 pub(crate) fn decimals(alloc: Global, input: &str) -> Option<String> {
-    let (kind, text) = input.split_once(' ')?;
+    let (kind, text) = two(input, " ");
     match kind {
         "i32" => format!(in alloc; "{:?}", i32_of_decimal(text)).ok(),
         "u64" => format!(in alloc; "{:?}", u64_of_decimal(text)).ok(),
@@ -80,7 +80,7 @@ pub(crate) fn limits(alloc: Global, input: &str) -> Option<String> {
 
 // A limit and how many tests failed: how the run stops, or `-` where it goes on.
 pub(crate) fn exceeded(alloc: Global, input: &str) -> Option<String> {
-    let (limit, failed) = input.split_once(' ')?;
+    let (limit, failed) = two(input, " ");
     let limit = MaxFail::from_text(limit).ok()?;
     match limit.is_exceeded(failed.parse::<usize>().ok()?) {
         Some(mode) => format!(in alloc; "{mode}").ok(),
@@ -91,7 +91,7 @@ pub(crate) fn exceeded(alloc: Global, input: &str) -> Option<String> {
 // What becomes of a flaky test, the attempt that it passed on, and how many there may be: what is told of its failure, or `-` where
 // it passes.
 pub(crate) fn flaky_messages(alloc: Global, input: &str) -> Option<String> {
-    let (rule, attempt, total) = three(input)?;
+    let (rule, attempt, total) = three(input);
     let (rule, attempt, total) = (rule_of(alloc, rule)?, number(attempt)?, number(total)?);
     match rule.fail_message(alloc, attempt, total) {
         Ok(Some(message)) => Some(message),
@@ -121,7 +121,7 @@ pub(crate) fn priorities(alloc: Global, input: &str) -> Option<String> {
 // A setting, the number of tests that run at a time and the number of processors, behind `threads-required`: how many
 // threads a test takes.
 pub(crate) fn threads(alloc: Global, input: &str) -> Option<String> {
-    let (kind, setting, numbers) = three(input)?;
+    let (kind, setting, numbers) = three(input);
     let value = toml_value(alloc, setting)?;
     let number = match kind {
         "test-threads" => tests_at_a_time(alloc, &value, numbers),
@@ -138,7 +138,7 @@ fn tests_at_a_time(alloc: Global, value: &Value, processors: &str) -> Option<usi
 }
 
 fn threads_of_a_test(alloc: Global, value: &Value, numbers: &str) -> Option<usize> {
-    let (tests, processors) = numbers.split_once(' ')?;
+    let (tests, processors) = two(numbers, " ");
     let (tests, processors) = (
         tests.parse::<usize>().ok()?,
         processors.parse::<usize>().ok()?,

@@ -1,4 +1,5 @@
 // How a process ended, in words, what that is described as, and the JSON forms of that.
+use crate::parts::two;
 use nextest_run_events::{
     AbortDescription, AbortStatus, ExecutionResult, ExecutionResultDescription, ExitStatus,
     FailureDescription, FailureStatus, JsonError, JsonForm, LeakTimeoutResult, SerializableError,
@@ -11,7 +12,7 @@ use std::fmt::{Debug, Display};
 
 // `code NUMBER` or `signal NUMBER`.
 fn exit_of(words: &str) -> Option<ExitStatus> {
-    let (kind, number) = words.split_once(' ')?;
+    let (kind, number) = two(words, " ");
     let number = i32_of_decimal(number)?;
     match kind {
         "code" => Some(ExitStatus::Code(number)),
@@ -83,7 +84,7 @@ pub(crate) fn signals(alloc: Global, input: &str) -> Option<String> {
 
 // A kind of value and JSON: the value that is read of it, behind the JSON that it is written as; or why nothing is read.
 pub(crate) fn json_forms(alloc: Global, input: &str) -> Option<String> {
-    let (kind, text) = input.split_once(' ')?;
+    let (kind, text) = two(input, " ");
     json_form(alloc, kind, &Value::from_str(alloc, text).ok()?)
 }
 
@@ -114,7 +115,7 @@ fn written_as<T: JsonForm + Debug>(alloc: Global, form: &T) -> Option<String> {
 
 // A kind of value and JSON: what the value that is read of it prints.
 pub(crate) fn printed_forms(alloc: Global, input: &str) -> Option<String> {
-    let (kind, text) = input.split_once(' ')?;
+    let (kind, text) = two(input, " ");
     printed_as(alloc, kind, &Value::from_str(alloc, text).ok()?)
 }
 

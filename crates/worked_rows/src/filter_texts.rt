@@ -1,5 +1,6 @@
 // Globs, and the texts and regular expressions in filtersets: where they end, what they stand for, and how they print.
 use crate::filter_trees::with_faults;
+use crate::parts::two;
 use nextest_filtering::GenericGlob;
 use nextest_filtering_arguments::{Faults, text_argument};
 use nextest_filtering_texts::{
@@ -18,7 +19,7 @@ pub(crate) fn globs(alloc: Global, input: &str) -> Option<String> {
 
 // Whether a glob matches a whole text.
 pub(crate) fn glob_matches(alloc: Global, input: &str) -> Option<String> {
-    let (glob, text) = input.split_once(" | ")?;
+    let (glob, text) = two(input, " | ");
     let glob = GenericGlob::new(alloc, Text::from_str(alloc, glob).ok()?).ok()?;
     format!(in alloc; "{}", glob.is_match(alloc, text).ok()?).ok()
 }
@@ -34,8 +35,7 @@ pub(crate) fn escapes(alloc: Global, input: &str) -> Option<String> {
     let read = unescape(alloc, input).ok()?;
     let mut answer = format!(in alloc; "{:?}", read.text.as_str()).ok()?;
     for bad in read.bad.as_slice() {
-        let told = format!(in alloc; " ! ({},{})", bad.offset, bad.length).ok()?;
-        answer.push_str(told.as_str()).ok()?;
+        write!(answer, " ! ({},{})", bad.offset, bad.length).ok()?;
     }
     Some(answer)
 }
@@ -64,5 +64,5 @@ pub(crate) fn arguments(alloc: Global, input: &str) -> Option<String> {
     let read = text_argument(alloc, &mut faults, input).ok()?;
     let (offset, length) = (read.span.offset, read.span.length);
     let answer = format!(in alloc; "‹{}› ({offset},{length}) ‹{}›", read.text, read.rest).ok()?;
-    with_faults(alloc, answer, faults.as_slice())
+    with_faults(answer, faults.as_slice())
 }

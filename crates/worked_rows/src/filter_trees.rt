@@ -1,5 +1,5 @@
 // Whole filtersets: trees, faults, predicates.
-use crate::parts::push_part;
+use crate::parts::two;
 use nextest_filtering::{
     FILTERSET_REFERENCE_MD, NameMatcher, NotOperator, OrOperator, ParseError, ParseSingleError,
     ParsedExpr, ParsedLeaf, SourceSpan, needs_deps, read,
@@ -14,7 +14,7 @@ pub(crate) fn filtersets(alloc: Global, input: &str) -> Option<String> {
         Some(tree) => format!(in alloc; "{tree}"),
         None => String::from_str(alloc, "-"),
     };
-    with_faults(alloc, tree.ok()?, reading.faults.as_slice())
+    with_faults(tree.ok()?, reading.faults.as_slice())
 }
 
 // What a text is read as: its tree with all that it holds, or `-`, and its faults.
@@ -22,38 +22,37 @@ pub(crate) fn trees(alloc: Global, input: &str) -> Option<String> {
     let reading = read(alloc, input).ok()?;
     let mut answer = String::new(alloc);
     match &reading.tree {
-        Some(tree) => push_tree(alloc, &mut answer, tree)?,
-        None => answer.push('-').ok()?,
-    }
-    with_faults(alloc, answer, reading.faults.as_slice())
+        Some(tree) => push_tree(&mut answer, tree),
+        None => answer.push('-').ok(),
+    }?;
+    with_faults(answer, reading.faults.as_slice())
 }
 
-// A tree with all that it holds, up to its operands.
-fn head(alloc: Global, tree: &ParsedExpr) -> Option<String> {
+// Adds a tree with all that it holds, up to its operands.
+fn push_head(text: &mut String, tree: &ParsedExpr) -> Result<(), AllocError> {
     match tree {
-        ParsedExpr::Set(leaf) => format!(in alloc; "Set({leaf:?}"),
-        ParsedExpr::Parens(_) => String::from_str(alloc, "Parens("),
-        ParsedExpr::Not(sign, _) => format!(in alloc; "Not({sign:?}, "),
-        ParsedExpr::Union(sign, _, _) => format!(in alloc; "Union({sign:?}, "),
-        ParsedExpr::Intersection(sign, _, _) => format!(in alloc; "Intersection({sign:?}, "),
-        ParsedExpr::Difference(sign, _, _) => format!(in alloc; "Difference({sign:?}, "),
+        ParsedExpr::Set(leaf) => write!(text, "Set({leaf:?}"),
+        ParsedExpr::Parens(_) => text.push_str("Parens("),
+        ParsedExpr::Not(sign, _) => write!(text, "Not({sign:?}, "),
+        ParsedExpr::Union(sign, _, _) => write!(text, "Union({sign:?}, "),
+        ParsedExpr::Intersection(sign, _, _) => write!(text, "Intersection({sign:?}, "),
+        ParsedExpr::Difference(sign, _, _) => write!(text, "Difference({sign:?}, "),
     }
-    .ok()
 }
 
-fn push_tree(alloc: Global, text: &mut String, tree: &ParsedExpr) -> Option<()> {
-    text.push_str(head(alloc, tree)?.as_str()).ok()?;
+fn push_tree(text: &mut String, tree: &ParsedExpr) -> Option<()> {
+    push_head(text, tree).ok()?;
     match tree {
         ParsedExpr::Set(_) => {}
         ParsedExpr::Parens(inside) | ParsedExpr::Not(_, inside) => {
-            push_tree(alloc, text, inside)?;
+            push_tree(text, inside)?;
         }
         ParsedExpr::Union(_, left, right)
         | ParsedExpr::Intersection(_, left, right)
         | ParsedExpr::Difference(_, left, right) => {
-            push_tree(alloc, text, left)?;
+            push_tree(text, left)?;
             text.push_str(", ").ok()?;
-            push_tree(alloc, text, right)?;
+            push_tree(text, right)?;
         }
     }
     text.push(')').ok()
@@ -64,33 +63,29 @@ pub(crate) fn parsed(alloc: Global, input: &str) -> Option<String> {
     match ParsedExpr::parse(alloc, input) {
         Ok(tree) => format!(in alloc; "{tree}").ok(),
         Err(ParseError::Faults(faults)) => {
-            with_faults(alloc, String::from_str(alloc, "-").ok()?, faults.as_slice())
+            with_faults(String::from_str(alloc, "-").ok()?, faults.as_slice())
         }
         Err(ParseError::OutOfMemory) => None,
     }
 }
 
 // An answer, and behind it each fault: its label, its place, and what to write instead, where it says so.
-pub(crate) fn with_faults(
-    alloc: Global,
-    mut answer: String,
-    faults: &[ParseSingleError],
-) -> Option<String> {
+pub(crate) fn with_faults(mut answer: String, faults: &[ParseSingleError]) -> Option<String> {
     for fault in faults {
-        answer
-            .push_str(fault_told(alloc, fault).ok()?.as_str())
-            .ok()?;
+        push_fault(&mut answer, fault).ok()?;
     }
     Some(answer)
 }
 
-fn fault_told(alloc: Global, fault: &ParseSingleError) -> Result<String, AllocError> {
+fn push_fault(answer: &mut String, fault: &ParseSingleError) -> Result<(), AllocError> {
     let (span, label) = (fault.span(), fault.label());
     match fault.help() {
-        Some(help) => {
-            format!(in alloc; " ! {label}({},{}) help {help}", span.offset, span.length)
-        }
-        None => format!(in alloc; " ! {label}({},{})", span.offset, span.length),
+        Some(help) => write!(
+            answer,
+            " ! {label}({},{}) help {help}",
+            span.offset, span.length
+        ),
+        None => write!(answer, " ! {label}({},{})", span.offset, span.length),
     }
 }
 
@@ -106,7 +101,7 @@ pub(crate) fn leaves(alloc: Global, input: &str) -> Option<String> {
 fn leaves_told(alloc: Global, leaves: &[&ParsedLeaf]) -> Option<String> {
     let mut answer = format!(in alloc; "{}", leaves.len()).ok()?;
     for leaf in leaves {
-        push_part(&mut answer, " ", format!(in alloc; "{leaf}").ok()?.as_str())?;
+        write!(answer, " {leaf}").ok()?;
     }
     Some(answer)
 }
@@ -118,7 +113,7 @@ pub(crate) fn deps(alloc: Global, input: &str) -> Option<String> {
 
 // Whether the matcher of a predicate on tests matches a name.
 pub(crate) fn name_matches(alloc: Global, input: &str) -> Option<String> {
-    let (filterset, name) = input.split_once(" | ")?;
+    let (filterset, name) = two(input, " | ");
     match &read(alloc, filterset).ok()?.tree {
         Some(ParsedExpr::Set(ParsedLeaf::Test(matcher, _))) => {
             format!(in alloc; "{}", matcher.is_match(alloc, name).ok()?).ok()
@@ -140,9 +135,8 @@ pub(crate) fn page(alloc: Global, input: &str) -> Option<String> {
 fn push_name(alloc: Global, page: &mut String, text: &str) -> Option<()> {
     let tree = ParsedExpr::parse(alloc, text).ok()?;
     let printed = format!(in alloc; "{tree}").ok()?;
-    let (name, _) = printed.as_str().split_once('(')?;
-    page.push_str(name).ok()?;
-    page.push('\n').ok()
+    let (name, _) = two(printed.as_str(), "(");
+    writeln!(page, "{name}").ok()
 }
 
 // A tree that prints as no text which is read as it.

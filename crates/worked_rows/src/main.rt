@@ -11,6 +11,7 @@ mod answering;
 mod asking;
 mod attempts;
 mod changes;
+mod commands;
 mod compiled;
 mod configs;
 mod elements;

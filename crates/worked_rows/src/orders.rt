@@ -1,6 +1,6 @@
 // Values in their order, and how some of them print.
 use crate::filter_trees::tree_of_no_text;
-use crate::parts::{texts_of, three};
+use crate::parts::{texts_of, three, two};
 use crate::summaries::reason_of;
 use crate::values::{final_level_of, level_of};
 use nextest_config_elements::{FlakyResult, InvalidIdentifier, ToolName};
@@ -15,7 +15,7 @@ use std::time::Duration;
 
 // A kind of values, and two of them: how the first compares to the second, how the second to the first, and whether they are equal.
 pub(crate) fn orders(alloc: Global, input: &str) -> Option<String> {
-    let (kind, low, high) = three(input)?;
+    let (kind, low, high) = three(input);
     match kind {
         "levels" => compared(alloc, level_of(alloc, low), level_of(alloc, high)),
         "final-levels" => compared(
@@ -26,7 +26,7 @@ pub(crate) fn orders(alloc: Global, input: &str) -> Option<String> {
         "reasons" => compared(alloc, reason_of(low), reason_of(high)),
         "steps" => compared(alloc, step_of(low), step_of(high)),
         "tools" => compared(alloc, tool_of(alloc, low), tool_of(alloc, high)),
-        "texts" => compared(alloc, texts_of(alloc, low), texts_of(alloc, high)),
+        "texts" => compared(alloc, texts_of(alloc, low, ","), texts_of(alloc, high, ",")),
         "tests" => compared(alloc, test_of(alloc, low), test_of(alloc, high)),
         _ => None,
     }
@@ -47,7 +47,7 @@ fn tool_of(alloc: Global, word: &str) -> Option<ToolName> {
 }
 
 fn test_of(alloc: Global, word: &str) -> Option<OwnedTestInstanceId> {
-    let (binary_id, test_name) = word.split_once('/')?;
+    let (binary_id, test_name) = two(word, "/");
     let id = TestInstanceId {
         binary_id,
         test_name,

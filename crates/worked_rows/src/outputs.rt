@@ -3,7 +3,7 @@ ghost use Rattle.std.specs.Prelude.{IfSome};
 ghost use Rattle.nextest_run_events.specs.Collected.{IsLoaded};
 
 use crate::ends::end_of;
-use crate::parts::push_part;
+use crate::parts::{texts_of, two};
 use nextest_run_events::{
     AbortDescription, Boxed, ByteSubslice, ChildError, ChildErrorDescription, ChildExecutionOutput,
     ChildExecutionOutputDescription, ChildFdError, ChildOutput, ChildOutputDescription,
@@ -16,22 +16,18 @@ use std::alloc::Global;
 
 // An error and its causes, the nearest first, divided by `; `.
 fn chain_of(alloc: Global, words: &str) -> Option<ErrorChain> {
-    let (message, rest) = words.split_once("; ").unwrap_or((words, ""));
-    let mut causes = Listing::new(alloc);
-    for cause in rest.split_terminator("; ") {
-        causes.push(Text::from_str(alloc, cause).ok()?).ok()?;
-    }
-    Some(ErrorChain {
-        message: Text::from_str(alloc, message).ok()?,
-        causes,
-    })
+    let (message, rest) = two(words, "; ");
+    let message = Text::from_str(alloc, message).ok()?;
+    let causes = texts_of(alloc, rest, "; ")?;
+    Some(ErrorChain { message, causes })
 }
 
-fn start_error_of(word: &str, chain: ErrorChain) -> Option<ChildStartError> {
+// Why a process wasn't started; what the error came from where its kind is another.
+fn start_error_of(word: &str, chain: ErrorChain) -> Result<ChildStartError, ErrorChain> {
     match word {
-        "temp-path" => Some(ChildStartError::TempPath(chain)),
-        "spawn" => Some(ChildStartError::Spawn(chain)),
-        _ => None,
+        "temp-path" => Ok(ChildStartError::TempPath(chain)),
+        "spawn" => Ok(ChildStartError::Spawn(chain)),
+        _ => Err(chain),
     }
 }
 
@@ -48,10 +44,10 @@ fn child_error_of(word: &str, chain: ErrorChain) -> Option<ChildError> {
 
 // An error's kind and what it came from: what its description says, with its source behind it.
 pub(crate) fn errors(alloc: Global, input: &str) -> Option<String> {
-    let (word, words) = input.split_once(' ')?;
+    let (word, words) = two(input, " ");
     match start_error_of(word, chain_of(alloc, words)?) {
-        Some(error) => start_error_told(alloc, &error),
-        None => child_error_told(alloc, &child_error_of(word, chain_of(alloc, words)?)?),
+        Ok(error) => start_error_told(alloc, &error),
+        Err(chain) => child_error_told(alloc, &child_error_of(word, chain)?),
     }
 }
 
@@ -75,11 +71,11 @@ fn causes_told(alloc: Global, kept: &SerializableError) -> Option<String> {
     let mut answer = format!(in alloc; "{kept} has {}", kept.causes().len()).ok()?;
     for source in kept.sources() {
         let nearest = source.source().map(|it| it.message());
-        let told = format!(in alloc; "{source} {nearest:?}").ok()?;
-        push_part(&mut answer, "; ", told.as_str())?;
+        write!(answer, "; {source} {nearest:?}").ok()?;
     }
     let nearest = kept.source().map(|it| it.message());
-    format!(in alloc; "{answer}; {nearest:?}").ok()
+    write!(answer, "; {nearest:?}").ok()?;
+    Some(answer)
 }
 
 // Some bytes of a stream.
@@ -107,7 +103,7 @@ fn left(
 
 // An error's kind and what it came from: what a process left that had it, as it is described.
 pub(crate) fn described(alloc: Global, input: &str) -> Option<String> {
-    let (word, words) = input.split_once(' ')?;
+    let (word, words) = two(input, " ");
     let told = described_error(alloc, word, words)?;
     format!(in alloc; "errors {}, {told:?}", told.has_errors()).ok()
 }
@@ -118,12 +114,12 @@ fn described_error(
     words: &str,
 ) -> Option<ChildExecutionOutputDescription<LiveSpec>> {
     match start_error_of(word, chain_of(alloc, words)?) {
-        Some(error) => {
+        Ok(error) => {
             let output = ChildExecutionOutput::StartError(error);
             ChildExecutionOutputDescription::from_output(alloc, output).ok()
         }
-        None => {
-            let errors = one_error(alloc, child_error_of(word, chain_of(alloc, words)?)?)?;
+        Err(chain) => {
+            let errors = one_error(alloc, child_error_of(word, chain)?)?;
             left(alloc, Some(ExecutionResult::ExecFail), Some(errors))
         }
     }
@@ -139,21 +135,20 @@ fn one_error(alloc: Global, error: ChildError) -> Option<ErrorList<ChildError>> 
 
 // How a process ended, or `-`, and whether a list of errors is there: whether something went wrong.
 pub(crate) fn has_errors(alloc: Global, input: &str) -> Option<String> {
-    let errors = input.strip_suffix(" listed").map(|_| ErrorList {
-        description: Text::new(alloc),
-        items: Listing::new(alloc),
-    });
-    let told = left(
-        alloc,
-        end_of(input.strip_suffix(" listed").unwrap_or(input)),
-        errors,
-    )?;
+    let (words, errors) = match input.strip_suffix(" listed") {
+        Some(words) => {
+            let (description, items) = (Text::new(alloc), Listing::new(alloc));
+            (words, Some(ErrorList { description, items }))
+        }
+        None => (input, None),
+    };
+    let told = left(alloc, end_of(words), errors)?;
     format!(in alloc; "{}", told.has_errors()).ok()
 }
 
 // Where a stream was captured and what was written to it: the lengths of standard output and standard error.
 pub(crate) fn stream_lengths(alloc: Global, input: &str) -> Option<String> {
-    let (captured, bytes) = input.split_once(' ')?;
+    let (captured, bytes) = two(input, " ");
     let output = stream(alloc, bytes.as_bytes())?;
     let told = match captured {
         "stdout" => ChildOutputDescription::from(ChildOutput::Split(ChildSplitOutput {
@@ -231,11 +226,7 @@ fn all_told(
     let list = UnitErrorDescription::new(kind, output).all_error_list()?;
     let mut answer = format!(in alloc; "{} ({})", list.description, list.items.len()).ok()?;
     for error in list.items {
-        push_part(
-            &mut answer,
-            "; ",
-            format!(in alloc; "{error}").ok()?.as_str(),
-        )?;
+        write!(answer, "; {error}").ok()?;
     }
     Some(answer)
 }
@@ -257,7 +248,7 @@ fn bytes_of(alloc: Global, text: &str) -> Option<Option<Vec<u8>>> {
 
 // Standard error and standard output, divided by a tab: the kind of the part that is found, where it starts, and its length.
 pub(crate) fn slices(alloc: Global, input: &str) -> Option<String> {
-    let (stderr, stdout) = input.split_once('\t')?;
+    let (stderr, stdout) = two(input, "\t");
     let (stderr, stdout) = (bytes_of(alloc, stderr)?, bytes_of(alloc, stdout)?);
     match TestOutputErrorSlice::heuristic_extract(stdout.as_deref(), stderr.as_deref()) {
         None => String::from_str(alloc, "none").ok(),

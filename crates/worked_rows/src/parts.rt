@@ -3,11 +3,16 @@ use nextest_text::{Listing, Text};
 use std::alloc::Global;
 use std::fmt::{Debug, Display};
 
-// Three parts of an input: two words and the rest.
-pub(crate) fn three(input: &str) -> Option<(&str, &str, &str)> {
-    let (first, rest) = input.split_once(' ')?;
-    let (second, rest) = rest.split_once(' ')?;
-    Some((first, second, rest))
+// Two parts of an input, with something between them; where that isn't there, all is the first part, and the second is empty.
+pub(crate) fn two<'a>(input: &'a str, between: &str) -> (&'a str, &'a str) {
+    input.split_once(between).unwrap_or((input, ""))
+}
+
+// Three parts of an input: two words and the rest. Those that aren't there are empty.
+pub(crate) fn three(input: &str) -> (&str, &str, &str) {
+    let (first, rest) = two(input, " ");
+    let (second, rest) = two(rest, " ");
+    (first, second, rest)
 }
 
 // A number without a sign.
@@ -15,29 +20,32 @@ pub(crate) fn number(word: &str) -> Option<u32> {
     word.parse::<u32>().ok()
 }
 
-// Texts, each with a comma behind it.
-pub(crate) fn texts_of(alloc: Global, words: &str) -> Option<Listing<Text>> {
+// Texts, with something between them, and perhaps behind the last one.
+pub(crate) fn texts_of(alloc: Global, words: &str, between: &str) -> Option<Listing<Text>> {
     let mut texts = Listing::new(alloc);
-    for word in words.split_terminator(',') {
+    for word in words.split_terminator(between) {
         texts.push(Text::from_str(alloc, word).ok()?).ok()?;
     }
     Some(texts)
 }
 
 // Adds a part to an answer, with something between it and those before it.
-pub(crate) fn push_part(answer: &mut String, between: &str, part: &str) -> Option<()> {
+pub(crate) fn push_part<T: Display + Drop>(
+    answer: &mut String,
+    between: &str,
+    part: T,
+) -> Option<()> {
     if !answer.is_empty() {
         answer.push_str(between).ok()?;
     }
-    answer.push_str(part).ok()
+    answer.write(part).ok()
 }
 
 // Parts, with something between them.
 pub(crate) fn joined<T: Display>(alloc: Global, between: &str, parts: &[T]) -> Option<String> {
     let mut answer = String::new(alloc);
     for part in parts {
-        let part = format!(in alloc; "{part}").ok()?;
-        push_part(&mut answer, between, part.as_str())?;
+        push_part(&mut answer, between, format_args!("{part}"))?;
     }
     Some(answer)
 }

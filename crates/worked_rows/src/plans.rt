@@ -1,7 +1,6 @@
 // Inputs, and their plan.
 use crate::changes::Changed;
 use crate::table::Table;
-use nextest_run_events_results::OwnedTestInstanceId;
 use nextest_text::Text;
 use std::alloc::Global;
 use test_runner_core_inputs::Inputs;
@@ -10,7 +9,7 @@ use test_runner_core_planning::{BuildPlan, PlanError};
 use test_runner_core_workspace::TableLister;
 
 /// Inputs, each with what is shown of their plan, or the name under which they are refused.
-#[derive(Clone, Copy)]
+#[derive(Drop)]
 pub struct Plans<'a> {
     /// The table's name.
     pub name: &'static str,
@@ -59,11 +58,12 @@ fn plan_of(alloc: Global, inputs: &Inputs, has_settings: bool) -> Option<String>
     if has_settings {
         told
     } else {
-        with_asked(told?, lister.asked())
+        with_asked(told, lister.asked())
     }
 }
 
-fn with_asked(mut told: String, asked: &[Text]) -> Option<String> {
+fn with_asked(told: Option<String>, asked: &[Text]) -> Option<String> {
+    let mut told = told?;
     told.push_str("; asked").ok()?;
     push_each(&mut told, " ", asked, "")?;
     Some(told)
@@ -72,73 +72,65 @@ fn with_asked(mut told: String, asked: &[Text]) -> Option<String> {
 fn shown(alloc: Global, plan: &Plan, has_settings: bool) -> Option<String> {
     let mut told = String::from_str(alloc, "run").ok()?;
     for test in plan.tests.as_slice() {
-        push_test(alloc, &mut told, test, has_settings)?;
+        push_test(&mut told, test, has_settings)?;
     }
     if has_settings {
-        push_settings(alloc, &mut told, plan)?;
+        push_settings(&mut told, plan)
     } else {
-        push_selection(alloc, &mut told, plan)?;
-    }
+        push_selection(&mut told, plan)
+    }?;
     Some(told)
 }
 
-fn push_test(alloc: Global, told: &mut String, test: &PlanTest, has_settings: bool) -> Option<()> {
-    push_instance(alloc, told, &test.instance)?;
-    told.push_str(format!(in alloc; " x{}", test.tries).ok()?.as_str())
-        .ok()?;
+fn push_test(told: &mut String, test: &PlanTest, has_settings: bool) -> Option<()> {
+    let instance = &test.instance;
+    write!(
+        told,
+        " [{} {} x{}",
+        instance.binary_id, instance.test_name, test.tries
+    )
+    .ok()?;
     if has_settings {
-        told.push_str(shown_settings(alloc, &test.settings)?.as_str())
-            .ok()?;
+        push_settings_of(told, &test.settings)
+    } else {
+        told.push(']').ok()
     }
-    told.push(']').ok()
 }
 
-// A test behind an open bracket.
-fn push_instance(alloc: Global, told: &mut String, test: &OwnedTestInstanceId) -> Option<()> {
-    let instance = format!(in alloc; " [{} {}", test.binary_id, test.test_name).ok()?;
-    told.push_str(instance.as_str()).ok()
-}
-
-fn shown_settings(alloc: Global, settings: &PlanSettings) -> Option<String> {
-    format!(in alloc;
-        " {:?} {:?} {:?}",
+// Adds the settings of a test, and the closing bracket.
+fn push_settings_of(told: &mut String, settings: &PlanSettings) -> Option<()> {
+    write!(
+        told,
+        " {:?} {:?} {:?}]",
         settings.flaky_result, settings.success_output, settings.failure_output
     )
     .ok()
 }
 
-fn push_settings(alloc: Global, told: &mut String, plan: &Plan) -> Option<()> {
+fn push_settings(told: &mut String, plan: &Plan) -> Option<()> {
     let levels = plan.levels;
-    let run = format!(in alloc;
+    write!(
+        told,
         "; limit {:?}; levels {:?} {:?}; warnings",
         plan.limit, levels.status_level, levels.final_status_level
     )
     .ok()?;
-    told.push_str(run.as_str()).ok()?;
     push_each(told, " [", plan.warnings.as_slice(), "]")
 }
 
-fn push_selection(alloc: Global, told: &mut String, plan: &Plan) -> Option<()> {
+fn push_selection(told: &mut String, plan: &Plan) -> Option<()> {
     told.push_str("; skip").ok()?;
     for test in plan.skipped.as_slice() {
-        push_instance(alloc, told, test)?;
-        told.push(']').ok()?;
+        write!(told, " [{} {}]", test.binary_id, test.test_name).ok()?;
     }
-    told.push_str(
-        format!(in alloc; "; limit {:?}; listed", plan.limit)
-            .ok()?
-            .as_str(),
-    )
-    .ok()?;
+    write!(told, "; limit {:?}; listed", plan.limit).ok()?;
     push_each(told, " ", plan.listed.as_slice(), "")
 }
 
 // Each of these texts, with what stands around it.
 fn push_each(told: &mut String, before: &str, texts: &[Text], behind: &str) -> Option<()> {
     for text in texts {
-        told.push_str(before).ok()?;
-        told.push_str(text.as_str()).ok()?;
-        told.push_str(behind).ok()?;
+        write!(told, "{before}{text}{behind}").ok()?;
     }
     Some(())
 }

@@ -1,5 +1,6 @@
 // Platform specs, and what is known of a platform.
 use crate::configs::BAR;
+use crate::parts::two;
 use nextest_text::{Listing, Text};
 use std::alloc::Global;
 use test_runner_core_platforms::{
@@ -8,8 +9,8 @@ use test_runner_core_platforms::{
 
 // The triple of a platform, what is known of it, each with a comma behind it, and a spec: whether it holds there.
 pub(crate) fn platform_specs(alloc: Global, input: &str) -> Option<String> {
-    let (triple, rest) = input.split_once(BAR)?;
-    let (known, spec) = rest.split_once(BAR)?;
+    let (triple, rest) = two(input, BAR);
+    let (known, spec) = two(rest, BAR);
     let triple = Text::from_str(alloc, triple).ok()?;
     match PlatformFacts::new(alloc, triple, facts_of(alloc, known)?) {
         Ok(facts) => told(alloc, spec, &facts),

@@ -1,6 +1,5 @@
 // The settings of a profile in words.
 use crate::configs::{PlainConfig, PlainProfile};
-use crate::parts::push_part;
 use crate::plain_filter::PlainFilter;
 use nextest_config_elements::{JunitConfig, NextestRunMode};
 use nextest_config_resolution::ProfileError;
@@ -83,26 +82,14 @@ fn names(alloc: Global, config: &PlainConfig) -> Option<String> {
     let Err(ProfileError::NotFound(told)) = config.profile(alloc, "\0") else {
         return None;
     };
-    let mut answer = String::new(alloc);
-    for name in told.known.as_slice() {
-        push_part(
-            &mut answer,
-            "",
-            format!(in alloc; "[{name}]").ok()?.as_str(),
-        )?;
-    }
-    Some(answer)
+    arguments(alloc, told.known.as_slice())
 }
 
-// Some arguments, each in brackets.
+// Some texts, as arguments, each in brackets.
 pub(crate) fn arguments(alloc: Global, given: &[Text]) -> Option<String> {
     let mut answer = String::new(alloc);
     for argument in given {
-        push_part(
-            &mut answer,
-            "",
-            format!(in alloc; "[{argument}]").ok()?.as_str(),
-        )?;
+        write!(answer, "[{argument}]").ok()?;
     }
     Some(answer)
 }

@@ -21,12 +21,10 @@ fn sign_of(character: char) -> char {
 
 // The text that a part of a row stands for.
 pub(crate) fn read_signs(alloc: Global, part: &str) -> Result<String, AllocError> {
-    part.chars().map(|sign| meant_by(sign)).collect(alloc)
+    part.chars().map(meant_by).collect(alloc)
 }
 
 // The part of a row that stands for a text.
 pub(crate) fn written_in_signs(alloc: Global, text: &str) -> Result<String, AllocError> {
-    text.chars()
-        .map(|character| sign_of(character))
-        .collect(alloc)
+    text.chars().map(sign_of).collect(alloc)
 }

@@ -1,5 +1,5 @@
 // Stress runs, and what they still have to do.
-use crate::parts::{number, three};
+use crate::parts::{number, three, two};
 use nextest_run_events::{
     FinalRunStats, NonZeroDuration, RunFinishedStats, RunStatsFailureKind, StressCount,
     StressIndex, StressProgress, StressRemaining, StressRunStats,
@@ -11,7 +11,7 @@ use uuid::Uuid;
 
 // How many sub-runs failed and what the last one came to: what the run comes to, and its last sub-run.
 pub(crate) fn stress_ends(alloc: Global, input: &str) -> Option<String> {
-    let (failed_count, last) = input.split_once(' ')?;
+    let (failed_count, last) = two(input, " ");
     let last_final_stats = match last {
         "no tests run" => FinalRunStats::NoTestsRun,
         _ => FinalRunStats::Failed {
@@ -51,7 +51,7 @@ fn span_of(seconds: &str, nanos: &str) -> Option<Duration> {
 // A run by its number of sub-runs, `-` where it has no end, and how many were completed; or by its seconds, and how many seconds
 // and nanoseconds it took.
 fn progress_of(input: &str) -> Option<StressProgress> {
-    let (kind, total, rest) = three(input)?;
+    let (kind, total, rest) = three(input);
     match kind {
         "count" => Some(StressProgress::Count {
             total: match total_of(total) {
@@ -62,7 +62,7 @@ fn progress_of(input: &str) -> Option<StressProgress> {
             completed: number(rest)?,
         }),
         _ => {
-            let (seconds, nanos) = rest.split_once(' ')?;
+            let (seconds, nanos) = two(rest, " ");
             Some(StressProgress::Time {
                 total: span_of(total, "0")?,
                 elapsed: span_of(seconds, nanos)?,
@@ -77,25 +77,25 @@ fn left_of(words: &str) -> Option<StressRemaining> {
     if words == "endless" {
         return Some(StressRemaining::Infinite);
     }
-    let (kind, rest) = words.split_once(' ')?;
+    let (kind, rest) = two(words, " ");
     if kind == "sub-runs" {
         return Some(StressRemaining::Count(total_of(rest)?));
     }
-    let (seconds, nanos) = rest.split_once(' ')?;
+    let (seconds, nanos) = two(rest, " ");
     let span = NonZeroDuration::new(span_of(seconds, nanos)?)?;
     Some(StressRemaining::Time(span))
 }
 
 // Such a run, and what is left of it: whether that is so.
 pub(crate) fn stress_remaining(alloc: Global, input: &str) -> Option<String> {
-    let (progress, left) = input.split_once(" leaves ")?;
+    let (progress, left) = two(input, " leaves ");
     let is_left = progress_of(progress)?.remaining() == left_of(left);
     format!(in alloc; "{is_left}").ok()
 }
 
 // A run's id, and the run: the id of its next sub-run.
 pub(crate) fn stress_names(alloc: Global, input: &str) -> Option<String> {
-    let (run_id, progress) = input.split_once(' ')?;
+    let (run_id, progress) = two(input, " ");
     let run_id = Uuid::parse_str(run_id).ok()?;
     format!(in alloc;
         "{}",

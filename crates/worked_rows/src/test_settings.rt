@@ -1,6 +1,6 @@
 // What a test is run with, and where each of its settings comes from.
 use crate::configs::{BAR, PlainConfig, PlainProfile, sources_of};
-use crate::parts::{push_part, texts_of, three};
+use crate::parts::{push_part, texts_of, three, two};
 use crate::settings::{arguments, filter_text};
 use nextest_config_elements::{FeatureSet, NextestRunMode};
 use nextest_config_resolution::{BuildPlatforms, SettingSource, TestGroupRef, TestSettings};
@@ -25,11 +25,11 @@ struct Asked<'a> {
 }
 
 impl<'a> Asked<'a> {
-    fn read(head: &'a str) -> Option<Asked<'a>> {
-        let (profile, mode, rest) = three(head)?;
-        let (binary, host, rest) = three(rest)?;
-        let (target, test, keys) = three(rest)?;
-        Some(Asked {
+    fn read(head: &'a str) -> Asked<'a> {
+        let (profile, mode, rest) = three(head);
+        let (binary, host, rest) = three(rest);
+        let (target, test, keys) = three(rest);
+        Asked {
             profile,
             mode,
             binary,
@@ -37,14 +37,14 @@ impl<'a> Asked<'a> {
             target,
             test,
             keys,
-        })
+        }
     }
 }
 
 // A profile, a mode, the platform of the test's binary, the names of host and target with commas between them, a test and the keys of
 // settings, with commas between them; and then sources: what each setting is, and where it comes from.
 pub(crate) fn test_settings(alloc: Global, input: &str) -> Option<String> {
-    let (head, sources) = input.split_once(BAR)?;
+    let (head, sources) = two(input, BAR);
     let sources = sources_of(alloc, sources)?;
     let config = PlainConfig::from_sources(
         alloc,
@@ -54,7 +54,7 @@ pub(crate) fn test_settings(alloc: Global, input: &str) -> Option<String> {
         FeatureSet::default(),
     )
     .ok()?;
-    of_config(alloc, &config, &Asked::read(head)?)
+    of_config(alloc, &config, &Asked::read(head))
 }
 
 fn of_config(alloc: Global, config: &PlainConfig, asked: &Asked<'_>) -> Option<String> {
@@ -91,7 +91,7 @@ fn on_platforms(
 
 // The names of a platform: `-` where nothing is known of it.
 fn names_of(alloc: Global, names: &str) -> Option<Listing<Text>> {
-    texts_of(alloc, names.strip_prefix('-').unwrap_or(names))
+    texts_of(alloc, names.strip_prefix('-').unwrap_or(names), ",")
 }
 
 fn of_profile(alloc: Global, profile: &PlainProfile<'_>, asked: &Asked<'_>) -> Option<String> {
@@ -138,11 +138,10 @@ fn each_told(
     let mut answer = String::new(alloc);
     for key in keys.split(',') {
         let told = match key {
-            "default-filter" => default_told(alloc, profile)?,
-            _ => of_runs(alloc, settings, key)?,
-        };
-        let told = format!(in alloc; "{key} = {told}").ok()?;
-        push_part(&mut answer, "; ", told.as_str())?;
+            "default-filter" => default_told(alloc, profile),
+            _ => of_runs(alloc, settings, key),
+        }?;
+        push_part(&mut answer, "; ", format_args!("{key} = {told}"))?;
     }
     Some(answer)
 }

@@ -1,5 +1,5 @@
 // Values of the configuration.
-use crate::parts::told;
+use crate::parts::{told, two};
 use nextest_config_elements::{
     FinalStatusLevel, FlakyResult, StatusLevel, TestOutputDisplay, deserialize_config_identifier,
     deserialize_fail_fast, deserialize_final_status_level, deserialize_flaky_result,
@@ -40,7 +40,7 @@ pub(crate) fn display_of(alloc: Global, word: &str) -> Option<TestOutputDisplay>
 
 // A kind of value and what stands in TOML behind `k = `: the value of that kind that it is, or why it is refused.
 pub(crate) fn values(alloc: Global, input: &str) -> Option<String> {
-    let (kind, text) = input.split_once(' ')?;
+    let (kind, text) = two(input, " ");
     let document = format!(in alloc; "k = {text}").ok()?;
     let table = toml::table_from_str(alloc, document.as_str()).ok()?;
     read_of(alloc, kind, table.get("k")?)

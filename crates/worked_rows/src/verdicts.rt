@@ -1,6 +1,6 @@
 // What lists of sources ask for, and what a version is by them.
 use crate::configs::{BAR, kind_of};
-use crate::parts::three;
+use crate::parts::{three, two};
 use nextest_config_elements::{
     ConfigExperimental, ConfigSourceKind, ExperimentalConfig, NextestVersionConfig,
     NextestVersionEval, PlainVersion, VersionOnlyConfig, VersionOnlyError, VersionSource,
@@ -11,7 +11,7 @@ use std::alloc::Global;
 // with the version and the path of the source that asks for it, and the features that are known, and those that aren't; or why
 // the first source is refused that is.
 pub(crate) fn verdicts(alloc: Global, input: &str) -> Option<String> {
-    let (head, sources) = input.split_once(BAR)?;
+    let (head, sources) = two(input, BAR);
     let kinds = kinds_of(alloc, sources)?;
     let lent = lent_by(alloc, kinds.as_slice(), sources)?;
     match VersionOnlyConfig::from_sources(alloc, lent.as_slice()) {
@@ -23,7 +23,7 @@ pub(crate) fn verdicts(alloc: Global, input: &str) -> Option<String> {
 
 // What a current version is by what the sources ask for, and the features that they ask for.
 fn demands_told(alloc: Global, config: &VersionOnlyConfig, head: &str) -> Option<String> {
-    let (current, flag) = head.split_once(' ')?;
+    let (current, flag) = two(head, " ");
     let current = PlainVersion::parse(alloc, current).ok()?;
     let versions = config.nextest_version();
     let mut answer = verdict(alloc, versions, &current, flag == "override")?;
@@ -35,7 +35,7 @@ fn demands_told(alloc: Global, config: &VersionOnlyConfig, head: &str) -> Option
 fn kinds_of(alloc: Global, sources: &str) -> Option<Vec<ConfigSourceKind>> {
     let mut kinds = Vec::new(alloc);
     for source in sources.split(BAR) {
-        let (word, _) = source.split_once(' ')?;
+        let (word, _) = two(source, " ");
         kinds.push(kind_of(alloc, word)?).ok()?;
     }
     Some(kinds)
@@ -49,7 +49,7 @@ fn lent_by<'a>(
 ) -> Option<Vec<VersionSource<'a>>> {
     let mut lent = Vec::new(alloc);
     for (kind, source) in kinds.iter().zip(sources.split(BAR)) {
-        let (_, path, text) = three(source)?;
+        let (_, path, text) = three(source);
         let text = Some(text);
         lent.push(VersionSource { kind, path, text }).ok()?;
     }
@@ -107,6 +107,5 @@ fn push_features(answer: &mut String, features: &ExperimentalConfig) -> Option<(
 }
 
 fn push_word(answer: &mut String, word: &str) -> Option<()> {
-    answer.push(' ').ok()?;
-    answer.push_str(word).ok()
+    write!(answer, " {word}").ok()
 }

@@ -90,7 +90,7 @@ fn ids_and_names(alloc: Global, name: &str) -> Option<Vec<(Text, Text)>> {
 }
 
 fn id_and_name(alloc: Global, line: &'static str) -> Option<(Text, Text)> {
-    let binary = binary_of(line)?;
+    let binary = binary_of(line);
     let id = Text::from_str(alloc, binary.binary_id).ok()?;
     Some((id, Text::from_str(alloc, binary.binary_name).ok()?))
 }
@@ -98,7 +98,7 @@ fn id_and_name(alloc: Global, line: &'static str) -> Option<(Text, Text)> {
 // The binary of an id in the workspace of a name.
 pub(crate) fn binary(name: &str, id: &str) -> Option<BinaryQuery<'static>> {
     for line in binary_lines(name).lines() {
-        let binary = binary_of(line)?;
+        let binary = binary_of(line);
         if binary.binary_id == id {
             return Some(binary);
         }
@@ -151,18 +151,18 @@ fn binary_lines(name: &str) -> &'static str {
     }
 }
 
-fn binary_of(line: &'static str) -> Option<BinaryQuery<'static>> {
-    let (binary_id, package_id, rest) = three(line)?;
-    let (kind, binary_name, platform) = three(rest)?;
+fn binary_of(line: &'static str) -> BinaryQuery<'static> {
+    let (binary_id, package_id, rest) = three(line);
+    let (kind, binary_name, platform) = three(rest);
     let platform = match platform {
         "host" => BuildPlatform::Host,
         _ => BuildPlatform::Target,
     };
-    Some(BinaryQuery {
+    BinaryQuery {
         package_id,
         binary_id,
         kind,
         binary_name,
         platform,
-    })
+    }
 }
