@@ -13,6 +13,7 @@ mod attempts;
 mod changes;
 mod compiled;
 mod configs;
+mod defined;
 mod elements;
 mod ends;
 mod filter_texts;
