@@ -344,7 +344,7 @@ FAULTS = [
     ("Load.BadFilter", "file", f'{OVERRIDE}filter = "group(@global)"\n'),
     ("Load.UnknownGroup", "file", f'{OVERRIDE}filter = "all()"\ntest-group = "h"\n'),
     ("Load.Cycle", "file", '[profile.a]\ninherits = "a"\n'),
-    ("NotYet", "file", "[script.s]\n"),
+    ("NotYet", "file", "[experimental]\nsetup-scripts = true\n[scripts.setup.s]\ncommand = \"x\"\n"),
     ("ProfileNotFound", "fields", {"profile": "ci"}),
     ("RepeatedFact", "fields", {"host": {"triple": "", "facts": TWICE}}),
     ("RepeatedFact", "fields", {"target": {"triple": "", "facts": BOTH}}),

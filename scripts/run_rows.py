@@ -365,14 +365,14 @@ PLAN_TEXTS = [
     # keys that a plan shows nothing of
     "store = {}", "[profile.default]\nslow-timeout = '60s'\ntest-threads = 4\nleak-timeout = '1s'\nglobal-timeout = '1h'\nrun-extra-args = ['x']\narchive = 1\n",
     "[profile.default]\nretries = { backoff = 'fixed', count = 1 }\n", "[profile.default]\nfail-fast = { max-fail = 1 }\n", "[profile.ci]\n", "[profile.default.junit]\npath = 'j.xml'\n",
-    # overrides and groups; and scripts, which aren't taken yet, with what is refused before and behind them
-    "[[profile.default.overrides]]\nfilter = 'all()'\npriority = 1\n", "[profile.default]\ndefault-filter = 'all()'\n", "[[profile.default.scripts]]\nfilter = 'all()'\nsetup = 's'\n",
-    "[[profile.z.overrides]]\nfilter = 'all()'\nretries = 1\n", "[profile.z]\ndefault-filter = 'all()'\n", "[test-groups.g]\nmax-threads = 1\n", "[script.s]\ncommand = 'x'\n",
+    # overrides and groups; and scripts, which no plan has yet, with what is refused before and behind them
+    "[[profile.default.overrides]]\nfilter = 'all()'\npriority = 1\n", "[profile.default]\ndefault-filter = 'all()'\n", "experimental = ['setup-scripts']\n[scripts.setup.s]\ncommand = 'x'\n[[profile.default.scripts]]\nfilter = 'all()'\nsetup = 's'\n",
+    "[[profile.z.overrides]]\nfilter = 'all()'\nretries = 1\n", "[profile.z]\ndefault-filter = 'all()'\n", "[test-groups.g]\nmax-threads = 1\n", "experimental = ['setup-scripts']\n[script.s]\ncommand = 'x'\n",
     "experimental = ['setup-scripts']\n[scripts.setup.s]\ncommand = 'x'\n", "[profile.default]\ndefault-filter = 'all()'\nretries = -1\n",
     "[profile.z]\ndefault-filter = 'all()'\ninherits = 'q'\n", "[profile.default]\ndefault-filter = 'all()'\nretries = 4294967295\n", "zzz = 1\n[profile.default]\ndefault-filter = 'all()'\n",
     "[profile.default]\noverrides = []\n", "[test-groups]\n",
-    "[[profile.default.overrides]]\nfilter = 'all()'\nretries = 1\n[[profile.default.scripts]]\nfilter = 'all()'\nsetup = 's'\n",
-    "[[profile.default.overrides]]\nretries = 1\n[script.s]\ncommand = 'x'\n",
+    "experimental = ['setup-scripts']\n[scripts.setup.s]\ncommand = 'x'\n[[profile.default.overrides]]\nfilter = 'all()'\nretries = 1\n[[profile.default.scripts]]\nfilter = 'all()'\nsetup = 's'\n",
+    "experimental = ['setup-scripts']\n[[profile.default.overrides]]\nretries = 1\n[script.s]\ncommand = 'x'\n",
     # how profiles inherit
     "[profile.z]\ninherits = 'q'\n", "[profile.x]\ninherits = 'y'\n[profile.y]\ninherits = 'x'\n", "[profile.x]\ninherits = 'x'\n", "[profile.default]\ninherits = 'x'\n[profile.x]\n",
     "[profile.x]\n[profile.default-y]\ninherits = 'x'\n", "[profile.default-miri]\ninherits = 'default'\n", "[profile.a]\ninherits = 'a'\n[profile.z]\ninherits = 'q'\n",

@@ -44,6 +44,16 @@ pub use Rattle.nextest_config_resolution_values.specs.Profile
 pub use Rattle.nextest_config_resolution_inheritance.specs.Inheritance
 pub use Rattle.nextest_config_resolution_inheritance.specs.Laws as InheritanceLaws
 pub use Rattle.nextest_config_resolution_inheritance.specs.Refusals as InheritanceRefusals
+-- scripts and their commands
+pub use Rattle.nextest_config_resolution_commands.specs.Accepted as AcceptedCommands
+pub use Rattle.nextest_config_resolution_commands.specs.Commands
+pub use Rattle.nextest_config_resolution_commands.specs.Laws as CommandLaws
+pub use Rattle.nextest_config_resolution_commands.specs.Programs
+pub use Rattle.nextest_config_resolution_commands.specs.Splitting
+pub use Rattle.nextest_config_resolution_commands.specs.Words
+pub use Rattle.nextest_config_resolution_scripts.specs.Defined as DefinedScripts
+pub use Rattle.nextest_config_resolution_scripts.specs.Rules as ScriptRules
+pub use Rattle.nextest_config_resolution_scripts.specs.Scripts
 -- settings, and what is built in
 pub use Rattle.nextest_config_resolution_settings.specs.Fallbacks
 pub use Rattle.nextest_config_resolution_settings.specs.Keys as SettingKeys

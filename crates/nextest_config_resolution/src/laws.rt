@@ -1,5 +1,6 @@
 //! What holds of configurations. Each function does nothing, and its contract is the law.
 
+pub use nextest_config_resolution_commands::laws::{accepted_command, one_split, words_by_pieces};
 pub use nextest_config_resolution_inheritance::laws::{
     no_end, no_fault, one_chain, one_fault, one_verdict,
 };

@@ -11,10 +11,14 @@ pub use nextest_config_resolution_filters::{FilterError, Filters, SpecError, Spe
 pub use nextest_config_resolution_inheritance::{
     InheritanceError, InheritanceFault, Inherits, chain_of, check_inheritance,
 };
+pub use nextest_config_resolution_commands::{
+    ScriptCommand, ScriptCommandEnvMap, ScriptCommandRelativeTo, ScriptId,
+    deserialize_script_command, split_words,
+};
 pub use nextest_config_resolution_load::{
-    CompiledOverride, FileConfig, FilterPurpose, Languages, LoadError, LoadFault, LoadKind,
-    LoadedConfig, LoadedOverride, NamedProfile, PlatformSide, ProfileOverrides, load,
-    load_with_warnings,
+    CompiledRule, FeatureSet, FileConfig, FilterPurpose, Languages, LoadError, LoadFault, LoadKind,
+    LoadedConfig, LoadedOverride, LoadedRule, LoadedScriptRule, NamedProfile, PlatformSide,
+    ProfileRules, RuleId, load, load_with_warnings,
 };
 pub use nextest_config_resolution_overrides::{
     NamedGroup, OverrideConfig, OverrideId, OverrideJunit, OverridePlatforms, PlacedOverride,
@@ -24,11 +28,16 @@ pub use nextest_config_resolution_profiles::{
     BuildPlatforms, ConfigLanguages, DEFAULT_CONFIG, EarlyProfile, EvaluatableProfile, HeldRules,
     NextestConfig, PrecomputedGroupMembership, ProfileError, ProfileNotFound, built_in,
 };
+pub use nextest_config_resolution_scripts::{
+    NamedScript, PlacedScriptRule, ProfileScriptType, ScriptConfig, ScriptInfo, ScriptRuleConfig,
+    ScriptRuleId, ScriptType, SetupScriptConfig, SetupScriptJunitConfig, SetupScriptSlowTimeout,
+    WrapperScriptConfig, WrapperScriptTargetRunner, deserialize_old_scripts,
+    deserialize_script_rules, deserialize_scripts, script_named,
+};
 pub use nextest_config_resolution_settings::{
-    CompiledDefaultFilter, CompiledDefaultFilterSection, ListSettings, Rule, ScriptCommand,
-    ScriptCommandEnvMap, ScriptCommandRelativeTo, Sets, Setting, SettingSource, TestGroupRef,
-    TestSettings, TrackSource, WrapperScriptConfig, WrapperScriptTargetRunner, fallbacks,
-    find_in_profiles, find_setting, keys, nearest, settings_by,
+    CompiledDefaultFilter, CompiledDefaultFilterSection, ListSettings, Rule, Sets, Setting,
+    SettingSource, TestGroupRef, TestSettings, TrackSource, fallbacks, find_in_profiles,
+    find_setting, keys, nearest, settings_by,
 };
 pub use nextest_config_resolution_sources::{
     CONFIG_PATH, ConfigFileSelection, ConfigPaths, ConfigSource, ConfigSourceOutcome,

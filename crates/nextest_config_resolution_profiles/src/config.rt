@@ -9,9 +9,11 @@ use crate::tree::built_in;
 use nextest_config_elements_versions::FeatureSet;
 use nextest_config_resolution_filters::{Filters, Specs};
 use nextest_config_resolution_load::{
-    ConfigWarnings, LoadError, LoadedConfig, LoadedOverride, load, load_with_warnings,
+    ConfigWarnings, LoadError, LoadedConfig, LoadedOverride, LoadedScriptRule, load,
+    load_with_warnings,
 };
 use nextest_config_resolution_overrides::NamedGroup;
+use nextest_config_resolution_scripts::ScriptConfig;
 use nextest_config_resolution_sources::{ConfigFileSelection, ConfigPaths, ConfigSource};
 use nextest_text::Text;
 use std::alloc::Global;
@@ -181,6 +183,20 @@ impl<F: Filters, S: Specs> NextestConfig<F, S> {
         ensures { result.now ≡ self.now.loaded.rules }
     {
         self.loaded.rules.as_slice()
+    }
+
+    /// The script rules of all files, in the same order.
+    pub fn script_rules(&self) -> &[LoadedScriptRule<F, S>]
+        ensures { result.now ≡ self.now.loaded.script_rules }
+    {
+        self.loaded.script_rules.as_slice()
+    }
+
+    /// The scripts, as they are defined.
+    pub fn scripts(&self) -> &ScriptConfig
+        ensures { result.now ≡ self.now.loaded.scripts }
+    {
+        &self.loaded.scripts
     }
 
     /// The groups of tests, as they are defined. Of several with one name the last holds.
