@@ -440,7 +440,7 @@ def file_of(source, features):
         file = FILE(members, [])
     except Bad as bad:
         raise Refusal(f"BadValue {path}: {bad}") from None
-    check_defined(kind, path, file, features)
+    check_defined("t" if kind == "tool" else None, path, file, features)
     check_rules(path, file)
     return members
 
@@ -453,7 +453,8 @@ def rules_of(path, file, kind):
             yield f"{path}: profile.{name}.{kind}.{index}", rule
 
 
-def check_defined(kind, path, file, features):
+def check_defined(owner, path, file, features):
+    """That a file may define what it does: the file of a tool, or, without one, of the repository."""
     old, scripts = file.get("script", []), file.get("scripts", {})
     setup, wrapper = scripts.get("setup", []), scripts.get("wrapper", [])
     if old and (setup or wrapper):
@@ -463,7 +464,7 @@ def check_defined(kind, path, file, features):
             raise Refusal(f"FeatureNotEnabled {path}: the file defines scripts that need the experimental feature `{feature}`")
     for name in [*file.get("test-groups", {}), *(name for name, _ in [*old, *setup, *wrapper])]:
         tool = elements.identifier(name)[1]
-        if (tool is None or tool[0] != "t") if kind == "tool" else tool is not None:
+        if (tool and tool[0]) != owner:
             raise Refusal(f"BadName {path}: the file may not define `{name}`")
     for name, _ in setup:
         if name in dict(wrapper):
