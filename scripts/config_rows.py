@@ -1168,15 +1168,27 @@ def script_pair_rows():
     """Every refusal before and behind every other that comes of scripts, or not; in one file and in two."""
     refused = {**{kind: REFUSED_FOR[kind] for kind in BEFORE_SCRIPTS}, **SCRIPTS_REFUSED_FOR}
     for kind, text in SCRIPTS_REFUSED_FOR.items():
-        yield with_scripts(text, words=known_for(kind))
-        yield with_scripts(text, "", words=known_for(kind))
-        yield with_scripts(text, words="")
+        yield with_scripts(text, words=known_for(kind), keys="profiles")
+        yield with_scripts(text, "", words=known_for(kind), keys="profiles")
+        yield with_scripts(text, words="", keys="profiles")
     for first, second in itertools.combinations(refused, 2):
         if second in SCRIPTS_REFUSED_FOR:
             pair = refused[first], refused[second]
-            yield with_scripts("\n".join(pair), words=known_for(first, second))
-            yield with_scripts(*pair, words=known_for(first, second))
-            yield with_scripts(*pair[::-1], words=known_for(first, second))
+            yield with_scripts("\n".join(pair), words=known_for(first, second), keys="profiles")
+            yield with_scripts(*pair, words=known_for(first, second), keys="profiles")
+            yield with_scripts(*pair[::-1], words=known_for(first, second), keys="profiles")
+
+
+def script_stage_rows():
+    """Every refusal that comes of scripts beside a source without a text, or one that is no TOML, and beside what no file says alone."""
+    low, high = (f"profile.z.retries = {{ backoff = 'exponential', count = 1, {delays} }}" for delays in ("delay = '1s', max-delay = '2s'", "delay = '3s'"))
+    for kind, text in SCRIPTS_REFUSED_FOR.items():
+        below, above = tool("t", own(text, "tool")), repository(own(text))
+        for other in ("failed x", "text ="):
+            yield "default", "profiles", [("tool", "u.toml", other), above], known_for(kind)
+            yield "default", "profiles", [below, ("explicit", "e.toml", other)], known_for(kind)
+        yield with_scripts(low, f"{high}\n{text}", words=known_for(kind), keys="profiles")
+        yield with_scripts(f"{low}\n{text}", high, words=known_for(kind), keys="profiles")
 
 
 COMMANDS = [
@@ -1188,6 +1200,7 @@ NO_COMMANDS = [
     "", " \t\n", "# p", "p 'a", 'p "a\\"', [], ["p", 1], 1, True, 1.5, DAY, {}, {"env": {}}, {"command-line": ""}, {"command-line": []},
     {"command-line": {"command-line": "p"}}, {"command-line": "p", "env": ["A"]}, {"command-line": "p", "env": {"A": 1}},
     {"command-line": "p", "env": {"NEXTEST_A": "1"}}, {"command-line": "p", "env": {"NEXTEST": 1}}, {"command-line": "p", "env": {"NEXTEST": "1", "A": 2}},
+    {"command-line": "p", "env": {"NEXTESTED": "1"}},
     {"command-line": "p", "relative-to": "Target"}, {"command-line": "p", "relative-to": 1}, {"relative-to": 1, "env": 1},
 ]
 SETUP_RIGHT = {
@@ -1275,6 +1288,9 @@ def script_rule_rows():
         yield with_scripts(f"profile.b.scripts = {order[0]}\nprofile.a.scripts = {order[1]}")
         yield with_scripts(f"profile.a.scripts = {order[0]}\nprofile.a.overrides = {order[1]}")
         yield with_scripts(f"profile.a.scripts = {order[0]}\nprofile.b.overrides = {order[1]}")
+    # other keys are read past
+    yield with_scripts("profile.a.scripts = [{ filter = 'all()', default-filter = '', retries = -1, zzz = 1 }]")
+    yield with_scripts("scripts.zzz.a = {}\nscripts.setup.<a> = { command = 'p', target-runner = 1, run-wrapper = 1 }\nscripts.wrapper.<b> = { command = 'p', slow-timeout = 1 }")
     yield with_scripts("profile.a.scripts = [{ filter = 'a' }, { filter = 'b' }]", "profile.b.scripts = [{ platform = 'p' }]\nprofile.a.scripts = [{ filter = 'c' }]")
     yield with_scripts("profile.a.scripts = [{ filter = 'x', list-wrapper = '@tool:t:w' }]\nscripts.wrapper.<w>.command = 'p'", "profile.a.scripts = [{ filter = '' }]")
 
@@ -1333,7 +1349,7 @@ def script_merge_rows():
 
 
 def script_rows():
-    for rows in (script_pair_rows, script_value_rows, script_name_rows, script_rule_rows, feature_rows, script_merge_rows):
+    for rows in (script_pair_rows, script_stage_rows, script_value_rows, script_name_rows, script_rule_rows, feature_rows, script_merge_rows):
         yield from rows()
 
 
