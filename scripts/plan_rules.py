@@ -12,6 +12,7 @@ scripts/version_rows.py, and what predicates of filtersets are on a binary by sc
   on the test. A setting is that of the first that holds and sets it, else that of the nearest profile, else a priority of 0 and `@global`.
 - The default filter is that of the first override that has one and whose specs may hold on the host and on the target, else that of the nearest
   profile. `default()` is this filter, in a filter of an override as in the filterset, also where it is left aside.
+- The filter of a script rule with a `list-wrapper` asks for no `test(..)`, `group(..)` or `default()`.
 - In force are the filterset, where one is given, and the default filter, unless it is left aside. A binary is listed where each of them can hold on
   it, by answers of its own to each place of `test(..)` and `group(..)`; a test is selected where all hold on it. `group(..)` is asked of the group
   that is the test's setting, and may name `@global` and the groups that all files define together.
