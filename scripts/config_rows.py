@@ -7,18 +7,30 @@ It knows nothing of the program: a row has texts in TOML, which Python reads, an
 
 - Of the sources those of the tools count, of which the first handed in is the highest, and above them the repository's: the first explicit
   one, else the first discovered one. Each that counts, the lowest first, must have been read (a discovered one may be missing), must be TOML,
-  and must have only values that may stand at their keys: `experimental`, `nextest-version`, each profile with its overrides, `store`,
-  `test-groups`, in the order of the bytes. Then a tool's file defines groups that are its own alone, and the repository's none that is a
-  tool's. Then each override, by the names of the profiles and in their order: it has a platform or a filter; it has no filter beside a default
-  filter; its specs of host and target are some, then its filter, then its default filter. Here the empty text is no spec and no filter.
-- A file stands over the lower ones and over what is built in: tables join key by key, and anything else hides what is below it. Of what all
-  come to each profile, `store` and `test-groups` is read again. Then each group that an override names is defined, the lowest file first.
+  and must have only values that may stand at their keys: `experimental`, `nextest-version`, each profile with its overrides and script rules,
+  `script`, `scripts`, `store`, `test-groups`, in the order of the bytes.
+- Then it has no scripts under `script` beside some under `scripts`; has setup scripts, in either place, only where the feature `setup-scripts`
+  is known, and then wrapper scripts only where `wrapper-scripts` is; defines only names that it may, first of groups, then of setup scripts
+  under `script` and under `scripts`, then of wrapper scripts: a tool's file those that are its own alone, and the repository's none that is a
+  tool's; and has no setup script with the name of a wrapper script.
+- Then each rule of its profiles, by their names, of each first the overrides and then the script rules, in their order: it has a platform or a
+  filter; an override has no filter beside a default filter; its specs of host and target are some, then its filter, then its default filter.
+  Here the empty text is no spec and no filter. The filter of a script rule with a `list-wrapper` asks nothing that only tests tell; here those
+  that do are all but `all()` and `none()`.
+- A file stands over the lower ones and over what is built in: tables join key by key, and anything else hides what is below it. What a file has
+  under `script` stands over what it has under `scripts.setup`. Of what all come to each profile, `scripts`, `store` and `test-groups` is read
+  again. Then, the lowest file first, each group that an override names is defined; then, of all files, each setup script that a script rule
+  names; and then, of all files, its `list-wrapper` and its `run-wrapper`, which are wrapper scripts.
 - No profile with a reserved name (`default`, `default-..`) inherits, each parent is a profile, and parents come to `default`. Each rule is asked
   of all profiles, by the bytes of their names, before the next.
 - A setting is that of the nearest profile of the chain that sets it: the profile, its parents one after another, and `default`. There is a
   report exactly if one of them sets its path.
-- What a file has that no key of the configuration is, is told by its path, tables by the bytes of their keys; and then each profile whose name
-  begins with `default-` and isn't `default-miri`.
+- Which features are known a row says behind the settings: their names, or `asked`, those that `experimental` asks for in the sources that count;
+  none where one of these is no TOML, has a value that may not stand at `experimental` or `nextest-version`, or is a tool's and asks for one.
+- A command is one text, divided into words as a Unix shell does, or a list of texts, with one word at least and each quote closed.
+- What a file has that no key of the configuration is, is told by its path, tables by the bytes of their keys; then each profile whose name
+  begins with `default-` and isn't `default-miri`; then that it has scripts under `script`, if there is one; and then each profile, by the bytes
+  of their names, with the number of its script rules that name no script, if there are any: that have no wrapper, and no `setup` but an empty list.
 """
 import itertools
 import random
@@ -99,13 +111,19 @@ def texts(value, keys):
     return "".join(f"[{item}]" for item in value)
 
 
-def table_of(rules):
-    """A table with some keys, each of which may be left out; other keys are read past."""
+def table_of(rules, needed=None):
+    """A table with some keys, each of which may be left out, but for those that are needed; other keys are read past."""
+    needed = needed or {}
 
     def read(value, keys):
         if not isinstance(value, dict):
             raise Bad(keys, "a table", value)
-        return {key: rules[key](value[key], [*keys, key]) for key in in_order(value) if key in rules}
+        members = {}
+        for key in in_order({*value, *needed} & {*rules}):
+            if key not in value:
+                raise Bad([*keys, key], needed[key], NOTHING)
+            members[key] = rules[key](value[key], [*keys, key])
+        return members
 
     return read
 
@@ -183,22 +201,36 @@ RULE = table_of(
         **{key: by_kind(key) for key in "flaky-result leak-timeout priority retries slow-timeout test-group threads-required".split()},
     }
 )
-RULES = list_of(RULE)
+
+
+def name_of(value, keys):
+    """The identifier that a text is."""
+    if elements.IDENTIFIER.read(value) is None:
+        raise Bad(keys, elements.IDENTIFIER.expected, value)
+    return elements.identifier(value)[0]
+
+
+def names_of(value, keys):
+    if not isinstance(value, list):
+        return [name_of(value, keys)]
+    return [name_of(item, [*keys, str(place)]) for place, item in enumerate(value)]
+
+
+SCRIPT_RULE = table_of({"filter": a_text, "list-wrapper": name_of, "platform": platforms_of, "run-wrapper": name_of, "setup": names_of})
+RULES = table_of({"overrides": list_of(RULE), "scripts": list_of(SCRIPT_RULE)})
 
 
 def profile_of_file(value, keys):
-    """The overrides of a profile in a file, of which each value must be one."""
-    if not isinstance(value, dict):
-        raise Bad(keys, "a table", value)
-    faults, overrides = [], []
-    for read in (lambda: PROFILE(value, keys), lambda: overrides.extend(RULES(value.get("overrides", []), [*keys, "overrides"]))):
+    """The overrides and script rules of a profile in a file, of which each value must be one."""
+    faults = []
+    for read in (PROFILE, RULES):
         try:
-            read()
+            rules = read(value, keys)
         except Bad as bad:
             faults.append(bad)
     if faults:
         raise min(faults, key=lambda bad: [key.encode() for key in bad.keys[len(keys) :][:1]])
-    return overrides
+    return rules
 
 
 def profiles_of_file(value, keys):
@@ -230,15 +262,15 @@ def profiles_of(value, keys):
 
 
 def features_of(value, keys):
+    """The names that are asked for."""
     if isinstance(value, list):
-        for place, item in enumerate(value):
-            a_text(item, [*keys, str(place)])
-    elif isinstance(value, dict):
-        for name in in_order(value):
-            if not isinstance(value[name], bool):
-                raise Bad([*keys, name], "a boolean", value[name])
-    else:
+        return [a_text(item, [*keys, str(place)]) for place, item in enumerate(value)]
+    if not isinstance(value, dict):
         raise Bad(keys, "an array of strings, or a table of booleans", value)
+    for name in in_order(value):
+        if not isinstance(value[name], bool):
+            raise Bad([*keys, name], "a boolean", value[name])
+    return [name for name in in_order(value) if value[name]]
 
 
 A_VERSION = "a version as `X.Y.Z` or `X.Y`"
@@ -261,11 +293,119 @@ def versions_of(value, keys):
         raise Bad(keys, f"{A_VERSION}, or a table of these", value)
 
 
+# ---- scripts
+
+BLANK = r"(?:[ \t\n]|\\\n|#[^\n]*(?:\n|\Z))*"
+PIECE = r"""[^ \t\n'"\\]|\\(?:[\s\S]|\Z)|'[^']*'|"(?:[^"\\]|\\[\s\S])*\""""
+
+
+def said(piece):
+    """What a piece of a word says."""
+    if piece[0] == "'":
+        return piece[1:-1]
+    if piece[0] == '"':
+        return re.sub(r"\\([\s\S])", lambda it: "" if it[1] == "\n" else it[1] if it[1] in '"\\$`' else it[0], piece[1:-1])
+    return "" if piece == "\\\n" else piece[-1]
+
+
+def words_of(text):
+    """The words of a text; None where a quote isn't closed."""
+    words, place = [], re.match(BLANK, text).end()
+    while place < len(text):
+        word = re.compile(f"(?:{PIECE})+").match(text, place)
+        if word is None or text[word.end() :][:1] in ("'", '"'):
+            return None
+        words.append("".join(map(said, re.findall(PIECE, word[0]))))
+        place = re.compile(BLANK).match(text, word.end()).end()
+    return words
+
+
+LINE = "a command: a string or an array of strings"
+RELATIVE = elements.words("`none`, `workspace-root` or `target`", none="None", workspace_root="WorkspaceRoot", target="Target")
+RUNNER = elements.words(
+    "`ignore`, `overrides-wrapper`, `within-wrapper` or `around-wrapper`", ignore="Ignore", overrides_wrapper="OverridesWrapper",
+    within_wrapper="WithinWrapper", around_wrapper="AroundWrapper",
+)
+
+
+def by_rule(rule):
+    def read(value, keys):
+        answer = rule.read(value)
+        if answer is None:
+            raise Bad(keys, rule.expected, value)
+        return answer
+
+    return read
+
+
+def line_of(value, keys):
+    if not isinstance(value, (str, list)):
+        raise Bad(keys, LINE, value)
+    words = words_of(value) if isinstance(value, str) else [a_text(item, [*keys, str(place)]) for place, item in enumerate(value)]
+    if not words:
+        raise Bad(keys, "a command of at least one word, with each quote closed", value)
+    return words
+
+
+def variables_of(value, keys):
+    if not isinstance(value, dict):
+        raise Bad(keys, "a table of strings", value)
+    for name in in_order(value):
+        if name.startswith("NEXTEST"):
+            raise Bad([*keys, name], "the name of a variable, which doesn't begin with `NEXTEST`", name)
+        a_text(value[name], [*keys, name])
+    return value
+
+
+COMMAND_TABLE = table_of({"command-line": line_of, "env": variables_of, "relative-to": by_rule(RELATIVE)}, {"command-line": LINE})
+
+
+def command_of(value, keys):
+    return COMMAND_TABLE(value, keys) if isinstance(value, dict) else {"command-line": line_of(value, keys)}
+
+
+SETUP_SCRIPT = table_of(
+    {
+        "command": command_of, "slow-timeout": by_kind("slow-timeout"), "leak-timeout": by_kind("leak-timeout"), "capture-stdout": a_truth,
+        "capture-stderr": a_truth, "junit": table_of({"store-success-output": a_truth, "store-failure-output": a_truth}),
+    },
+    {"command": "a command"},
+)
+WRAPPER_SCRIPT = table_of({"command": command_of, "target-runner": by_rule(RUNNER)}, {"command": "a command"})
+
+
+def scripts_of(read):
+    """The scripts of a table, each by its name."""
+
+    def reads(value, keys):
+        if not isinstance(value, dict):
+            raise Bad(keys, "a table", value)
+        scripts = []
+        for key in in_order(value):
+            try:
+                name = elements.identifier(key)[0]
+            except elements.NoName:
+                raise Bad([*keys, key], "the name of a script, an identifier", key) from None
+            scripts.append((name, read(value[key], [*keys, key])))
+        return scripts
+
+    return reads
+
+
+OLD_SCRIPTS = scripts_of(SETUP_SCRIPT)
+SCRIPTS = table_of({"setup": scripts_of(SETUP_SCRIPT), "wrapper": scripts_of(WRAPPER_SCRIPT)})
+
+# ---- a file, and what all come to
+
 STORE = table_of({"dir": a_text})
 FILE = table_of(
-    {"experimental": features_of, "nextest-version": versions_of, "profile": profiles_of_file, "store": STORE, "test-groups": groups_of}
+    {
+        "experimental": features_of, "nextest-version": versions_of, "profile": profiles_of_file, "script": OLD_SCRIPTS, "scripts": SCRIPTS,
+        "store": STORE, "test-groups": groups_of,
+    }
 )
-MERGED = table_of({"profile": profiles_of, "store": STORE, "test-groups": groups_of})
+ASKED = table_of({"experimental": features_of, "nextest-version": versions_of})
+MERGED = table_of({"profile": profiles_of, "scripts": SCRIPTS, "store": STORE, "test-groups": groups_of})
 
 # ---- loading
 
@@ -286,7 +426,7 @@ def counted(sources):
     return tools[::-1] + repository[:1]
 
 
-def file_of(source):
+def file_of(source, features):
     kind, path, outcome = source
     if outcome == "missing" and kind == "discovered":
         return {}
@@ -300,43 +440,82 @@ def file_of(source):
         file = FILE(members, [])
     except Bad as bad:
         raise Refusal(f"BadValue {path}: {bad}") from None
-    check_file(kind, path, file)
+    check_defined("t" if kind == "tool" else None, path, file, features)
+    check_rules(path, file)
     return members
 
 
-def rules_of(path, file):
-    """The overrides of a file, each with where it is written."""
+def rules_of(path, file, kind):
+    """The rules of a file of one kind, `overrides` or `scripts`, each with where it is written."""
     profiles = file.get("profile", {})
-    return [(f"{path}: profile.{name}.overrides.{index}", rule) for name in in_order(profiles) for index, rule in enumerate(profiles[name])]
+    for name in in_order(profiles):
+        for index, rule in enumerate(profiles[name].get(kind, [])):
+            yield f"{path}: profile.{name}.{kind}.{index}", rule
 
 
-def check_file(kind, path, file):
-    for key in file.get("test-groups", {}):
-        tool = elements.identifier(key)[1]
-        if (tool is None or tool[0] != "t") if kind == "tool" else tool is not None:
-            raise Refusal(f"BadName {path}: the file may not define the group `{key}`")
-    for rule, it in rules_of(path, file):
-        platforms = it.get("platform", {})
-        if not platforms and "filter" not in it:
-            raise Refusal(f"NoConstraint {rule}: an override needs at least one of `filter` and `platform`")
-        if "filter" in it and "default-filter" in it:
-            raise Refusal(f"FilterAndDefaultFilter {rule}: an override can't have both `filter` and `default-filter`")
-        for side in ("host", "target"):
-            if platforms.get(side) == "":
-                raise Refusal(f"BadSpec {rule}: the {side} platform is no platform spec: ``")
-        for key in ("filter", "default-filter"):
-            if it.get(key) == "":
-                raise Refusal(f"BadFilter {rule}: this is no filter here: ``")
+def check_defined(owner, path, file, features):
+    """That a file may define what it does: the file of a tool, or, without one, of the repository."""
+    old, scripts = file.get("script", []), file.get("scripts", {})
+    setup, wrapper = scripts.get("setup", []), scripts.get("wrapper", [])
+    if old and (setup or wrapper):
+        raise Refusal(f"BothScriptTables {path}: the file defines scripts under `script` and under `scripts`")
+    for feature, some in (("setup-scripts", old or setup), ("wrapper-scripts", wrapper)):
+        if some and feature not in features:
+            raise Refusal(f"FeatureNotEnabled {path}: the file defines scripts that need the experimental feature `{feature}`")
+    for name in [*file.get("test-groups", {}), *(name for name, _ in [*old, *setup, *wrapper])]:
+        tool = elements.identifier(name)[1]
+        if (tool and tool[0]) != owner:
+            raise Refusal(f"BadName {path}: the file may not define `{name}`")
+    for name, _ in setup:
+        if name in dict(wrapper):
+            raise Refusal(f"RepeatedScript {path}: `{name}` is a setup script and a wrapper script")
 
 
-def check_groups(sources, groups):
-    """That each group that an override names is defined, the lowest file first."""
-    for kind, path, outcome in sources:
+def check_rules(path, file):
+    for name in in_order(file.get("profile", {})):
+        of_profile = {"profile": {name: file["profile"][name]}}
+        for rule, it in (*rules_of(path, of_profile, "overrides"), *rules_of(path, of_profile, "scripts")):
+            check_rule(rule, it)
+
+
+def check_rule(rule, it):
+    platforms = it.get("platform", {})
+    if not platforms and "filter" not in it:
+        raise Refusal(f"NoConstraint {rule}: at least one of `filter` and `platform` is needed")
+    if "filter" in it and "default-filter" in it:
+        raise Refusal(f"FilterAndDefaultFilter {rule}: an override can't have both `filter` and `default-filter`")
+    for side in ("host", "target"):
+        if platforms.get(side) == "":
+            raise Refusal(f"BadSpec {rule}: the {side} platform is no platform spec: ``")
+    for key in ("filter", "default-filter"):
+        if it.get(key) == "":
+            raise Refusal(f"BadFilter {rule}: this is no filter here: ``")
+    if "list-wrapper" in it and it.get("filter", "all()") not in ("all()", "none()"):
+        raise Refusal(f"ListWrapperRunFilter {rule}: this is no filter here: `{it['filter']}`")
+
+
+def all_rules(sources, kind):
+    """The rules of all sources that count of one kind, the lowest first."""
+    for _, path, outcome in counted(sources):
         if outcome.startswith("text "):
-            for rule, it in rules_of(path, FILE(tomllib.loads(outcome.removeprefix("text ")), [])):
-                custom = re.fullmatch(r"Custom\((.*)\)", str(it.get("test-group", "")))
-                if custom and custom[1] not in map(elements.debug, groups):
-                    raise Refusal(f"UnknownGroup {rule}: no group is named `{custom[1][1:-1]}`")
+            yield from rules_of(path, FILE(tomllib.loads(outcome.removeprefix("text ")), []), kind)
+
+
+def check_named(sources, config):
+    """That each group and script that a rule names is defined."""
+    for rule, it in all_rules(sources, "overrides"):
+        custom = re.fullmatch(r"Custom\((.*)\)", str(it.get("test-group", "")))
+        if custom and custom[1] not in map(elements.debug, config.get("test-groups", {})):
+            raise Refusal(f"UnknownGroup {rule}: no group is named `{custom[1][1:-1]}`")
+    scripts = config.get("scripts", {})
+    for rule, it in all_rules(sources, "scripts"):
+        for name in it.get("setup", []):
+            if name not in dict(scripts.get("setup", [])):
+                raise Refusal(f"UnknownScript {rule}: no setup script is named `{name}`")
+    for rule, it in all_rules(sources, "scripts"):
+        for key in ("list-wrapper", "run-wrapper"):
+            if key in it and it[key] not in dict(scripts.get("wrapper", [])):
+                raise Refusal(f"UnknownWrapper {rule}: no wrapper script is named `{it[key]}`")
 
 
 def is_reserved(name):
@@ -372,15 +551,35 @@ def filtered(profiles):
             raise Refusal(f"BadFilter in profile `{name}`, `default-filter` is no filter here: ``")
 
 
-def load(sources):
+def moved(file):
+    """A file with what it has under `script` where it stands now."""
+    return over({"scripts": {"setup": file["script"]}}, file) if "script" in file else file
+
+
+def features_asked(sources):
+    """The features that sources ask for; none where one of them may not ask for what it does."""
+    features = set()
+    for kind, path, outcome in counted(sources):
+        if outcome.startswith("text "):
+            try:
+                asked = ASKED(tomllib.loads(outcome.removeprefix("text ")), []).get("experimental", [])
+            except (tomllib.TOMLDecodeError, Bad):
+                return set()
+            if kind == "tool" and asked:
+                return set()
+            features.update(asked)
+    return features
+
+
+def load(sources, features=()):
     tree = tomllib.loads(BUILT_IN)
-    for file in [file_of(source) for source in counted(sources)]:
-        tree = over(file, tree)
+    for file in [file_of(source, features) for source in counted(sources)]:
+        tree = over(moved(file), tree)
     try:
         config = MERGED(tree, [])
     except Bad as bad:
         raise Refusal(f"BadValue in all configuration files together: {bad}") from None
-    check_groups(counted(sources), config.get("test-groups", {}))
+    check_named(sources, config)
     accepted(config["profile"])
     filtered(config["profile"])
     return config
@@ -396,8 +595,40 @@ def chain_of(profiles, name):
     return chain
 
 
+def command_told(command):
+    program, *args = command["command-line"]
+    told = program + "".join(f"[{it}]" for it in args) + " " + command.get("relative-to", "None")
+    return told + "".join(f" {name}={value}" for name, value in sorted(command.get("env", {}).items(), key=lambda it: it[0].encode()))
+
+
+def setup_told(name, it):
+    slow = elements.Some("SetupScript" + it["slow-timeout"]) if "slow-timeout" in it else "None"
+    leak = elements.Some(it["leak-timeout"]) if "leak-timeout" in it else "None"
+    junit = it.get("junit", {})
+    truths = it.get("capture-stdout", "false"), it.get("capture-stderr", "false"), *(junit.get(key, "true") for key in STORED)
+    return f"[setup {name}: {command_told(it['command'])}, {elements.shown(slow)}, {elements.shown(leak)}, {' '.join(truths)}]"
+
+
+def scripts_told(scripts):
+    told = [setup_told(*it) for it in scripts.get("setup", [])]
+    told += [f"[wrapper {name}: {command_told(it['command'])}, {it.get('target-runner', 'Ignore')}]" for name, it in scripts.get("wrapper", [])]
+    return " ".join(told) or "-"
+
+
+def rules_told(sources):
+    """The script rules, the highest file first."""
+    rules = [rule for source in counted(sources)[::-1] for rule in all_rules([source], "scripts")]
+    return " ".join(
+        f"[{rule}: setup {','.join(it.get('setup', []))}, list {it.get('list-wrapper', '-')}, run {it.get('run-wrapper', '-')}]" for rule, it in rules
+    ) or "-"
+
+
 def setting(config, name, key):
     profiles = config["profile"]
+    if key == "scripts":
+        return scripts_told(config.get("scripts", {}))
+    if key == "script-rules":
+        return rules_told(config["sources"])
     chain = chain_of(profiles, name)
     nearest = lambda table, key: next((profiles[it].get(table, {})[key] for it in chain if key in profiles[it].get(table, {})), "-")
     if key == "profiles":
@@ -417,11 +648,12 @@ def setting(config, name, key):
     return elements.shown(next(profiles[it][key] for it in chain if key in profiles[it]))
 
 
-def load_answer(name, keys, sources):
+def load_answer(name, keys, sources, words):
     try:
-        config = load(sources)
+        config = load(sources, features_asked(sources) if words == "asked" else words.split(","))
     except Refusal as refusal:
         return f"refused {refusal}"
+    config["sources"] = sources
     if name not in config["profile"]:
         return "no such profile"
     return "; ".join(f"{key} = {setting(config, name, key)}" for key in keys.split(","))
@@ -494,6 +726,13 @@ def on_one_line(text):
     return "".join(f"\\u{{{ord(it):x}}}" if ord(it) < 32 or ord(it) == 127 else it for it in text)
 
 
+def empty_rules(profile):
+    """How many script rules of a profile name no script."""
+    rules = profile.get("scripts") if isinstance(profile, dict) else None
+    tables = [it for it in rules if isinstance(it, dict)] if isinstance(rules, list) else []
+    return sum(not {"list-wrapper", "run-wrapper"} & {*it} and it.get("setup", []) == [] for it in tables)
+
+
 def warning_answer(path, text):
     file = tomllib.loads(text)
     lines = [f"unknown key {on_one_line('.'.join(keys))} in {on_one_line(path)}" for keys in unknown(TOP, file, [])]
@@ -501,6 +740,12 @@ def warning_answer(path, text):
     for name in in_order(profiles) if isinstance(profiles, dict) else []:
         if name.startswith("default-") and name != "default-miri":
             lines.append(f"unknown reserved profile {on_one_line(name)} in {on_one_line(path)}")
+    if isinstance(file.get("script"), dict) and file["script"]:
+        lines.append(f"deprecated script table in {on_one_line(path)}")
+    for name in in_order(profiles) if isinstance(profiles, dict) else []:
+        number = empty_rules(profiles[name])
+        if number:
+            lines.append(f"empty script sections {number} in profile {on_one_line(name)} in {on_one_line(path)}")
     return "; ".join(lines) or "-"
 
 
@@ -879,17 +1124,247 @@ def override_rows():
         yield one(f"profile.a.overrides = [{', '.join(it[1:-1] for it in order)}]", keys="profiles")
 
 
+# for each kind of refusal for which scripts are refused something that a file may have; `<a>` is a name that the file may define
+SCRIPTS_REFUSED_FOR = {
+    "BadScript": "scripts.setup.<a> = {}",
+    "BothScriptTables": "script.<c>.command = 'x'\nscripts.setup.<d>.command = 'x'",
+    "SetupNotEnabled": "scripts.setup.<e>.command = 'x'",
+    "WrapperNotEnabled": "scripts.wrapper.<f>.command = 'x'",
+    "BadScriptName": "scripts.setup.'@tool:other:s'.command = 'x'",
+    "RepeatedScript": "scripts.setup.<g>.command = 'x'\nscripts.wrapper.<g>.command = 'x'",
+    "NoScriptConstraint": "profile.l.scripts = [{}]",
+    "BadScriptSpec": "profile.m.scripts = [{ platform = '' }]",
+    "BadScriptFilter": "profile.n.scripts = [{ filter = '' }]",
+    "ListWrapperRunFilter": "scripts.wrapper.<h>.command = 'x'\nprofile.o.scripts = [{ filter = 'x', list-wrapper = <h> }]",
+    "UnknownScript": "profile.p.scripts = [{ filter = 'x', setup = 'nowhere' }]",
+    "UnknownWrapper": "profile.q.scripts = [{ filter = 'x', run-wrapper = 'nowhere' }]",
+}
+# what a file may have, of the same kind, for which it is refused before or behind those
+BEFORE_SCRIPTS = (
+    "BadValue BadName NoConstraint FilterAndDefaultFilter BadSpec BadFilter UnknownGroup InheritsInDefault UnknownParent Cycle ProfileFilter".split()
+)
+BOTH = "setup-scripts,wrapper-scripts"
+DEFINED = "scripts,script-rules"
+FEW_WRONG = ["x", 1, [1], {"a": 1}]
+
+
+def own(text, kind="discovered"):
+    """A text in which each `<a>` is a name that such a file may define."""
+    return re.sub("<(.*?)>", r'"@tool:t:\1"' if kind == "tool" else r'"\1"', text)
+
+
+def with_scripts(*texts, words=BOTH, keys=DEFINED):
+    """The lowest first; the last one is the repository's."""
+    tools = [tool(f"t{place}", own(text, "tool")) for place, text in enumerate(texts[:-1])]
+    return "default", keys, [*tools[::-1], repository(own(texts[-1]))], *([words] if words else [])
+
+
+def known_for(*kinds):
+    """The features that are known, so that these are refused."""
+    return ",".join(it for it in BOTH.split(",") if it.split("-")[0].title() + "NotEnabled" not in kinds)
+
+
+def script_pair_rows():
+    """Every refusal before and behind every other that comes of scripts, or not; in one file and in two."""
+    refused = {**{kind: REFUSED_FOR[kind] for kind in BEFORE_SCRIPTS}, **SCRIPTS_REFUSED_FOR}
+    for kind, text in SCRIPTS_REFUSED_FOR.items():
+        yield with_scripts(text, words=known_for(kind), keys="profiles")
+        yield with_scripts(text, "", words=known_for(kind), keys="profiles")
+        yield with_scripts(text, words="", keys="profiles")
+    for first, second in itertools.combinations(refused, 2):
+        if second in SCRIPTS_REFUSED_FOR:
+            pair = refused[first], refused[second]
+            yield with_scripts("\n".join(pair), words=known_for(first, second), keys="profiles")
+            yield with_scripts(*pair, words=known_for(first, second), keys="profiles")
+            yield with_scripts(*pair[::-1], words=known_for(first, second), keys="profiles")
+
+
+def script_stage_rows():
+    """Every refusal that comes of scripts beside a source without a text, or one that is no TOML, and beside what no file says alone."""
+    low, high = (f"profile.z.retries = {{ backoff = 'exponential', count = 1, {delays} }}" for delays in ("delay = '1s', max-delay = '2s'", "delay = '3s'"))
+    for kind, text in SCRIPTS_REFUSED_FOR.items():
+        below, above = tool("t", own(text, "tool")), repository(own(text))
+        for other in ("failed x", "text ="):
+            yield "default", "profiles", [("tool", "u.toml", other), above], known_for(kind)
+            yield "default", "profiles", [below, ("explicit", "e.toml", other)], known_for(kind)
+        yield with_scripts(low, f"{high}\n{text}", words=known_for(kind), keys="profiles")
+        yield with_scripts(f"{low}\n{text}", high, words=known_for(kind), keys="profiles")
+
+
+COMMANDS = [
+    "p", " p  x\ty\n", "p 'a b' \"c d\"", "p a\\ b # c", "''", ["p"], ["p", "a b", ""], [""], {"command-line": "p x"}, {"command-line": ["p"], "env": {}},
+    {"command-line": "p", "env": {"B": "1", "A": "x y", "b": ""}, "relative-to": "target"}, {"command-line": "p", "relative-to": "workspace-root"},
+    {"command-line": "p", "relative-to": "none", "zzz": 1}, {"command-line": "p", "env": {"nextest": "1", "_NEXTEST": "2", "": "3"}},
+]
+NO_COMMANDS = [
+    "", " \t\n", "# p", "p 'a", 'p "a\\"', [], ["p", 1], 1, True, 1.5, DAY, {}, {"env": {}}, {"command-line": ""}, {"command-line": []},
+    {"command-line": {"command-line": "p"}}, {"command-line": "p", "env": ["A"]}, {"command-line": "p", "env": {"A": 1}},
+    {"command-line": "p", "env": {"NEXTEST_A": "1"}}, {"command-line": "p", "env": {"NEXTEST": 1}}, {"command-line": "p", "env": {"NEXTEST": "1", "A": 2}},
+    {"command-line": "p", "env": {"NEXTESTED": "1"}},
+    {"command-line": "p", "relative-to": "Target"}, {"command-line": "p", "relative-to": 1}, {"relative-to": 1, "env": 1},
+]
+SETUP_RIGHT = {
+    "slow-timeout": ["5s", {"period": "5s", "terminate-after": 2, "grace-period": "0s", "on-timeout": "pass"}],
+    "leak-timeout": ["1s", {"period": "0s", "result": "fail"}],
+    "capture-stdout": [True, False],
+    "capture-stderr": [True],
+    "junit": [{}, {"store-success-output": False}, {"store-failure-output": False, "zzz": 1}],
+}
+
+
+def script_value_rows():
+    """What may stand at the keys of scripts and of script rules, and what may not."""
+    for command in [*COMMANDS, *NO_COMMANDS]:
+        yield with_scripts(f"scripts.setup.<a>.command = {toml(command)}")
+    for command in [COMMANDS[1], COMMANDS[10], *NO_COMMANDS[3:5], NO_COMMANDS[12]]:
+        yield with_scripts(f"script.<a>.command = {toml(command)}")
+        yield with_scripts(f"scripts.wrapper.<a>.command = {toml(command)}")
+    for key, right in SETUP_RIGHT.items():
+        for value in [*right, *FEW_WRONG]:
+            yield with_scripts(f"scripts.setup.<a> = {toml({'command': 'p', key: value})}")
+    for key, value in itertools.product(("store-success-output", "store-failure-output"), ["x", 1]):
+        yield with_scripts(f"script.<a> = {toml({'junit': {key: value}, 'command': 'p'})}")
+    for value in ["ignore", "overrides-wrapper", "within-wrapper", "around-wrapper", "Ignore", *FEW_WRONG]:
+        yield with_scripts(f"scripts.wrapper.<a> = {toml({'command': 'p', 'target-runner': value})}")
+    for key in ("filter", "platform", "setup", "list-wrapper", "run-wrapper"):
+        for value in ["", "1a", 1, ["x", 1], ["x", ""], {"a": 1}, []]:
+            yield with_scripts(f"profile.default.scripts = [{{ filter = 'all()' }}, {toml({**({} if key == 'filter' else {'filter': 'all()'}), key: value})}]")
+    for place in ("script", "scripts", "scripts.setup", "scripts.wrapper", "scripts.setup.a", "scripts.wrapper.a", "script.a", "profile.a.scripts"):
+        for value in ["x", {}, [], [1], {"command": "p"}]:
+            yield with_scripts(f"{place} = {toml(value)}")
+    # of several the first by the bytes of the keys, and a key that must stand as if it stood
+    for pair in itertools.combinations(["nextest-version = 1", "profile.a = 1", "script = 1", "scripts = 1", "store = 1", "test-groups = 1"], 2):
+        yield with_scripts("\n".join(pair[::-1]))
+    for key in ("overrides", "run-extra-args", "retries", "slow-timeout", "status-level", "junit"):
+        yield with_scripts(f"profile.a.scripts = 1\nprofile.a.{key} = 1979-05-27")
+    for key in SETUP_RIGHT:
+        yield with_scripts(f"scripts.setup.<a>.{key} = 1979-05-27")
+    for text in ("scripts.wrapper.<a> = 1\nscripts.setup.<b> = 1", "scripts.setup = { b = 1, a = 2, '1' = 3 }", "scripts.setup = { b = 1, a = 2 }", "script.<a>.command = 'p'\nscript.<b> = 1"):
+        yield with_scripts(text)
+    for rules in ("[{ filter = 'x' }, { setup = 1, run-wrapper = 1 }, 1]", "[{}, { platform = 1, filter = 1 }]", "[{ list-wrapper = 1, platform = 1 }]", "[{ platform = { host = 1, target = 1 }, setup = [] }]"):
+        yield with_scripts(f"profile.a.scripts = {rules}")
+
+
+def script_name_rows():
+    """Which names scripts may have, and which of them rules may name."""
+    names = ["s", "@tool:t:s", "@tool:other:s", "@tool:t", "@global", "", "1", "e\u0301", "\u00e9"]
+    for table, name in itertools.product(("script", "scripts.setup", "scripts.wrapper"), names):
+        for source in (repository, lambda text: tool("t", text)):
+            yield "default", DEFINED, [source(f"{table}.{elements.quoted(name)}.command = 'p'")], BOTH
+    # groups first, then setup scripts, and then wrapper scripts
+    wrong = ["test-groups.'@tool:t:z'.max-threads = 1", "scripts.setup.'@tool:t:y'.command = 'p'", "scripts.wrapper.'@tool:t:x'.command = 'p'"]
+    for pair in [*itertools.combinations(wrong, 2), (wrong[0], wrong[1].replace("scripts.setup", "script"))]:
+        yield with_scripts("\n".join(pair[::-1]))
+    # one name twice
+    for setup, wrapper in (("e\u0301", "\u00e9"), ("a", "A"), ("b", "b")):
+        yield with_scripts(f"scripts.setup.{elements.quoted(setup)}.command = 'p'\nscripts.wrapper.{elements.quoted(wrapper)}.command = 'q'")
+    yield with_scripts("scripts.setup.\"e\u0301\".command = 'p'\nscripts.setup.\"\u00e9\".command = 'q'")
+    yield with_scripts("scripts.setup = { d = { command = 'p' }, c = { command = 'p' } }\nscripts.wrapper = { c = { command = 'q' }, d = { command = 'q' } }")
+    # a rule names what any file defines, of the kind that it needs
+    defined = "scripts.setup.<s>.command = 'p'\nscripts.wrapper.<w>.command = 'q'\nscripts.setup.\"e\u0301\".command = 'r'"
+    for rule in (
+        {"setup": "s"}, {"setup": ["s", "s", "\u00e9"]}, {"setup": "w"}, {"setup": ["s", "x", "y"]}, {"setup": []}, {"list-wrapper": "w"}, {"run-wrapper": "w"}, {"list-wrapper": "s"},
+        {"run-wrapper": "s"}, {"list-wrapper": "x", "run-wrapper": "y"}, {"run-wrapper": "y", "setup": "x"}, {"setup": "s", "list-wrapper": "w", "run-wrapper": "w"}, {"setup": "@tool:t:s"},
+    ):
+        yield with_scripts(f"{defined}\nprofile.a.scripts = [{toml({'filter': 'all()', **rule})}]")
+    use = "profile.a.scripts = [{ filter = 'all()', setup = %s }]"
+    for low, high in (
+        (use % "'s'", "scripts.setup.<s>.command = 'p'"), ("scripts.setup.<s>.command = 'p'", use % "'@tool:t:s'"), ("script.<s>.command = 'p'", use % "'@tool:t:s'"), (use % "'s'", "script.<s>.command = 'p'"),
+        (use % "'s'", "scripts.wrapper.<s>.command = 'p'"), (use % "'x'", use % "'y'"), (use.replace("setup", "run-wrapper") % "'x'", use % "'y'"), (use.replace("setup", "run-wrapper") % "'x'", use.replace("setup", "list-wrapper") % "'y'"),
+        (use % "'x'", "profile.a.overrides = [{ filter = 'x', test-group = 'nowhere' }]"),
+    ):
+        yield with_scripts(low, high)
+
+
+def script_rule_rows():
+    """Which script rules are constrained, by which texts, and in which order rules are looked at."""
+    texts = {"filter": ["x", "all()", ""], "platform": ["p", "", {}, {"host": "", "target": ""}], "list-wrapper": ["w"]}
+    for chosen in itertools.product(*([None, *values] for values in texts.values())):
+        rule = {key: value for key, value in zip(texts, chosen) if value is not None}
+        yield with_scripts(f"scripts.wrapper.<w>.command = 'p'\nprofile.default.scripts = [{toml(rule)}]")
+    rules = "[{ }]", "[{ filter = '' }]", "[{ platform = '' }]"
+    for order in itertools.permutations(rules, 2):
+        yield with_scripts(f"profile.a.scripts = [{', '.join(it[1:-1] for it in order)}]")
+        yield with_scripts(f"profile.b.scripts = {order[0]}\nprofile.a.scripts = {order[1]}")
+        yield with_scripts(f"profile.a.scripts = {order[0]}\nprofile.a.overrides = {order[1]}")
+        yield with_scripts(f"profile.a.scripts = {order[0]}\nprofile.b.overrides = {order[1]}")
+    # other keys are read past
+    yield with_scripts("profile.a.scripts = [{ filter = 'all()', default-filter = '', retries = -1, zzz = 1 }]")
+    yield with_scripts("scripts.zzz.a = {}\nscripts.setup.<a> = { command = 'p', target-runner = 1, run-wrapper = 1 }\nscripts.wrapper.<b> = { command = 'p', slow-timeout = 1 }")
+    yield with_scripts("profile.a.scripts = [{ filter = 'a' }, { filter = 'b' }]", "profile.b.scripts = [{ platform = 'p' }]\nprofile.a.scripts = [{ filter = 'c' }]")
+    yield with_scripts("profile.a.scripts = [{ filter = 'x', list-wrapper = '@tool:t:w' }]\nscripts.wrapper.<w>.command = 'p'", "profile.a.scripts = [{ filter = '' }]")
+
+
+def feature_rows():
+    """Which features are known, and which scripts need them."""
+    texts = ["script.<a>.command = 'p'", "scripts.setup.<a>.command = 'p'", "scripts.wrapper.<a>.command = 'p'", "scripts.setup.<a>.command = 'p'\nscripts.wrapper.<b>.command = 'p'"]
+    for text, words in itertools.product(texts, ("", "setup-scripts", "wrapper-scripts", BOTH, "benchmarks")):
+        yield with_scripts(text, words=words)
+    asked = [
+        "experimental = ['setup-scripts']", "experimental = ['wrapper-scripts']", "experimental = ['wrapper-scripts', 'zzz', 'setup-scripts']", "experimental = { setup-scripts = true, wrapper-scripts = false }",
+        "experimental = { setup-scripts = true, wrapper-scripts = true }", "experimental = []", "experimental = ['setup-scripts', 1]", "experimental = ['setup-scripts', 'wrapper-scripts']\nnextest-version = 'x'",
+    ]
+    for text in asked:
+        yield with_scripts(f"{text}\n{texts[3]}", words="asked")
+        yield with_scripts(texts[3], text, words="asked")
+    for text in (asked[0], asked[2], asked[5]):
+        yield with_scripts(text, texts[1], words="asked")
+        yield with_scripts(texts[1], text, "", words="asked")
+    both = own(f"{asked[4]}\n{texts[3]}")
+    yield "default", DEFINED, [repository(both, "explicit"), ("discovered", "d.toml", "text " + own(texts[3]))], "asked"
+    yield "default", DEFINED, [repository(own(texts[3]), "explicit"), ("discovered", "d.toml", "text " + both)], "asked"
+    # rules alone need none, nor do tables without scripts
+    for text in ("script = {}", "scripts = {}", "scripts = { setup = {}, wrapper = {} }", "profile.a.scripts = [{ filter = 'all()' }]", "script = {}\nscripts.setup = {}"):
+        yield with_scripts(text, words="")
+        yield with_scripts(text)
+    for table in ("script = {}\nscripts.setup.<b>.command = 'p'", "script.<a>.command = 'p'\nscripts.setup = {}", "script.<a>.command = 'p'\nscripts.wrapper.<b>.command = 'p'", "script.<a>.command = 'p'\nscripts.wrapper = {}"):
+        yield with_scripts(table)
+        yield with_scripts(*table.split("\n"))
+
+
+def script_merge_rows():
+    """Scripts of several files: what stands under `script` stands under `scripts.setup` of what all come to."""
+    repositories = [
+        "script.'@tool:t:a'.command = 'new'", "scripts.setup.<b>.command = 'new'", "script.<b>.command = { command-line = 'new', relative-to = 'none' }", "scripts = {}", "script = {}", "scripts.wrapper.<a>.command = 'w'",
+    ]
+    tools = [
+        "script.<a> = { command = { command-line = 'old', env = { A = 'old' }, relative-to = 'target' }, capture-stdout = true }",
+        "scripts.setup.<a> = { command = ['old'], leak-timeout = { period = '1s', result = 'fail' } }",
+        "script.<a> = { command = { command-line = 'older', env = { B = 'older' } }, leak-timeout = { period = '2s' }, junit.store-success-output = false }",
+        "scripts.setup.<a> = { command = { command-line = ['oldest', 'x'], env = { A = 'oldest' } }, slow-timeout = '5s' }",
+        "scripts.wrapper.<a> = { command = 'w', target-runner = 'around-wrapper' }",
+    ]
+    for low, high in itertools.permutations(tools, 2):
+        yield with_scripts(low, high, "")
+    for low, high in itertools.product(tools[:2], repositories):
+        yield with_scripts(low, high)
+    for three in itertools.permutations(tools[:3], 3):
+        yield with_scripts(*three, "scripts.setup.<b>.command = 'p'")
+    # two keys that are one name
+    yield with_scripts("script.\"\u00e9\".command = 'p'", words="setup-scripts")
+    yield "default", DEFINED, [tool("t", "scripts.setup.\"@tool:t:e\u0301\".command = 'p'"), tool("u", "script.\"@tool:t:\u00e9\".command = 'q'"), repository("profile.a.scripts = [{ filter = 'x', setup = \"@tool:t:\u00e9\" }]")], BOTH
+    # what `script` and `scripts` are in several files
+    for low, high in (("script = {}", "scripts = 1"), ("scripts = []", "script = {}"), ("scripts.setup = {}", "script = 'x'")):
+        yield with_scripts(low, high)
+
+
+def script_rows():
+    for rows in (script_pair_rows, script_stage_rows, script_value_rows, script_name_rows, script_rule_rows, feature_rows, script_merge_rows):
+        yield from rows()
+
+
 def load_rows():
     for rows in (source_rows, value_rows, merge_rows, chain_rows, filter_rows, override_rows):
         yield from rows()
     yield "default", "profiles", [tool("t", "experimental = ['setup-scripts', 'zzz']")]
     yield from drawn_rows(range(200))
+    yield from script_rows()
 
 
 def load_pairs():
-    for name, keys, sources in load_rows():
+    for name, keys, sources, *words in load_rows():
         told = " | ".join(" ".join(source) for source in sources)
-        yield f"{name} {keys} | {told}", load_answer(name, keys, sources)
+        yield " ".join([name, keys, *words]) + f" | {told}", load_answer(name, keys, sources, *(words or [""]))
 
 
 # ---- the rows of warnings
@@ -956,19 +1431,44 @@ def warning_texts():
     yield "[script.x]\ncommand = 'a'\nzzz = 1\n[scripts]\nother = {}\n[test-groups.g]\nmax-threads = 1\nmin-threads = 1"
 
 
+def script_warning_texts():
+    """Tables of scripts where they stood before, and rules that name no script."""
+    for table in ("{}", "{ a = {} }", "1", "[]", "[{ a = 1 }]", "{ a = 1, b = 2 }"):
+        yield f"script = {table}"
+        yield f"scripts.setup = {table}"
+    rules = [
+        "{}", "{ setup = [] }", "{ setup = 'a' }", "{ setup = ['a'] }", "{ setup = [[]] }", "{ setup = {} }", "{ setup = 1 }", "{ list-wrapper = 'a' }", "{ run-wrapper = [] }",
+        "{ setup = [], run-wrapper = 'a' }", "{ filter = 'x', platform = 'p' }", "{ zzz = 1 }", "[]", "1",
+    ]
+    for rule in rules:
+        yield f"profile.a.scripts = [{rule}]"
+        yield f"profile.a.scripts = [{rule}, {{ }}, {rule}]"
+    for value in ("{}", "[]", "'x'", "{ setup = [] }"):
+        yield f"profile.a.scripts = {value}"
+    yield "profile = [{ scripts = [{}] }]"
+    yield "profile.a = [{ scripts = [{}] }]"
+    yield "profile.b.scripts = [{}]\nprofile.a.scripts = [{}, {}]\nprofile.B.scripts = [{}]\nprofile.'a.b'.scripts = [{}]\nprofile.c.overrides = [{}]"
+    yield "profile.\"a\\nb\".scripts = [{}]\nprofile.\"\".scripts = [{}]\nprofile.\"\u00e9\".scripts = [{}]"
+    yield f"profile.default.scripts = [{', '.join(['{}'] * 12)}]"
+    yield "profile.default-x.scripts = [{ zzz = 1 }]\nzzz = 1\nscript.a = {}\nscripts.zzz = 1\nprofile.default-a.scripts = [{ setup = [] }]"
+
+
 def warning_pairs():
+    for text in script_warning_texts():
+        yield f"r.toml {text}", warning_answer("r.toml", text)
     for text in warning_texts():
         yield f"r.toml {text}", warning_answer("r.toml", text)
     for path in ("/a/b.toml", "é.toml", "a\u0001b.toml", "a\u007f\u0080.toml", "\u001b"):
-        yield f"{path} x = 1\nprofile.default-x = {{}}", warning_answer(path, "x = 1\nprofile.default-x = {}")
+        for text in ("x = 1\nprofile.default-x = {}", "script.a = 1\nprofile.a.scripts = [{}]"):
+            yield f"{path} {text}", warning_answer(path, text)
 
 
 # ---- the files
 
 TABLE_ROWS = {
     "loads": (
-        "PROFILE SETTINGS | KIND PATH OUTCOME | .. => each setting, or `refused`, the rule and where; OUTCOME is `missing`, `failed` and a cause, or"
-        " `text` and the text",
+        "PROFILE SETTINGS FEATURES | KIND PATH OUTCOME | .. => each setting, or `refused`, the rule and where; FEATURES are those that are known,"
+        " `asked` for those that the sources ask for, and may be left out; OUTCOME is `missing`, `failed` and a cause, or `text` and the text",
         load_pairs,
     ),
     "warnings": ("PATH TEXT => what is told of the file, in order; `-` where nothing is", warning_pairs),

@@ -12,6 +12,7 @@ scripts/version_rows.py, and what predicates of filtersets are on a binary by sc
   on the test. A setting is that of the first that holds and sets it, else that of the nearest profile, else a priority of 0 and `@global`.
 - The default filter is that of the first override that has one and whose specs may hold on the host and on the target, else that of the nearest
   profile. `default()` is this filter, in a filter of an override as in the filterset, also where it is left aside.
+- The filter of a script rule with a `list-wrapper` asks for no `test(..)`, `group(..)` or `default()`.
 - In force are the filterset, where one is given, and the default filter, unless it is left aside. A binary is listed where each of them can hold on
   it, by answers of its own to each place of `test(..)` and `group(..)`; a test is selected where all hold on it. `group(..)` is asked of the group
   that is the test's setting, and may name `@global` and the groups that all files define together.
@@ -397,6 +398,7 @@ def counted(sources):
 
 
 def override_of(rule, workspace):
+    """An override; or what is read of a script rule, which has no default filter."""
     platforms = rule.get("platform", {})
     if not platforms and "filter" not in rule:
         raise Refused("Load.NoConstraint")
@@ -414,8 +416,27 @@ def override_of(rule, workspace):
     return Override(rule, host, target, *filters)
 
 
-def file_of(source, workspace):
-    """What a file has, and its overrides by profiles."""
+def script_rule_of(rule, workspace):
+    it = override_of(rule, workspace)
+    if "list-wrapper" in rule and it.filter and {"test", "group", "default"} & {leaf.name for leaf in leaves_of(it.filter)}:
+        raise Refused("Load.ListWrapperRunFilter")
+    return it
+
+
+class Rules(NamedTuple):
+    """The rules of a profile in a file."""
+
+    overrides: list
+    scripts: list
+
+
+def rules_of(profile, workspace):
+    overrides = [override_of(rule, workspace) for rule in profile.get("overrides", [])]
+    return Rules(overrides, [script_rule_of(rule, workspace) for rule in profile.get("scripts", [])])
+
+
+def file_of(source, workspace, features):
+    """What a file has, and its rules by profiles."""
     if source.get("missing") and source["kind"] == "discovered":
         return {}, {}
     if "text" not in source:
@@ -425,13 +446,13 @@ def file_of(source, workspace):
         file = configs.FILE(members, [])
     except configs.Bad:
         raise Refused("Load.BadValue") from None
-    for group in file.get("test-groups", {}):
-        owner = elements.identifier(group)[1]
-        its_own = elements.identifier(source["tool"])[0] if source["kind"] == "tool" else None
-        if (owner and owner[0]) != its_own:
-            raise Refused("Load.BadName")
+    owner = elements.identifier(source["tool"])[0] if source["kind"] == "tool" else None
+    try:
+        configs.check_defined(owner, source["path"], file, features)
+    except configs.Refusal as refusal:
+        raise Refused(f"Load.{str(refusal).split(' ')[0]}") from None
     profiles = file.get("profile", {})
-    return members, {name: [override_of(rule, workspace) for rule in profiles[name]] for name in in_order(profiles)}
+    return members, {name: rules_of(profiles[name], workspace) for name in in_order(profiles)}
 
 
 def custom_group(rule):
@@ -440,20 +461,29 @@ def custom_group(rule):
     return None if group == "Global" else json.loads(group.removeprefix("Custom(").removesuffix(")"))
 
 
-def load(sources, workspace):
-    tree, overrides = read_toml(configs.BUILT_IN), []
+def check_named(merged, rules):
+    """That each group and script that a rule names is defined."""
+    if not {custom_group(rule) for it in rules for rule in it.overrides} <= {None, *merged.get("test-groups", {})}:
+        raise Refused("Load.UnknownGroup")
+    scripts = merged.get("scripts", {})
+    values = [rule.values for it in rules for rule in it.scripts]
+    if not {name for it in values for name in it.get("setup", [])} <= {*dict(scripts.get("setup", []))}:
+        raise Refused("Load.UnknownScript")
+    if not {it[key] for it in values for key in ("list-wrapper", "run-wrapper") if key in it} <= {*dict(scripts.get("wrapper", []))}:
+        raise Refused("Load.UnknownWrapper")
+
+
+def load(sources, workspace, features=()):
+    tree, rules = read_toml(configs.BUILT_IN), []
     for source in sources:
-        members, of_file = file_of(source, workspace)
-        tree = configs.over(members, tree)
-        overrides.append(of_file)
+        members, of_file = file_of(source, workspace, features)
+        tree = configs.over(configs.moved(members), tree)
+        rules.append(of_file)
     try:
         merged = configs.MERGED(tree, [])
     except configs.Bad:
         raise Refused("Load.BadValue") from None
-    groups = list(merged.get("test-groups", {}))
-    rules = [rule for of_file in overrides for name in of_file for rule in of_file[name]]
-    if not {custom_group(rule) for rule in rules} <= {None, *groups}:
-        raise Refused("Load.UnknownGroup")
+    check_named(merged, [of_profile for of_file in rules for of_profile in of_file.values()])
     try:
         configs.accepted(merged["profile"])
     except configs.Refusal as refusal:
@@ -463,7 +493,8 @@ def load(sources, workspace):
         default_filters = {name: filter_of(text, workspace, "default-filter", None) for name, text in texts.items()}
     except NoFilterset:
         raise Refused("Load.BadFilter") from None
-    return Config(merged, default_filters, overrides, groups)
+    overrides = [{name: it.overrides for name, it in of_file.items()} for of_file in rules]
+    return Config(merged, default_filters, overrides, list(merged.get("test-groups", {})))
 
 
 def sets_scripts(file):
@@ -471,7 +502,7 @@ def sets_scripts(file):
 
 
 def versions_told(sources, inputs):
-    """The warnings of versions."""
+    """The warnings of versions, and the features that are asked for."""
     greatest, names = [None, None], []
     for source in sources:
         if "text" not in source:
@@ -497,7 +528,7 @@ def versions_told(sources, inputs):
             break
     if set(names) - versions.FEATURES:
         raise Refused("UnknownFeature")
-    return told
+    return told, names
 
 
 # ---- settings
@@ -610,8 +641,8 @@ def plan_of(inputs):
     record = inputs["workspace"]
     check_workspace(record)
     workspace, sources = workspace_of(record), counted(inputs["sources"])
-    warnings = versions_told(sources, inputs)
-    config = load(sources, workspace)
+    warnings, features = versions_told(sources, inputs)
+    config = load(sources, workspace, features)
     texts = [(it["path"], it["text"]) for it in sources if "text" in it]
     if any(sets_scripts(read_toml(text)) for _, text in texts):
         raise Refused("NotYet")

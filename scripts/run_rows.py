@@ -381,6 +381,18 @@ PLAN_TEXTS = [
     "zzz = 1\n", "b = 1\na.x.y = 2\nB = 3\n'a.b' = 4\n'a\u0009b' = 5\n", "[profile.default-x]\nzzz = 1\n[profile.default-b]\n[profile.default-miri]\n[profile.z]\nzzy = 1\n",
     "[profile.default]\nretries = { backoff = 'fixed', count = 1, max-delay = '1s' }\nfail-fast = { max-fail = 1, zzz = 1 }\narchive = { zzz = 1 }\nbench.zzz = 1\n",
     "zzz = 1\n[profile.default]\nretries = -1\n",
+    # scripts of which one thing is wrong; and filters of script rules, with a `list-wrapper` and without
+    "[scripts.wrapper.w]\ncommand = 'x'\n", "experimental = ['wrapper-scripts']\n[scripts.setup.s]\ncommand = 'x'\n", "experimental = ['setup-scripts']\n[scripts.setup.s]\n",
+    "experimental = ['setup-scripts']\n[script.s]\ncommand = 'x'\n[scripts.setup.t]\ncommand = 'x'\n", "experimental = ['setup-scripts']\n[scripts.setup.'@tool:t:s']\ncommand = 'x'\n",
+    "experimental = ['setup-scripts', 'wrapper-scripts']\n[scripts.setup.s]\ncommand = 'x'\n[scripts.wrapper.s]\ncommand = 'x'\n",
+    "[[profile.default.scripts]]\nfilter = 'all()'\nsetup = 's'\n", "[[profile.default.scripts]]\nfilter = 'all()'\nlist-wrapper = 'w'\n", "[[profile.default.scripts]]\nplatform = 'cfg('\n",
+    *(
+        f"experimental = ['wrapper-scripts']\n[scripts.wrapper.w]\ncommand = 'x'\n[[profile.default.scripts]]\nfilter = '{text}'\n{key} = 'w'\n"
+        for text, key in [
+            *((text, "list-wrapper") for text in ("all()", "none()", "test(a)", "not test(a)", "all() | test(a)", "default()", "group(@global)", "kind(lib)", "kind(lib) & test(a)", "platform(host)", "test(")),
+            *((text, "run-wrapper") for text in ("test(a)", "default()", "group(@global)")),
+        ]
+    ),
 ]
 EXPONENTIAL = "[profile.default]\nretries = { backoff = 'exponential', count = 1, delay = '1s', max-delay = '2s' }\n"
 # A profile and texts: of tools, the first one the highest, and of the repository.

@@ -3,10 +3,11 @@ use crate::parts::{joined, push_part, three, two};
 use crate::plain_filter::PlainFilter;
 use crate::plain_spec::PlainSpec;
 use crate::settings::setting;
-use nextest_config_elements::FeatureSet;
+use nextest_config_elements::{FeatureSet, VersionOnlyConfig, VersionOnlyError, VersionSource};
 use nextest_config_resolution::{
     BuildPlatforms, ConfigSource, ConfigSourceKind, ConfigSourceOutcome, DefaultConfigWarnings,
-    EvaluatableProfile, LoadError, LoadFault, NextestConfig, ProfileError, ToolName, tell_file,
+    EvaluatableProfile, LoadError, LoadFault, NextestConfig, ProfileError, ToolName, counted,
+    tell_file,
 };
 use nextest_text::{Listing, Text};
 use std::alloc::Global;
@@ -59,8 +60,8 @@ fn outcome_of(alloc: Global, outcome: &str) -> Option<ConfigSourceOutcome> {
     }
 }
 
-// A profile and the settings that are asked for, with commas between them, and then sources: what each setting is, or why the
-// sources are refused. Default filters are those without a language.
+// A profile and the settings that are asked for, with commas between them, perhaps the features that are known, and then sources:
+// what each setting is, or why the sources are refused. Default filters are those without a language.
 pub(crate) fn loads(alloc: Global, input: &str) -> Option<String> {
     let (head, sources) = two(input, BAR);
     let sources = sources_of(alloc, sources)?;
@@ -68,10 +69,48 @@ pub(crate) fn loads(alloc: Global, input: &str) -> Option<String> {
 }
 
 fn loaded(alloc: Global, sources: &[ConfigSource], head: &str) -> Option<String> {
-    match PlainConfig::from_sources(alloc, "/work", &(), sources, FeatureSet::default()) {
-        Ok(config) => settings_told(alloc, &config, head),
+    let (name, settings, words) = three(head);
+    let features = features_of(alloc, words, sources)?;
+    match PlainConfig::from_sources(alloc, "/work", &(), sources, features) {
+        Ok(config) => settings_told(alloc, &config, name, settings),
         Err(LoadError::Refused(fault)) => refused(alloc, &fault),
         Err(LoadError::OutOfMemory) => None,
+    }
+}
+
+// The features that are known: those of some names, or, by `asked`, those that the sources ask for.
+fn features_of(alloc: Global, words: &str, sources: &[ConfigSource]) -> Option<FeatureSet> {
+    if words == "asked" {
+        return features_asked(alloc, sources);
+    }
+    Some(FeatureSet {
+        setup_scripts: words.contains("setup-scripts"),
+        wrapper_scripts: words.contains("wrapper-scripts"),
+        benchmarks: words.contains("benchmarks"),
+    })
+}
+
+// The features that the sources ask for which count; none where one of these may not ask for what it does.
+fn features_asked(alloc: Global, sources: &[ConfigSource]) -> Option<FeatureSet> {
+    let counted = counted(alloc, sources).ok()?;
+    let mut lent = Vec::new(alloc);
+    for source in counted {
+        let (kind, path) = (&source.kind, source.path.as_str());
+        let text = text_of(&source.outcome);
+        lent.push(VersionSource { kind, path, text }).ok()?;
+    }
+    match VersionOnlyConfig::from_sources(alloc, lent.as_slice()) {
+        Ok(config) => Some(config.experimental().known()),
+        Err(VersionOnlyError::Refused(_)) => Some(FeatureSet::default()),
+        Err(VersionOnlyError::OutOfMemory) => None,
+    }
+}
+
+// The text of a source, if it was read.
+fn text_of(outcome: &ConfigSourceOutcome) -> Option<&str> {
+    match outcome {
+        ConfigSourceOutcome::Text(text) => Some(text.as_str()),
+        ConfigSourceOutcome::NotFound | ConfigSourceOutcome::Failed(_) => None,
     }
 }
 
@@ -87,8 +126,12 @@ fn refused(alloc: Global, fault: &LoadFault) -> Option<String> {
 }
 
 // What the settings of a profile are.
-fn settings_told(alloc: Global, config: &PlainConfig, head: &str) -> Option<String> {
-    let (name, settings) = two(head, " ");
+fn settings_told(
+    alloc: Global,
+    config: &PlainConfig,
+    name: &str,
+    settings: &str,
+) -> Option<String> {
     let platforms = BuildPlatforms {
         host: &Listing::new(alloc),
         target: None,

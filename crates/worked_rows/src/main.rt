@@ -14,6 +14,7 @@ mod changes;
 mod commands;
 mod compiled;
 mod configs;
+mod defined;
 mod elements;
 mod ends;
 mod filter_texts;

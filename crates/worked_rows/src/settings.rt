@@ -1,5 +1,6 @@
 // The settings of a profile in words.
 use crate::configs::{PlainConfig, PlainProfile};
+use crate::defined::{rules_told, scripts_told};
 use crate::plain_filter::PlainFilter;
 use nextest_config_elements::{JunitConfig, NextestRunMode};
 use nextest_config_resolution::ProfileError;
@@ -19,6 +20,8 @@ pub(crate) fn setting(
         "parents" => debug(alloc, profile.chain().len().saturating_sub(1)),
         "store-dir" => String::from_str(alloc, profile.store_dir()).ok(),
         "inherits" => may_be(alloc, profile.inherits()),
+        "scripts" => scripts_told(alloc, config),
+        "script-rules" => rules_told(alloc, config),
         "default-filter" => filter_text(alloc, profile.default_filter().filter),
         "run-extra-args" => arguments(alloc, profile.run_extra_args()),
         "junit" => report(alloc, profile.junit()),
