@@ -58,12 +58,11 @@ fn plan_of(alloc: Global, inputs: &Inputs, has_settings: bool) -> Option<String>
     if has_settings {
         told
     } else {
-        with_asked(told, lister.asked())
+        with_asked(told?, lister.asked())
     }
 }
 
-fn with_asked(told: Option<String>, asked: &[Text]) -> Option<String> {
-    let mut told = told?;
+fn with_asked(mut told: String, asked: &[Text]) -> Option<String> {
     told.push_str("; asked").ok()?;
     push_each(&mut told, " ", asked, "")?;
     Some(told)
