@@ -6,10 +6,10 @@ use Rattle.nextest_filtering_filters.specs.Query.{Binary, Test}
 use Rattle.nextest_filtering_filters.specs.declared.known_groups.KnownGroups.{KnownGroups}
 use Rattle.nextest_filtering_filters.specs.declared.known_groups.KnownGroups.TheVariants as groups
 use Rattle.nextest_config_resolution_filters.specs.Filters.{FiltersLaws}
-use Rattle.nextest_config_resolution_load.specs.Load.{AreReadRules, IsReadAs, IsSpecBy}
+use Rattle.nextest_config_resolution_load.specs.Load.{AreReadBy, IsReadAs, IsSpecBy}
 use Rattle.nextest_config_resolution_load.specs.declared.languages.FilterPurpose.TheVariants as purpose
-use Rattle.nextest_config_resolution_load.specs.Load.{LoadedOverride}
-use Rattle.nextest_config_resolution_overrides.specs.declared.placed_override.PlacedOverride.{PlacedOverride}
+use Rattle.nextest_config_resolution_load.specs.Rules.{Conditions}
+use Rattle.nextest_config_resolution_load.specs.declared.loaded_rule.LoadedRule.{LoadedRule}
 use Rattle.nextest_config_resolution_profiles.specs.Asking.{AsksNoGroups, IsAskable, Serves}
 use Rattle.nextest_config_resolution_profiles.specs.Languages.{IsFilterIn}
 use Rattle.nextest_config_resolution_values.specs.File.{Named}
@@ -38,15 +38,15 @@ module _ {F Cx : Type 0} {IsParsed : Cx → FiltersetKind → KnownGroups → Li
   all_serve (profile ∷ profiles) [] all = absurd all
   all_serve (profile ∷ profiles) (found ∷ filters) all = (serves profile.1.default_filter found all.0, all_serve profiles filters all.1)
 
-  pub all_askable : {S : Type 0} (IsSpec : IsSpecBy S) (rules : List PlacedOverride) (loaded : List (LoadedOverride F S))
-      → AreReadRules (IsFilterIn IsParsed has_runtime_leaves cx) IsSpec rules loaded → AllByRecursion (IsAskable serves_as_default asks_groups) loaded
-  all_askable IsSpec [] [] are = tt
-  all_askable IsSpec [] (it ∷ loaded) are = absurd are
-  all_askable IsSpec (rule ∷ rules) [] are = absurd are
-  all_askable IsSpec (rule ∷ rules) (it ∷ loaded) are = (
+  pub all_askable : {P S : Type 0} (conditions : P → Conditions) (IsSpec : IsSpecBy S) (rules : List P) (loaded : List (LoadedRule P F S))
+      → AreReadBy conditions (IsFilterIn IsParsed has_runtime_leaves cx) IsSpec rules loaded → AllByRecursion (IsAskable serves_as_default asks_groups) loaded
+  all_askable conditions IsSpec [] [] are = tt
+  all_askable conditions IsSpec [] (it ∷ loaded) are = absurd are
+  all_askable conditions IsSpec (rule ∷ rules) [] are = absurd are
+  all_askable conditions IsSpec (rule ∷ rules) (it ∷ loaded) are = (
     record {
-      filter = asks_none rule.config.filter it.compiled.filter are.0.compiled.filter;
-      default_filter = serves rule.config.default_filter it.compiled.default_filter are.0.compiled.default_filter;
+      filter = asks_none (conditions rule).filter it.compiled.filter are.0.compiled.filter;
+      default_filter = serves (conditions rule).default_filter it.compiled.default_filter are.0.compiled.default_filter;
     },
-    all_askable IsSpec rules loaded are.1,
+    all_askable conditions IsSpec rules loaded are.1,
   )

@@ -11,10 +11,11 @@ use Rattle.nextest_config_resolution_overrides.specs.declared.placed_override.Pl
 use Rattle.nextest_config_resolution_profiles.specs.ChainRules.{seen_rule, seen_rules}
 use Rattle.nextest_config_resolution_profiles.specs.Evaluatable.{Evaluatable}
 use Rattle.nextest_config_resolution_profiles.specs.Finding.{AddsHeld, FindsHeld}
-use Rattle.nextest_config_resolution_profiles.specs.Held.{AreSettingsFor, Holds, IsGroupBy, group_set, placed_of}
-use Rattle.nextest_config_resolution_profiles.specs.Platforms.{ForTarget, RuleOn, default_set}
-use Rattle.nextest_config_resolution_profiles.specs.RuleLaws.{EarlyDefault, GroupOfSettings, NoRules, OneHeld, SameSettingsFor, SameSourcesFor}
+use Rattle.nextest_config_resolution_profiles.specs.Held.{AreSettingsFor, Holds, IsGroupBy, group_set, layers_of, placed_of}
+use Rattle.nextest_config_resolution_profiles.specs.Platforms.{ForTarget, OverrideOn, RuleOn, default_set}
+use Rattle.nextest_config_resolution_profiles.specs.RuleLaws.{EarlyDefault, GroupOfSettings, NoRules, OneHeld, OneScriptsHeld, SameSettingsFor, SameSourcesFor}
 use Rattle.nextest_config_resolution_profiles.specs.declared.chain_rule.ChainRule.{ChainRule}
+use Rattle.nextest_config_resolution_scripts.specs.declared.script_rule.PlacedScriptRule.{PlacedScriptRule}
 use Rattle.nextest_config_resolution_settings.specs.Keys as key
 use Rattle.nextest_config_resolution_settings.specs.Nearest.{IsNearest, IsSetting, of_fallback, of_profiles, of_rule, SetsNone, Source, no_layer}
 use Rattle.nextest_config_resolution_settings.specs.RuleKeys as rule_key
@@ -51,47 +52,51 @@ module _ {R : Type 0} (Holding : R → Type 0) where
 
 -- ---- as a loop finds them
 
-module _ {F S : Type 0} (Holding : RuleOn F S → Type 0) where
-  pub found_none : (found : List PlacedOverride) → found ≡ [] → FindsHeld Holding [] found
+module _ {P F S : Type 0} (Holding : RuleOn P F S → Type 0) where
+  pub found_none : (found : List P) → found ≡ [] → FindsHeld Holding [] found
   found_none found none = record { held = []; are = none_left; same = none }
 
-  found_both : (rules more : List (RuleOn F S)) (found own all : List PlacedOverride) → FindsHeld Holding rules found → FindsHeld Holding more own → all ≡ found ++ own
+  pub found_both : (rules more : List (RuleOn P F S)) (found own all : List P) → FindsHeld Holding rules found → FindsHeld Holding more own → all ≡ found ++ own
       → FindsHeld Holding (rules ++ more) all
   found_both rules more found own all before behind same = record {
     held = before.held ++ behind.held;
     are = held_both Holding before.are behind.are;
-    same = same ∙ ap (λ (front : List PlacedOverride). front ++ own) before.same ∙ ap (λ (rest : List PlacedOverride). map placed_of before.held ++ rest) behind.same
+    same = same ∙ ap (λ (front : List P). front ++ own) before.same ∙ ap (λ (rest : List P). map placed_of before.held ++ rest) behind.same
         ∙ sym (map-append placed_of before.held behind.held);
   }
 
   -- one more rule
-  pub found_more : (rules : List (ChainRule F S)) (place : ℕ) (rule : ChainRule F S) (found all : List PlacedOverride) → place < length rules → rule ≡ get_or rules place rule
+  pub found_more : (rules : List (ChainRule P F S)) (place : ℕ) (rule : ChainRule P F S) (found all : List P) → place < length rules → rule ≡ get_or rules place rule
       → FindsHeld Holding (seen_rules (take place rules)) found → AddsHeld Holding (seen_rule rule) found all → FindsHeld Holding (seen_rules (take (place + 1) rules)) all
   found_more rules place rule found all within is before adds =
-      subst (λ (them : List (RuleOn F S)). FindsHeld Holding them all) (sym (ap seen_rules (taken_more rules place rule within is) ∙ map-append seen_rule (take place rules) (rule ∷ [])))
+      subst (λ (them : List (RuleOn P F S)). FindsHeld Holding them all) (sym (ap seen_rules (taken_more rules place rule within is) ∙ map-append seen_rule (take place rules) (rule ∷ [])))
       (found_both (seen_rules (take place rules)) (seen_rule rule ∷ []) found adds.own all before adds.finds adds.added)
 
-  pub found_all : (rules : List (ChainRule F S)) (place : ℕ) (found : List PlacedOverride) → length rules ≤ place → FindsHeld Holding (seen_rules (take place rules)) found
+  pub found_all : (rules : List (ChainRule P F S)) (place : ℕ) (found : List P) → length rules ≤ place → FindsHeld Holding (seen_rules (take place rules)) found
       → FindsHeld Holding (seen_rules rules) found
-  found_all rules place found over finds = subst (λ (them : List (ChainRule F S)). FindsHeld Holding (seen_rules them) found) (take_all place rules over) finds
+  found_all rules place found over finds = subst (λ (them : List (ChainRule P F S)). FindsHeld Holding (seen_rules them) found) (take_all place rules over) finds
 
   -- a rule that holds is added, and one that doesn't isn't
-  pub adds_one : (rule : RuleOn F S) (old new : List PlacedOverride) → Holding rule → new ≡ old ++ placed_of rule ∷ [] → AddsHeld Holding rule old new
+  pub adds_one : (rule : RuleOn P F S) (old new : List P) → Holding rule → new ≡ old ++ placed_of rule ∷ [] → AddsHeld Holding rule old new
   adds_one rule old new holds same =
       record { own = placed_of rule ∷ []; finds = record { held = rule ∷ []; are = holds_too rule [] [] holds none_left; same = refl }; added = same }
 
-  pub adds_none : (rule : RuleOn F S) (old new : List PlacedOverride) → ¬ Holding rule → new ≡ old → AddsHeld Holding rule old new
+  pub adds_none : (rule : RuleOn P F S) (old new : List P) → ¬ Holding rule → new ≡ old → AddsHeld Holding rule old new
   adds_none rule old new fails same =
       record { own = []; finds = record { held = []; are = left_out rule [] [] fails none_left; same = refl }; added = same ∙ sym (append-nil old) }
 
 -- the settings by the rules that were found
 pub settings_found : {F S T : Type 0} (OnTest : F → F → Test → Bool → Type 0) (Tells : T → Source → Type 0) (profile : Evaluatable F S) (mode : NextestRunMode) (test : Test) (it : TestSettings T)
-    (found : List PlacedOverride) → FindsHeld (Holds OnTest profile.default_filter.filter.now test) profile.rules found → AreSettings Tells mode found profile.chain it
+    (found : List PlacedOverride) (scripts : List PlacedScriptRule) → FindsHeld (Holds OnTest profile.default_filter.filter.now test) profile.rules found
+    → FindsHeld (Holds OnTest profile.default_filter.filter.now test) profile.script_rules scripts → AreSettings Tells mode (layers_of profile found scripts) it
     → AreSettingsFor OnTest Tells profile mode test it
-settings_found OnTest Tells profile mode test it found finds settings = record {
+settings_found OnTest Tells profile mode test it found scripts finds also settings = record {
   held = finds.held;
   are = finds.are;
-  settings = subst (λ (held : List PlacedOverride). AreSettings Tells mode held profile.chain it) finds.same settings;
+  scripts = also.held;
+  scripts_are = also.are;
+  settings = subst (λ (held : List PlacedOverride). AreSettings Tells mode (layers_of profile held (map placed_of also.held)) it) finds.same
+      (subst (λ (held : List PlacedScriptRule). AreSettings Tells mode (layers_of profile found held) it) also.same settings);
 }
 
 -- ---- laws
@@ -116,22 +121,35 @@ early_default F S early it rules none (inr other) = other.1
 pub one_held : {F : Type 0} (OnTest : F → F → Test → Bool → Type 0) (S : Type 0) → OneHeld OnTest S
 one_held OnTest S profile test one other are also = held_once (Holds OnTest profile.default_filter.filter.now test) are also
 
+pub one_scripts_held : {F : Type 0} (OnTest : F → F → Test → Bool → Type 0) (S : Type 0) → OneScriptsHeld OnTest S
+one_scripts_held OnTest S profile test one other are also = held_once (Holds OnTest profile.default_filter.filter.now test) are also
+
+-- the layers of a test are the same
+same_layers : {F S T U : Type 0} (OnTest : F → F → Test → Bool → Type 0) (Tells : T → Source → Type 0) (Also : U → Source → Type 0) (profile : Evaluatable F S) (mode : NextestRunMode) (test : Test)
+    (one : TestSettings T) (other : TestSettings U) (first : AreSettingsFor OnTest Tells profile mode test one) (second : AreSettingsFor OnTest Also profile mode test other)
+    → AreSettings Also mode (layers_of profile (map placed_of first.held) (map placed_of first.scripts)) other
+same_layers {S = S} OnTest Tells Also profile mode test one other first second =
+    subst (λ (held : List PlacedOverride). AreSettings Also mode (layers_of profile held (map placed_of first.scripts)) other)
+    (ap (map placed_of) (one_held OnTest S profile test second.held first.held second.are first.are))
+    (subst (λ (scripts : List PlacedScriptRule). AreSettings Also mode (layers_of profile (map placed_of second.held) scripts) other)
+    (ap (map placed_of) (one_scripts_held OnTest S profile test second.scripts first.scripts second.scripts_are first.scripts_are)) second.settings)
+
 pub same_settings_for : {F T U : Type 0} (OnTest : F → F → Test → Bool → Type 0) (S : Type 0) (Tells : T → Source → Type 0) (Also : U → Source → Type 0) → SameSettingsFor OnTest S Tells Also
 same_settings_for OnTest S Tells Also profile mode test one other first second =
-    let same = ap (map placed_of) (one_held OnTest S profile test second.held first.held second.are first.are) in
-    same_settings Tells Also mode (map placed_of first.held) profile.chain one other first.settings
-    (subst (λ (held : List PlacedOverride). AreSettings Also mode held profile.chain other) same second.settings)
+    same_settings Tells Also mode (layers_of profile (map placed_of first.held) (map placed_of first.scripts)) one other first.settings
+    (same_layers OnTest Tells Also profile mode test one other first second)
 
 pub same_sources_for : {F T : Type 0} (OnTest : F → F → Test → Bool → Type 0) (S : Type 0) (Tells : T → Source → Type 0) → SameSourcesFor OnTest S Tells
 same_sources_for OnTest S Tells profile mode test one other first second =
-    let same = ap (map placed_of) (one_held OnTest S profile test second.held first.held second.are first.are) in
-    same_sources Tells mode (map placed_of first.held) profile.chain one other first.settings
-    (subst (λ (held : List PlacedOverride). AreSettings Tells mode held profile.chain other) same second.settings)
+    same_sources Tells mode (layers_of profile (map placed_of first.held) (map placed_of first.scripts)) one other first.settings
+    (same_layers OnTest Tells Tells profile mode test one other first second)
 
 pub no_rules : {F T : Type 0} (OnTest : F → F → Test → Bool → Type 0) (S : Type 0) (Tells : T → Source → Type 0) → NoRules OnTest S Tells
-no_rules OnTest S Tells profile mode test settings none are =
-    subst (λ (held : List PlacedOverride). AreSettings Tells mode held profile.chain settings)
-    (ap (map placed_of) (held_of_none (Holds OnTest profile.default_filter.filter.now test) are.are none)) are.settings
+no_rules OnTest S Tells profile mode test settings none no_scripts are =
+    subst (λ (held : List PlacedOverride). AreSettings Tells mode (layers_of profile held []) settings)
+    (ap (map placed_of) (held_of_none (Holds OnTest profile.default_filter.filter.now test) are.are none))
+    (subst (λ (scripts : List PlacedScriptRule). AreSettings Tells mode (layers_of profile (map placed_of are.held) scripts) settings)
+    (ap (map placed_of) (held_of_none (Holds OnTest profile.default_filter.filter.now test) are.scripts_are no_scripts)) are.settings)
 
 -- ---- the group of a test
 
@@ -155,7 +173,7 @@ nearest_mapped set_by f xs place value it = record {
 }
 
 -- as a setting of the rules that hold
-as_setting : {F S P : Type 0} (Holding : RuleOn F S → Type 0) (by_profile : P → Option TestGroup) (profiles : List P) (rules held : List (RuleOn F S)) (it : TestGroup)
+as_setting : {F S P : Type 0} (Holding : OverrideOn F S → Type 0) (by_profile : P → Option TestGroup) (profiles : List P) (rules held : List (OverrideOn F S)) (it : TestGroup)
     → ((profile : P) → by_profile profile ≡ None) → AreHeld Holding rules held → IsGroupBy Holding rules it
     → (from : Source) × IsSetting id_of rule_key.test_group by_profile (map placed_of held) profiles group.Global it from
 as_setting Holding by_profile profiles rules held it unset are (inl (rule, least)) =

@@ -2,6 +2,7 @@ pub mod Askable
 pub mod Chained
 pub mod Columns
 pub mod DefaultKept
+pub mod Enabled
 pub mod Ending
 pub mod Filtered
 pub mod Inheriting

@@ -9,16 +9,16 @@ use Rattle.nextest_config_resolution_inheritance.specs.Inheritance.{Name, Profil
 use Rattle.nextest_config_resolution_load.specs.Checks.{parents_of}
 use Rattle.nextest_config_resolution_load.specs.Load.{named}
 use Rattle.nextest_config_resolution_load.specs.declared.loaded_config.NamedProfile.{NamedProfile}
-use Rattle.nextest_config_resolution_load.specs.Load.{LoadedOverride}
+use Rattle.nextest_config_resolution_load.specs.Load.{LoadedOverride, LoadedScriptRule}
 use Rattle.nextest_config_resolution_load.proofs.Configs.{same_names, same_parents}
 use Rattle.nextest_config_resolution_values.specs.File.{Named}
 use Rattle.nextest_config_resolution_values.specs.declared.profile_config.ProfileConfig.{ProfileConfig}
 use Rattle.nextest_config_resolution_settings.specs.Nearest.{lent}
-use Rattle.nextest_config_resolution_settings.specs.Rules.{rules_of}
+use Rattle.nextest_config_resolution_settings.specs.Rules.{profile_of, rules_of, script_profile_of}
 use Rattle.nextest_config_resolution_profiles.specs.ChainRules.{rules_in}
 use Rattle.nextest_config_resolution_profiles.specs.Chains.{AreAt, IsChained}
 use Rattle.nextest_config_resolution_profiles.specs.Config.{IsDefaultFilterOf, IsChainOf, values_of}
-use Rattle.nextest_config_resolution_profiles.specs.Early.{id_of}
+use Rattle.nextest_config_resolution_profiles.specs.Early.{in_profile}
 use Rattle.nextest_config_resolution_profiles.specs.declared.chains.Chained.{Chained}
 use Rattle.nextest_config_resolution_profiles.proofs.Values.{values_in}
 
@@ -104,11 +104,12 @@ chained all place places given values rise same chain at = record {
 }
 
 -- with its default filter and its rules
-pub is_chained : {F S : Type 0} (all : List NamedProfile) (filters : List (Option F)) (rules : List (LoadedOverride F S)) (place : ℕ) (places given : List ℕ) (it : Chained F S) → Rise (all_of all) → given ≡ places
+pub is_chained : {F S : Type 0} (all : List NamedProfile) (filters : List (Option F)) (rules : List (LoadedOverride F S)) (scripts : List (LoadedScriptRule F S)) (place : ℕ) (places given : List ℕ) (it : Chained F S) → Rise (all_of all) → given ≡ places
     → IsChain (map (λ it. (it.name, it.config.inherits)) all) (name_at (map (λ it. (it.name, it.config.inherits)) all) place) (names_at (map (λ it. (it.name, it.config.inherits)) all) places)
     → AreAt (map named all) given (lent it.values.items) → IsDefaultFilterOf all filters (names_at (all_of all) places) (lent it.values.items) it.default_filter
-    → rules_in it.rules.items ≡ rules_of id_of rules (names_at (all_of all) places)
-    → IsChained all filters rules (name_at (all_of all) place) it
+    → rules_in it.rules.items ≡ rules_of (in_profile profile_of) rules (names_at (all_of all) places)
+    → rules_in it.script_rules.items ≡ rules_of (in_profile script_profile_of) scripts (names_at (all_of all) places)
+    → IsChained all filters rules scripts (name_at (all_of all) place) it
 unfolding chained
-is_chained all filters rules place places given it rise same chain at filtered ruled =
-    record { chained = chained all place places given (lent it.values.items) rise same chain at; filtered = filtered; ruled = ruled }
+is_chained all filters rules scripts place places given it rise same chain at filtered ruled scripted =
+    record { chained = chained all place places given (lent it.values.items) rise same chain at; filtered = filtered; ruled = ruled; scripted = scripted }

@@ -12,22 +12,23 @@ use Rattle.nextest_filtering_filters.specs.declared.known_groups.KnownGroups.The
 use Rattle.nextest_config_elements_identifiers.specs.declared.test_group.TestGroup.{TestGroup}
 use Rattle.nextest_config_elements_identifiers.specs.declared.test_group.TestGroup.TheVariants as group
 use Rattle.nextest_config_resolution_filters.specs.Filters.{FiltersLaws, IsRead}
-use Rattle.nextest_config_resolution_load.specs.Load.{IsReadAs, IsReadRule, IsSpecBy}
+use Rattle.nextest_config_resolution_load.specs.Load.{IsReadAs, IsReadBy, IsReadRule, IsSpecBy, LoadedOverride, LoadedScriptRule}
+use Rattle.nextest_config_resolution_load.specs.Rules.{Conditions, conditions_of, script_conditions_of}
+use Rattle.nextest_config_resolution_load.specs.declared.loaded_rule.LoadedRule.{LoadedRule}
 use Rattle.nextest_config_resolution_load.specs.declared.languages.FilterPurpose.TheVariants as purpose
-use Rattle.nextest_config_resolution_load.specs.Load.{LoadedOverride}
 use Rattle.nextest_config_resolution_profiles.specs.Config.{IsConfig, IsEarly}
-use Rattle.nextest_config_resolution_profiles.specs.Early.{Early}
+use Rattle.nextest_config_resolution_profiles.specs.Early.{Early, in_profile}
 use Rattle.nextest_config_resolution_profiles.specs.Evaluatable.{Evaluatable, IsPutOn}
-use Rattle.nextest_config_resolution_profiles.specs.Held.{Holds, IsGroupBy, group_set, holds_for, placed_of}
+use Rattle.nextest_config_resolution_profiles.specs.Held.{Holds, IsGroupBy, group_set, holds_for, layers_of, placed_of}
 use Rattle.nextest_config_resolution_profiles.specs.Languages.{IsFilterIn, kind_of}
-use Rattle.nextest_config_resolution_profiles.specs.Platforms.{IsChosenDefault, RuleOn, on_platforms}
+use Rattle.nextest_config_resolution_profiles.specs.Platforms.{IsChosenDefault, OverrideOn, RuleOn, ScriptRuleOn, on_platforms}
 use Rattle.nextest_config_resolution_profiles.specs.RuleLaws.{SomeGroupFor, SomeSettingsFor}
 use Rattle.nextest_config_resolution_profiles.specs.Whole.{Whole}
 use Rattle.nextest_config_resolution_profiles.proofs.Filtered.{default_is_read}
 use Rattle.nextest_config_resolution_profiles.proofs.PutOn.{division_has, named_have}
-use Rattle.nextest_config_resolution_profiles.proofs.RulesRead.{rules_are_read}
+use Rattle.nextest_config_resolution_profiles.proofs.RulesRead.{rules_are_read, script_rules_are_read}
 use Rattle.nextest_config_resolution_settings.specs.Nearest.{Source}
-use Rattle.nextest_config_resolution_settings.specs.Rules.{AreHeld, HoldsAndSets, holds_too, left_out, none_left}
+use Rattle.nextest_config_resolution_settings.specs.Rules.{AreHeld, HoldsAndSets, holds_too, left_out, none_left, profile_of, script_profile_of}
 use Rattle.nextest_config_resolution_settings.specs.Tracking.{KeepsSome}
 use Rattle.nextest_config_resolution_settings.specs.declared.default_filter.CompiledDefaultFilter.{CompiledDefaultFilter}
 use Rattle.nextest_config_resolution_settings.proofs.Some.{some_settings}
@@ -50,9 +51,9 @@ module _ {R : Type 0} (Holding : R → Type 0) where
 
 -- ---- the group that they set
 
-module _ {F S : Type 0} (Holding : RuleOn F S → Type 0) where
+module _ {F S : Type 0} (Holding : OverrideOn F S → Type 0) where
   -- behind a rule that doesn't both hold and set one
-  group_behind : (first : RuleOn F S) (rules : List (RuleOn F S)) → ¬ HoldsAndSets Holding group_set first → (it : TestGroup) × IsGroupBy Holding rules it
+  group_behind : (first : OverrideOn F S) (rules : List (OverrideOn F S)) → ¬ HoldsAndSets Holding group_set first → (it : TestGroup) × IsGroupBy Holding rules it
       → (it : TestGroup) × IsGroupBy Holding (first ∷ rules) it
   group_behind first rules none (it, inl (rule, least)) = (
     it,
@@ -61,17 +62,17 @@ module _ {F S : Type 0} (Holding : RuleOn F S → Type 0) where
       record {
         front = first ∷ least.front;
         back = least.back;
-        divided = ap (λ (more : List (RuleOn F S)). first ∷ more) least.divided;
-        before = All-cons (λ (other : RuleOn F S). ¬ HoldsAndSets Holding group_set other) first least.front none least.before;
+        divided = ap (λ (more : List (OverrideOn F S)). first ∷ more) least.divided;
+        before = All-cons (λ (other : OverrideOn F S). ¬ HoldsAndSets Holding group_set other) first least.front none least.before;
         holds = least.holds;
         sets = least.sets;
       },
     ),
   )
-  group_behind first rules none (it, inr (unset, is)) = (it, inr (All-cons (λ (other : RuleOn F S). ¬ HoldsAndSets Holding group_set other) first rules none unset, is))
+  group_behind first rules none (it, inr (unset, is)) = (it, inr (All-cons (λ (other : OverrideOn F S). ¬ HoldsAndSets Holding group_set other) first rules none unset, is))
 
-  group_from : {rules held : List (RuleOn F S)} → AreHeld Holding rules held → (it : TestGroup) × IsGroupBy Holding rules it
-  group_from none_left = (group.Global, inr (All-nil (λ (other : RuleOn F S). ¬ HoldsAndSets Holding group_set other), refl))
+  group_from : {rules held : List (OverrideOn F S)} → AreHeld Holding rules held → (it : TestGroup) × IsGroupBy Holding rules it
+  group_from none_left = (group.Global, inr (All-nil (λ (other : OverrideOn F S). ¬ HoldsAndSets Holding group_set other), refl))
   group_from (left_out rule rules held fails before) = group_behind rule rules (λ both. fails both.0) (group_from before)
   group_from (holds_too rule rules held holds before) = by_set (group_set rule) refl (group_from before)
     where
@@ -85,7 +86,7 @@ module _ {F S : Type 0} (Holding : RuleOn F S → Type 0) where
             front = [];
             back = rules;
             divided = refl;
-            before = All-nil (λ (other : RuleOn F S). ¬ HoldsAndSets Holding group_set other);
+            before = All-nil (λ (other : OverrideOn F S). ¬ HoldsAndSets Holding group_set other);
             holds = holds;
             sets = e;
           },
@@ -129,8 +130,9 @@ module _ {F Cx : Type 0} {IsParsed : Cx → FiltersetKind → KnownGroups → Li
         by_value none false on = inr (λ other. false≢true (laws.one_on_test filter default test false true default_read.serves none on other))
 
     -- and so does the rule
-    pub rule_decided : {S : Type 0} (IsSpec : IsSpecBy S) (it : RuleOn F S) → IsReadRule (IsFilterIn IsParsed has_runtime_leaves cx) IsSpec it.rule.placed it.rule → Decided (Holds OnTest default test) it
-    rule_decided IsSpec it read = by_platform (holds_for test.binary.platform it) refl (filter_decided it.rule.placed.config.filter it.rule.compiled.filter read.compiled.filter)
+    pub rule_decided : {P S : Type 0} (conditions : P → Conditions) (IsSpec : IsSpecBy S) (it : RuleOn P F S) → IsReadBy conditions (IsFilterIn IsParsed has_runtime_leaves cx) IsSpec it.rule.placed it.rule
+        → Decided (Holds OnTest default test) it
+    rule_decided conditions IsSpec it read = by_platform (holds_for test.binary.platform it) refl (filter_decided (conditions it.rule.placed).filter it.rule.compiled.filter read.compiled.filter)
       where
         by_platform : (holds : Bool) → holds_for test.binary.platform it ≡ holds
             → IfSome it.rule.compiled.filter (λ filter. OnTest filter default test true) ⊎ ¬ IfSome it.rule.compiled.filter (λ filter. OnTest filter default test true)
@@ -139,12 +141,12 @@ module _ {F Cx : Type 0} {IsParsed : Cx → FiltersetKind → KnownGroups → Li
         by_platform true e (inr off) = inr (λ holds. off holds.filter)
         by_platform false e decided = inr (λ holds. false≢true (sym e ∙ holds.platform))
 
-    pub rules_decided : {S Facts : Type 0} (IsSpec : IsSpecBy S) (value_on : S → Facts → Option Bool) (host target : Facts) (rules : List (LoadedOverride F S))
-        → AllByRecursion (λ rule. IsReadRule (IsFilterIn IsParsed has_runtime_leaves cx) IsSpec rule.placed rule) rules
+    pub rules_decided : {P S Facts : Type 0} (conditions : P → Conditions) (IsSpec : IsSpecBy S) (value_on : S → Facts → Option Bool) (host target : Facts) (rules : List (LoadedRule P F S))
+        → AllByRecursion (λ rule. IsReadBy conditions (IsFilterIn IsParsed has_runtime_leaves cx) IsSpec rule.placed rule) rules
         → AllByRecursion (Decided (Holds OnTest default test)) (map (on_platforms value_on host target) rules)
-    rules_decided IsSpec value_on host target [] each = tt
-    rules_decided IsSpec value_on host target (rule ∷ rules) each =
-        (rule_decided IsSpec (on_platforms value_on host target rule) each.0, rules_decided IsSpec value_on host target rules each.1)
+    rules_decided conditions IsSpec value_on host target [] each = tt
+    rules_decided conditions IsSpec value_on host target (rule ∷ rules) each =
+        (rule_decided conditions IsSpec (on_platforms value_on host target rule) each.0, rules_decided conditions IsSpec value_on host target rules each.1)
 
   -- ---- profiles of a configuration
 
@@ -162,34 +164,63 @@ module _ {F Cx : Type 0} {IsParsed : Cx → FiltersetKind → KnownGroups → Li
         → IsChosenDefault early (map (on_platforms value_on host target) rules) it → IsDefaultRead it.filter.now
     chosen_read early it host target rules each read (inr same) = subst (λ (default : CompiledDefaultFilter F). IsDefaultRead default.filter.now) (sym same.1) read
     chosen_read early it host target rules each read (inl found) =
-        let at = division_has (λ (rule : RuleOn F S). IsReadRule (IsFilterIn IsParsed has_runtime_leaves cx) IsSpec rule.rule.placed rule.rule) found.least.front found.rule found.least.back
-        (subst (AllByRecursion (λ (rule : RuleOn F S). IsReadRule (IsFilterIn IsParsed has_runtime_leaves cx) IsSpec rule.rule.placed rule.rule)) found.least.divided (put_have host target rules each)) in
+        let at = division_has (λ (rule : OverrideOn F S). IsReadRule (IsFilterIn IsParsed has_runtime_leaves cx) IsSpec rule.rule.placed rule.rule) found.least.front found.rule found.least.back
+        (subst (AllByRecursion (λ (rule : OverrideOn F S). IsReadRule (IsFilterIn IsParsed has_runtime_leaves cx) IsSpec rule.rule.placed rule.rule)) found.least.divided (put_have host target rules each)) in
         set_default found.rule.rule.placed.config.default_filter found.rule.rule.compiled.default_filter it.filter.now found.set.filter at.compiled.default_filter
 
-    -- the rules that hold on a test
-    held_by : (features : FeatureSet) (root : List ℕ) (sources : List ConfigSource) (config : Whole F S) (name : List ℕ) (early : Early F S) (host target : Facts) (profile : Evaluatable F S) (test : Test)
-        → IsConfig (IsFilterIn IsParsed has_runtime_leaves cx) IsSpec IsTooDeep features root sources (Ok config) → IsEarly config name early → IsPutOn value_on host target early profile
-        → (held : List (RuleOn F S)) × AreHeld (Holds OnTest profile.default_filter.filter.now test) profile.rules held
-    held_by features root sources config name early host target profile test loaded is put =
-        let Is = IsFilterIn IsParsed has_runtime_leaves cx in
-        let IsThis = λ (rule : LoadedOverride F S). IsReadRule (IsFilterIn IsParsed has_runtime_leaves cx) IsSpec rule.placed rule in
-        let all = recursion_from_All IsThis config.loaded.rules (rules_are_read Is IsSpec IsTooDeep features root sources config loaded) in
-        let own : AreRead early.rules = subst AreRead (sym is.ruled) (named_have IsThis config.loaded.rules is.chained.names all) in
-        let default = chosen_read early.default_filter profile.default_filter host target early.rules own
-        (as_default is.filtered.text early.default_filter.filter.now
-        (default_is_read Is IsSpec IsTooDeep features root sources config is.chained.names early.chain early.default_filter loaded is.filtered))
-        (subst (λ (rules : List (RuleOn F S)). IsChosenDefault early.default_filter rules profile.default_filter) put.rules put.default_filter) in
-        let decided = rules_decided profile.default_filter.filter.now default test IsSpec value_on host target early.rules own in
-        some_held (Holds OnTest profile.default_filter.filter.now test) profile.rules
-        (subst (AllByRecursion (Decided (Holds OnTest profile.default_filter.filter.now test))) (sym put.rules) decided)
+    -- a profile of a configuration on platforms
+    record IsProfile (features : FeatureSet) (root : List ℕ) (sources : List ConfigSource) (config : Whole F S) (name : List ℕ) (early : Early F S) (host target : Facts) (profile : Evaluatable F S) : Type 0 where
+      loaded : IsConfig (IsFilterIn IsParsed has_runtime_leaves cx) IsSpec IsTooDeep features root sources (Ok config)
+      is : IsEarly config name early
+      put : IsPutOn value_on host target early profile
+
+    module _ {features : FeatureSet} {root : List ℕ} {sources : List ConfigSource} {config : Whole F S} {name : List ℕ} {early : Early F S} {host target : Facts} {profile : Evaluatable F S}
+        (it : IsProfile features root sources config name early host target profile) where
+      -- its overrides, as they are read
+      overrides_read : AreRead early.rules
+      overrides_read =
+          let IsThis = λ (rule : LoadedOverride F S). IsReadRule (IsFilterIn IsParsed has_runtime_leaves cx) IsSpec rule.placed rule in
+          subst AreRead (sym it.is.ruled) (named_have (in_profile profile_of) IsThis config.loaded.rules it.is.chained.names
+          (recursion_from_All IsThis config.loaded.rules (rules_are_read (IsFilterIn IsParsed has_runtime_leaves cx) IsSpec IsTooDeep features root sources config it.loaded)))
+
+      -- and its script rules
+      scripts_read : AllByRecursion (λ (rule : LoadedScriptRule F S). IsReadBy script_conditions_of (IsFilterIn IsParsed has_runtime_leaves cx) IsSpec rule.placed rule) early.script_rules
+      scripts_read =
+          let IsThis = λ (rule : LoadedScriptRule F S). IsReadBy script_conditions_of (IsFilterIn IsParsed has_runtime_leaves cx) IsSpec rule.placed rule in
+          subst (AllByRecursion IsThis) (sym it.is.scripted) (named_have (in_profile script_profile_of) IsThis config.loaded.script_rules it.is.chained.names
+          (recursion_from_All IsThis config.loaded.script_rules (script_rules_are_read (IsFilterIn IsParsed has_runtime_leaves cx) IsSpec IsTooDeep features root sources config it.loaded)))
+
+      -- its default filter
+      default_read : IsDefaultRead profile.default_filter.filter.now
+      default_read =
+          chosen_read early.default_filter profile.default_filter host target early.rules overrides_read
+          (as_default it.is.filtered.text early.default_filter.filter.now
+          (default_is_read (IsFilterIn IsParsed has_runtime_leaves cx) IsSpec IsTooDeep features root sources config it.is.chained.names early.chain early.default_filter it.loaded it.is.filtered))
+          (subst (λ (rules : List (OverrideOn F S)). IsChosenDefault early.default_filter rules profile.default_filter) it.put.rules it.put.default_filter)
+
+      -- the overrides that hold on a test, and the script rules that do
+      held_by : (test : Test) → (held : List (OverrideOn F S)) × AreHeld (Holds OnTest profile.default_filter.filter.now test) profile.rules held
+      held_by test =
+          some_held (Holds OnTest profile.default_filter.filter.now test) profile.rules
+          (subst (AllByRecursion (Decided (Holds OnTest profile.default_filter.filter.now test))) (sym it.put.rules)
+          (rules_decided profile.default_filter.filter.now default_read test conditions_of IsSpec value_on host target early.rules overrides_read))
+
+      scripts_held_by : (test : Test) → (held : List (ScriptRuleOn F S)) × AreHeld (Holds OnTest profile.default_filter.filter.now test) profile.script_rules held
+      scripts_held_by test =
+          some_held (Holds OnTest profile.default_filter.filter.now test) profile.script_rules
+          (subst (AllByRecursion (Decided (Holds OnTest profile.default_filter.filter.now test))) (sym it.put.script_rules)
+          (rules_decided profile.default_filter.filter.now default_read test script_conditions_of IsSpec value_on host target early.script_rules scripts_read))
 
     pub some_settings_for : {T : Type 0} (Tells : T → Source → Type 0) → KeepsSome Tells → SomeSettingsFor (IsFilterIn IsParsed has_runtime_leaves cx) IsSpec IsTooDeep value_on OnTest Tells
     some_settings_for Tells keeps features root sources config name early host target profile mode test loaded is put =
-        let (held, are) = held_by features root sources config name early host target profile test loaded is put in
-        let it = some_settings Tells keeps mode (map placed_of held) profile.chain in
-        (it.0, record { held = held; are = are; settings = it.1 })
+        let of : IsProfile features root sources config name early host target profile = record { loaded = loaded; is = is; put = put } in
+        let (held, are) = held_by of test in
+        let (scripts, scripts_are) = scripts_held_by of test in
+        let it = some_settings Tells keeps mode (layers_of profile (map placed_of held) (map placed_of scripts)) in
+        (it.0, record { held = held; are = are; scripts = scripts; scripts_are = scripts_are; settings = it.1 })
 
     pub some_group_for : SomeGroupFor (IsFilterIn IsParsed has_runtime_leaves cx) IsSpec IsTooDeep value_on OnTest
     some_group_for features root sources config name early host target profile test loaded is put =
-        let (held, are) = held_by features root sources config name early host target profile test loaded is put in
+        let of : IsProfile features root sources config name early host target profile = record { loaded = loaded; is = is; put = put } in
+        let (held, are) = held_by of test in
         group_from (Holds OnTest profile.default_filter.filter.now test) are

@@ -7,7 +7,8 @@ use Rattle.nextest_filtering_filters.specs.Query.{Binary, Test}
 use Rattle.nextest_filtering_filters.specs.declared.known_groups.KnownGroups.{KnownGroups}
 use Rattle.nextest_config_resolution_filters.specs.Filters.{FiltersLaws}
 use Rattle.nextest_config_resolution_inheritance.specs.Inheritance.{Rise, default}
-use Rattle.nextest_config_resolution_load.specs.Checks.{parents_of, rules_downward}
+use Rattle.nextest_config_resolution_load.specs.Checks.{parents_of, rules_downward, script_rules_downward}
+use Rattle.nextest_config_resolution_load.specs.Rules.{conditions_of, script_conditions_of}
 use Rattle.nextest_config_resolution_load.specs.Load.{IsLoaded, IsLoadedAs, IsSpecBy, seen}
 use Rattle.nextest_config_resolution_load.specs.declared.languages.FilterPurpose.TheVariants as purpose
 use Rattle.nextest_config_resolution_load.specs.declared.loaded_config.LoadedConfig.{LoadedConfig}
@@ -38,7 +39,9 @@ sound {IsParsed = IsParsed} {asks_groups = asks_groups} {has_runtime_leaves = ha
       sets_filter = record { values = set.0; text = set.2.0; there = set.1; sets = set.2.1 };
       filtered = all_filtered (IsFilterIn IsParsed has_runtime_leaves cx purpose.Default) it.profiles it.default_filters loaded.filters;
       serve = All-from_recursion (Serves serves_as_default) it.default_filters (all_serve laws cx (seen it).profiles it.default_filters loaded.filters);
-      askable = All-from_recursion (IsAskable serves_as_default asks_groups) it.rules (all_askable laws cx IsSpec (rules_downward sources) it.rules loaded.rules);
+      askable = All-from_recursion (IsAskable serves_as_default asks_groups) it.rules (all_askable laws cx conditions_of IsSpec (rules_downward sources) it.rules loaded.rules);
+      scripts_askable = All-from_recursion (IsAskable serves_as_default asks_groups) it.script_rules
+          (all_askable laws cx script_conditions_of IsSpec (script_rules_downward sources) it.script_rules loaded.script_rules);
       stored = store_sets (IsFilterIn IsParsed has_runtime_leaves cx) IsSpec features sources it over;
     }
   where

@@ -8,7 +8,7 @@ use Rattle.nextest_config_resolution_load.specs.declared.load_error.LoadError.{L
 use Rattle.nextest_config_resolution_load.specs.declared.loaded_config.NamedProfile.{NamedProfile}
 use Rattle.nextest_config_resolution_settings.specs.Keys as key
 use Rattle.nextest_config_resolution_settings.specs.Nearest.{IsNearest}
-use Rattle.nextest_config_resolution_settings.specs.Rules.{rules_of}
+use Rattle.nextest_config_resolution_settings.specs.Rules.{profile_of, rules_of, script_profile_of}
 use Rattle.nextest_config_resolution_sources.specs.declared.source.ConfigSource.{ConfigSource}
 use Rattle.nextest_config_resolution_values.specs.File.{Named}
 use Rattle.nextest_config_resolution_values.specs.declared.profile_config.ProfileConfig.{ProfileConfig}
@@ -16,7 +16,7 @@ use Rattle.nextest_config_resolution_settings.specs.declared.default_filter.Comp
 use Rattle.nextest_config_resolution_settings.specs.declared.default_filter.CompiledDefaultFilterSection.TheVariants as section
 use Rattle.nextest_config_resolution_profiles.specs.declared.profile_error.ProfileError.{ProfileError}
 use Rattle.nextest_config_resolution_profiles.specs.declared.profile_error.ProfileError.TheVariants as error
-use Rattle.nextest_config_resolution_profiles.specs.Early.{Early, id_of}
+use Rattle.nextest_config_resolution_profiles.specs.Early.{Early, in_profile}
 pub use Rattle.nextest_config_resolution_profiles.specs.Languages.{IsDefaultIn, IsFilterIn}
 pub use Rattle.nextest_config_resolution_profiles.specs.Values.{IsChainOf, values_of}
 use Rattle.nextest_config_resolution_profiles.specs.Whole.{Whole}
@@ -69,8 +69,10 @@ pub record IsEarly {F S : Type 0} (config : Whole F S) (name : Name) (it : Early
   pub stored : IsStoreDir config name it.store_dir
   pub chained : IsChainOf (profiles_of config) name it.chain
   pub filtered : IsDefaultFilterOf config.loaded.profiles config.loaded.default_filters chained.names it.chain it.default_filter
-  pub ruled : it.rules ≡ rules_of id_of config.loaded.rules chained.names
+  pub ruled : it.rules ≡ rules_of (in_profile profile_of) config.loaded.rules chained.names
+  pub scripted : it.script_rules ≡ rules_of (in_profile script_profile_of) config.loaded.script_rules chained.names
   pub grouped : it.groups ≡ config.loaded.groups
+  pub defined : it.scripts ≡ config.loaded.scripts
 
 -- the profile of a name, or that none has it, with the names of all; want of memory says nothing
 abbrev pub IsProfile : {F S : Type 0} → Whole F S → Name → Result (Early F S) ProfileError → Type 0

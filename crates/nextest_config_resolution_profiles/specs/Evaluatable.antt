@@ -3,7 +3,8 @@ use Rattle.std.specs.Prelude.{◌≡◌, ℕ, Bool, List, [], ◌∷◌, Option,
 use Rattle.nextest_config_elements_counts.specs.declared.junit.JunitConfig.{JunitConfig}
 use Rattle.nextest_config_resolution_overrides.specs.declared.groups.NamedGroup.{NamedGroup}
 use Rattle.nextest_config_resolution_profiles.specs.Early.{Early}
-use Rattle.nextest_config_resolution_profiles.specs.Platforms.{IsChosenDefault, RuleOn, on_platforms}
+use Rattle.nextest_config_resolution_profiles.specs.Platforms.{IsChosenDefault, OverrideOn, ScriptRuleOn, on_platforms}
+use Rattle.nextest_config_resolution_scripts.specs.declared.script_config.ScriptConfig.{ScriptConfig}
 use Rattle.nextest_config_resolution_settings.specs.Fallbacks as fallback
 use Rattle.nextest_config_resolution_settings.specs.Keys as key
 use Rattle.nextest_config_resolution_settings.specs.Nearest.{SetsNone}
@@ -12,14 +13,16 @@ use Rattle.nextest_config_resolution_settings.specs.declared.default_filter.Comp
 use Rattle.nextest_config_resolution_values.specs.declared.profile_config.ProfileConfig.{ProfileConfig}
 
 -- its name, the directory of its files, the profiles that it is read from, its default filter, its rules in the order in which they are
--- asked, and all groups of tests
+-- asked, and all groups of tests and scripts
 pub record Evaluatable (F S : Type 0) : Type 0 where
   pub name : List ℕ
   pub store_dir : List ℕ
   pub chain : List ProfileConfig
   pub default_filter : CompiledDefaultFilter F
-  pub rules : List (RuleOn F S)
+  pub rules : List (OverrideOn F S)
+  pub script_rules : List (ScriptRuleOn F S)
   pub groups : List NamedGroup
+  pub scripts : ScriptConfig
 
 -- a profile, put on platforms: its rules hold there or don't, and by that its default filter is chosen
 pub record IsPutOn {F S Facts : Type 0} (value_on : S → Facts → Option Bool) (host target : Facts) (early : Early F S) (it : Evaluatable F S) : Type 0 where
@@ -28,7 +31,9 @@ pub record IsPutOn {F S Facts : Type 0} (value_on : S → Facts → Option Bool)
   pub chain : it.chain ≡ early.chain
   pub default_filter : IsChosenDefault early.default_filter it.rules it.default_filter
   pub rules : it.rules ≡ map (on_platforms value_on host target) early.rules
+  pub script_rules : it.script_rules ≡ map (on_platforms value_on host target) early.script_rules
   pub groups : it.groups ≡ early.groups
+  pub scripts : it.scripts ≡ early.scripts
 
 -- the parent that the first of a chain sets
 abbrev pub inherits_of : List ProfileConfig → Option (List ℕ)

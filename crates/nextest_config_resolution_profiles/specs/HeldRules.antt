@@ -1,5 +1,5 @@
 -- Which rules of a profile hold on the tests of a binary, found at once for all of them.
-use Rattle.std.specs.Prelude.{◌≡◌, ℕ, Bool, true, false, List, [], ◌∷◌, Some, map, slice_get, unwrap_or}
+use Rattle.std.specs.Prelude.{◌≡◌, ℕ, Bool, true, false, List, [], ◌∷◌, ◌++◌, Some, map, slice_get, unwrap_or}
 use Rattle.std.specs.List.{AllZip}
 use Rattle.nextest_config_resolution_profiles.specs.Evaluatable.{Evaluatable}
 use Rattle.nextest_config_resolution_profiles.specs.Held.{Holds}
@@ -7,13 +7,21 @@ use Rattle.nextest_config_resolution_profiles.specs.Platforms.{RuleOn}
 use Rattle.nextest_filtering_filters.specs.Meaning.{Tells}
 use Rattle.nextest_filtering_filters.specs.Query.{Binary, Test}
 
--- whether each of some rules holds on a test, in their order
-abbrev pub AreTold : {F S : Type 0} → (F → F → Test → Bool → Type 0) → F → Test → List (RuleOn F S) → List Bool → Type 0
-AreTold OnTest default test rules row = AllZip (λ rule value. Tells (Holds OnTest default test rule) value) rules row
+-- of which of some rules this is so, in their order
+abbrev pub AreToldBy : {R : Type 0} → (R → Type 0) → List R → List Bool → Type 0
+AreToldBy Holding rules row = AllZip (λ rule value. Tells (Holding rule) value) rules row
 
--- whether each of the rules of a profile does
-abbrev pub IsHeldRow : {F S : Type 0} → (F → F → Test → Bool → Type 0) → Evaluatable F S → Test → List Bool → Type 0
-IsHeldRow OnTest profile test row = AreTold OnTest profile.default_filter.filter.now test profile.rules row
+-- whether each of some rules holds on a test
+abbrev pub AreTold : {P F S : Type 0} → (F → F → Test → Bool → Type 0) → F → Test → List (RuleOn P F S) → List Bool → Type 0
+AreTold OnTest default test rules row = AreToldBy (Holds OnTest default test) rules row
+
+-- whether each of the overrides of a profile does, and then whether each of its script rules does
+pub record IsHeldRow {F S : Type 0} (OnTest : F → F → Test → Bool → Type 0) (profile : Evaluatable F S) (test : Test) (row : List Bool) : Type 0 where
+  pub front : List Bool
+  pub back : List Bool
+  pub divided : row ≡ front ++ back
+  pub overrides : AreTold OnTest profile.default_filter.filter.now test profile.rules front
+  pub scripts : AreTold OnTest profile.default_filter.filter.now test profile.script_rules back
 
 -- the rules at which a row is true, in their order
 abbrev pub picked : {R : Type 0} → List Bool → List R → List R
@@ -37,9 +45,22 @@ abbrev pub TellsEach : (List ℕ → Type 0) → List (List ℕ) → List Bool �
 TellsEach So names column = (place : ℕ) (name : List ℕ) → slice_get names place ≡ Some name → Tells (So name) (value_at place column)
 
 -- the column of a rule says on which of them the rule holds
-abbrev pub IsColumn : {F S : Type 0} → (F → F → Test → Bool → Type 0) → F → Binary → List (List ℕ) → RuleOn F S → List Bool → Type 0
+abbrev pub IsColumn : {P F S : Type 0} → (F → F → Test → Bool → Type 0) → F → Binary → List (List ℕ) → RuleOn P F S → List Bool → Type 0
 IsColumn OnTest default binary names rule column = TellsEach (λ name. Holds OnTest default (record { binary = binary; name = name }) rule) names column
 
 -- so does the column of each of some rules
-abbrev pub AreColumns : {F S : Type 0} → (F → F → Test → Bool → Type 0) → F → Binary → List (List ℕ) → List (RuleOn F S) → List (List Bool) → Type 0
+abbrev pub AreColumns : {P F S : Type 0} → (F → F → Test → Bool → Type 0) → F → Binary → List (List ℕ) → List (RuleOn P F S) → List (List Bool) → Type 0
 AreColumns OnTest default binary names rules columns = AllZip (IsColumn OnTest default binary names) rules columns
+
+-- the columns of the overrides of a profile, and those of its script rules
+pub record Columns : Type 0 where
+  pub overrides : List (List Bool)
+  pub scripts : List (List Bool)
+
+pub record AreHeldColumns {F S : Type 0} (OnTest : F → F → Test → Bool → Type 0) (profile : Evaluatable F S) (binary : Binary) (names : List (List ℕ)) (it : Columns) : Type 0 where
+  pub overrides : AreColumns OnTest profile.default_filter.filter.now binary names profile.rules it.overrides
+  pub scripts : AreColumns OnTest profile.default_filter.filter.now binary names profile.script_rules it.scripts
+
+-- what they say of the test at a place
+abbrev pub held_row : ℕ → Columns → List Bool
+held_row place it = row_at place it.overrides ++ row_at place it.scripts

@@ -1,7 +1,10 @@
 -- What the laws say.
 use Rattle.std.specs.Prelude.{◌≡◌, ◌⊎◌, ℕ, List, Some, Ok, Err, All, Contains}
+use Rattle.std.specs.List.{AllByRecursion}
 use Rattle.nextest_config_resolution_inheritance.specs.Inheritance.{Name}
-use Rattle.nextest_config_resolution_load.specs.Load.{IsFilterBy, IsReadRule, IsSpecBy}
+use Rattle.nextest_config_resolution_load.specs.Load.{IsFilterBy, IsReadBy, IsReadRule, IsSpecBy}
+use Rattle.nextest_config_resolution_load.specs.Laws.{HasGroup, HasScripts}
+use Rattle.nextest_config_resolution_load.specs.Rules.{script_conditions_of}
 use Rattle.nextest_config_resolution_load.specs.declared.languages.FilterPurpose.TheVariants as purpose
 use Rattle.nextest_config_resolution_load.specs.declared.load_error.LoadError.TheVariants.{Refused}
 use Rattle.nextest_config_resolution_load.specs.declared.load_fault.LoadFault.{LoadFault}
@@ -9,7 +12,8 @@ use Rattle.nextest_config_resolution_sources.specs.declared.source.ConfigSource.
 use Rattle.nextest_config_resolution_values.specs.File.{Named}
 use Rattle.nextest_config_resolution_values.specs.declared.profile_config.ProfileConfig.{ProfileConfig}
 use Rattle.nextest_config_resolution_profiles.specs.BuiltInLaws.{SetsEach}
-use Rattle.nextest_config_resolution_profiles.specs.Config.{IsChainOf, IsConfig, IsDefaultFilterOf, names_of, profiles_of, values_of}
+use Rattle.nextest_config_resolution_profiles.specs.Config.{IsChainOf, IsConfig, IsDefaultFilterOf, IsEarly, names_of, profiles_of, values_of}
+use Rattle.nextest_config_resolution_profiles.specs.Early.{Early}
 use Rattle.nextest_config_resolution_profiles.specs.Whole.{Whole}
 use Rattle.nextest_config_resolution_settings.specs.declared.default_filter.CompiledDefaultFilter.{CompiledDefaultFilter}
 use Rattle.nextest_config_elements_versions.specs.declared.feature.FeatureSet.{FeatureSet}
@@ -50,3 +54,16 @@ NeverFallsBack {F} {S} Is IsSpec IsTooDeep = (features : FeatureSet) (root : Lis
 abbrev pub RulesAreRead : {F S : Type 0} → IsFilterBy F → IsSpecBy S → (List ℕ → Type 0) → Type 0
 RulesAreRead {F} {S} Is IsSpec IsTooDeep = (features : FeatureSet) (root : List ℕ) (sources : List ConfigSource) (config : Whole F S) → IsConfig Is IsSpec IsTooDeep features root sources (Ok config)
     → All (λ rule. IsReadRule Is IsSpec rule.placed rule) config.loaded.rules
+
+abbrev pub ScriptRulesAreRead : {F S : Type 0} → IsFilterBy F → IsSpecBy S → (List ℕ → Type 0) → Type 0
+ScriptRulesAreRead {F} {S} Is IsSpec IsTooDeep = (features : FeatureSet) (root : List ℕ) (sources : List ConfigSource) (config : Whole F S) → IsConfig Is IsSpec IsTooDeep features root sources (Ok config)
+    → All (λ rule. IsReadBy script_conditions_of Is IsSpec rule.placed rule) config.loaded.script_rules
+
+-- what the rules of a profile name is defined: the scripts of its script rules, and the groups of its overrides
+pub record AreDefined {F S : Type 0} (it : Early F S) : Type 0 where
+  pub scripts : AllByRecursion (λ rule. HasScripts it.scripts rule.placed.config) it.script_rules
+  pub groups : AllByRecursion (λ rule. HasGroup it.groups rule.placed.config.test_group) it.rules
+
+abbrev pub NothingIsUndefined : {F S : Type 0} → IsFilterBy F → IsSpecBy S → (List ℕ → Type 0) → Type 0
+NothingIsUndefined {F} {S} Is IsSpec IsTooDeep = (features : FeatureSet) (root : List ℕ) (sources : List ConfigSource) (config : Whole F S) (name : Name) (it : Early F S)
+    → IsConfig Is IsSpec IsTooDeep features root sources (Ok config) → IsEarly config name it → AreDefined it

@@ -5,6 +5,7 @@ pub mod ChainRules
 pub mod Chains
 pub mod Config
 pub mod Early
+pub mod Enabled
 pub mod Evaluatable
 pub mod Finding
 pub mod Held

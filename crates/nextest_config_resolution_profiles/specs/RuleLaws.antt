@@ -1,13 +1,14 @@
 -- What the laws say of rules.
-use Rattle.std.specs.Prelude.{◌≡◌, ℕ, Bool, List, [], Option, Ok}
+use Rattle.std.specs.Prelude.{◌≡◌, ℕ, Bool, List, [], Option, Ok, Contains}
 use Rattle.nextest_config_elements_identifiers.specs.declared.test_group.TestGroup.{TestGroup}
 use Rattle.nextest_config_elements_plain.specs.declared.run_mode.NextestRunMode.{NextestRunMode}
 use Rattle.nextest_config_resolution_load.specs.Load.{IsFilterBy, IsSpecBy}
 use Rattle.nextest_config_resolution_profiles.specs.Config.{IsConfig, IsEarly}
 use Rattle.nextest_config_resolution_profiles.specs.Early.{Early}
 use Rattle.nextest_config_resolution_profiles.specs.Evaluatable.{Evaluatable, IsPutOn}
-use Rattle.nextest_config_resolution_profiles.specs.Held.{AreHeldOn, AreSettingsFor, IsGroupFor}
-use Rattle.nextest_config_resolution_profiles.specs.Platforms.{ForTarget, IsChosenDefault, RuleOn, default_set}
+use Rattle.nextest_config_resolution_profiles.specs.Enabled.{IsEnabled}
+use Rattle.nextest_config_resolution_profiles.specs.Held.{AreHeldOn, AreScriptsHeldOn, AreSettingsFor, IsGroupFor, layers_of}
+use Rattle.nextest_config_resolution_profiles.specs.Platforms.{ForTarget, IsChosenDefault, OverrideOn, ScriptRuleOn, default_set}
 use Rattle.nextest_config_resolution_settings.specs.Nearest.{Source}
 use Rattle.nextest_config_resolution_settings.specs.Rules.{NoneHoldsAndSets}
 use Rattle.nextest_config_resolution_settings.specs.TestSettings.{AreSame, AreSettings, HaveSameSources, group_of}
@@ -20,13 +21,17 @@ use Rattle.nextest_config_elements_versions.specs.declared.feature.FeatureSet.{F
 
 -- where no rule holds for the target and sets a default filter, it is that of the profiles
 abbrev pub EarlyDefault : Type 0 → Type 0 → Type 0
-EarlyDefault F S = (early it : CompiledDefaultFilter F) (rules : List (RuleOn F S))
+EarlyDefault F S = (early it : CompiledDefaultFilter F) (rules : List (OverrideOn F S))
     → NoneHoldsAndSets ForTarget default_set rules → IsChosenDefault early rules it → it ≡ early
 
--- the rules that hold on a test are one list
+-- the overrides that hold on a test are one list, and so are the script rules
 abbrev pub OneHeld : {F : Type 0} → (F → F → Test → Bool → Type 0) → Type 0 → Type 0
-OneHeld {F} OnTest S = (profile : Evaluatable F S) (test : Test) (one other : List (RuleOn F S))
+OneHeld {F} OnTest S = (profile : Evaluatable F S) (test : Test) (one other : List (OverrideOn F S))
     → AreHeldOn OnTest profile test one → AreHeldOn OnTest profile test other → one ≡ other
+
+abbrev pub OneScriptsHeld : {F : Type 0} → (F → F → Test → Bool → Type 0) → Type 0 → Type 0
+OneScriptsHeld {F} OnTest S = (profile : Evaluatable F S) (test : Test) (one other : List (ScriptRuleOn F S))
+    → AreScriptsHeldOn OnTest profile test one → AreScriptsHeldOn OnTest profile test other → one ≡ other
 
 -- a test has the same settings, whatever is kept of where they are taken from
 abbrev pub SameSettingsFor : {F T U : Type 0} → (F → F → Test → Bool → Type 0) → Type 0 → (T → Source → Type 0) → (U → Source → Type 0) → Type 0
@@ -45,8 +50,13 @@ GroupOfSettings {F} {T} OnTest S Tells = (profile : Evaluatable F S) (mode : Nex
 
 -- a profile without rules has the settings of its chain
 abbrev pub NoRules : {F T : Type 0} → (F → F → Test → Bool → Type 0) → Type 0 → (T → Source → Type 0) → Type 0
-NoRules {F} {T} OnTest S Tells = (profile : Evaluatable F S) (mode : NextestRunMode) (test : Test) (settings : TestSettings T) → profile.rules ≡ []
-    → AreSettingsFor OnTest Tells profile mode test settings → AreSettings Tells mode [] profile.chain settings
+NoRules {F} {T} OnTest S Tells = (profile : Evaluatable F S) (mode : NextestRunMode) (test : Test) (settings : TestSettings T) → profile.rules ≡ [] → profile.script_rules ≡ []
+    → AreSettingsFor OnTest Tells profile mode test settings → AreSettings Tells mode (layers_of profile [] []) settings
+
+-- more tests enable no fewer scripts
+abbrev pub MoreEnableNoFewer : {F : Type 0} → (F → F → Test → Bool → Type 0) → Type 0 → Type 0
+MoreEnableNoFewer {F} OnTest S = (profile : Evaluatable F S) (some more : List Test) (id : List ℕ)
+    → ((test : Test) → Contains some test → Contains more test) → IsEnabled OnTest profile some id → IsEnabled OnTest profile more id
 
 -- each test has settings, by each profile of a configuration and on each platforms, and so it has a group
 abbrev pub SomeSettingsFor : {F S Facts T : Type 0} → IsFilterBy F → IsSpecBy S → (List ℕ → Type 0) → (S → Facts → Option Bool) → (F → F → Test → Bool → Type 0) → (T → Source → Type 0) → Type 0

@@ -28,4 +28,5 @@ pub record IsSound {F S : Type 0} (serves_as_default asks_groups : F → Bool) (
   pub filtered : AreFiltered loaded.profiles loaded.default_filters
   pub serve : All (Serves serves_as_default) loaded.default_filters
   pub askable : All (IsAskable serves_as_default asks_groups) loaded.rules
+  pub scripts_askable : All (IsAskable serves_as_default asks_groups) loaded.script_rules
   pub stored : (dir : List ℕ) × (loaded.store_dir ≡ Some dir)

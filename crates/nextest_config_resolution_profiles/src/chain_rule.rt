@@ -6,20 +6,20 @@ ghost use Rattle.nextest_config_resolution_profiles.specs.Platforms.{built_on, b
 
 use crate::platforms::{BuildPlatforms, spec_holds};
 use nextest_config_resolution_filters::Specs;
-use nextest_config_resolution_load::LoadedOverride;
+use nextest_config_resolution_load::LoadedRule;
 use nextest_filtering_trees::BuildPlatform;
 
 // A rule of a chain. Until it is put on platforms it holds on all of them.
 #[derive(Drop)]
-pub(crate) struct ChainRule<'c, F, S> {
-    pub(crate) rule: &'c LoadedOverride<F, S>,
+pub(crate) struct ChainRule<'c, P, F, S> {
+    pub(crate) rule: &'c LoadedRule<P, F, S>,
     // Whether it holds for what is built for the host.
     pub(crate) for_host: bool,
     // Whether it holds for what is built for the target.
     pub(crate) for_target: bool,
 }
 
-impl<'c, F, S: Specs> ChainRule<'c, F, S> {
+impl<'c, P, F, S: Specs> ChainRule<'c, P, F, S> {
     // Looks on which of these platforms it holds.
     pub(crate) fn put_on(&mut self, platforms: &BuildPlatforms<'_, S::Facts>)
         ensures { self.new ≡ put_on S.value_on (built_on platforms.now) (built_for platforms.now) self.old }
@@ -31,9 +31,9 @@ impl<'c, F, S: Specs> ChainRule<'c, F, S> {
     }
 }
 
-impl<'c, F, S> ChainRule<'c, F, S> {
+impl<'c, P, F, S> ChainRule<'c, P, F, S> {
     // A rule, before it is put on platforms.
-    pub(crate) fn new(rule: &'c LoadedOverride<F, S>) -> ChainRule<'c, F, S>
+    pub(crate) fn new(rule: &'c LoadedRule<P, F, S>) -> ChainRule<'c, P, F, S>
         ensures { rule_in result ≡ rule.now }
     {
         ChainRule {

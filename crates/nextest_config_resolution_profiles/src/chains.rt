@@ -14,7 +14,9 @@ ghost use Rattle.nextest_config_resolution_settings.specs.Nearest.{SetsNone, len
 use crate::chain_rule::ChainRule;
 use crate::rules::rules_at;
 use nextest_config_resolution_inheritance::chain_of;
-use nextest_config_resolution_load::{LoadedOverride, NamedProfile};
+use nextest_config_resolution_load::{LoadedOverride, LoadedScriptRule, NamedProfile};
+use nextest_config_resolution_overrides::PlacedOverride;
+use nextest_config_resolution_scripts::PlacedScriptRule;
 use nextest_config_resolution_settings::keys::DefaultFilterKey;
 use nextest_config_resolution_settings::{
     CompiledDefaultFilter, CompiledDefaultFilterSection, nearest,
@@ -64,15 +66,18 @@ pub(crate) fn all_names(
 pub(crate) struct Chained<'c, F, S> {
     pub(crate) values: Vec<&'c ProfileConfig>,
     pub(crate) default_filter: CompiledDefaultFilter<'c, F>,
-    pub(crate) rules: Vec<ChainRule<'c, F, S>>,
+    pub(crate) rules: Vec<ChainRule<'c, PlacedOverride, F, S>>,
+    pub(crate) script_rules: Vec<ChainRule<'c, PlacedScriptRule, F, S>>,
 }
 
-// The chain of the profile at a place, where these are the default filters of all profiles, and these the rules of all.
+// The chain of the profile at a place, where these are the default filters of all profiles, and these the rules of all, overrides and
+// script rules.
 pub(crate) fn chain_at<'c, F: Drop, S: Drop>(
     alloc: Global,
     profiles: &'c [NamedProfile],
     filters: &'c [Option<F>],
     all: &'c [LoadedOverride<F, S>],
+    scripts: &'c [LoadedScriptRule<F, S>],
     place: usize,
 ) -> Result<Chained<'c, F, S>, AllocError>
     requires accepted { IsAccepted (parents_of (map named profiles.now)) }
@@ -81,19 +86,21 @@ pub(crate) fn chain_at<'c, F: Drop, S: Drop>(
     requires sets_filter { SetsFilter (map named profiles.now) }
     requires filtered { AreFiltered profiles.now filters.now }
     requires place { place < length profiles.now }
-    ensures { IfOk result (IsChained profiles.now filters.now all.now
+    ensures { IfOk result (IsChained profiles.now filters.now all.now scripts.now
         (name_at (parents_of (map named profiles.now)) place)) }
 {
     let found = chain_of(alloc, profiles, place)?;
     let places = found.as_slice();
     let values = values_at(alloc, profiles, places)?;
     let rules = rules_at(alloc, profiles, places, all)?;
+    let script_rules = rules_at(alloc, profiles, places, scripts)?;
     let layers = values.as_slice();
     let default_filter = default_filter_of(profiles, filters, places, layers);
     Ok(Chained {
         values,
         default_filter,
         rules,
+        script_rules,
     })
 }
 

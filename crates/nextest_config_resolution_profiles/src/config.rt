@@ -170,13 +170,6 @@ impl<F: Filters, S: Specs> NextestConfig<F, S> {
         )
     }
 
-    /// Whether a file that counts sets a key that isn't read yet, as `LoadedConfig` says.
-    pub fn sets_later_keys(&self) -> bool
-        ensures { result ≡ self.now.loaded.sets_later_keys }
-    {
-        self.loaded.sets_later_keys
-    }
-
     /// The overrides of all files: the highest file first, in a file by the bytes of the profiles' names, and those of a profile in
     /// their order.
     pub fn rules(&self) -> &[LoadedOverride<F, S>]
@@ -219,12 +212,14 @@ impl<F: Filters, S: Specs> NextestConfig<F, S> {
             Some(place) => {
                 let filters = self.loaded.default_filters.as_slice();
                 let all = self.loaded.rules.as_slice();
+                let all_scripts = self.loaded.script_rules.as_slice();
                 let groups = self.loaded.groups.as_slice();
                 let Chained {
                     values,
                     default_filter,
                     rules,
-                } = chain_at(alloc, profiles, filters, all, place)?;
+                    script_rules,
+                } = chain_at(alloc, profiles, filters, all, all_scripts, place)?;
                 let name = profiles[place].name.as_str();
                 Ok(EarlyProfile {
                     name,
@@ -232,7 +227,9 @@ impl<F: Filters, S: Specs> NextestConfig<F, S> {
                     chain: values,
                     default_filter,
                     rules,
+                    script_rules,
                     groups,
+                    scripts: &self.loaded.scripts,
                 })
             }
             None => Err(ProfileError::NotFound(ProfileNotFound {

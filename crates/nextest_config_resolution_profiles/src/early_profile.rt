@@ -11,7 +11,8 @@ use crate::chain_rule::ChainRule;
 use crate::evaluatable_profile::EvaluatableProfile;
 use crate::platforms::{BuildPlatforms, chosen_default, put_all_on};
 use nextest_config_resolution_filters::{Filters, Specs};
-use nextest_config_resolution_overrides::NamedGroup;
+use nextest_config_resolution_overrides::{NamedGroup, PlacedOverride};
+use nextest_config_resolution_scripts::{PlacedScriptRule, ScriptConfig};
 use nextest_config_resolution_settings::keys::JunitPathKey;
 use nextest_config_resolution_settings::{CompiledDefaultFilter, nearest};
 use nextest_config_resolution_values::ProfileConfig;
@@ -29,8 +30,10 @@ pub struct EarlyProfile<'c, F: Filters, S: Specs> {
     // That of the profiles alone.
     pub(crate) default_filter: CompiledDefaultFilter<'c, F>,
     // By the chain, then by file from the highest, then by their index in the file.
-    pub(crate) rules: Vec<ChainRule<'c, F, S>>,
+    pub(crate) rules: Vec<ChainRule<'c, PlacedOverride, F, S>>,
+    pub(crate) script_rules: Vec<ChainRule<'c, PlacedScriptRule, F, S>>,
     pub(crate) groups: &'c [NamedGroup],
+    pub(crate) scripts: &'c ScriptConfig,
 }
 
 // One call drops it, whoever holds it.
@@ -42,7 +45,9 @@ impl<'c, F: Filters, S: Specs> Drop for EarlyProfile<'c, F, S> {
             chain: _,
             default_filter: _,
             rules: _,
+            script_rules: _,
             groups: _,
+            scripts: _,
         } = self;
     }
 }
@@ -61,11 +66,13 @@ impl<'c, F: Filters, S: Specs> Model for EarlyProfile<'c, F, S> {
       chain = lent it.chain.items;
       default_filter = it.default_filter;
       rules = rules_in it.rules.items;
+      script_rules = rules_in it.script_rules.items;
       groups = it.groups.now;
+      scripts = it.scripts.now;
     } };
 
     // The default filter and those of rules serve as such, and no rule asks for groups.
-    ghost invariant = { λ it. AreAskable F.serves_as_default F.asks_groups it.default_filter.filter.now (rules_in it.rules.items) };
+    ghost invariant = { λ it. AreAskable F.serves_as_default F.asks_groups it.default_filter.filter.now (rules_in it.rules.items) (rules_in it.script_rules.items) };
 }
 
 impl<'c, F: Filters, S: Specs> EarlyProfile<'c, F, S> {
@@ -128,9 +135,12 @@ impl<'c, F: Filters, S: Specs> EarlyProfile<'c, F, S> {
             chain,
             default_filter: early,
             mut rules,
+            mut script_rules,
             groups,
+            scripts,
         } = self;
         put_all_on(&mut rules, platforms);
+        put_all_on(&mut script_rules, platforms);
         let default_filter = chosen_default(early, rules.as_slice());
         EvaluatableProfile {
             name,
@@ -138,7 +148,9 @@ impl<'c, F: Filters, S: Specs> EarlyProfile<'c, F, S> {
             chain,
             default_filter,
             rules,
+            script_rules,
             groups,
+            scripts,
         }
     }
 }

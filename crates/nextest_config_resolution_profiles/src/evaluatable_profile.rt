@@ -1,11 +1,12 @@
 // A profile on platforms, and the values that it has.
-ghost use Rattle.std.specs.Prelude.{◌≡◌, IfOk, None};
+ghost use Rattle.std.specs.Prelude.{◌≡◌, IfOk};
 ghost use Rattle.std.specs.Option.{option_copied};
 ghost use Rattle.nextest_config_resolution_profiles.specs.Evaluatable.{MayHaveJunit, inherits_of};
 ghost use Rattle.nextest_config_resolution_profiles.specs.Finding.{FindsHeld};
-ghost use Rattle.nextest_config_resolution_profiles.specs.Held.{AreSettingsFor, Holds, IsGroupFor};
+ghost use Rattle.nextest_config_resolution_profiles.specs.Held.{AreSettingsFor, Holds, IsGroupFor, layers_of};
 ghost use Rattle.nextest_config_resolution_settings.specs.Fallbacks as fallback;
 ghost use Rattle.nextest_config_resolution_settings.specs.Keys as key;
+ghost use Rattle.nextest_config_resolution_settings.specs.Layers.{layers_in};
 ghost use Rattle.nextest_config_resolution_settings.specs.Nearest.{lent};
 ghost use Rattle.nextest_config_resolution_settings.specs.Profile.{OfProfiles};
 ghost use Rattle.nextest_config_resolution_settings.specs.TestSettings.{group_of};
@@ -23,6 +24,7 @@ use nextest_config_elements_plain::{
 };
 use nextest_config_resolution_filters::{Filters, Specs};
 use nextest_config_resolution_overrides::{NamedGroup, PlacedOverride};
+use nextest_config_resolution_scripts::{PlacedScriptRule, ScriptConfig};
 use nextest_config_resolution_settings::keys::{
     BenchGlobalTimeoutKey, BenchSlowTimeoutKey, FailFastKey, FailureOutputKey, FinalStatusLevelKey,
     FlakyResultKey, GlobalTimeoutKey, JunitFlakyFailStatusKey, JunitPathKey, JunitReportNameKey,
@@ -31,11 +33,11 @@ use nextest_config_resolution_settings::keys::{
     ThreadsRequiredKey,
 };
 use nextest_config_resolution_settings::{
-    CompiledDefaultFilter, ListSettings, SettingSource, TestGroupRef, TestSettings, fallbacks,
-    of_profiles, set_by, settings_by, value_or,
+    CompiledDefaultFilter, SettingSource, TestGroupRef, TestLayers, TestSettings, TrackSource,
+    fallbacks, of_profiles, set_by, settings_by, value_or,
 };
 use nextest_config_resolution_values::ProfileConfig;
-use nextest_filtering_filters::{BinaryQuery, TestQuery};
+use nextest_filtering_filters::TestQuery;
 use nextest_text::Text;
 use std::alloc::{AllocError, Global};
 use std::marker::Model;
@@ -49,8 +51,10 @@ pub struct EvaluatableProfile<'c, F: Filters, S: Specs> {
     pub(crate) chain: Vec<&'c ProfileConfig>,
     pub(crate) default_filter: CompiledDefaultFilter<'c, F>,
     // In the order in which they are asked.
-    pub(crate) rules: Vec<ChainRule<'c, F, S>>,
+    pub(crate) rules: Vec<ChainRule<'c, PlacedOverride, F, S>>,
+    pub(crate) script_rules: Vec<ChainRule<'c, PlacedScriptRule, F, S>>,
     pub(crate) groups: &'c [NamedGroup],
+    pub(crate) scripts: &'c ScriptConfig,
 }
 
 // One call drops it, whoever holds it.
@@ -62,7 +66,9 @@ impl<'c, F: Filters, S: Specs> Drop for EvaluatableProfile<'c, F, S> {
             chain: _,
             default_filter: _,
             rules: _,
+            script_rules: _,
             groups: _,
+            scripts: _,
         } = self;
     }
 }
@@ -81,11 +87,13 @@ impl<'c, F: Filters, S: Specs> Model for EvaluatableProfile<'c, F, S> {
       chain = lent it.chain.items;
       default_filter = it.default_filter;
       rules = seen_rules it.rules.items;
+      script_rules = seen_rules it.script_rules.items;
       groups = it.groups.now;
+      scripts = it.scripts.now;
     } };
 
     // The default filter serves as one, and no rule asks for groups.
-    ghost invariant = { λ it. AreAskable F.serves_as_default F.asks_groups it.default_filter.filter.now (rules_in it.rules.items) };
+    ghost invariant = { λ it. AreAskable F.serves_as_default F.asks_groups it.default_filter.filter.now (rules_in it.rules.items) (rules_in it.script_rules.items) };
 }
 
 impl<'c, F: Filters, S: Specs> EvaluatableProfile<'c, F, S> {
@@ -272,8 +280,16 @@ impl<'c, F: Filters, S: Specs> EvaluatableProfile<'c, F, S> {
         self.groups
     }
 
+    /// The scripts, as they are defined.
+    pub fn script_config(&self) -> &'c ScriptConfig
+        ensures { result.now ≡ self.now.scripts }
+    {
+        self.scripts
+    }
+
     /// The settings of a test: each is that of the nearest rule that holds on the test and sets it, else that of the nearest
-    /// profile of the chain that does, else a fallback.
+    /// profile of the chain that does, else a fallback; the wrapper script is the one that the nearest script rule names that holds on the
+    /// test and names one.
     ///
     /// # Errors
     ///
@@ -286,10 +302,7 @@ impl<'c, F: Filters, S: Specs> EvaluatableProfile<'c, F, S> {
     ) -> Result<TestSettings<'c>, AllocError>
         ensures { IfOk result (AreSettingsFor F.on_test TellsNothing self.now mode (test_of query.now)) }
     {
-        match self.held(alloc, query) {
-            Ok(held) => Ok(settings_by::<()>(held.as_slice(), self.chain(), mode)),
-            Err(error) => Err(error),
-        }
+        self.settings_on::<()>(alloc, mode, query)
     }
 
     /// The settings of a test, as `settings_for` gives them, and where each of them is taken from.
@@ -305,10 +318,7 @@ impl<'c, F: Filters, S: Specs> EvaluatableProfile<'c, F, S> {
     ) -> Result<TestSettings<'c, SettingSource<'c>>, AllocError>
         ensures { IfOk result (AreSettingsFor F.on_test TellsAll self.now mode (test_of query.now)) }
     {
-        match self.held(alloc, query) {
-            Ok(held) => Ok(settings_by::<SettingSource<'c>>(held.as_slice(), self.chain(), mode)),
-            Err(error) => Err(error),
-        }
+        self.settings_on::<SettingSource<'c>>(alloc, mode, query)
     }
 
     /// The group of a test: that of the nearest rule that holds on the test and sets one, else the global one.
@@ -331,22 +341,44 @@ impl<'c, F: Filters, S: Specs> EvaluatableProfile<'c, F, S> {
         )
     }
 
-    /// The settings with which the tests of a binary are listed: nothing is set, since no wrapper script is read yet.
-    ///
-    /// # Errors
-    ///
-    /// It fails only on allocation.
-    pub fn list_settings_for(
+    // The settings of a test, with what is kept of where each of them is taken from.
+    fn settings_on<T: TrackSource<'c>>(
         &self,
-        _alloc: Global,
-        _query: &BinaryQuery<'_>,
-    ) -> Result<ListSettings<'c>, AllocError>
-        ensures { IfOk result (λ it. it.list_wrapper.0 ≡ None) }
+        alloc: Global,
+        mode: NextestRunMode,
+        query: &TestQuery<'_>,
+    ) -> Result<TestSettings<'c, T>, AllocError>
+        ensures { IfOk result (AreSettingsFor F.on_test T.tells self.now mode (test_of query.now)) }
     {
-        Ok(ListSettings::debug_empty())
+        let held = self.held(alloc, query)?;
+        match self.held_scripts(alloc, query) {
+            Ok(found) => {
+                let overrides = held.as_slice();
+                let scripts = found.as_slice();
+                let layers = self.layers(overrides, scripts);
+                Ok(settings_by::<T>(layers, mode))
+            }
+            Err(error) => Err(error),
+        }
     }
 
-    // The rules that hold on a test, in their order.
+    // What sets the settings of a test on which these rules hold.
+    pub(crate) fn layers<'l>(
+        &'l self,
+        overrides: &'l [&'c PlacedOverride],
+        scripts: &'l [&'c PlacedScriptRule],
+    ) -> TestLayers<'l, 'c>
+        ensures { layers_in result ≡ layers_of self.now (lent overrides.now) (lent scripts.now) }
+    {
+        TestLayers {
+            overrides,
+            scripts,
+            wrappers: self.scripts.wrapper.as_slice(),
+            chain: self.chain(),
+        }
+    }
+
+    // The overrides that hold on a test, in their order.
     fn held(
         &self,
         alloc: Global,
@@ -358,6 +390,23 @@ impl<'c, F: Filters, S: Specs> EvaluatableProfile<'c, F, S> {
         held_on(
             alloc,
             self.rules.as_slice(),
+            self.default_filter.filter,
+            query,
+        )
+    }
+
+    // The script rules that hold on a test, in their order.
+    fn held_scripts(
+        &self,
+        alloc: Global,
+        query: &TestQuery<'_>,
+    ) -> Result<Vec<&'c PlacedScriptRule>, AllocError>
+        ensures { IfOk result (λ it. FindsHeld (Holds F.on_test self.now.default_filter.filter.now (test_of query.now))
+            self.now.script_rules (lent it.items)) }
+    {
+        held_on(
+            alloc,
+            self.script_rules.as_slice(),
             self.default_filter.filter,
             query,
         )

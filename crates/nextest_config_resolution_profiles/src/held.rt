@@ -18,12 +18,12 @@ use nextest_filtering_filters::TestQuery;
 use std::alloc::{AllocError, Global};
 
 // The rules of these that hold on a test, beside a default filter, in their order.
-pub(crate) fn held_on<'c, F: Filters, S>(
+pub(crate) fn held_on<'c, P, F: Filters, S>(
     alloc: Global,
-    rules: &[ChainRule<'c, F, S>],
+    rules: &[ChainRule<'c, P, F, S>],
     default: &F,
     query: &TestQuery<'_>,
-) -> Result<Vec<&'c PlacedOverride>, AllocError>
+) -> Result<Vec<&'c P>, AllocError>
     requires serves { F.serves_as_default default.now ≡ true }
     requires askable { All (IsAskable F.serves_as_default F.asks_groups) (rules_in rules.now) }
     ensures { IfOk result (λ it. FindsHeld (Holds F.on_test default.now (test_of query.now))
@@ -37,10 +37,10 @@ pub(crate) fn held_on<'c, F: Filters, S>(
 }
 
 // Adds a rule, if it holds on a test.
-fn push_held<'c, F: Filters, S>(
+fn push_held<'c, P, F: Filters, S>(
     alloc: Global,
-    held: &mut Vec<&'c PlacedOverride>,
-    rule: &ChainRule<'c, F, S>,
+    held: &mut Vec<&'c P>,
+    rule: &ChainRule<'c, P, F, S>,
     default: &F,
     query: &TestQuery<'_>,
 ) -> Result<(), AllocError>
@@ -58,7 +58,7 @@ fn push_held<'c, F: Filters, S>(
 // The group of the first rule of these that holds on a test and sets one, lent, else the global one.
 pub(crate) fn group_on<'c, F: Filters, S>(
     alloc: Global,
-    rules: &[ChainRule<'c, F, S>],
+    rules: &[ChainRule<'c, PlacedOverride, F, S>],
     default: &F,
     query: &TestQuery<'_>,
 ) -> Result<TestGroupRef<'c>, AllocError>
@@ -78,7 +78,7 @@ pub(crate) fn group_on<'c, F: Filters, S>(
 // The group that a rule sets, lent, if it holds on a test.
 fn group_by<'c, F: Filters, S>(
     alloc: Global,
-    rule: &ChainRule<'c, F, S>,
+    rule: &ChainRule<'c, PlacedOverride, F, S>,
     default: &F,
     query: &TestQuery<'_>,
 ) -> Result<Option<TestGroupRef<'c>>, AllocError>
@@ -108,9 +108,9 @@ fn lent_group(group: &TestGroup) -> TestGroupRef<'_>
 }
 
 // Whether a rule holds on a test, beside a default filter.
-fn holds_on<F: Filters, S>(
+pub(crate) fn holds_on<P, F: Filters, S>(
     alloc: Global,
-    rule: &ChainRule<'_, F, S>,
+    rule: &ChainRule<'_, P, F, S>,
     default: &F,
     query: &TestQuery<'_>,
 ) -> Result<bool, AllocError>

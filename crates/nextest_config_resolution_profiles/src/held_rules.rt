@@ -1,9 +1,9 @@
 // Which rules of a profile hold on the tests of a binary, found at once for all of them.
-ghost use Rattle.std.specs.Prelude.{◌≡◌, ◌++◌, ◌∷◌, [], ℕ, List, Some, All, IfOk, OnOk, false, if◌then◌else◌, map, slice_get, true};
+ghost use Rattle.std.specs.Prelude.{◌≡◌, ◌++◌, ◌∷◌, [], Some, All, IfOk, OnOk, drop, false, if◌then◌else◌, length, map, true};
 ghost use Rattle.nextest_config_resolution_profiles.specs.Asking.{IsAskable};
 ghost use Rattle.nextest_config_resolution_profiles.specs.ChainRules.{rule_in, rules_in, seen_rule, seen_rules};
 ghost use Rattle.nextest_config_resolution_profiles.specs.Held.{AreSettingsFor, placed_of};
-ghost use Rattle.nextest_config_resolution_profiles.specs.HeldRules.{AreColumns, IsColumn, IsHeldRow, TellsEach, picked, row_at, value_at};
+ghost use Rattle.nextest_config_resolution_profiles.specs.HeldRules.{AreColumns, AreHeldColumns, IsColumn, IsHeldRow, TellsEach, held_row, picked, row_at, value_at};
 ghost use Rattle.nextest_config_resolution_settings.specs.Nearest.{lent};
 ghost use Rattle.nextest_config_resolution_settings.specs.Tracking.{TellsNothing};
 ghost use Rattle.nextest_filtering_filters.specs.Query.{Test, binary_of};
@@ -13,57 +13,86 @@ use crate::evaluatable_profile::EvaluatableProfile;
 use nextest_config_elements_plain::NextestRunMode;
 use nextest_config_resolution_filters::{Filters, Specs};
 use nextest_config_resolution_overrides::PlacedOverride;
+use nextest_config_resolution_scripts::PlacedScriptRule;
 use nextest_config_resolution_settings::{TestSettings, settings_by};
 use nextest_filtering_filters::BinaryQuery;
 use std::alloc::{AllocError, Global};
 use std::marker::Model;
 
-/// Which rules of a profile hold on some tests of a binary: for each rule a list of truth values, one a test. In a clause it is
-/// these lists; a list that ends before a test says that its rule doesn't hold there.
+/// Which rules of a profile hold on some tests of a binary: for each override, and for each script rule, a list of truth values,
+/// one a test. In a clause it is these lists; a list that ends before a test says that its rule doesn't hold there.
 pub struct HeldRules {
-    columns: Vec<Vec<bool>>,
+    overrides: Vec<Vec<bool>>,
+    scripts: Vec<Vec<bool>>,
 }
 
 // One call drops it, whoever holds it.
 impl Drop for HeldRules {
     fn drop(self) {
-        let Self { columns: _ } = self;
+        let Self {
+            overrides: _,
+            scripts: _,
+        } = self;
     }
 }
 
 impl Model for HeldRules {
-    ghost use Rattle.std.specs.Prelude.{Bool, List, map};
+    ghost use Rattle.std.specs.Prelude.{map};
+    ghost use Rattle.nextest_config_resolution_profiles.specs.HeldRules.{Columns};
 
-    ghost Value = { List (List Bool) };
+    ghost Value = { Columns };
 
-    ghost view = { λ it. map (λ column. column.items) it.columns.items };
+    ghost view = { λ it. record {
+      overrides = map (λ column. column.items) it.overrides.items;
+      scripts = map (λ column. column.items) it.scripts.items;
+    } };
 }
 
 impl HeldRules {
-    /// Which rules hold on the test at a place among those that were asked, in the order of the rules: it takes the place of
-    /// what `row` had. It fails only on allocation.
+    /// Which rules hold on the test at a place among those that were asked: the overrides in their order, and then the script
+    /// rules in theirs. It takes the place of what `row` had. It fails only on allocation.
     pub fn row(&self, place: usize, row: &mut Vec<bool>) -> Result<(), AllocError>
-        ensures { OnOk result (row.new.items ≡ row_at place self.now) }
+        ensures { OnOk result (row.new.items ≡ held_row place self.now) }
     {
         row.clear();
-        for column in &self.columns {
-            row.push(value_at(column.as_slice(), place))?;
-        }
-        Ok(())
+        push_row(&self.overrides, place, row)?;
+        push_row(&self.scripts, place, row)
+    }
+
+    // The columns of the script rules.
+    pub(crate) fn scripts(&self) -> &[Vec<bool>]
+        ensures { map (λ column. column.items) result.now ≡ self.now.scripts }
+    {
+        self.scripts.as_slice()
     }
 }
 
+// Adds what columns say of the test at a place.
+fn push_row(
+    columns: &Vec<Vec<bool>>,
+    place: usize,
+    row: &mut Vec<bool>,
+) -> Result<(), AllocError>
+    ensures { OnOk result (row.new.items
+        ≡ row.old.items ++ row_at place (map (λ column. column.items) columns.now.items)) }
+{
+    for column in columns {
+        row.push(value_at(column.as_slice(), place))?;
+    }
+    Ok(())
+}
+
 // The value at a place; past the end it is false.
-fn value_at(values: &[bool], place: usize) -> bool
+pub(crate) fn value_at(values: &[bool], place: usize) -> bool
     ensures { result ≡ value_at place values.now }
 {
     values.get(place).copied().unwrap_or(false)
 }
 
 // The column of each of some rules, beside a default filter: on which of some tests of a binary it holds.
-fn columns_of<F: Filters, S>(
+fn columns_of<P, F: Filters, S>(
     alloc: Global,
-    rules: &[ChainRule<'_, F, S>],
+    rules: &[ChainRule<'_, P, F, S>],
     default: &F,
     binary: &BinaryQuery<'_>,
     names: &[&str],
@@ -82,9 +111,9 @@ fn columns_of<F: Filters, S>(
 
 // The column of a rule. It is empty, and takes no memory, where the rule's platform or the binary alone tells that it holds on
 // none of the tests.
-fn column_of<F: Filters, S>(
+fn column_of<P, F: Filters, S>(
     alloc: Global,
-    rule: &ChainRule<'_, F, S>,
+    rule: &ChainRule<'_, P, F, S>,
     default: &F,
     binary: &BinaryQuery<'_>,
     names: &[&str],
@@ -142,11 +171,11 @@ fn holds_nowhere<F: Filters>(
 }
 
 // What the rules say at which a row is true, in their order.
-fn picked_by<'c, F, S>(
+pub(crate) fn picked_by<'c, P, F, S>(
     alloc: Global,
-    rules: &[ChainRule<'c, F, S>],
+    rules: &[ChainRule<'c, P, F, S>],
     row: &[bool],
-) -> Result<Vec<&'c PlacedOverride>, AllocError>
+) -> Result<Vec<&'c P>, AllocError>
     ensures { IfOk result (λ it. lent it.items
         ≡ map placed_of (picked row.now (seen_rules rules.now))) }
 {
@@ -158,9 +187,9 @@ fn picked_by<'c, F, S>(
 }
 
 // Adds what a rule says, if it is asked for.
-fn push_if<'c, F, S>(
-    held: &mut Vec<&'c PlacedOverride>,
-    rule: &ChainRule<'c, F, S>,
+fn push_if<'c, P, F, S>(
+    held: &mut Vec<&'c P>,
+    rule: &ChainRule<'c, P, F, S>,
     is_asked: bool,
 ) -> Result<(), AllocError>
     ensures { IfOk result (λ _. lent held.new.items
@@ -170,6 +199,13 @@ fn push_if<'c, F, S>(
         held.push(&rule.rule.placed)?;
     }
     Ok(())
+}
+
+// What is left of a row behind its first values.
+fn row_behind(row: &[bool], count: usize) -> &[bool]
+    ensures { result.now ≡ drop count row.now }
+{
+    &row[count.min(row.len())..]
 }
 
 impl<'c, F: Filters, S: Specs> EvaluatableProfile<'c, F, S> {
@@ -185,19 +221,12 @@ impl<'c, F: Filters, S: Specs> EvaluatableProfile<'c, F, S> {
         binary: &BinaryQuery<'_>,
         names: &[&str],
     ) -> Result<HeldRules, AllocError>
-        ensures { IfOk result (λ held. (place : ℕ) (name : List ℕ)
-            → slice_get (lent names.now) place ≡ Some name
-            → IsHeldRow F.on_test self.now (record { binary = binary_of binary.now; name = name })
-            (row_at place held)) }
+        ensures { IfOk result (AreHeldColumns F.on_test self.now (binary_of binary.now) (lent names.now)) }
     {
-        let columns = columns_of(
-            alloc,
-            self.rules.as_slice(),
-            self.default_filter.filter,
-            binary,
-            names,
-        )?;
-        Ok(HeldRules { columns })
+        let default = self.default_filter.filter;
+        let overrides = columns_of(alloc, self.rules.as_slice(), default, binary, names)?;
+        let scripts = columns_of(alloc, self.script_rules.as_slice(), default, binary, names)?;
+        Ok(HeldRules { overrides, scripts })
     }
 
     /// The settings of each test on which just these rules hold, as a row of `HeldRules` says it: each is that of the nearest of
@@ -215,9 +244,39 @@ impl<'c, F: Filters, S: Specs> EvaluatableProfile<'c, F, S> {
         ensures { IfOk result (λ it. (test : Test) → IsHeldRow F.on_test self.now test row.now
             → AreSettingsFor F.on_test TellsNothing self.now mode test it) }
     {
-        match picked_by(alloc, self.rules.as_slice(), row) {
-            Ok(held) => Ok(settings_by::<()>(held.as_slice(), self.chain(), mode)),
+        let picked = self.picked_overrides(alloc, row)?;
+        match self.picked_scripts(alloc, row) {
+            Ok(found) => {
+                let overrides = picked.as_slice();
+                let scripts = found.as_slice();
+                let layers = self.layers(overrides, scripts);
+                Ok(settings_by::<()>(layers, mode))
+            }
             Err(error) => Err(error),
         }
+    }
+
+    // What the overrides say at which a row is true, in their order.
+    fn picked_overrides(
+        &self,
+        alloc: Global,
+        row: &[bool],
+    ) -> Result<Vec<&'c PlacedOverride>, AllocError>
+        ensures { IfOk result (λ it. lent it.items ≡ map placed_of (picked row.now self.now.rules)) }
+    {
+        picked_by(alloc, self.rules.as_slice(), row)
+    }
+
+    // What the script rules say at which it is true, behind the overrides.
+    fn picked_scripts(
+        &self,
+        alloc: Global,
+        row: &[bool],
+    ) -> Result<Vec<&'c PlacedScriptRule>, AllocError>
+        ensures { IfOk result (λ it. lent it.items
+            ≡ map placed_of (picked (drop (length self.now.rules) row.now) self.now.script_rules)) }
+    {
+        let behind = row_behind(row, self.rules.len());
+        picked_by(alloc, self.script_rules.as_slice(), behind)
     }
 }

@@ -2,8 +2,8 @@
 ghost use Rattle.nextest_config_resolution_profiles.specs.BuiltInLaws.{Accepted, NoFallback, ReadAs, WrittenAs};
 ghost use Rattle.nextest_config_resolution_profiles.specs.Kept.{KeptProfile};
 ghost use Rattle.nextest_config_resolution_profiles.specs.Languages.{IsFilterIn};
-ghost use Rattle.nextest_config_resolution_profiles.specs.Laws.{DefaultIsRead, NeverFallsBack, OneProfile, RulesAreRead, SameChain, SomeChain, SomeConfig};
-ghost use Rattle.nextest_config_resolution_profiles.specs.RuleLaws.{EarlyDefault, GroupOfSettings, NoRules, OneHeld, SameSettingsFor, SameSourcesFor, SomeGroupFor, SomeSettingsFor};
+ghost use Rattle.nextest_config_resolution_profiles.specs.Laws.{DefaultIsRead, NeverFallsBack, NothingIsUndefined, OneProfile, RulesAreRead, SameChain, ScriptRulesAreRead, SomeChain, SomeConfig};
+ghost use Rattle.nextest_config_resolution_profiles.specs.RuleLaws.{EarlyDefault, GroupOfSettings, MoreEnableNoFewer, NoRules, OneHeld, OneScriptsHeld, SameSettingsFor, SameSourcesFor, SomeGroupFor, SomeSettingsFor};
 
 use crate::default_config::DEFAULT_CONFIG;
 use nextest_config_resolution_filters::{Filters, Specs};
@@ -33,7 +33,18 @@ pub fn default_is_read<F: Filters, S: Specs>()
 
 /// Each rule of a configuration has the filters and platform specs that its texts are in the workspace.
 pub fn rules_are_read<F: Filters, S: Specs>()
-    ensures { (cx : F.Cx) → RulesAreRead (IsFilterIn F.is_parsed F.has_runtime_leaves cx) S.is_parsed F.is_too_deep }
+    ensures scripts { (cx : F.Cx) → ScriptRulesAreRead (IsFilterIn F.is_parsed F.has_runtime_leaves cx) S.is_parsed F.is_too_deep }
+    ensures overrides { (cx : F.Cx) → RulesAreRead (IsFilterIn F.is_parsed F.has_runtime_leaves cx) S.is_parsed F.is_too_deep }
+{}
+
+/// Each script that a script rule of a profile names is found, and each group that one of its overrides names is defined.
+pub fn nothing_is_undefined<F: Filters, S: Specs>()
+    ensures { (cx : F.Cx) → NothingIsUndefined (IsFilterIn F.is_parsed F.has_runtime_leaves cx) S.is_parsed F.is_too_deep }
+{}
+
+/// More tests enable no fewer setup scripts.
+pub fn more_enable_no_fewer<F: Filters, S: Specs>()
+    ensures { MoreEnableNoFewer F.on_test S }
 {}
 
 /// The chain of a profile hangs on the profiles in it alone: others that have the same values under their names have the same one.
@@ -75,6 +86,7 @@ pub fn early_default<F: Filters, S: Specs>()
 /// The rules that hold on a test are one list, and so the test has one list of settings, each taken from one place.
 pub fn one_held<'p, F: Filters, S: Specs, T: TrackSource<'p>, U: TrackSource<'p>>()
     ensures held { OneHeld F.on_test S }
+    ensures scripts { OneScriptsHeld F.on_test S }
     ensures settings { SameSettingsFor F.on_test S T.tells U.tells }
     ensures sources { SameSourcesFor F.on_test S T.tells }
 {}

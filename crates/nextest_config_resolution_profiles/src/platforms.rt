@@ -6,6 +6,7 @@ ghost use Rattle.nextest_config_resolution_settings.specs.Rules.{HoldsAndSets, N
 
 use crate::chain_rule::ChainRule;
 use nextest_config_resolution_filters::Specs;
+use nextest_config_resolution_overrides::PlacedOverride;
 use nextest_config_resolution_settings::{CompiledDefaultFilter, CompiledDefaultFilterSection};
 
 /// What is known of the platform that is built on, and of the one that is built for where it is another.
@@ -40,8 +41,8 @@ pub(crate) fn spec_holds<S: Specs>(spec: &Option<S>, facts: &S::Facts) -> bool
 }
 
 // Looks on which of these platforms each of some rules holds.
-pub(crate) fn put_all_on<F, S: Specs>(
-    rules: &mut Vec<ChainRule<'_, F, S>>,
+pub(crate) fn put_all_on<P, F, S: Specs>(
+    rules: &mut Vec<ChainRule<'_, P, F, S>>,
     platforms: &BuildPlatforms<'_, S::Facts>,
 )
     ensures { rules.new.items
@@ -51,8 +52,8 @@ pub(crate) fn put_all_on<F, S: Specs>(
 }
 
 // The same of rules that are lent.
-fn put_each_on<F, S: Specs>(
-    rules: &mut [ChainRule<'_, F, S>],
+fn put_each_on<P, F, S: Specs>(
+    rules: &mut [ChainRule<'_, P, F, S>],
     platforms: &BuildPlatforms<'_, S::Facts>,
 )
     ensures { rules.new
@@ -66,7 +67,7 @@ fn put_each_on<F, S: Specs>(
 // The default filter on platforms, by rules that were put on them, where this is the one of the profiles.
 pub(crate) fn chosen_default<'c, F: Drop, S>(
     early: CompiledDefaultFilter<'c, F>,
-    rules: &[ChainRule<'c, F, S>],
+    rules: &[ChainRule<'c, PlacedOverride, F, S>],
 ) -> CompiledDefaultFilter<'c, F>
     ensures { words.IsChosenDefault early.entry (seen_rules rules.now) result }
 {
@@ -77,7 +78,7 @@ pub(crate) fn chosen_default<'c, F: Drop, S>(
 }
 
 // The default filter that is set by the first rule that holds for the target and sets one.
-fn default_of_rules<'c, F, S>(rules: &[ChainRule<'c, F, S>]) -> Option<CompiledDefaultFilter<'c, F>>
+fn default_of_rules<'c, F, S>(rules: &[ChainRule<'c, PlacedOverride, F, S>]) -> Option<CompiledDefaultFilter<'c, F>>
     ensures found { IfSome result (words.IsDefaultOfRules (seen_rules rules.now)) }
     ensures none { IfNone result (NoneHoldsAndSets words.ForTarget words.default_set (seen_rules rules.now)) }
 {
@@ -90,7 +91,7 @@ fn default_of_rules<'c, F, S>(rules: &[ChainRule<'c, F, S>]) -> Option<CompiledD
 }
 
 // The default filter that a rule sets, if it holds for the target.
-fn default_of_rule<'c, F, S>(rule: &ChainRule<'c, F, S>) -> Option<CompiledDefaultFilter<'c, F>>
+fn default_of_rule<'c, F, S>(rule: &ChainRule<'c, PlacedOverride, F, S>) -> Option<CompiledDefaultFilter<'c, F>>
     ensures holds { OnSome result (words.ForTarget (seen_rule rule.now)) }
     ensures found { IfSome result (words.IsDefaultOf (seen_rule rule.now)) }
     ensures none { IfNone result (¬ HoldsAndSets words.ForTarget words.default_set (seen_rule rule.now)) }

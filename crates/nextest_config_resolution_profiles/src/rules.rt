@@ -4,23 +4,24 @@ ghost use Rattle.nextest_config_resolution_inheritance.specs.Inheritance.{names_
 ghost use Rattle.nextest_config_resolution_load.specs.Checks.{parents_of};
 ghost use Rattle.nextest_config_resolution_load.specs.Load.{named};
 ghost use Rattle.nextest_config_resolution_profiles.specs.ChainRules.{rules_in};
-ghost use Rattle.nextest_config_resolution_profiles.specs.Early.{id_of};
+ghost use Rattle.nextest_config_resolution_profiles.specs.Early.{in_profile};
 ghost use Rattle.nextest_config_resolution_settings.specs.Rules.{is_of_profile, rules_of, rules_of_profile};
 
 use crate::chain_rule::ChainRule;
-use nextest_config_resolution_load::{LoadedOverride, NamedProfile};
+use nextest_config_resolution_load::{LoadedRule, NamedProfile};
+use nextest_config_resolution_settings::InProfile;
 use std::alloc::{AllocError, Global};
 
 // The rules of the profiles at some places, one profile after another, and those of a profile in the order of all rules.
-pub(crate) fn rules_at<'c, F: Drop, S: Drop>(
+pub(crate) fn rules_at<'c, P: InProfile + Drop, F: Drop, S: Drop>(
     alloc: Global,
     profiles: &[NamedProfile],
     places: &[usize],
-    all: &'c [LoadedOverride<F, S>],
-) -> Result<Vec<ChainRule<'c, F, S>>, AllocError>
+    all: &'c [LoadedRule<P, F, S>],
+) -> Result<Vec<ChainRule<'c, P, F, S>>, AllocError>
     requires { All (λ place. place < length profiles.now) places.now }
     ensures { IfOk result (λ it. rules_in it.items
-        ≡ rules_of id_of all.now (names_at (parents_of (map named profiles.now)) places.now)) }
+        ≡ rules_of (in_profile P.profile_of) all.now (names_at (parents_of (map named profiles.now)) places.now)) }
 {
     let mut rules = Vec::new(alloc);
     for place in places {
@@ -30,13 +31,13 @@ pub(crate) fn rules_at<'c, F: Drop, S: Drop>(
 }
 
 // Adds the rules of the profile of a name.
-fn push_profile<'c, F: Drop, S: Drop>(
-    rules: &mut Vec<ChainRule<'c, F, S>>,
+fn push_profile<'c, P: InProfile + Drop, F: Drop, S: Drop>(
+    rules: &mut Vec<ChainRule<'c, P, F, S>>,
     name: &str,
-    all: &'c [LoadedOverride<F, S>],
+    all: &'c [LoadedRule<P, F, S>],
 ) -> Result<(), AllocError>
     ensures { IfOk result (λ _. rules_in rules.new.items
-        ≡ rules_in rules.old.items ++ rules_of_profile id_of all.now name.now) }
+        ≡ rules_in rules.old.items ++ rules_of_profile (in_profile P.profile_of) all.now name.now) }
 {
     for rule in all {
         push_rule(rules, name, rule)?;
@@ -45,15 +46,15 @@ fn push_profile<'c, F: Drop, S: Drop>(
 }
 
 // Adds a rule, if it is of the profile of a name.
-fn push_rule<'c, F: Drop, S: Drop>(
-    rules: &mut Vec<ChainRule<'c, F, S>>,
+fn push_rule<'c, P: InProfile + Drop, F: Drop, S: Drop>(
+    rules: &mut Vec<ChainRule<'c, P, F, S>>,
     name: &str,
-    rule: &'c LoadedOverride<F, S>,
+    rule: &'c LoadedRule<P, F, S>,
 ) -> Result<(), AllocError>
     ensures { IfOk result (λ _. rules_in rules.new.items
-        ≡ rules_in rules.old.items ++ filter (is_of_profile id_of name.now) (rule.now ∷ [])) }
+        ≡ rules_in rules.old.items ++ filter (is_of_profile (in_profile P.profile_of) name.now) (rule.now ∷ [])) }
 {
-    if rule.placed.id.profile.as_str() == name {
+    if rule.placed.profile() == name {
         rules.push(ChainRule::new(rule))?;
     }
     Ok(())

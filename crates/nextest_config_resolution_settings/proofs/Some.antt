@@ -1,19 +1,25 @@
 -- There is a value of each setting, which is taken from some place.
-use Rattle.std.proofs.Common.{◌≡◌, ℕ, suc, List, [], ◌∷◌, Option, Some, None, refl, sym, ap, subst}
+use Rattle.std.proofs.Common.{◌≡◌, ℕ, suc, List, [], ◌∷◌, Option, Some, None, Bor, refl, sym, ap, subst, inl, inr}
+use Rattle.std.specs.Option.{option_copied}
 use Rattle.std.proofs.lemmas.List.Elements.{All-nil, All-cons}
 use Rattle.nextest_config_elements_identifiers.specs.declared.test_group.TestGroup.{TestGroup}
 use Rattle.nextest_config_elements_identifiers.specs.declared.test_group.TestGroup.TheVariants as group
 use Rattle.nextest_config_resolution_overrides.specs.declared.override_id.OverrideId.{OverrideId}
+use Rattle.nextest_config_resolution_scripts.specs.Defined.{script_named}
+use Rattle.nextest_config_resolution_scripts.specs.declared.script_config.NamedScript.{NamedScript}
+use Rattle.nextest_config_resolution_scripts.specs.declared.script_rule.PlacedScriptRule.{PlacedScriptRule}
+use Rattle.nextest_config_resolution_scripts.specs.declared.wrapper_script.WrapperScriptConfig.{WrapperScriptConfig}
 use Rattle.nextest_config_resolution_settings.specs.Fallbacks as fallback
 use Rattle.nextest_config_resolution_settings.specs.Keys as key
 use Rattle.nextest_config_resolution_settings.specs.Laws.{SomeSettings}
-use Rattle.nextest_config_resolution_settings.specs.Nearest.{IsNearest, SetsNone, Source, a_profile, an_override, no_layer, of_fallback, of_profile, of_profiles, of_rule}
+use Rattle.nextest_config_resolution_settings.specs.Nearest.{IsNearest, SetsNone, Source, a_profile, a_script_rule, an_override, no_layer, of_fallback, of_profile, of_profiles, of_rule}
 use Rattle.nextest_config_resolution_settings.specs.Profile.{OfProfiles}
 use Rattle.nextest_config_resolution_settings.specs.RuleKeys as rule
 use Rattle.nextest_config_resolution_settings.specs.Rules.{id_of}
 use Rattle.nextest_config_resolution_settings.specs.TestSettings.{group_of}
 use Rattle.nextest_config_resolution_settings.specs.Tracked.{IsTracked}
 use Rattle.nextest_config_resolution_settings.specs.Tracking.{KeepsSome}
+use Rattle.nextest_config_resolution_settings.specs.Wrappers.{IsTrackedWrapper, run_wrapper}
 use Rattle.nextest_config_resolution_settings.specs.declared.test_settings.TestGroupRef.{TestGroupRef}
 use Rattle.nextest_config_resolution_settings.specs.declared.test_settings.TestGroupRef.TheVariants as group_ref
 
@@ -78,28 +84,50 @@ some_lent : (it : TestGroup) → (lent : TestGroupRef) × (group_of lent ≡ it)
 some_lent group.Global = (group_ref.Global, refl)
 some_lent (group.Custom it) = (group_ref.Custom (record { ref_ptr = (0, 0); now = it }), refl)
 
+-- a wrapper script can be lent
+lent_wrapper : (it : Option WrapperScriptConfig) → (lent : Option (Bor WrapperScriptConfig)) × (option_copied lent ≡ it)
+lent_wrapper None = (None, refl)
+lent_wrapper (Some it) = (Some (record { ref_ptr = (0, 0); now = it }), refl)
+
+-- and script rules set one, or none
+some_wrapper : {S : Type 0} (Tells : S → Source → Type 0) → KeepsSome Tells
+    → (wrappers : List (NamedScript WrapperScriptConfig)) (named_by : PlacedScriptRule → Option (List ℕ)) (rules : List PlacedScriptRule)
+    → (it : Option (Bor WrapperScriptConfig) × S) × IsTrackedWrapper Tells wrappers named_by rules (option_copied it.0, it.1)
+some_wrapper Tells keeps wrappers named_by rules = by_found (found named_by rules)
+  where
+    by_found : Found named_by rules → (it : Option (Bor WrapperScriptConfig) × _) × IsTrackedWrapper Tells wrappers named_by rules (option_copied it.0, it.1)
+    by_found (at place id is) =
+        let lent = lent_wrapper (script_named wrappers id) in
+        let kept = keeps (a_script_rule is.layer.id) in (
+          (lent.0, kept.0),
+          record { from = a_script_rule is.layer.id; is = inl (record { place = place; id = id; nearest = is; found = lent.1; written = refl }); kept = kept.1 },
+        )
+    by_found (nowhere unset) =
+        let kept = keeps no_layer in
+        ((None, kept.0), record { from = no_layer; is = inr (unset, refl, refl); kept = kept.1 })
+
 pub some_settings : {S : Type 0} (Tells : S → Source → Type 0) → KeepsSome Tells → SomeSettings Tells
-some_settings Tells keeps mode held chain =
-    let unset = keeps no_layer in
-    let priority = some_tracked Tells keeps id_of rule.priority key.priority held chain fallback.priority in
-    let threads_required = some_tracked Tells keeps id_of rule.threads_required key.threads_required held chain fallback.threads_required in
-    let run_extra_args = some_tracked Tells keeps id_of rule.run_extra_args key.run_extra_args held chain fallback.run_extra_args in
-    let retries = some_tracked Tells keeps id_of rule.retries key.retries held chain fallback.retries in
-    let flaky_result = some_tracked Tells keeps id_of rule.flaky_result key.flaky_result held chain fallback.flaky_result in
-    let slow_timeout = some_tracked Tells keeps id_of (rule.slow_timeout mode) (key.slow_timeout mode) held chain (fallback.slow_timeout mode) in
-    let leak_timeout = some_tracked Tells keeps id_of rule.leak_timeout key.leak_timeout held chain fallback.leak_timeout in
-    let test_group = some_tracked Tells keeps id_of rule.test_group key.test_group held chain fallback.test_group in
+some_settings Tells keeps mode layers =
+    let priority = some_tracked Tells keeps id_of rule.priority key.priority layers.overrides layers.chain fallback.priority in
+    let threads_required = some_tracked Tells keeps id_of rule.threads_required key.threads_required layers.overrides layers.chain fallback.threads_required in
+    let run_wrapper = some_wrapper Tells keeps layers.wrappers run_wrapper layers.scripts in
+    let run_extra_args = some_tracked Tells keeps id_of rule.run_extra_args key.run_extra_args layers.overrides layers.chain fallback.run_extra_args in
+    let retries = some_tracked Tells keeps id_of rule.retries key.retries layers.overrides layers.chain fallback.retries in
+    let flaky_result = some_tracked Tells keeps id_of rule.flaky_result key.flaky_result layers.overrides layers.chain fallback.flaky_result in
+    let slow_timeout = some_tracked Tells keeps id_of (rule.slow_timeout mode) (key.slow_timeout mode) layers.overrides layers.chain (fallback.slow_timeout mode) in
+    let leak_timeout = some_tracked Tells keeps id_of rule.leak_timeout key.leak_timeout layers.overrides layers.chain fallback.leak_timeout in
+    let test_group = some_tracked Tells keeps id_of rule.test_group key.test_group layers.overrides layers.chain fallback.test_group in
     let lent = some_lent test_group.0.0 in
-    let success_output = some_tracked Tells keeps id_of rule.success_output key.success_output held chain fallback.success_output in
-    let failure_output = some_tracked Tells keeps id_of rule.failure_output key.failure_output held chain fallback.failure_output in
-    let junit_store_success_output = some_tracked Tells keeps id_of rule.junit_store_success_output key.junit_store_success_output held chain fallback.junit_store_success_output in
-    let junit_store_failure_output = some_tracked Tells keeps id_of rule.junit_store_failure_output key.junit_store_failure_output held chain fallback.junit_store_failure_output in
-    let junit_report_skipped = some_tracked Tells keeps id_of rule.junit_report_skipped key.junit_report_skipped held chain fallback.junit_report_skipped in
-    let junit_flaky_fail_status = some_tracked Tells keeps id_of rule.junit_flaky_fail_status key.junit_flaky_fail_status held chain fallback.junit_flaky_fail_status in (
+    let success_output = some_tracked Tells keeps id_of rule.success_output key.success_output layers.overrides layers.chain fallback.success_output in
+    let failure_output = some_tracked Tells keeps id_of rule.failure_output key.failure_output layers.overrides layers.chain fallback.failure_output in
+    let junit_store_success_output = some_tracked Tells keeps id_of rule.junit_store_success_output key.junit_store_success_output layers.overrides layers.chain fallback.junit_store_success_output in
+    let junit_store_failure_output = some_tracked Tells keeps id_of rule.junit_store_failure_output key.junit_store_failure_output layers.overrides layers.chain fallback.junit_store_failure_output in
+    let junit_report_skipped = some_tracked Tells keeps id_of rule.junit_report_skipped key.junit_report_skipped layers.overrides layers.chain fallback.junit_report_skipped in
+    let junit_flaky_fail_status = some_tracked Tells keeps id_of rule.junit_flaky_fail_status key.junit_flaky_fail_status layers.overrides layers.chain fallback.junit_flaky_fail_status in (
       record {
         priority = priority.0;
         threads_required = threads_required.0;
-        run_wrapper = (None, unset.0);
+        run_wrapper = run_wrapper.0;
         run_extra_args = (record { ref_ptr = (0, 0); now = run_extra_args.0.0 }, run_extra_args.0.1);
         retries = retries.0;
         flaky_result = flaky_result.0;
@@ -116,13 +144,13 @@ some_settings Tells keeps mode held chain =
       record {
         priority = priority.1;
         threads_required = threads_required.1;
-        run_wrapper = (refl, unset.1);
+        run_wrapper = run_wrapper.1;
         run_extra_args = run_extra_args.1;
         retries = retries.1;
         flaky_result = flaky_result.1;
         slow_timeout = slow_timeout.1;
         leak_timeout = leak_timeout.1;
-        test_group = subst (λ (it : TestGroup). IsTracked Tells id_of rule.test_group key.test_group held chain fallback.test_group (it, test_group.0.1)) (sym lent.1) test_group.1;
+        test_group = subst (λ (it : TestGroup). IsTracked Tells id_of rule.test_group key.test_group layers.overrides layers.chain fallback.test_group (it, test_group.0.1)) (sym lent.1) test_group.1;
         success_output = success_output.1;
         failure_output = failure_output.1;
         junit_store_success_output = junit_store_success_output.1;

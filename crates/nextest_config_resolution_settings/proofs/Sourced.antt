@@ -1,12 +1,17 @@
 -- Settings, and what is kept of where they are taken from.
-use Rattle.std.proofs.Common.{◌≡◌, List, Option, sym, ◌∙◌, subst}
+use Rattle.std.proofs.Common.{◌≡◌, ℕ, List, Option, sym, ap, ◌∙◌, subst, inl, inr}
 use Rattle.nextest_config_resolution_overrides.specs.declared.override_id.OverrideId.{OverrideId}
-use Rattle.nextest_config_resolution_settings.proofs.Unique.{one_of_profiles, one_setting}
+use Rattle.nextest_config_resolution_scripts.specs.Defined.{script_named}
+use Rattle.nextest_config_resolution_scripts.specs.declared.script_config.NamedScript.{NamedScript}
+use Rattle.nextest_config_resolution_scripts.specs.declared.script_rule.PlacedScriptRule.{PlacedScriptRule}
+use Rattle.nextest_config_resolution_scripts.specs.declared.wrapper_script.WrapperScriptConfig.{WrapperScriptConfig}
+use Rattle.nextest_config_resolution_settings.proofs.Unique.{one_layer, one_nearest, one_of_profiles, one_setting, set_and_unset}
 use Rattle.nextest_config_resolution_settings.specs.Laws.{SameSettings, SameSources}
-use Rattle.nextest_config_resolution_settings.specs.Nearest.{Source, no_layer}
+use Rattle.nextest_config_resolution_settings.specs.Nearest.{Source, a_script_rule}
 use Rattle.nextest_config_resolution_settings.specs.Profile.{OfProfiles}
 use Rattle.nextest_config_resolution_settings.specs.Tracked.{IsTracked}
 use Rattle.nextest_config_resolution_settings.specs.Tracking.{HaveOneSource}
+use Rattle.nextest_config_resolution_settings.specs.Wrappers.{IsWrapper, run_wrapper}
 
 -- profiles have one value of a setting
 pub one_value : {P V : Type 0} (by_profile : P → Option V) (profiles : List P) (fallback one other : V)
@@ -28,11 +33,23 @@ same_source {Tells = Tells} {id_of = id_of} {by_rule = by_rule} {by_profile = by
     let same = (one_setting id_of by_rule by_profile rules profiles fallback one.0 other.0 a.from b.from a.is b.is).1 in
     (b.from, subst (λ from. Tells one.1 from) same a.kept, b.kept)
 
+-- script rules set one wrapper script, which comes from one place
+pub one_wrapper : (wrappers : List (NamedScript WrapperScriptConfig)) (named_by : PlacedScriptRule → Option (List ℕ)) (rules : List PlacedScriptRule)
+    → {one other : Option WrapperScriptConfig} {from also : Source} → IsWrapper wrappers named_by rules one from → IsWrapper wrappers named_by rules other also
+    → (one ≡ other) × (from ≡ also)
+one_wrapper wrappers named_by rules (inl a) (inl b) = (
+  a.found ∙ ap (script_named wrappers) (one_nearest a.nearest b.nearest).0 ∙ sym b.found,
+  a.written ∙ ap (λ (rule : PlacedScriptRule). a_script_rule rule.id) (one_layer a.nearest b.nearest) ∙ sym b.written,
+)
+one_wrapper wrappers named_by rules (inl a) (inr (unset, none, from)) = absurd (set_and_unset a.nearest unset)
+one_wrapper wrappers named_by rules (inr (unset, none, from)) (inl b) = absurd (set_and_unset b.nearest unset)
+one_wrapper wrappers named_by rules (inr (unset, none, from)) (inr (also, no_other, source)) = (none ∙ sym no_other, from ∙ sym source)
+
 pub same_settings : {S T : Type 0} (Tells : S → Source → Type 0) (Also : T → Source → Type 0) → SameSettings Tells Also
-same_settings Tells Also mode held chain one other a b = record {
+same_settings Tells Also mode layers one other a b = record {
   priority = same_value a.priority b.priority;
   threads_required = same_value a.threads_required b.threads_required;
-  run_wrapper = a.run_wrapper.0 ∙ sym b.run_wrapper.0;
+  run_wrapper = (one_wrapper layers.wrappers run_wrapper layers.scripts a.run_wrapper.is b.run_wrapper.is).0;
   run_extra_args = same_value a.run_extra_args b.run_extra_args;
   retries = same_value a.retries b.retries;
   flaky_result = same_value a.flaky_result b.flaky_result;
@@ -48,10 +65,12 @@ same_settings Tells Also mode held chain one other a b = record {
 }
 
 pub same_sources : {S : Type 0} (Tells : S → Source → Type 0) → SameSources Tells
-same_sources Tells mode held chain one other a b = record {
+same_sources Tells mode layers one other a b = record {
   priority = same_source a.priority b.priority;
   threads_required = same_source a.threads_required b.threads_required;
-  run_wrapper = (no_layer, a.run_wrapper.1, b.run_wrapper.1);
+  run_wrapper =
+      let same = (one_wrapper layers.wrappers run_wrapper layers.scripts a.run_wrapper.is b.run_wrapper.is).1 in
+      (b.run_wrapper.from, subst (λ from. Tells one.run_wrapper.1 from) same a.run_wrapper.kept, b.run_wrapper.kept);
   run_extra_args = same_source a.run_extra_args b.run_extra_args;
   retries = same_source a.retries b.retries;
   flaky_result = same_source a.flaky_result b.flaky_result;

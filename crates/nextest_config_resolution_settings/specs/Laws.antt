@@ -2,11 +2,10 @@
 use Rattle.std.specs.Prelude.{◌≡◌, List, Option}
 use Rattle.nextest_config_elements_plain.specs.declared.run_mode.NextestRunMode.{NextestRunMode}
 use Rattle.nextest_config_resolution_overrides.specs.declared.override_id.OverrideId.{OverrideId}
-use Rattle.nextest_config_resolution_overrides.specs.declared.placed_override.PlacedOverride.{PlacedOverride}
+use Rattle.nextest_config_resolution_settings.specs.Layers.{Layers}
 use Rattle.nextest_config_resolution_settings.specs.Nearest.{IsSetting, Source}
 use Rattle.nextest_config_resolution_settings.specs.TestSettings.{AreSame, AreSettings, HaveSameSources}
 use Rattle.nextest_config_resolution_settings.specs.declared.test_settings.TestSettings.{TestSettings}
-use Rattle.nextest_config_resolution_values.specs.declared.profile_config.ProfileConfig.{ProfileConfig}
 
 -- a setting has at most one value, which comes from one place
 abbrev pub OneSetting : {R P V : Type 0} → (R → OverrideId) → (R → Option V) → (P → Option V) → Type 0
@@ -18,20 +17,20 @@ OneSetting {R} {P} {V} id_of by_rule by_profile =
 -- rules and a chain set the same for each test, whatever is kept of where that is taken from
 abbrev pub SameSettings : {S T : Type 0} → (S → Source → Type 0) → (T → Source → Type 0) → Type 0
 SameSettings {S} {T} Tells Also =
-    (mode : NextestRunMode) (held : List PlacedOverride) (chain : List ProfileConfig)
+    (mode : NextestRunMode) (layers : Layers)
     (one : TestSettings S) (other : TestSettings T)
-    → AreSettings Tells mode held chain one → AreSettings Also mode held chain other → AreSame one other
+    → AreSettings Tells mode layers one → AreSettings Also mode layers other → AreSame one other
 
 -- and each setting is taken from one place
 abbrev pub SameSources : {S : Type 0} → (S → Source → Type 0) → Type 0
 SameSources {S} Tells =
-    (mode : NextestRunMode) (held : List PlacedOverride) (chain : List ProfileConfig)
+    (mode : NextestRunMode) (layers : Layers)
     (one other : TestSettings S)
-    → AreSettings Tells mode held chain one → AreSettings Tells mode held chain other
+    → AreSettings Tells mode layers one → AreSettings Tells mode layers other
     → HaveSameSources Tells one other
 
 -- rules and a chain set something for each test
 abbrev pub SomeSettings : {S : Type 0} → (S → Source → Type 0) → Type 0
 SomeSettings {S} Tells =
-    (mode : NextestRunMode) (held : List PlacedOverride) (chain : List ProfileConfig)
-    → (settings : TestSettings S) × AreSettings Tells mode held chain settings
+    (mode : NextestRunMode) (layers : Layers)
+    → (settings : TestSettings S) × AreSettings Tells mode layers settings

@@ -2,6 +2,7 @@ pub mod Default
 pub mod Fallbacks
 pub mod Keys
 pub mod Laws
+pub mod Layers
 pub mod Nearest
 pub mod Profile
 pub mod RuleKeys
@@ -10,3 +11,4 @@ pub mod Rules
 pub mod TestSettings
 pub mod Tracked
 pub mod Tracking
+pub mod Wrappers

@@ -2,6 +2,7 @@
 use Rattle.std.specs.Prelude.{◌≡◌, ℕ, List, ◌∷◌, ◌++◌, Option, Some, None, All, length, map}
 use denote.Ref.{Bor}
 use Rattle.nextest_config_resolution_overrides.specs.declared.override_id.OverrideId.{OverrideId}
+use Rattle.nextest_config_resolution_scripts.specs.declared.script_rule.ScriptRuleId.{ScriptRuleId}
 use Rattle.nextest_config_resolution_settings.specs.declared.source.SettingSource.{SettingSource}
 use Rattle.nextest_config_resolution_settings.specs.declared.source.SettingSource.TheVariants as source
 
@@ -23,14 +24,16 @@ pub record IsNearest {L V : Type 0} (set_by : L → Option V) (layers : List L) 
   pub before : SetsNone set_by front
   pub sets : set_by layer ≡ Some value
 
--- where the value of a setting comes from: from an override, from a profile by its place in the chain, or from no layer
+-- where the value of a setting comes from: from an override, from a script rule, from a profile by its place in the chain, or from no layer
 pub data Source : Type 0 where
   an_override : OverrideId → Source
+  a_script_rule : ScriptRuleId → Source
   a_profile : ℕ → Source
   no_layer : Source
 
 abbrev pub seen : SettingSource → Source
 seen (source.Override id) = an_override id.now
+seen (source.Script id) = a_script_rule id.now
 seen (source.Profile place) = a_profile place
 seen source.Default = no_layer
 

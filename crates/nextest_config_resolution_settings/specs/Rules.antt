@@ -1,24 +1,32 @@
--- The rules of a chain, and which of them hold: overrides, in the order in which they are asked.
+-- The rules of a chain, and which of them hold: overrides and script rules, in the order in which they are asked.
 use Rattle.std.specs.Prelude.{◌≡◌, ℕ, Bool, List, [], ◌∷◌, ◌++◌, Option, Some, All, filter, flat_map, bytes_eq}
 use Rattle.nextest_config_resolution_settings.specs.Nearest.{IsNearest}
 use Rattle.nextest_config_resolution_overrides.specs.declared.override_id.OverrideId.{OverrideId}
 use Rattle.nextest_config_resolution_overrides.specs.declared.placed_override.PlacedOverride.{PlacedOverride}
+use Rattle.nextest_config_resolution_scripts.specs.declared.script_rule.PlacedScriptRule.{PlacedScriptRule}
 
--- where a rule is written
+-- where an override is written
 abbrev pub id_of : PlacedOverride → OverrideId
 id_of rule = rule.id
 
+-- the name of the profile in which a rule is written
+abbrev pub profile_of : PlacedOverride → List ℕ
+profile_of rule = rule.id.profile
+
+abbrev pub script_profile_of : PlacedScriptRule → List ℕ
+script_profile_of rule = rule.id.profile
+
 -- a rule of the profile of a name
-abbrev pub is_of_profile : {R : Type 0} → (R → OverrideId) → List ℕ → R → Bool
-is_of_profile written name rule = bytes_eq (written rule).profile name
+abbrev pub is_of_profile : {R : Type 0} → (R → List ℕ) → List ℕ → R → Bool
+is_of_profile profile_of name rule = bytes_eq (profile_of rule) name
 
 -- those of a profile, in the order of all rules: the files from the highest, and in a file by index
-abbrev pub rules_of_profile : {R : Type 0} → (R → OverrideId) → List R → List ℕ → List R
-rules_of_profile written all name = filter (is_of_profile written name) all
+abbrev pub rules_of_profile : {R : Type 0} → (R → List ℕ) → List R → List ℕ → List R
+rules_of_profile profile_of all name = filter (is_of_profile profile_of name) all
 
 -- those of a chain: of its profiles one after another
-abbrev pub rules_of : {R : Type 0} → (R → OverrideId) → List R → List (List ℕ) → List R
-rules_of written all names = flat_map (rules_of_profile written all) names
+abbrev pub rules_of : {R : Type 0} → (R → List ℕ) → List R → List (List ℕ) → List R
+rules_of profile_of all names = flat_map (rules_of_profile profile_of all) names
 
 -- ---- rules that hold
 

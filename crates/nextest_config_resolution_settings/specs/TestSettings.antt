@@ -1,68 +1,70 @@
 -- The settings of a test.
-use Rattle.std.specs.Prelude.{◌≡◌, List, None}
+use Rattle.std.specs.Prelude.{◌≡◌}
+use Rattle.std.specs.Option.{option_copied}
 use Rattle.nextest_config_elements_identifiers.specs.declared.test_group.TestGroup.{TestGroup}
 use Rattle.nextest_config_elements_identifiers.specs.declared.test_group.TestGroup.TheVariants as group
 use Rattle.nextest_config_elements_plain.specs.declared.run_mode.NextestRunMode.{NextestRunMode}
-use Rattle.nextest_config_resolution_overrides.specs.declared.placed_override.PlacedOverride.{PlacedOverride}
 use Rattle.nextest_config_resolution_settings.specs.Fallbacks as fallback
 use Rattle.nextest_config_resolution_settings.specs.Keys as key
-use Rattle.nextest_config_resolution_settings.specs.Nearest.{Source, no_layer}
+use Rattle.nextest_config_resolution_settings.specs.Layers.{Layers}
+use Rattle.nextest_config_resolution_settings.specs.Nearest.{Source}
 use Rattle.nextest_config_resolution_settings.specs.RuleKeys as rule
 use Rattle.nextest_config_resolution_settings.specs.Rules.{id_of}
 use Rattle.nextest_config_resolution_settings.specs.Tracked.{IsTracked}
 use Rattle.nextest_config_resolution_settings.specs.Tracking.{HaveOneSource}
+use Rattle.nextest_config_resolution_settings.specs.Wrappers.{IsTrackedWrapper, run_wrapper}
 use Rattle.nextest_config_resolution_settings.specs.declared.test_settings.TestGroupRef.{TestGroupRef}
 use Rattle.nextest_config_resolution_settings.specs.declared.test_settings.TestGroupRef.TheVariants as group_ref
 use Rattle.nextest_config_resolution_settings.specs.declared.test_settings.TestSettings.{TestSettings}
-use Rattle.nextest_config_resolution_values.specs.declared.profile_config.ProfileConfig.{ProfileConfig}
 
 -- a group that is lent
 abbrev pub group_of : TestGroupRef → TestGroup
 group_of group_ref.Global = group.Global
 group_of (group_ref.Custom it) = group.Custom it.now
 
--- each is what the rules that hold on a test and the chain of its profile have, with what is kept of where it is taken from; no
--- layer sets a wrapper script yet
-pub record AreSettings {S : Type 0} (Tells : S → Source → Type 0) (mode : NextestRunMode)
-    (held : List PlacedOverride) (chain : List ProfileConfig) (settings : TestSettings S) : Type 0 where
-  pub priority : IsTracked Tells id_of rule.priority key.priority held chain
+-- each is what the rules that hold on a test and the chain of its profile have, with what is kept of where it is taken from; script
+-- rules alone set a wrapper script
+pub record AreSettings {S : Type 0} (Tells : S → Source → Type 0) (mode : NextestRunMode) (layers : Layers)
+    (settings : TestSettings S) : Type 0 where
+  pub priority : IsTracked Tells id_of rule.priority key.priority layers.overrides layers.chain
       fallback.priority settings.priority
-  pub threads_required : IsTracked Tells id_of rule.threads_required key.threads_required held chain
+  pub threads_required : IsTracked Tells id_of rule.threads_required key.threads_required layers.overrides layers.chain
       fallback.threads_required settings.threads_required
-  pub run_wrapper : (settings.run_wrapper.0 ≡ None) × Tells settings.run_wrapper.1 no_layer
-  pub run_extra_args : IsTracked Tells id_of rule.run_extra_args key.run_extra_args held chain
+  pub run_wrapper : IsTrackedWrapper Tells layers.wrappers run_wrapper layers.scripts
+      (option_copied settings.run_wrapper.0, settings.run_wrapper.1)
+  pub run_extra_args : IsTracked Tells id_of rule.run_extra_args key.run_extra_args layers.overrides layers.chain
       fallback.run_extra_args (settings.run_extra_args.0.now, settings.run_extra_args.1)
-  pub retries : IsTracked Tells id_of rule.retries key.retries held chain fallback.retries settings.retries
-  pub flaky_result : IsTracked Tells id_of rule.flaky_result key.flaky_result held chain
+  pub retries : IsTracked Tells id_of rule.retries key.retries layers.overrides layers.chain fallback.retries settings.retries
+  pub flaky_result : IsTracked Tells id_of rule.flaky_result key.flaky_result layers.overrides layers.chain
       fallback.flaky_result settings.flaky_result
-  pub slow_timeout : IsTracked Tells id_of (rule.slow_timeout mode) (key.slow_timeout mode) held chain
+  pub slow_timeout : IsTracked Tells id_of (rule.slow_timeout mode) (key.slow_timeout mode) layers.overrides layers.chain
       (fallback.slow_timeout mode) settings.slow_timeout
-  pub leak_timeout : IsTracked Tells id_of rule.leak_timeout key.leak_timeout held chain
+  pub leak_timeout : IsTracked Tells id_of rule.leak_timeout key.leak_timeout layers.overrides layers.chain
       fallback.leak_timeout settings.leak_timeout
-  pub test_group : IsTracked Tells id_of rule.test_group key.test_group held chain
+  pub test_group : IsTracked Tells id_of rule.test_group key.test_group layers.overrides layers.chain
       fallback.test_group (group_of settings.test_group.0, settings.test_group.1)
-  pub success_output : IsTracked Tells id_of rule.success_output key.success_output held chain
+  pub success_output : IsTracked Tells id_of rule.success_output key.success_output layers.overrides layers.chain
       fallback.success_output settings.success_output
-  pub failure_output : IsTracked Tells id_of rule.failure_output key.failure_output held chain
+  pub failure_output : IsTracked Tells id_of rule.failure_output key.failure_output layers.overrides layers.chain
       fallback.failure_output settings.failure_output
   pub junit_store_success_output : IsTracked Tells id_of
-      rule.junit_store_success_output key.junit_store_success_output held chain
+      rule.junit_store_success_output key.junit_store_success_output layers.overrides layers.chain
       fallback.junit_store_success_output settings.junit_store_success_output
   pub junit_store_failure_output : IsTracked Tells id_of
-      rule.junit_store_failure_output key.junit_store_failure_output held chain
+      rule.junit_store_failure_output key.junit_store_failure_output layers.overrides layers.chain
       fallback.junit_store_failure_output settings.junit_store_failure_output
   pub junit_report_skipped : IsTracked Tells id_of
-      rule.junit_report_skipped key.junit_report_skipped held chain
+      rule.junit_report_skipped key.junit_report_skipped layers.overrides layers.chain
       fallback.junit_report_skipped settings.junit_report_skipped
   pub junit_flaky_fail_status : IsTracked Tells id_of
-      rule.junit_flaky_fail_status key.junit_flaky_fail_status held chain
+      rule.junit_flaky_fail_status key.junit_flaky_fail_status layers.overrides layers.chain
       fallback.junit_flaky_fail_status settings.junit_flaky_fail_status
 
 -- each setting of the one is that of the other
 pub record AreSame {S T : Type 0} (one : TestSettings S) (other : TestSettings T) : Type 0 where
   pub priority : one.priority.0 ≡ other.priority.0
   pub threads_required : one.threads_required.0 ≡ other.threads_required.0
-  pub run_wrapper : one.run_wrapper.0 ≡ other.run_wrapper.0
+  pub run_wrapper : option_copied one.run_wrapper.0 ≡ option_copied other.run_wrapper.0
   pub run_extra_args : one.run_extra_args.0.now ≡ other.run_extra_args.0.now
   pub retries : one.retries.0 ≡ other.retries.0
   pub flaky_result : one.flaky_result.0 ≡ other.flaky_result.0

@@ -1,6 +1,6 @@
 -- What is kept of where a setting comes from.
 use Rattle.std.specs.Prelude.{◌≡◌, refl, ⊤}
-use Rattle.nextest_config_resolution_settings.specs.Nearest.{Source, an_override, a_profile, no_layer, seen}
+use Rattle.nextest_config_resolution_settings.specs.Nearest.{Source, an_override, a_script_rule, a_profile, no_layer, seen}
 use Rattle.nextest_config_resolution_settings.specs.declared.source.SettingSource.{SettingSource}
 use Rattle.nextest_config_resolution_settings.specs.declared.source.SettingSource.TheVariants as source
 
@@ -20,6 +20,7 @@ nothing_kept from = (tt, tt)
 
 pub all_kept : KeepsSome TellsAll
 all_kept (an_override id) = (source.Override (record { ref_ptr = (0, 0); now = id }), refl)
+all_kept (a_script_rule id) = (source.Script (record { ref_ptr = (0, 0); now = id }), refl)
 all_kept (a_profile place) = (source.Profile place, refl)
 all_kept no_layer = (source.Default, refl)
 

@@ -8,6 +8,7 @@ use nextest_config_elements_identifiers::TestGroup;
 use nextest_config_elements_plain::{
     FinalStatusLevel, FlakyResult, MaxFail, StatusLevel, TestOutputDisplay,
 };
+use nextest_config_resolution_scripts::ScriptId;
 use nextest_config_resolution_values::ProfileConfig;
 use nextest_text::{Listing, Text};
 
@@ -441,4 +442,18 @@ impl Sets<TestGroupKey> for ProfileConfig {
     fn value(&self) -> Option<&TestGroup> {
         None
     }
+}
+
+/// `run-wrapper`, which script rules alone set: the name of a wrapper script.
+pub struct RunWrapperKey;
+
+impl Setting for RunWrapperKey {
+    type Value = ScriptId;
+}
+
+/// `list-wrapper`, which script rules alone set: the name of a wrapper script.
+pub struct ListWrapperKey;
+
+impl Setting for ListWrapperKey {
+    type Value = ScriptId;
 }

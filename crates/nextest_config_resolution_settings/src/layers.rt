@@ -38,6 +38,17 @@ pub fn nearest<'c, S: Setting, L: Sets<S>>(layers: &[&'c L]) -> Option<(usize, &
     None
 }
 
+/// A rule of a configuration, an override or a script rule, which stands in a profile.
+pub trait InProfile {
+    ghost use Rattle.std.specs.Prelude.{◌≡◌, List, ℕ};
+
+    ghost profile_of: { Self → List ℕ };
+
+    /// The name of the profile.
+    fn profile(&self) -> &str
+        ensures { result.now ≡ profile_of self.now };
+}
+
 /// A rule of a configuration, which is one of its overrides.
 pub trait Rule {
     ghost use Rattle.std.specs.Prelude.{◌≡◌};

@@ -5,7 +5,7 @@ use crate::keys::{
     PriorityKey, RetriesKey, RunExtraArgsKey, SlowTimeoutKey, SuccessOutputKey, TestGroupKey,
     ThreadsRequiredKey,
 };
-use crate::layers::{Rule, Sets};
+use crate::layers::{InProfile, Rule, Sets};
 use nextest_config_elements_counts::{
     JunitFlakyFailStatus, LeakTimeout, ReportSkipPolicy, RetryPolicy, SlowTimeout, TestPriority,
     ThreadsRequired,
@@ -22,6 +22,16 @@ impl Rule for PlacedOverride {
 
     fn id(&self) -> &OverrideId {
         &self.id
+    }
+}
+
+impl InProfile for PlacedOverride {
+    ghost use Rattle.nextest_config_resolution_settings.specs.Rules.{profile_of};
+
+    ghost profile_of = { profile_of };
+
+    fn profile(&self) -> &str {
+        self.id.profile.as_str()
     }
 }
 

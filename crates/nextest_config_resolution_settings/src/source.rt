@@ -1,11 +1,14 @@
 // Where the value of a setting comes from.
 use nextest_config_resolution_overrides::OverrideId;
+use nextest_config_resolution_scripts::ScriptRuleId;
 
 /// Where the value of a setting comes from.
 #[derive(Clone, Copy, Debug, PartialEq, Eq)]
 pub enum SettingSource<'p> {
     /// An override that holds for the test.
     Override(&'p OverrideId),
+    /// A script rule that holds for the test.
+    Script(&'p ScriptRuleId),
     /// A profile of the chain, by its place there: 0 is the profile that was asked.
     Profile(usize),
     /// No layer sets it, and the fallback holds.

@@ -3,6 +3,7 @@ ghost use Rattle.std.specs.Prelude.{◌≡◌, unwrap_or};
 ghost use Rattle.std.specs.Option.{option_copied};
 ghost use Rattle.nextest_config_resolution_settings.specs.Fallbacks as fallback;
 ghost use Rattle.nextest_config_resolution_settings.specs.Keys as key;
+ghost use Rattle.nextest_config_resolution_settings.specs.Layers.{layers_in};
 ghost use Rattle.nextest_config_resolution_settings.specs.Nearest.{lent};
 ghost use Rattle.nextest_config_resolution_settings.specs.RuleKeys as rule;
 ghost use Rattle.nextest_config_resolution_settings.specs.Rules.{id_of};
@@ -13,42 +14,47 @@ use crate::fallbacks;
 use crate::keys::{
     BenchSlowTimeoutKey, FailureOutputKey, FlakyResultKey, JunitFlakyFailStatusKey,
     JunitReportSkippedKey, JunitStoreFailureOutputKey, JunitStoreSuccessOutputKey, LeakTimeoutKey,
-    PriorityKey, RetriesKey, RunExtraArgsKey, SlowTimeoutKey, SuccessOutputKey, TestGroupKey,
-    ThreadsRequiredKey,
+    PriorityKey, RetriesKey, RunExtraArgsKey, RunWrapperKey, SlowTimeoutKey, SuccessOutputKey,
+    TestGroupKey, ThreadsRequiredKey,
 };
 use crate::layers::{Rule, Sets, Setting, find_setting};
 use crate::source::{SettingSource, TrackSource};
 use crate::test_settings::{TestGroupRef, TestSettings};
+use crate::wrappers::wrapper_by;
 use nextest_config_elements_counts::SlowTimeout;
 use nextest_config_elements_identifiers::TestGroup;
 use nextest_config_elements_plain::NextestRunMode;
 use nextest_config_resolution_overrides::PlacedOverride;
+use nextest_config_resolution_scripts::{NamedScript, PlacedScriptRule, WrapperScriptConfig};
 use nextest_config_resolution_values::ProfileConfig;
 use nextest_text::Text;
 
-// The layers that set the settings of a test: the rules that hold on it, in their order, and the chain of its profile.
+/// What sets the settings of a test.
 #[derive(Clone, Copy)]
-struct Layers<'l, 'c> {
-    held: &'l [&'c PlacedOverride],
-    chain: &'l [&'c ProfileConfig],
+pub struct TestLayers<'l, 'c> {
+    /// The overrides that hold on it, in their order.
+    pub overrides: &'l [&'c PlacedOverride],
+    /// The script rules that hold on it, in their order.
+    pub scripts: &'l [&'c PlacedScriptRule],
+    /// The wrapper scripts that are defined.
+    pub wrappers: &'c [NamedScript<WrapperScriptConfig>],
+    /// The chain of its profile: the profile, its parents one after another, and `default`.
+    pub chain: &'l [&'c ProfileConfig],
 }
 
-/// The settings of a test on which these rules hold, in their order, and that is run by a profile with this chain; with
-/// each stands what is kept of where it is taken from. Each is that of the nearest rule that sets it, else that of the nearest
-/// profile of the chain that does, else the fallback; rules alone set a priority and a group. No layer sets a wrapper script
-/// yet.
-pub fn settings_by<'c, T: TrackSource<'c>>(
-    held: &[&'c PlacedOverride],
-    chain: &[&'c ProfileConfig],
+/// The settings that these layers set for a test; with each stands what is kept of where it is taken from. Each is that of the
+/// nearest override that sets it, else that of the nearest profile of the chain that does, else the fallback; overrides alone
+/// set a priority and a group. The wrapper script is the one that the nearest script rule names that names one.
+pub fn settings_by<'l, 'c, T: TrackSource<'c>>(
+    layers: TestLayers<'l, 'c>,
     mode: NextestRunMode,
 ) -> TestSettings<'c, T>
-    ensures { AreSettings T.tells mode (lent held.now) (lent chain.now) result }
+    ensures { AreSettings T.tells mode (layers_in layers.entry) result }
 {
-    let layers = Layers { held, chain };
     TestSettings {
         priority: tracked::<PriorityKey, T>(layers, fallbacks::priority()),
         threads_required: tracked::<ThreadsRequiredKey, T>(layers, fallbacks::threads_required()),
-        run_wrapper: (None, T::track(SettingSource::Default)),
+        run_wrapper: wrapper_by::<RunWrapperKey, T>(layers.scripts, layers.wrappers),
         run_extra_args: run_extra_args_by(layers),
         retries: tracked::<RetriesKey, T>(layers, fallbacks::retries()),
         flaky_result: tracked::<FlakyResultKey, T>(layers, fallbacks::flaky_result()),
@@ -92,7 +98,7 @@ fn found_by<'c, S: Setting, R: Sets<S> + Rule, P: Sets<S>, T: TrackSource<'c>>(
 
 // The value of a setting over layers, or the fallback, and what is kept of where it is taken from.
 fn tracked<'l, 'c, S: Setting, T: TrackSource<'c>>(
-    layers: Layers<'l, 'c>,
+    layers: TestLayers<'l, 'c>,
     otherwise: S::Value,
 ) -> (S::Value, T)
 where
@@ -101,10 +107,10 @@ where
     S::Value: Copy + 'c,
     ensures { IsTracked T.tells id_of
         ⟦<PlacedOverride as Sets<S>>⟧.value ⟦<ProfileConfig as Sets<S>>⟧.value
-        (lent layers.entry.held.now) (lent layers.entry.chain.now) otherwise result }
+        (lent layers.entry.overrides.now) (lent layers.entry.chain.now) otherwise result }
 {
     let (found, source) = found_by::<S, PlacedOverride, ProfileConfig, T>(
-        layers.held,
+        layers.overrides,
         layers.chain,
     );
     match found {
@@ -115,11 +121,11 @@ where
 
 // `slow-timeout`, and what is kept of where it is taken from; of benchmarks `bench.slow-timeout`, and that alone.
 fn slow_timeout_by<'l, 'c, T: TrackSource<'c>>(
-    layers: Layers<'l, 'c>,
+    layers: TestLayers<'l, 'c>,
     mode: NextestRunMode,
 ) -> (SlowTimeout, T)
     ensures { IsTracked T.tells id_of (rule.slow_timeout mode) (key.slow_timeout mode)
-        (lent layers.entry.held.now) (lent layers.entry.chain.now)
+        (lent layers.entry.overrides.now) (lent layers.entry.chain.now)
         (fallback.slow_timeout mode) result }
 {
     let otherwise = fallbacks::slow_timeout(mode);
@@ -130,13 +136,13 @@ fn slow_timeout_by<'l, 'c, T: TrackSource<'c>>(
 }
 
 // `run-extra-args`, and what is kept of where it is taken from.
-fn run_extra_args_by<'l, 'c, T: TrackSource<'c>>(layers: Layers<'l, 'c>) -> (&'c [Text], T)
+fn run_extra_args_by<'l, 'c, T: TrackSource<'c>>(layers: TestLayers<'l, 'c>) -> (&'c [Text], T)
     ensures { IsTracked T.tells id_of rule.run_extra_args key.run_extra_args
-        (lent layers.entry.held.now) (lent layers.entry.chain.now) fallback.run_extra_args
+        (lent layers.entry.overrides.now) (lent layers.entry.chain.now) fallback.run_extra_args
         (result.0.now, result.1) }
 {
     let (found, source) = found_by::<RunExtraArgsKey, PlacedOverride, ProfileConfig, T>(
-        layers.held,
+        layers.overrides,
         layers.chain,
     );
     match found {
@@ -146,13 +152,13 @@ fn run_extra_args_by<'l, 'c, T: TrackSource<'c>>(layers: Layers<'l, 'c>) -> (&'c
 }
 
 // `test-group`, and what is kept of where it is taken from.
-fn test_group_by<'l, 'c, T: TrackSource<'c>>(layers: Layers<'l, 'c>) -> (TestGroupRef<'c>, T)
+fn test_group_by<'l, 'c, T: TrackSource<'c>>(layers: TestLayers<'l, 'c>) -> (TestGroupRef<'c>, T)
     ensures { IsTracked T.tells id_of rule.test_group key.test_group
-        (lent layers.entry.held.now) (lent layers.entry.chain.now) fallback.test_group
+        (lent layers.entry.overrides.now) (lent layers.entry.chain.now) fallback.test_group
         (group_of result.0, result.1) }
 {
     let (found, source) = found_by::<TestGroupKey, PlacedOverride, ProfileConfig, T>(
-        layers.held,
+        layers.overrides,
         layers.chain,
     );
     match found {

@@ -2,6 +2,7 @@ pub mod Mapped
 pub mod Alike
 pub mod Profile
 pub mod Chosen
+pub mod Enabled
 pub mod Passing
 mod Shown
 pub mod Isolated

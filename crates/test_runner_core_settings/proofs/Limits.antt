@@ -199,6 +199,6 @@ has_limit chain _ _ have (of_fallback unset) = omega arith
 pub sets_limit : SetsLimit
 sets_limit cx inputs it by =
     let chosen = by.chosen in
-    let have = subst (λ (given : Reading MergedConfig). Holds given AreLimited) chosen.reads.loaded.1.values (tree_has (merged_in _ inputs.sources)) in
+    let have = subst (λ (given : Reading MergedConfig). Holds given AreLimited) chosen.reads.1.values (tree_has (merged_in _ inputs.sources)) in
     let limit = by.settings.limits.max_fail in
-    has_limit by.chain it.max_fail limit.from (chain_has _ chosen.chained.names by.chain have chosen.chained.valued) limit.is
+    has_limit by.profile.chain it.max_fail limit.from (chain_has _ chosen.chained.names by.profile.chain have chosen.chained.valued) limit.is

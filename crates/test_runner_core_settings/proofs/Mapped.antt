@@ -1,8 +1,8 @@
 -- Rules of one kind as rules of another, of which each holds exactly if the first does.
-use Rattle.std.proofs.Common.{◌≡◌, List, [], ◌∷◌, ◌++◌, map, Option, Some, ap, ◌∙◌, subst}
-use Rattle.std.specs.List.{AllByRecursion}
-use Rattle.std.proofs.lemmas.List.{map-append}
-use Rattle.std.proofs.lemmas.List.Elements.{All-from_recursion, recursion_from_All}
+use Rattle.std.proofs.Common.{◌≡◌, ℕ, zero, suc, List, [], ◌∷◌, ◌++◌, map, Option, Some, refl, ap, ◌∙◌, subst, arith}
+use Rattle.std.specs.List.{AllByRecursion, Contains}
+use Rattle.std.proofs.lemmas.List.{get_or-map, length-map, map-append}
+use Rattle.std.proofs.lemmas.List.Elements.{All-contains, All-from_recursion, Contains-append_right, recursion_from_All}
 use Rattle.nextest_config_resolution_profiles.proofs.PutOn.{division_has}
 use Rattle.nextest_config_resolution_settings.specs.Rules.{AreHeld, holds_too, left_out, none_left, HoldsAndSets, IsLeast, NoneHoldsAndSets}
 
@@ -10,6 +10,21 @@ use Rattle.nextest_config_resolution_settings.specs.Rules.{AreHeld, holds_too, l
 pub all_before : {A : Type 0} (P : A → Type 0) (front : List A) (x : A) (back : List A) → AllByRecursion P (front ++ x ∷ back) → AllByRecursion P front
 all_before P [] x back each = tt
 all_before P (y ∷ front) x back each = (each.0, all_before P front x back each.1)
+
+-- one that a list has is one of its images, and the other way
+pub contains_mapped : {A B : Type 0} (f : A → B) (xs : List A) (x : A) → Contains xs x → Contains (map f xs) (f x)
+contains_mapped f xs x (k, within, is) = (k, omega (arith, within, length-map xs f), get_or-map f xs k x (f x) within ∙ ap f is)
+
+pub mapped_contains : {A B : Type 0} (f : A → B) (xs : List A) (y : B) → Contains (map f xs) y → (x : A) × Contains xs x × (f x ≡ y)
+mapped_contains f [] y (k, within, is) = absurd (omega (arith, within))
+mapped_contains f (x ∷ xs) y (zero, within, is) = (x, (0, omega arith, refl), is)
+mapped_contains f (x ∷ xs) y (suc k, within, is) =
+    let (found, has, same) = mapped_contains f xs y (k, omega (arith, within), is) in
+    (found, Contains-append_right (x ∷ []) xs found has, same)
+
+-- and has what each of the list has
+pub contained_has : {A : Type 0} (P : A → Type 0) (xs : List A) (x : A) → AllByRecursion P xs → Contains xs x → P x
+contained_has P xs x each has = All-contains P xs x (All-from_recursion P xs each) has
 
 module _ {A B : Type 0} (f : A → B) (Here : A → Type 0) (There : B → Type 0) where
   -- a rule holds exactly if the other does

@@ -29,7 +29,9 @@ use Rattle.nextest_config_resolution_profiles.proofs.OneProfile.{one_chain_of, o
 use Rattle.nextest_config_resolution_profiles.proofs.Holding.{held_once}
 use Rattle.nextest_config_resolution_profiles.proofs.PutOn.{division_has}
 use Rattle.nextest_config_resolution_settings.specs.Fallbacks as fallback
+use Rattle.nextest_config_resolution_scripts.specs.declared.script_rule.PlacedScriptRule.{PlacedScriptRule}
 use Rattle.nextest_config_resolution_settings.specs.Keys as key
+use Rattle.nextest_config_resolution_settings.specs.Layers.{Layers}
 use Rattle.nextest_config_resolution_settings.specs.TestSettings.{AreSettings}
 use Rattle.nextest_config_resolution_settings.specs.Tracking.{TellsNothing}
 use Rattle.nextest_config_resolution_settings.specs.declared.test_settings.TestSettings.{TestSettings}
@@ -48,11 +50,12 @@ use Rattle.nextest_filtering_compiling.specs.Context.{Context}
 use Rattle.nextest_filtering_compiling.specs.declared.filterset.Filterset.{Filterset}
 use Rattle.test_runner_core_inputs.specs.declared.inputs.Inputs.{Inputs}
 use Rattle.test_runner_core_platforms.specs.declared.platform_spec.PlatformSpec.{PlatformSpec}
-use Rattle.test_runner_core_settings.specs.Holding.{HoldsForTarget, IsDefaultText, IsDefaultTree, RuleHolds, default_set}
+use Rattle.test_runner_core_settings.specs.Chosen.{Chosen, layers_of}
+use Rattle.test_runner_core_settings.specs.Holding.{HoldsForTarget, IsDefaultText, IsDefaultTree, RuleHolds, ScriptRuleHolds, default_set}
 use Rattle.test_runner_core_settings.specs.Laws.{OneSettings, OneTest}
 use Rattle.test_runner_core_settings.specs.Platforms.{Platforms, has_repeated_fact, platforms_of}
 use Rattle.test_runner_core_settings.specs.Settings.{AreOfRun, AreOfTest, AreOwned, owned_of}
-use Rattle.test_runner_core_settings.specs.Sets.{HasNoProfile, IsChosen, IsFilter, IsPlatformSpec, IsTooDeep, Loads, Reads, SetsBy, groups_in, rules_in}
+use Rattle.test_runner_core_settings.specs.Sets.{HasNoProfile, IsAsked, IsChosen, IsFilter, IsPlatformSpec, IsTooDeep, Loads, SetsBy, groups_in, rules_in, script_rules_in}
 use Rattle.test_runner_core_plan.specs.declared.plan_settings.PlanSettings.{PlanSettings}
 use Rattle.test_runner_core_settings.specs.declared.configured.RunSettings.{RunSettings}
 use Rattle.test_runner_core_settings.specs.declared.settings_fault.SettingsFault.TheVariants as fault
@@ -60,13 +63,14 @@ use Rattle.test_runner_core_settings.specs.Pass.{features_of}
 
 -- ---- the settings of tests
 
--- copies of the settings by some overrides and a chain are one
-one_lent : (mode : NextestRunMode) (held : List PlacedOverride) (chain : List ProfileConfig) (one other : TestSettings (Unit {0})) → AreSettings TellsNothing mode held chain one
-    → AreSettings TellsNothing mode held chain other → owned_of one ≡ owned_of other
-one_lent mode held chain one other a b =
-    let same = same_settings TellsNothing TellsNothing mode held chain one other a b in
+-- copies of the settings by some layers are one
+one_lent : (mode : NextestRunMode) (layers : Layers) (one other : TestSettings (Unit {0})) → AreSettings TellsNothing mode layers one
+    → AreSettings TellsNothing mode layers other → owned_of one ≡ owned_of other
+one_lent mode layers one other a b =
+    let same = same_settings TellsNothing TellsNothing mode layers one other a b in
     let priority = same.priority in
     let threads = same.threads_required in
+    let wrapper = same.run_wrapper in
     let arguments = same.run_extra_args in
     let retries = same.retries in
     let flaky = same.flaky_result in
@@ -81,14 +85,17 @@ one_lent mode held chain one other a b =
     let status = same.junit_flaky_fail_status in
     cc
 
-pub one_owned : (mode : NextestRunMode) (held : List PlacedOverride) (chain : List ProfileConfig) (one other : PlanSettings) → AreOwned mode held chain one → AreOwned mode held chain other → one ≡ other
-one_owned mode held chain one other a b = a.owned ∙ one_lent mode held chain a.lent b.lent a.each b.each ∙ sym b.owned
+pub one_owned : (mode : NextestRunMode) (layers : Layers) (one other : PlanSettings) → AreOwned mode layers one → AreOwned mode layers other → one ≡ other
+one_owned mode layers one other a b = a.owned ∙ one_lent mode layers a.lent b.lent a.each b.each ∙ sym b.owned
 
-one_of_test : (cx : Context) (platforms : Platforms) (mode : NextestRunMode) (rules : List PlacedOverride) (chain : List ProfileConfig) (default : Tree) (test : Test) (one other : PlanSettings)
-    → AreOfTest cx platforms mode rules chain default test one → AreOfTest cx platforms mode rules chain default test other → one ≡ other
-one_of_test cx platforms mode rules chain default test one other a b =
+one_of_test : (cx : Context) (platforms : Platforms) (mode : NextestRunMode) (profile : Chosen) (default : Tree) (test : Test) (one other : PlanSettings)
+    → AreOfTest cx platforms mode profile default test one → AreOfTest cx platforms mode profile default test other → one ≡ other
+one_of_test cx platforms mode profile default test one other a b =
     let same : a.held ≡ b.held = held_once (RuleHolds cx platforms default test) a.are b.are in
-    one_owned mode b.held chain one other (subst (λ (held : List PlacedOverride). AreOwned mode held chain one) same a.settings) b.settings
+    let also : a.scripts ≡ b.scripts = held_once (ScriptRuleHolds cx platforms default test) a.scripts_are b.scripts_are in
+    one_owned mode (layers_of profile b.held b.scripts) one other
+    (subst (λ (held : List PlacedOverride). AreOwned mode (layers_of profile held b.scripts) one) same
+    (subst (λ (scripts : List PlacedScriptRule). AreOwned mode (layers_of profile a.held scripts) one) also a.settings)) b.settings
 
 -- ---- the settings of a run
 
@@ -108,13 +115,18 @@ one_default platforms rules chain one other (inl (rule, a)) (inr (none, b)) = ab
 one_default platforms rules chain one other (inr (none, a)) (inl (rule, b)) = absurd (never_least (HoldsForTarget platforms) default_set rules rule other none b)
 one_default platforms rules chain one other (inr (none, a)) (inr (also, b)) = (one_nearest a.1 b.1).0
 
-pub one_run : (platforms : Platforms) (rules : List PlacedOverride) (chain : List ProfileConfig) (one other : RunSettings) → AreOfRun platforms rules chain one → AreOfRun platforms rules chain other
+-- a profile is its parts
+pub same_chosen : (one other : Chosen) → one.rules ≡ other.rules → one.script_rules ≡ other.script_rules → one.wrappers ≡ other.wrappers → one.chain ≡ other.chain → one ≡ other
+same_chosen one other rules scripts wrappers chain = λ i. record { rules = rules i; script_rules = scripts i; wrappers = wrappers i; chain = chain i }
+
+pub one_run : (platforms : Platforms) (profile : Chosen) (one other : RunSettings) → AreOfRun platforms profile one → AreOfRun platforms profile other
     → one.known_groups ≡ other.known_groups → one ≡ other
-one_run platforms rules chain one other a b groups =
+one_run platforms profile one other a b groups =
+    let chain = profile.chain in
     let limit : one.max_fail ≡ other.max_fail = one_value key.fail_fast chain fallback.fail_fast _ _ a.limits.max_fail b.limits.max_fail in
     let level : one.levels.status_level ≡ other.levels.status_level = one_value key.status_level chain fallback.status_level _ _ a.limits.status_level b.limits.status_level in
     let final_level : one.levels.final_status_level ≡ other.levels.final_status_level = one_value key.final_status_level chain fallback.final_status_level _ _ a.limits.final_status_level b.limits.final_status_level in
-    let filter : one.default_filter ≡ other.default_filter = one_default platforms rules chain one.default_filter other.default_filter a.default_filter b.default_filter in
+    let filter : one.default_filter ≡ other.default_filter = one_default platforms profile.rules chain one.default_filter other.default_filter a.default_filter b.default_filter in
     λ i. record {
       default_filter = filter i;
       known_groups = groups i;
@@ -179,9 +191,6 @@ one_kind cx inputs one other a b =
 pub same_seen : (cx : Context) (inputs : Inputs) (one other : Whole Filterset PlatformSpec) → Loads cx inputs (Ok one) → Loads cx inputs (Ok other) → seen one.loaded ≡ seen other.loaded
 same_seen cx inputs one other a b = one_load (IsFilter cx) IsPlatformSpec IsTooDeep (features_of inputs) _ inputs.sources one.loaded other.loaded a.1 b.1
 
-never_later : (cx : Context) (inputs : Inputs) (one other : Whole Filterset PlatformSpec) → Reads cx inputs one → Loads cx inputs (Ok other) → other.loaded.sets_later_keys ≡ true → ⊥
-never_later cx inputs one other reads loaded later = false≢true (sym reads.later ∙ reads.loaded.1.later ∙ sym loaded.1.later ∙ later)
-
 never_refused : (cx : Context) (inputs : Inputs) (config : Whole Filterset PlatformSpec) (told : LoadFault) → Loads cx inputs (Ok config) → Loads cx inputs (Err (load_error.Refused told)) → ⊥
 never_refused cx inputs config told loaded refused = none_refused (IsFilter cx) IsPlatformSpec IsTooDeep (λ text deep. deep) (features_of inputs) _ inputs.sources config.loaded told loaded.1 refused
 
@@ -223,43 +232,39 @@ chain_there profiles name (first ∷ []) (value ∷ values) (ends is) e = (value
 chain_there profiles name (first ∷ names) [] (goes_on other more) e = absurd (let f = e in cc)
 chain_there profiles name (first ∷ names) (value ∷ values) (goes_on other more) e = (value, let f = e in cc)
 
-never_missing : (cx : Context) (inputs : Inputs) (rules : List PlacedOverride) (chain : List ProfileConfig) (told : ProfileNotFound) → IsChosen cx inputs rules chain → HasNoProfile cx inputs told → ⊥
-never_missing cx inputs rules chain told chosen none =
-    let there = chain_there (profiles_of chosen.config) inputs.profile chosen.chained.names chain chosen.chained.in_order chosen.chained.valued in
+never_missing : (cx : Context) (inputs : Inputs) (profile : Chosen) (told : ProfileNotFound) → IsChosen cx inputs profile → HasNoProfile cx inputs told → ⊥
+never_missing cx inputs profile told chosen none =
+    let there = chain_there (profiles_of chosen.config) inputs.profile chosen.chained.names profile.chain chosen.chained.in_order chosen.chained.valued in
     let named = found_there inputs.profile (profiles_of chosen.config) there.0 there.1 in
-    let same = same_names chosen.config none.config (same_seen cx inputs chosen.config none.config chosen.reads.loaded none.reads.loaded) in
+    let same = same_names chosen.config none.config (same_seen cx inputs chosen.config none.config chosen.reads none.reads) in
     none.none (subst (λ (names : List Name). Contains names inputs.profile) (names_seen chosen.config.loaded.profiles ∙ same) named)
 
 -- ---- the chosen profile
 
--- it has one list of overrides and one chain
-pub chosen_once : (cx : Context) (inputs : Inputs) (rules others : List PlacedOverride) (chain values : List ProfileConfig) → IsChosen cx inputs rules chain → IsChosen cx inputs others values
-    → (rules ≡ others) × (chain ≡ values)
-chosen_once cx inputs rules others chain values a b =
-    let same : profiles_of a.config ≡ profiles_of b.config = ap (λ (it : MergedConfig). it.profiles) (same_seen cx inputs a.config b.config a.reads.loaded b.reads.loaded) in
+-- it is one
+pub chosen_once : (cx : Context) (inputs : Inputs) (one other : Chosen) → IsChosen cx inputs one → IsChosen cx inputs other → one ≡ other
+chosen_once cx inputs one other a b =
+    let seen_same = same_seen cx inputs a.config b.config a.reads b.reads in
+    let same : profiles_of a.config ≡ profiles_of b.config = ap (λ (it : MergedConfig). it.profiles) seen_same in
     let order = subst (λ (profiles : List Named). IsChain (parents_of profiles) inputs.profile a.chained.names) same a.chained.in_order in
-    let names : a.chained.names ≡ b.chained.names = one_order (parents_of (profiles_of b.config)) order b.chained.in_order in (
-      a.ruled ∙ ap (rules_in inputs) names ∙ sym b.ruled,
-      one_chain_of (profiles_of b.config) inputs.profile chain values (subst (λ (profiles : List Named). IsChainOf profiles inputs.profile chain) same a.chained) b.chained,
-    )
-
--- what it has and what it sets, as one value
-pub run_alike : (platforms : Platforms) (rules others : List PlacedOverride) (chain values : List ProfileConfig) (it : RunSettings) → rules ≡ others → chain ≡ values
-    → AreOfRun platforms rules chain it → AreOfRun platforms others values it
-run_alike platforms rules others chain values it a b are =
-    subst (λ (all : List PlacedOverride). AreOfRun platforms all values it) a (subst (λ (all : List ProfileConfig). AreOfRun platforms rules all it) b are)
+    let names : a.chained.names ≡ b.chained.names = one_order (parents_of (profiles_of b.config)) order b.chained.in_order in
+    same_chosen one other
+    (a.ruled ∙ ap (rules_in inputs) names ∙ sym b.ruled)
+    (a.scripted ∙ ap (script_rules_in inputs) names ∙ sym b.scripted)
+    (a.defined ∙ ap (λ (it : MergedConfig). it.scripts.wrapper) seen_same ∙ sym b.defined)
+    (one_chain_of (profiles_of b.config) inputs.profile one.chain other.chain (subst (λ (profiles : List Named). IsChainOf profiles inputs.profile one.chain) same a.chained) b.chained)
 
 one_profile : (cx : Context) (inputs : Inputs) (one other : RunSettings) → SetsBy cx inputs one → SetsBy cx inputs other → one ≡ other
 one_profile cx inputs one other a b =
-    let same = chosen_once cx inputs a.rules b.rules a.chain b.chain a.chosen b.chosen in
+    let same = chosen_once cx inputs a.profile b.profile a.chosen b.chosen in
     let groups : groups_in a.chosen.config ≡ groups_in b.chosen.config =
-    ap (λ (it : MergedConfig). Known (map (λ (group : NamedGroup). group.name) it.groups)) (same_seen cx inputs a.chosen.config b.chosen.config a.chosen.reads.loaded b.chosen.reads.loaded) in
-    one_run (platforms_of inputs) b.rules b.chain one other (run_alike (platforms_of inputs) a.rules b.rules a.chain b.chain one same.0 same.1 a.settings) b.settings (a.groups ∙ groups ∙ sym b.groups)
+    ap (λ (it : MergedConfig). Known (map (λ (group : NamedGroup). group.name) it.groups)) (same_seen cx inputs a.chosen.config b.chosen.config a.chosen.reads b.chosen.reads) in
+    one_run (platforms_of inputs) b.profile one other (subst (λ (profile : Chosen). AreOfRun (platforms_of inputs) profile one) same a.settings) b.settings (a.groups ∙ groups ∙ sym b.groups)
 
 one_missing : (cx : Context) (inputs : Inputs) (one other : ProfileNotFound) → HasNoProfile cx inputs one → HasNoProfile cx inputs other → one ≡ other
 one_missing cx inputs one other a b =
     let name : one.name ≡ other.name = a.name ∙ sym b.name in
-    let known : one.known ≡ other.known = a.known ∙ same_names a.config b.config (same_seen cx inputs a.config b.config a.reads.loaded b.reads.loaded) ∙ sym b.known in
+    let known : one.known ≡ other.known = a.known ∙ same_names a.config b.config (same_seen cx inputs a.config b.config a.reads b.reads) ∙ sym b.known in
     ap (λ (n : List ℕ). record { name = n; known = one.known }) name ∙ ap (λ (k : List (List ℕ)). record { name = other.name; known = k }) known
 
 never_both : (b : Bool) → b ≡ false → b ≡ true → ⊥
@@ -267,48 +272,45 @@ never_both b e f = false≢true (sym e ∙ f)
 
 pub one_settings : OneSettings
 one_settings cx inputs (Ok one) (Ok other) a b = one_profile cx inputs one other a b
-one_settings cx inputs (Ok one) (Err (fault.Load told)) a b = never_refused cx inputs a.chosen.config told a.chosen.reads.loaded b
-one_settings cx inputs (Ok one) (Err fault.NotYet) a b = never_later cx inputs a.chosen.config b.config a.chosen.reads b.loaded b.later
-one_settings cx inputs (Ok one) (Err (fault.ProfileNotFound told)) a b = never_missing cx inputs a.rules a.chain told a.chosen b
+one_settings cx inputs (Ok one) (Err (fault.Load told)) a b = never_refused cx inputs a.chosen.config told a.chosen.reads b
+one_settings cx inputs (Ok one) (Err (fault.ProfileNotFound told)) a b = never_missing cx inputs a.profile told a.chosen b
 one_settings cx inputs (Ok one) (Err fault.RepeatedFact) a b = never_both (has_repeated_fact inputs) a.known b.repeated
-one_settings cx inputs (Err (fault.Load told)) (Ok other) a b = never_refused cx inputs b.chosen.config told b.chosen.reads.loaded a
+one_settings cx inputs (Err (fault.Load told)) (Ok other) a b = never_refused cx inputs b.chosen.config told b.chosen.reads a
 one_settings cx inputs (Err (fault.Load told)) (Err (fault.Load second)) a b = one_kind cx inputs told second a b
-one_settings cx inputs (Err (fault.Load told)) (Err fault.NotYet) a b = absurd (never_refused cx inputs b.config told b.loaded a)
-one_settings cx inputs (Err (fault.Load told)) (Err (fault.ProfileNotFound second)) a b = absurd (never_refused cx inputs b.config told b.reads.loaded a)
-one_settings cx inputs (Err (fault.Load told)) (Err fault.RepeatedFact) a b = absurd (never_refused cx inputs b.chosen.config told b.chosen.reads.loaded a)
-one_settings cx inputs (Err fault.NotYet) (Ok other) a b = never_later cx inputs b.chosen.config a.config b.chosen.reads a.loaded a.later
-one_settings cx inputs (Err fault.NotYet) (Err (fault.Load second)) a b = absurd (never_refused cx inputs a.config second a.loaded b)
-one_settings cx inputs (Err fault.NotYet) (Err fault.NotYet) a b = refl
-one_settings cx inputs (Err fault.NotYet) (Err (fault.ProfileNotFound second)) a b = absurd (never_later cx inputs b.config a.config b.reads a.loaded a.later)
-one_settings cx inputs (Err fault.NotYet) (Err fault.RepeatedFact) a b = absurd (never_later cx inputs b.chosen.config a.config b.chosen.reads a.loaded a.later)
-one_settings cx inputs (Err (fault.ProfileNotFound told)) (Ok other) a b = never_missing cx inputs b.rules b.chain told b.chosen a
-one_settings cx inputs (Err (fault.ProfileNotFound told)) (Err (fault.Load second)) a b = absurd (never_refused cx inputs a.config second a.reads.loaded b)
-one_settings cx inputs (Err (fault.ProfileNotFound told)) (Err fault.NotYet) a b = absurd (never_later cx inputs a.config b.config a.reads b.loaded b.later)
+one_settings cx inputs (Err (fault.Load told)) (Err (fault.ProfileNotFound second)) a b = absurd (never_refused cx inputs b.config told b.reads a)
+one_settings cx inputs (Err (fault.Load told)) (Err fault.RepeatedFact) a b = absurd (never_refused cx inputs b.chosen.config told b.chosen.reads a)
+one_settings cx inputs (Err (fault.ProfileNotFound told)) (Ok other) a b = never_missing cx inputs b.profile told b.chosen a
+one_settings cx inputs (Err (fault.ProfileNotFound told)) (Err (fault.Load second)) a b = absurd (never_refused cx inputs a.config second a.reads b)
 one_settings cx inputs (Err (fault.ProfileNotFound told)) (Err (fault.ProfileNotFound second)) a b = ap fault.ProfileNotFound (one_missing cx inputs told second a b)
-one_settings cx inputs (Err (fault.ProfileNotFound told)) (Err fault.RepeatedFact) a b = absurd (never_missing cx inputs b.rules b.chain told b.chosen a)
+one_settings cx inputs (Err (fault.ProfileNotFound told)) (Err fault.RepeatedFact) a b = absurd (never_missing cx inputs b.profile told b.chosen a)
 one_settings cx inputs (Err fault.RepeatedFact) (Ok other) a b = never_both (has_repeated_fact inputs) b.known a.repeated
-one_settings cx inputs (Err fault.RepeatedFact) (Err (fault.Load second)) a b = absurd (never_refused cx inputs a.chosen.config second a.chosen.reads.loaded b)
-one_settings cx inputs (Err fault.RepeatedFact) (Err fault.NotYet) a b = absurd (never_later cx inputs a.chosen.config b.config a.chosen.reads b.loaded b.later)
-one_settings cx inputs (Err fault.RepeatedFact) (Err (fault.ProfileNotFound second)) a b = absurd (never_missing cx inputs a.rules a.chain second a.chosen b)
+one_settings cx inputs (Err fault.RepeatedFact) (Err (fault.Load second)) a b = absurd (never_refused cx inputs a.chosen.config second a.chosen.reads b)
+one_settings cx inputs (Err fault.RepeatedFact) (Err (fault.ProfileNotFound second)) a b = absurd (never_missing cx inputs a.profile second a.chosen b)
 one_settings cx inputs (Err fault.RepeatedFact) (Err fault.RepeatedFact) a b = refl
 
 -- ---- tests
 
--- what two of these set for a test is one, where they have the same overrides, chain and default filter's text
-pub one_test_by : (cx : Context) (platforms : Platforms) (mode : NextestRunMode) (rules others : List PlacedOverride) (chain values : List ProfileConfig) (one_text other_text : List ℕ) (one_tree_is other_tree_is : Tree)
-    (test : Test) (one other : PlanSettings) → rules ≡ others → chain ≡ values → IsDefaultText platforms rules chain one_text → IsDefaultText platforms others values other_text
-    → IsDefaultTree cx one_text one_tree_is → IsDefaultTree cx other_text other_tree_is → AreOfTest cx platforms mode rules chain one_tree_is test one
-    → AreOfTest cx platforms mode others values other_tree_is test other → one ≡ other
-one_test_by cx platforms mode rules others chain values one_text other_text one_is other_is test one other same_rules same_chain set also read reads are there =
-    let here = subst (λ (all : List PlacedOverride). IsDefaultText platforms all values one_text) same_rules (subst (λ (all : List ProfileConfig). IsDefaultText platforms rules all one_text) same_chain set) in
-    let text : one_text ≡ other_text = one_default platforms others values one_text other_text here also in
-    let tree : one_is ≡ other_is = one_tree other_text one_is other_is (subst (λ (t : List ℕ). IsDefaultTree cx t one_is) text read).0 reads.0 in
-    one_of_test cx platforms mode others values other_is test one other
-    (subst (λ (t : Tree). AreOfTest cx platforms mode others values t test one) tree
-    (subst (λ (all : List PlacedOverride). AreOfTest cx platforms mode all values one_is test one) same_rules
-    (subst (λ (all : List ProfileConfig). AreOfTest cx platforms mode rules all one_is test one) same_chain are))) there
+-- the tree of the default filter is one, where its text is set by one profile
+pub one_default_tree : (cx : Context) (platforms : Platforms) (profile : Chosen) (text second : List ℕ) (one other : Tree) → IsDefaultText platforms profile.rules profile.chain text
+    → IsDefaultText platforms profile.rules profile.chain second → IsDefaultTree cx text one → IsDefaultTree cx second other → one ≡ other
+one_default_tree cx platforms profile text second one other set also read reads =
+    let same : text ≡ second = one_default platforms profile.rules profile.chain text second set also in
+    one_tree second one other (subst (λ (t : List ℕ). IsDefaultTree cx t one) same read).0 reads.0
+
+-- what is asked is one
+pub one_asked : (cx : Context) (inputs : Inputs) (one other : Chosen) (default second : Tree) → IsAsked cx inputs one default → IsAsked cx inputs other second → (one ≡ other) × (default ≡ second)
+one_asked cx inputs one other default second a b =
+    let same = chosen_once cx inputs one other a.chosen b.chosen in
+    (same, one_default_tree cx (platforms_of inputs) other a.text b.text default second (subst (λ (p : Chosen). IsDefaultText (platforms_of inputs) p.rules p.chain a.text) same a.set) b.set a.read b.read)
+
+-- what two of these set for a test is one, where they are one profile, with one default filter
+pub one_test_by : (cx : Context) (platforms : Platforms) (mode : NextestRunMode) (profile second : Chosen) (default other_default : Tree) (test : Test) (one other : PlanSettings) → profile ≡ second
+    → default ≡ other_default → AreOfTest cx platforms mode profile default test one → AreOfTest cx platforms mode second other_default test other → one ≡ other
+one_test_by cx platforms mode profile second default other_default test one other same tree are there =
+    one_of_test cx platforms mode second other_default test one other
+    (subst (λ (t : Tree). AreOfTest cx platforms mode second t test one) tree (subst (λ (p : Chosen). AreOfTest cx platforms mode p default test one) same are)) there
 
 pub one_test : OneTest
 one_test cx inputs test one other a b =
-    let same = chosen_once cx inputs a.rules b.rules a.chain b.chain a.chosen b.chosen in
-    one_test_by cx (platforms_of inputs) inputs.mode a.rules b.rules a.chain b.chain a.text b.text a.default b.default test one other same.0 same.1 a.set b.set a.read b.read a.settings b.settings
+    let (same, tree) = one_asked cx inputs a.profile b.profile a.default b.default a.asked b.asked in
+    one_test_by cx (platforms_of inputs) inputs.mode a.profile b.profile a.default b.default test one other same tree a.settings b.settings

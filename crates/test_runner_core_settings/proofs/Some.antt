@@ -9,19 +9,21 @@ use Rattle.std.proofs.lemmas.Option.{none-some, same_Some}
 use Rattle.nextest_config_elements_plain.specs.declared.run_mode.NextestRunMode.{NextestRunMode}
 use Rattle.nextest_config_resolution_inheritance.specs.Inheritance.{Name}
 use Rattle.nextest_config_resolution_load.specs.Load.{IsReadAs, seen}
+use Rattle.nextest_config_resolution_load.specs.Rules.{conditions_of, script_conditions_of}
 use Rattle.nextest_config_resolution_load.specs.declared.languages.FilterPurpose.TheVariants as purpose
 use Rattle.nextest_config_resolution_load.specs.declared.load_error.LoadError.TheVariants as load
 use Rattle.nextest_config_resolution_load.specs.declared.load_fault.LoadFault.{LoadFault}
 use Rattle.nextest_config_resolution_overrides.specs.declared.placed_override.PlacedOverride.{PlacedOverride}
 use Rattle.nextest_config_resolution_profiles.specs.Config.{IsChainOf, names_of, profiles_of, values_of}
 use Rattle.nextest_config_resolution_profiles.specs.Held.{Holds, placed_of}
-use Rattle.nextest_config_resolution_profiles.specs.Platforms.{ForTarget, RuleOn}
+use Rattle.nextest_config_resolution_profiles.specs.Platforms.{ForTarget, OverrideOn}
 use Rattle.nextest_config_resolution_profiles.specs.Platforms as on_platforms
 use Rattle.nextest_config_resolution_profiles.specs.Whole.{Whole}
 use Rattle.nextest_config_resolution_profiles.proofs.SomeChain.{some_chain}
 use Rattle.nextest_config_resolution_profiles.proofs.SetsAll.{never_falls_back}
 use Rattle.nextest_config_resolution_profiles.proofs.SomeConfig.{some_config}
 use Rattle.nextest_config_resolution_profiles.proofs.SomeSettings.{as_default, rules_decided, some_held}
+use Rattle.nextest_config_resolution_scripts.specs.declared.script_rule.PlacedScriptRule.{PlacedScriptRule}
 use Rattle.nextest_config_resolution_settings.specs.Fallbacks as fallback
 use Rattle.nextest_config_resolution_settings.specs.Keys as key
 use Rattle.nextest_config_resolution_settings.specs.Nearest.{SetsNone}
@@ -41,17 +43,18 @@ use Rattle.nextest_filtering_trees.specs.Tree.{Tree}
 use Rattle.test_runner_core_inputs.specs.declared.inputs.Inputs.{Inputs}
 use Rattle.test_runner_core_plan.specs.declared.plan_settings.PlanSettings.{PlanSettings}
 use Rattle.test_runner_core_platforms.specs.declared.platform_spec.PlatformSpec.{PlatformSpec}
-use Rattle.test_runner_core_settings.specs.Holding.{HoldsForTarget, IsDefaultText, RuleHolds}
+use Rattle.test_runner_core_settings.specs.Chosen.{Chosen, layers_of}
+use Rattle.test_runner_core_settings.specs.Holding.{HoldsForTarget, IsDefaultText, RuleHolds, ScriptRuleHolds}
 use Rattle.test_runner_core_settings.specs.Laws.{SomeSettings, SomeTest}
 use Rattle.test_runner_core_settings.specs.Platforms.{has_repeated_fact, platforms_of}
 use Rattle.test_runner_core_settings.specs.Settings.{AreOfTest, IsOfChain, owned_of}
-use Rattle.test_runner_core_settings.specs.Sets.{IsChosen, IsDefault, IsFilter, IsPlatformSpec, IsTooDeep, Loads, Reads, Sets, SetsTest, groups_in, rules_in}
+use Rattle.test_runner_core_settings.specs.Sets.{IsChosen, IsDefault, IsFilter, IsPlatformSpec, IsTooDeep, Loads, Reads, Sets, SetsTest, groups_in, rules_in, script_rules_in}
 use Rattle.test_runner_core_settings.specs.declared.configured.RunSettings.{RunSettings}
 use Rattle.test_runner_core_settings.specs.declared.settings_fault.SettingsFault.{SettingsFault}
 use Rattle.test_runner_core_settings.specs.declared.settings_fault.SettingsFault.TheVariants as fault
 use Rattle.test_runner_core_settings.proofs.Alike.{rules_alike, value_on}
 use Rattle.test_runner_core_settings.proofs.Mapped.{held_mapped}
-use Rattle.test_runner_core_settings.proofs.Profile.{each_read, least_placed, none_placed, own, put_own, rules_placed}
+use Rattle.test_runner_core_settings.proofs.Profile.{each_read, each_script_read, least_placed, none_placed, own, own_scripts, put_own, put_scripts, rules_placed, scripts_placed}
 use Rattle.test_runner_core_settings.specs.Pass.{features_of}
 
 -- ---- the first rule that holds and sets a value
@@ -128,12 +131,12 @@ module _ (cx : Context) (inputs : Inputs) (config : Whole Filterset PlatformSpec
     read : IsDefault cx text filter
 
   some_default : InForce
-  some_default = by_found (first_set (λ (it : RuleOn Filterset PlatformSpec). it.for_target) on_platforms.default_set (put_own cx inputs config reads chained.names))
+  some_default = by_found (first_set (λ (it : OverrideOn Filterset PlatformSpec). it.for_target) on_platforms.default_set (put_own cx inputs config reads chained.names))
     where
       unset : ¬ SetsNone key.default_filter chain
-      unset = ((never_falls_back (IsFilter cx) IsPlatformSpec IsTooDeep (features_of inputs) inputs.root inputs.sources config reads.loaded).each inputs.profile chain chained).default_filter
+      unset = ((never_falls_back (IsFilter cx) IsPlatformSpec IsTooDeep (features_of inputs) inputs.root inputs.sources config reads).each inputs.profile chain chained).default_filter
 
-      by_found : ((rule : RuleOn Filterset PlatformSpec) × (filter : Filterset) × IsLeast ForTarget on_platforms.default_set (put_own cx inputs config reads chained.names) rule filter)
+      by_found : ((rule : OverrideOn Filterset PlatformSpec) × (filter : Filterset) × IsLeast ForTarget on_platforms.default_set (put_own cx inputs config reads chained.names) rule filter)
           ⊎ NoneHoldsAndSets ForTarget on_platforms.default_set (put_own cx inputs config reads chained.names) → InForce
       by_found (inl (rule, filter, least)) =
           let placed = least_placed cx inputs config reads chained.names rule filter least in
@@ -141,11 +144,19 @@ module _ (cx : Context) (inputs : Inputs) (config : Whole Filterset PlatformSpec
       by_found (inr none) =
           let (text, (place, nearest)) = settings.some_nearest key.default_filter chain unset in
           let (name, there) = value_named cx (profiles_of config) chained.names nearest.front nearest.layer nearest.back (chained.valued ∙ ap (map Some) nearest.divided) in
-          let filter = read_of cx (profiles_of config) config.loaded.default_filters reads.loaded.1.filters name nearest.layer text there nearest.sets in
+          let filter = read_of cx (profiles_of config) config.loaded.default_filters reads.1.filters name nearest.layer text there nearest.sets in
           record { text = text; set = inr (none_placed cx inputs config reads chained.names none, (place, nearest)); filter = filter.0; read = filter.1 }
 
-  abbrev chosen_of : IsChosen cx inputs (rules_in inputs chained.names) chain
-  chosen_of = record { config = config; reads = reads; chained = chained; ruled = refl }
+  abbrev profile_of_chain : Chosen
+  profile_of_chain = record {
+    rules = rules_in inputs chained.names;
+    script_rules = script_rules_in inputs chained.names;
+    wrappers = config.loaded.scripts.wrapper;
+    chain = chain;
+  }
+
+  abbrev chosen_of : IsChosen cx inputs profile_of_chain
+  chosen_of = record { config = config; reads = reads; chained = chained; ruled = refl; scripted = refl; defined = refl }
 
   -- what is set for a run
   pub some_run : has_repeated_fact inputs ≡ false → (it : RunSettings) × Sets cx inputs (Ok it)
@@ -160,8 +171,7 @@ module _ (cx : Context) (inputs : Inputs) (config : Whole Filterset PlatformSpec
           levels = record { status_level = level.0; final_status_level = final_level.0 };
         },
         record {
-          rules = rules_in inputs chained.names;
-          chain = chain;
+          profile = profile_of_chain;
           chosen = chosen_of;
           known = known;
           settings = record { default_filter = some_default.set; limits = record { max_fail = limit.1; status_level = level.1; final_status_level = final_level.1 } };
@@ -175,31 +185,36 @@ module _ (cx : Context) (inputs : Inputs) (config : Whole Filterset PlatformSpec
       let platforms = platforms_of inputs in
       let filter = some_default.filter in
       let tree = tree_of filter.parsed in
+      let is_default = as_default filterset_laws cx some_default.text filter some_default.read in
       let rules = own cx inputs config reads chained.names in
       let read = each_read cx inputs config reads chained.names in
-      let decided = rules_decided filterset_laws cx filter (as_default filterset_laws cx some_default.text filter some_default.read) test IsPlatformSpec value_on platforms.host platforms.target rules read in
-      let held = some_held (Holds HasOnTest filter test) (put_own cx inputs config reads chained.names) decided in
-      let mapped = held_mapped placed_of (Holds HasOnTest filter test) (RuleHolds cx platforms tree test) (rules_alike cx platforms filter tree some_default.read.3 test rules read) held.1 in
-      let lent = settings.some_settings TellsNothing nothing_kept inputs.mode (map placed_of held.0) chain in (
+      let scripts = own_scripts cx inputs config reads chained.names in
+      let scripts_read = each_script_read cx inputs config reads chained.names in
+      let held = some_held (Holds HasOnTest filter test) (put_own cx inputs config reads chained.names)
+      (rules_decided filterset_laws cx filter is_default test conditions_of IsPlatformSpec value_on platforms.host platforms.target rules read) in
+      let held_scripts = some_held (Holds HasOnTest filter test) (put_scripts cx inputs config reads chained.names)
+      (rules_decided filterset_laws cx filter is_default test script_conditions_of IsPlatformSpec value_on platforms.host platforms.target scripts scripts_read) in
+      let mapped = held_mapped placed_of (Holds HasOnTest filter test) (RuleHolds cx platforms tree test) (rules_alike conditions_of cx platforms filter tree some_default.read.3 test rules read) held.1 in
+      let scripts_mapped = held_mapped placed_of (Holds HasOnTest filter test) (ScriptRuleHolds cx platforms tree test)
+      (rules_alike script_conditions_of cx platforms filter tree some_default.read.3 test scripts scripts_read) held_scripts.1 in
+      let lent = settings.some_settings TellsNothing nothing_kept inputs.mode (layers_of profile_of_chain (map placed_of held.0) (map placed_of held_scripts.0)) in (
         owned_of lent.0,
         record {
-          rules = rules_in inputs chained.names;
-          chain = chain;
-          chosen = chosen_of;
-          text = some_default.text;
-          set = some_default.set;
+          profile = profile_of_chain;
           default = tree;
-          read = some_default.read.1;
+          asked = record { chosen = chosen_of; text = some_default.text; set = some_default.set; read = some_default.read.1 };
           settings = record {
             held = map placed_of held.0;
             are = subst (λ (all : List PlacedOverride). AreHeld (RuleHolds cx platforms tree test) all (map placed_of held.0)) (rules_placed cx inputs config reads chained.names) mapped;
+            scripts = map placed_of held_scripts.0;
+            scripts_are = subst (λ (all : List PlacedScriptRule). AreHeld (ScriptRuleHolds cx platforms tree test) all (map placed_of held_scripts.0)) (scripts_placed cx inputs config reads chained.names) scripts_mapped;
             settings = record { lent = lent.0; each = lent.1; owned = refl };
           };
         },
       )
 
 pub some_test : SomeTest
-some_test cx inputs run test sets = some_of_test cx inputs sets.chosen.config sets.chosen.reads sets.chain sets.chosen.chained test
+some_test cx inputs run test sets = some_of_test cx inputs sets.chosen.config sets.chosen.reads sets.profile.chain sets.chosen.chained test
 
 pub some_settings : SomeSettings
 some_settings cx inputs never = some_config (IsFilter cx) IsPlatformSpec IsTooDeep (features_of inputs) inputs.root inputs.sources (λ some. never (by_config some))
@@ -207,7 +222,7 @@ some_settings cx inputs never = some_config (IsFilter cx) IsPlatformSpec IsTooDe
     by_repeat : (config : Whole Filterset PlatformSpec) (reads : Reads cx inputs config) (values : List ProfileConfig) (chained : IsChainOf (profiles_of config) inputs.profile values) (repeated : Bool)
         → has_repeated_fact inputs ≡ repeated → (given : Result RunSettings SettingsFault) × Sets cx inputs given
     by_repeat config reads values chained true e =
-        (Err fault.RepeatedFact, record { rules = rules_in inputs chained.names; chain = values; chosen = record { config = config; reads = reads; chained = chained; ruled = refl }; repeated = e })
+        (Err fault.RepeatedFact, record { profile = profile_of_chain cx inputs config reads values chained; chosen = chosen_of cx inputs config reads values chained; repeated = e })
     by_repeat config reads values chained false e = let it = some_run cx inputs config reads values chained e in (Ok it.0, it.1)
 
     by_chain : (config : Whole Filterset PlatformSpec) → Reads cx inputs config → ((values : List ProfileConfig) × IsChainOf (profiles_of config) inputs.profile values) ⊎ ¬ Contains (names_of config) inputs.profile
@@ -216,12 +231,7 @@ some_settings cx inputs never = some_config (IsFilter cx) IsPlatformSpec IsTooDe
     by_chain config reads (inr none) =
         (Err (fault.ProfileNotFound (record { name = inputs.profile; known = names_of config })), record { config = config; reads = reads; name = refl; known = refl; none = none })
 
-    by_later : (config : Whole Filterset PlatformSpec) (later : Bool) → Loads cx inputs (Ok config) → config.loaded.sets_later_keys ≡ later
-        → (given : Result RunSettings SettingsFault) × Sets cx inputs given
-    by_later config true loaded e = (Err fault.NotYet, record { config = config; loaded = loaded; later = e })
-    by_later config false loaded e = by_chain config (record { loaded = loaded; later = e }) (some_chain (IsFilter cx) IsPlatformSpec IsTooDeep (features_of inputs) inputs.root inputs.sources config inputs.profile loaded)
-
     by_config : ((config : Whole Filterset PlatformSpec) × Loads cx inputs (Ok config)) ⊎ ((told : LoadFault) × Loads cx inputs (Err (load.Refused told)))
         → (given : Result RunSettings SettingsFault) × Sets cx inputs given
-    by_config (inl (config, loaded)) = by_later config config.loaded.sets_later_keys loaded refl
+    by_config (inl (config, loaded)) = by_chain config loaded (some_chain (IsFilter cx) IsPlatformSpec IsTooDeep (features_of inputs) inputs.root inputs.sources config inputs.profile loaded)
     by_config (inr (told, refused)) = (Err (fault.Load told), refused)

@@ -1,11 +1,12 @@
 -- What calls of this crate give; want of memory says nothing.
-use Rattle.std.specs.Prelude.{◌≡◌, true, false, Option, option_map, Result, Ok, Err, ⊤}
+use Rattle.std.specs.Prelude.{◌≡◌, ◌↔◌, ℕ, true, false, List, Option, option_map, Result, Ok, Err, ⊤}
 use Rattle.nextest_config_resolution_load.specs.declared.load_error.LoadError.{LoadError}
 use Rattle.nextest_config_resolution_load.specs.declared.load_error.LoadError.TheVariants as load
 use Rattle.nextest_config_resolution_profiles.specs.declared.profile_error.ProfileError.{ProfileError}
 use Rattle.nextest_config_resolution_profiles.specs.declared.profile_error.ProfileError.TheVariants as profile
 use Rattle.std.specs.Option.{option_map_or}
 use Rattle.nextest_config_elements_identifiers.specs.declared.test_group.TestGroup.{TestGroup}
+use Rattle.nextest_config_resolution_profiles.specs.Enabled as enabled_by
 use Rattle.nextest_config_resolution_profiles.specs.Evaluatable.{Evaluatable}
 use Rattle.nextest_config_resolution_profiles.specs.Held.{AreSettingsFor, IsGroupFor}
 use Rattle.nextest_config_resolution_settings.specs.Tracking.{TellsNothing}
@@ -23,7 +24,7 @@ use Rattle.test_runner_core_inputs.specs.declared.platform.PlatformRecord.{Platf
 use Rattle.test_runner_core_platforms.specs.declared.platform_spec.PlatformSpec.{PlatformSpec}
 use Rattle.test_runner_core_settings.specs.Settings.{owned_of}
 use Rattle.test_runner_core_inputs.specs.declared.inputs.Inputs.{Inputs}
-use Rattle.test_runner_core_settings.specs.Sets.{IsDefault, IsGroupOf, Reads, Sets, SetsTest, key_warnings}
+use Rattle.test_runner_core_settings.specs.Sets.{IsDefault, IsEnabled, IsGroupOf, Reads, Sets, SetsTest, key_warnings}
 use Rattle.test_runner_core_settings.specs.declared.configured.ChosenRun.{ChosenRun}
 use Rattle.test_runner_core_settings.specs.declared.configured.ConfiguredRun.{ConfiguredRun}
 use Rattle.test_runner_core_settings.specs.declared.settings_error.SettingsError.{SettingsError}
@@ -67,6 +68,7 @@ pub record AnswersTests (cx : Context) (inputs : Inputs) (profile : Evaluatable 
   pub group : (test : Test) (it : TestGroup) → IsGroupFor HasOnTest profile test it → IsGroupOf cx inputs test it
   pub some : (test : Test) → (it : PlanSettings) × SetsTest cx inputs test it
   pub some_group : (test : Test) → (it : TestGroup) × IsGroupFor HasOnTest profile test it
+  pub enabled : (tests : List Test) (id : List ℕ) → enabled_by.IsEnabled HasOnTest profile tests id ↔ IsEnabled cx inputs tests id
 
 -- a call gives what the chosen profile sets, and the profile, with the default filter of that text, or refuses the inputs
 pub record ChoosesRun (cx : Context) (inputs : Inputs) (it : ChosenRun) : Type 0 where

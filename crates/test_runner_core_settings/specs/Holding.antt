@@ -1,6 +1,8 @@
--- On which tests overrides hold, and which default filter is in force.
+-- On which tests overrides and script rules hold, and which default filter is in force.
 use Rattle.std.specs.Prelude.{◌⊎◌, ℕ, true, List, Option, None, Some, ⊤}
+use Rattle.nextest_config_resolution_load.specs.Rules.{Conditions, conditions_of, script_conditions_of}
 use Rattle.nextest_config_resolution_overrides.specs.declared.placed_override.PlacedOverride.{PlacedOverride}
+use Rattle.nextest_config_resolution_scripts.specs.declared.script_rule.PlacedScriptRule.{PlacedScriptRule}
 use Rattle.nextest_config_resolution_settings.specs.Keys as key
 use Rattle.nextest_config_resolution_settings.specs.Profile.{IsSetTo}
 use Rattle.nextest_config_resolution_settings.specs.Rules.{IsLeast, NoneHoldsAndSets}
@@ -17,21 +19,28 @@ use Rattle.test_runner_core_settings.specs.Platforms.{HoldsFor, Platforms}
 
 -- ---- tests
 
--- the filter of an override holds on a test, beside the default filter; it may ask for no group. One that isn't there holds.
+-- the filter of a rule holds on a test, beside the default filter; it may ask for no group. One that isn't there holds.
 abbrev pub FilterHolds : Context → Tree → Test → Option (List ℕ) → Type 0
 FilterHolds cx default test None = ⊤
 FilterHolds cx default test (Some text) =
     (tree : Tree) × IsAccepted cx purpose.OverrideFilter groups.Unavailable text tree × TreeIsOn cx.graph tree default test (λ m. ⊥) true
 
--- an override holds on a test: for the platform that the test's binary is built for, and by its filter
+-- a rule with these texts holds on a test: for the platform that the test's binary is built for, and by its filter
+abbrev pub TextsHold : Context → Platforms → Tree → Test → Conditions → Type 0
+TextsHold cx platforms default test it = HoldsFor platforms test.binary.platform it × FilterHolds cx default test it.filter
+
+-- an override does, and a script rule
 abbrev pub RuleHolds : Context → Platforms → Tree → Test → PlacedOverride → Type 0
-RuleHolds cx platforms default test rule = HoldsFor platforms test.binary.platform rule.config × FilterHolds cx default test rule.config.filter
+RuleHolds cx platforms default test rule = TextsHold cx platforms default test (conditions_of rule)
+
+abbrev pub ScriptRuleHolds : Context → Platforms → Tree → Test → PlacedScriptRule → Type 0
+ScriptRuleHolds cx platforms default test rule = TextsHold cx platforms default test (script_conditions_of rule)
 
 -- ---- the default filter
 
 -- an override holds for what is built for the target
 abbrev pub HoldsForTarget : Platforms → PlacedOverride → Type 0
-HoldsForTarget platforms rule = HoldsFor platforms built_for.Target rule.config
+HoldsForTarget platforms rule = HoldsFor platforms built_for.Target (conditions_of rule)
 
 -- what an override sets as the default filter
 abbrev pub default_set : PlacedOverride → Option (List ℕ)

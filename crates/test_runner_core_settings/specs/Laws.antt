@@ -1,5 +1,5 @@
 -- What the laws say.
-use Rattle.std.specs.Prelude.{◌≡◌, ◌<◌, List, All, Result, Ok, Err, ⊤}
+use Rattle.std.specs.Prelude.{◌≡◌, ◌<◌, ℕ, true, is_some, List, All, Contains, Result, Ok, Err, ⊤}
 use Rattle.nextest_config_elements_plain.specs.declared.max_fail.MaxFail.{MaxFail}
 use Rattle.nextest_config_elements_plain.specs.declared.max_fail.MaxFail.TheVariants as limits
 use Rattle.nextest_config_resolution_inheritance.specs.Inheritance.{IsChain, Name}
@@ -7,13 +7,14 @@ use Rattle.nextest_config_resolution_load.specs.Kinds.{kind_of}
 use Rattle.nextest_config_resolution_load.specs.Checks.{parents_of}
 use Rattle.nextest_config_resolution_profiles.specs.Config.{profiles_of, values_of}
 use Rattle.nextest_config_resolution_profiles.specs.Whole.{Whole}
+use Rattle.nextest_config_resolution_scripts.specs.Defined.{script_named}
 use Rattle.nextest_filtering_compiling.specs.Context.{Context}
 use Rattle.nextest_filtering_compiling.specs.declared.filterset.Filterset.{Filterset}
 use Rattle.nextest_filtering_filters.specs.Query.{Test}
 use Rattle.test_runner_core_inputs.specs.declared.inputs.Inputs.{Inputs}
 use Rattle.test_runner_core_platforms.specs.declared.platform_spec.PlatformSpec.{PlatformSpec}
 use Rattle.test_runner_core_plan.specs.declared.plan_settings.PlanSettings.{PlanSettings}
-use Rattle.test_runner_core_settings.specs.Sets.{Reads, Sets, SetsTest, groups_in, rules_in}
+use Rattle.test_runner_core_settings.specs.Sets.{IsEnabled, Reads, Sets, SetsTest, groups_in, rules_in, script_rules_in}
 use Rattle.test_runner_core_settings.specs.declared.configured.RunSettings.{RunSettings}
 use Rattle.test_runner_core_settings.specs.declared.settings_fault.SettingsFault.{SettingsFault}
 use Rattle.test_runner_core_settings.specs.declared.settings_fault.SettingsFault.TheVariants as fault
@@ -46,8 +47,8 @@ abbrev pub OneTest : Type 0
 OneTest = (cx : Context) (inputs : Inputs) (test : Test) (one other : PlanSettings) → SetsTest cx inputs test one → SetsTest cx inputs test other → one ≡ other
 
 -- The same profile is chosen in two inputs, for the same mode and on the same platforms, and the configurations of both say the same in
--- each profile of its chain, in itself, in its parents and in `default`, with the same overrides, and define the same groups. Other
--- profiles may be others, and so may their overrides.
+-- each profile of its chain, in itself, in its parents and in `default`, with the same overrides and script rules, and define the same
+-- groups and wrapper scripts. Other profiles may be others, and so may their rules.
 pub record AgreeOnChain (cx : Context) (inputs other : Inputs) : Type 0 where
   pub profile : other.profile ≡ inputs.profile
   pub mode : other.mode ≡ inputs.mode
@@ -61,7 +62,9 @@ pub record AgreeOnChain (cx : Context) (inputs other : Inputs) : Type 0 where
   pub chain : IsChain (parents_of (profiles_of config)) inputs.profile names
   pub each : All (λ name. values_of (profiles_of second) name ≡ values_of (profiles_of config) name) names
   pub rules : rules_in other names ≡ rules_in inputs names
+  pub script_rules : script_rules_in other names ≡ script_rules_in inputs names
   pub groups : groups_in second ≡ groups_in config
+  pub wrappers : second.loaded.scripts.wrapper ≡ config.loaded.scripts.wrapper
 
 -- profiles outside of the chosen one's chain, and their overrides, change nothing of what is set for a run
 abbrev pub Isolated : Type 0
@@ -71,6 +74,21 @@ Isolated = (cx : Context) (inputs other : Inputs) (one second : RunSettings) →
 abbrev pub IsolatesTests : Type 0
 IsolatesTests = (cx : Context) (inputs other : Inputs) (test : Test) (one second : PlanSettings)
     → AgreeOnChain cx inputs other → SetsTest cx inputs test one → SetsTest cx other test second → one ≡ second
+
+-- and nothing of which setup scripts tests need
+abbrev pub IsolatesScripts : Type 0
+IsolatesScripts = (cx : Context) (inputs other : Inputs) (tests : List Test) (id : List ℕ)
+    → AgreeOnChain cx inputs other → IsEnabled cx other tests id → IsEnabled cx inputs tests id
+
+-- more tests enable no fewer setup scripts
+abbrev pub MoreEnableNoFewer : Type 0
+MoreEnableNoFewer = (cx : Context) (inputs : Inputs) (some more : List Test) (id : List ℕ)
+    → ((test : Test) → Contains some test → Contains more test) → IsEnabled cx inputs some id → IsEnabled cx inputs more id
+
+-- an enabled setup script is a defined one
+abbrev pub EnabledIsDefined : Type 0
+EnabledIsDefined = (cx : Context) (inputs : Inputs) (config : Whole Filterset PlatformSpec) (tests : List Test) (id : List ℕ)
+    → Reads cx inputs config → IsEnabled cx inputs tests id → is_some (script_named config.loaded.scripts.setup id) ≡ true
 
 -- a limit is one at least
 abbrev pub IsOneAtLeast : MaxFail → Type 0

@@ -1,8 +1,7 @@
--- The platforms of inputs, and for which of them overrides hold.
+-- The platforms of inputs, and for which of them rules hold.
 use Rattle.std.specs.Prelude.{◌≡◌, ℕ, Bool, false, ◌||◌, List, Option, None, Some, map, option_map, unwrap_or, ⊤}
 use Rattle.std.specs.Option.{option_map_or}
-use Rattle.nextest_config_resolution_load.specs.Rules as rule
-use Rattle.nextest_config_resolution_overrides.specs.declared.override_config.OverrideConfig.{OverrideConfig}
+use Rattle.nextest_config_resolution_load.specs.Rules.{Conditions}
 use Rattle.nextest_filtering_trees.specs.declared.leaf.BuildPlatform.{BuildPlatform}
 use Rattle.nextest_filtering_trees.specs.declared.leaf.BuildPlatform.TheVariants as built_for
 use Rattle.test_runner_core_inputs.specs.declared.inputs.Inputs.{Inputs}
@@ -51,7 +50,7 @@ abbrev pub built_for_of : Platforms → BuildPlatform → Facts
 built_for_of platforms built_for.Host = platforms.host
 built_for_of platforms built_for.Target = platforms.target
 
--- an override holds for what is built for a platform: its spec of the host holds on the host, and its spec of the target on that platform
-abbrev pub HoldsFor : Platforms → BuildPlatform → OverrideConfig → Type 0
-HoldsFor platforms platform config =
-    SpecHolds platforms.host (rule.host_of config) × SpecHolds (built_for_of platforms platform) (rule.target_of config)
+-- a rule with these texts holds for what is built for a platform: its spec of the host holds on the host, and its spec of the target on
+-- that platform
+abbrev pub HoldsFor : Platforms → BuildPlatform → Conditions → Type 0
+HoldsFor platforms platform it = SpecHolds platforms.host it.host × SpecHolds (built_for_of platforms platform) it.target

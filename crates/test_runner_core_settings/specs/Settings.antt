@@ -1,9 +1,12 @@
--- What overrides and the chain of a profile set for a run and for its tests.
+-- What the rules and the chain of a profile set for a run and for its tests.
 use Rattle.std.specs.Prelude.{◌≡◌, List}
+use Rattle.std.specs.Option.{option_copied}
 use Rattle.nextest_config_elements_plain.specs.declared.run_mode.NextestRunMode.{NextestRunMode}
 use Rattle.nextest_config_resolution_overrides.specs.declared.placed_override.PlacedOverride.{PlacedOverride}
+use Rattle.nextest_config_resolution_scripts.specs.declared.script_rule.PlacedScriptRule.{PlacedScriptRule}
 use Rattle.nextest_config_resolution_settings.specs.Fallbacks as fallback
 use Rattle.nextest_config_resolution_settings.specs.Keys as key
+use Rattle.nextest_config_resolution_settings.specs.Layers.{Layers}
 use Rattle.nextest_config_resolution_settings.specs.Profile.{OfProfiles}
 use Rattle.nextest_config_resolution_settings.specs.Rules.{AreHeld}
 use Rattle.nextest_config_resolution_settings.specs.TestSettings.{AreSettings, group_of}
@@ -14,7 +17,8 @@ use Rattle.nextest_filtering_compiling.specs.Context.{Context}
 use Rattle.nextest_filtering_filters.specs.Query.{Test}
 use Rattle.nextest_filtering_trees.specs.Tree.{Tree}
 use Rattle.test_runner_core_plan.specs.declared.plan_settings.PlanSettings.{PlanSettings}
-use Rattle.test_runner_core_settings.specs.Holding.{IsDefaultText, RuleHolds}
+use Rattle.test_runner_core_settings.specs.Chosen.{Chosen, layers_of}
+use Rattle.test_runner_core_settings.specs.Holding.{IsDefaultText, RuleHolds, ScriptRuleHolds}
 use Rattle.test_runner_core_settings.specs.Platforms.{Platforms}
 use Rattle.test_runner_core_settings.specs.declared.configured.RunSettings.{RunSettings}
 
@@ -23,6 +27,7 @@ abbrev pub owned_of : TestSettings (Unit {0}) → PlanSettings
 owned_of it = record {
   priority = it.priority.0;
   threads_required = it.threads_required.0;
+  run_wrapper = option_copied it.run_wrapper.0;
   run_extra_args = it.run_extra_args.0.now;
   retries = it.retries.0;
   flaky_result = it.flaky_result.0;
@@ -37,18 +42,19 @@ owned_of it = record {
   junit_flaky_fail_status = it.junit_flaky_fail_status.0;
 }
 
--- each setting is what the overrides that hold, and then the chain, have
-pub record AreOwned (mode : NextestRunMode) (held : List PlacedOverride) (chain : List ProfileConfig) (it : PlanSettings) : Type 0 where
+-- each setting is what these layers have
+pub record AreOwned (mode : NextestRunMode) (layers : Layers) (it : PlanSettings) : Type 0 where
   pub lent : TestSettings (Unit {0})
-  pub each : AreSettings TellsNothing mode held chain lent
+  pub each : AreSettings TellsNothing mode layers lent
   pub owned : it ≡ owned_of lent
 
--- the settings of a test, by some overrides and a chain, beside a default filter
-pub record AreOfTest (cx : Context) (platforms : Platforms) (mode : NextestRunMode) (rules : List PlacedOverride) (chain : List ProfileConfig)
-    (default : Tree) (test : Test) (it : PlanSettings) : Type 0 where
+-- the settings of a test, by the rules of a profile that hold on it, beside a default filter, and by its chain
+pub record AreOfTest (cx : Context) (platforms : Platforms) (mode : NextestRunMode) (profile : Chosen) (default : Tree) (test : Test) (it : PlanSettings) : Type 0 where
   pub held : List PlacedOverride
-  pub are : AreHeld (RuleHolds cx platforms default test) rules held
-  pub settings : AreOwned mode held chain it
+  pub are : AreHeld (RuleHolds cx platforms default test) profile.rules held
+  pub scripts : List PlacedScriptRule
+  pub scripts_are : AreHeld (ScriptRuleHolds cx platforms default test) profile.script_rules scripts
+  pub settings : AreOwned mode (layers_of profile held scripts) it
 
 -- how many failing tests stop a run, and what is shown of it, is what the chain has
 pub record IsOfChain (chain : List ProfileConfig) (it : RunSettings) : Type 0 where
@@ -56,7 +62,7 @@ pub record IsOfChain (chain : List ProfileConfig) (it : RunSettings) : Type 0 wh
   pub status_level : OfProfiles key.status_level chain fallback.status_level it.levels.status_level
   pub final_status_level : OfProfiles key.final_status_level chain fallback.final_status_level it.levels.final_status_level
 
--- what some overrides and a chain set for a run
-pub record AreOfRun (platforms : Platforms) (rules : List PlacedOverride) (chain : List ProfileConfig) (it : RunSettings) : Type 0 where
-  pub default_filter : IsDefaultText platforms rules chain it.default_filter
-  pub limits : IsOfChain chain it
+-- what a profile sets for a run
+pub record AreOfRun (platforms : Platforms) (profile : Chosen) (it : RunSettings) : Type 0 where
+  pub default_filter : IsDefaultText platforms profile.rules profile.chain it.default_filter
+  pub limits : IsOfChain profile.chain it

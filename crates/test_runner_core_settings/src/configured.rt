@@ -8,7 +8,6 @@ ghost use Rattle.test_runner_core_settings.specs.Settings.{IsOfChain};
 
 use crate::platforms::{facts_of, platforms_of, target_of};
 use crate::settings_error::SettingsError;
-use crate::settings_fault::SettingsFault;
 use nextest_config_elements_plain::MaxFail;
 use nextest_config_elements_versions::FeatureSet;
 use nextest_config_resolution_profiles::{EvaluatableProfile, NextestConfig};
@@ -71,8 +70,7 @@ pub struct ChosenRun<'c> {
 ///
 /// # Errors
 ///
-/// `Refused` tells, in this order, of the first rule of the load that is broken, as `load` says; or that a file has what isn't
-/// read yet, a key of scripts. Want of memory says nothing of the inputs.
+/// `Refused` tells of the first rule of the load that is broken, as `load` says. Want of memory says nothing of the inputs.
 pub fn configure(
     alloc: Global,
     cx: &ParseContext,
@@ -92,9 +90,6 @@ pub fn configure(
         experimental,
         &mut warnings,
     )?;
-    if config.sets_later_keys() {
-        return Err(SettingsError::Refused(SettingsFault::NotYet));
-    }
     Ok(ConfiguredRun {
         config,
         warnings: warnings.into_lines(),

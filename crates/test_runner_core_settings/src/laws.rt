@@ -1,5 +1,5 @@
 //! What holds of what inputs set. Each law is the contract of a function that does nothing.
-ghost use Rattle.test_runner_core_settings.specs.Laws.{Isolated, IsolatesTests, OneSettings, OneTest, SetsLimit, SomeSettings, SomeTest};
+ghost use Rattle.test_runner_core_settings.specs.Laws.{EnabledIsDefined, Isolated, IsolatesScripts, IsolatesTests, MoreEnableNoFewer, OneSettings, OneTest, SetsLimit, SomeSettings, SomeTest};
 
 /// Inputs set one thing, or are refused for one reason; and it can't be that neither is so.
 pub fn one_settings()
@@ -13,10 +13,18 @@ pub fn one_test()
     ensures one { OneTest }
 {}
 
-/// Profiles outside of the chosen one's chain, and their overrides, change nothing of what is set for a run, or for a test.
+/// Profiles outside of the chosen one's chain, and their rules, change nothing of what is set for a run, or for a test, or of which
+/// setup scripts tests need.
 pub fn isolated()
     ensures run { Isolated }
     ensures tests { IsolatesTests }
+    ensures scripts { IsolatesScripts }
+{}
+
+/// More tests enable no fewer setup scripts, and an enabled one is defined.
+pub fn enabled()
+    ensures more { MoreEnableNoFewer }
+    ensures defined { EnabledIsDefined }
 {}
 
 /// How many failing tests stop a run is one at least.

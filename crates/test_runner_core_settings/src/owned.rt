@@ -1,10 +1,11 @@
 // The settings of a test, owned.
 ghost use Rattle.std.specs.Prelude.{◌≡◌, IfOk};
+ghost use Rattle.std.specs.Option.{option_copied};
 ghost use Rattle.nextest_config_resolution_settings.specs.TestSettings.{group_of};
 ghost use Rattle.test_runner_core_settings.specs.Settings.{owned_of};
 
 use nextest_config_elements_identifiers::TestGroup;
-use nextest_config_resolution_settings::{TestGroupRef, TestSettings};
+use nextest_config_resolution_settings::{TestGroupRef, TestSettings, WrapperScriptConfig};
 use nextest_text::{Listing, Text};
 use std::alloc::{AllocError, Global};
 use test_runner_core_plan::PlanSettings;
@@ -31,6 +32,7 @@ fn with_group(
     Ok(PlanSettings {
         priority: settings.priority(),
         threads_required: settings.threads_required(),
+        run_wrapper: owned_wrapper(settings.run_wrapper())?,
         run_extra_args: owned_texts(alloc, settings.run_extra_args())?,
         retries: settings.retries(),
         flaky_result: settings.flaky_result(),
@@ -44,6 +46,18 @@ fn with_group(
         junit_report_skipped: settings.junit_report_skipped(),
         junit_flaky_fail_status: settings.junit_flaky_fail_status(),
     })
+}
+
+// A wrapper script, owned.
+fn owned_wrapper(
+    wrapper: Option<&WrapperScriptConfig>,
+) -> Result<Option<WrapperScriptConfig>, AllocError>
+    ensures { IfOk result (λ it. it ≡ option_copied wrapper.entry) }
+{
+    match wrapper {
+        Some(wrapper) => Ok(Some(wrapper.clone()?)),
+        None => Ok(None),
+    }
 }
 
 // Texts, owned.

@@ -9,9 +9,6 @@ pub enum SettingsFault {
     /// The configuration isn't loaded.
     #[error(transparent)]
     Load(LoadFault),
-    /// A file sets a key that isn't read yet.
-    #[error("a configuration file sets a key that isn't read yet")]
-    NotYet,
     /// There is no profile of the chosen name.
     #[error(transparent)]
     ProfileNotFound(ProfileNotFound),

@@ -5,10 +5,10 @@ use Rattle.nextest_config_resolution_load.proofs.Configs.{same_parents}
 use Rattle.nextest_config_resolution_load.specs.Load.{named}
 use Rattle.nextest_config_resolution_settings.specs.Keys as key
 use Rattle.nextest_config_resolution_settings.specs.Nearest.{SetsNone, lent}
-use Rattle.nextest_config_resolution_settings.specs.Rules.{rules_of}
+use Rattle.nextest_config_resolution_settings.specs.Rules.{profile_of, rules_of, script_profile_of}
 use Rattle.nextest_config_resolution_profiles.specs.ChainRules.{rules_in}
 use Rattle.nextest_config_resolution_profiles.specs.Config.{IsDefaultFilterOf}
-use Rattle.nextest_config_resolution_profiles.specs.Early.{id_of}
+use Rattle.nextest_config_resolution_profiles.specs.Early.{in_profile}
 use Rattle.nextest_config_resolution_profiles.proofs.Names.{all_of, chained, is_chained}
 use Rattle.nextest_config_resolution_profiles.proofs.SetsAll.{chain_sets_filter}
 use Rattle.nextest_config_resolution_profiles.proofs.chains.chain_at.Goals as goal
@@ -40,6 +40,8 @@ returns g c =
     let found = c.default_filter_of-default_filter.result in
     let valued = subst (λ vs. IsDefaultFilterOf {F = g.row.F.Denot} all filters (names_at (all_of all) c.as_slice-places.result.now) (lent vs) found) c.as_slice-layers.ensures.value c.default_filter_of-default_filter.ensures in
     let filtered = subst (λ (ps : List ℕ). IsDefaultFilterOf {F = g.row.F.Denot} all filters (names_at (all_of all) ps) values found) c.as_slice-places.ensures.value valued in
-    let ruled = subst (λ (ps : List ℕ). rules_in c.in_ok-rules.rules.items ≡ rules_of id_of c.args.all.now (names_at (all_of all) ps)) c.as_slice-places.ensures.value c.in_ok-rules.ensures in
-    is_chained all filters c.args.all.now c.args.place c.in_ok-found.found.items c.as_slice-places.result.now _ c.requires.rise c.as_slice-places.ensures.value c.in_ok-found.ensures.chain
-    c.in_ok-values.ensures filtered ruled
+    let ruled = subst (λ (ps : List ℕ). rules_in c.in_ok-rules.rules.items ≡ rules_of (in_profile profile_of) c.args.all.now (names_at (all_of all) ps)) c.as_slice-places.ensures.value c.in_ok-rules.ensures in
+    let scripted = subst (λ (ps : List ℕ). rules_in c.in_ok-script_rules.script_rules.items ≡ rules_of (in_profile script_profile_of) c.args.scripts.now (names_at (all_of all) ps)) c.as_slice-places.ensures.value
+    c.in_ok-script_rules.ensures in
+    is_chained all filters c.args.all.now c.args.scripts.now c.args.place c.in_ok-found.found.items c.as_slice-places.result.now _ c.requires.rise c.as_slice-places.ensures.value c.in_ok-found.ensures.chain
+    c.in_ok-values.ensures filtered ruled scripted

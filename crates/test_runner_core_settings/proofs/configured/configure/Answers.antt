@@ -18,7 +18,4 @@ returns c = λ known.
     (subst (λ (sources : List ConfigSource). IsConfig (IsFilter cx) IsPlatformSpec IsTooDeep c.args.experimental c.as_str-root.result.now sources (Ok config)) c.as_slice-sources.ensures
     c.in_ok-config.ensures.config)) in
     let told = c.in_ok-config.ensures.told [] c.new-warnings.ensures in
-    let same = ap (λ (sources : List ConfigSource). map text_of (warnings_in sources)) c.as_slice-sources.ensures in (
-      record { loaded = loaded; later = sym c.sets_later_keys.ensures ∙ c.if-sets_later_keys.false },
-      cc,
-    )
+    let same = ap (λ (sources : List ConfigSource). map text_of (warnings_in sources)) c.as_slice-sources.ensures in (loaded, cc)

@@ -1,7 +1,7 @@
 use Rattle.std.proofs.Common.{◌≡◌, List, Option, ap, ◌∙◌, subst}
 use Rattle.nextest_config_resolution_inheritance.specs.Inheritance.{name_at}
 use Rattle.nextest_config_resolution_load.specs.declared.loaded_config.NamedProfile.{NamedProfile}
-use Rattle.nextest_config_resolution_load.specs.Load.{LoadedOverride}
+use Rattle.nextest_config_resolution_load.specs.Load.{LoadedOverride, LoadedScriptRule}
 use Rattle.nextest_config_resolution_profiles.specs.Chains.{IsChained}
 use Rattle.nextest_config_resolution_profiles.specs.Config.{dir_in_store}
 use Rattle.nextest_config_resolution_profiles.proofs.Names.{all_of, name_is}
@@ -13,16 +13,19 @@ returns-in_ok-dir_in_store-in-Some g c =
     let profiles = c.as_slice-profiles.result.now in
     let filters = c.as_slice-filters.result.now in
     let all = c.as_slice-all.result.now in
+    let scripts = c.as_slice-all_scripts.result.now in
     let whole = c.args.self.now in
     let name = c.args.name.now in
     let it = c.in_ok-values-in-Some.field-0 in
     let same : profiles ≡ whole.loaded.profiles = cc (c.as_slice-profiles.ensures, ap (λ whole. whole.loaded.profiles) c.self.view_is) in
     let read : filters ≡ whole.loaded.default_filters = cc (c.as_slice-filters.ensures, ap (λ whole. whole.loaded.default_filters) c.self.view_is) in
     let ruled : all ≡ whole.loaded.rules = cc (c.as_slice-all.ensures, ap (λ whole. whole.loaded.rules) c.self.view_is) in
-    let named = subst (λ n. IsChained {F = g.row.F.Denot} {S = g.row.S.Denot} profiles filters all n it) c.in-Some.ensures.found c.in_ok-values-in-Some.ensures in
-    let chained = subst (λ (rs : List (LoadedOverride g.row.F.Denot g.row.S.Denot)). IsChained whole.loaded.profiles whole.loaded.default_filters rs name it) ruled
-    (subst (λ (fs : List (Option g.row.F.Denot)). IsChained whole.loaded.profiles fs all name it) read
-    (subst (λ (ps : List NamedProfile). IsChained ps filters all name it) same named)) in
+    let scripted : scripts ≡ whole.loaded.script_rules = cc (c.as_slice-all_scripts.ensures, ap (λ whole. whole.loaded.script_rules) c.self.view_is) in
+    let named = subst (λ n. IsChained {F = g.row.F.Denot} {S = g.row.S.Denot} profiles filters all scripts n it) c.in-Some.ensures.found c.in_ok-values-in-Some.ensures in
+    let chained = subst (λ (rs : List (LoadedScriptRule g.row.F.Denot g.row.S.Denot)). IsChained whole.loaded.profiles whole.loaded.default_filters whole.loaded.rules rs name it) scripted
+    (subst (λ (rs : List (LoadedOverride g.row.F.Denot g.row.S.Denot)). IsChained whole.loaded.profiles whole.loaded.default_filters rs scripts name it) ruled
+    (subst (λ (fs : List (Option g.row.F.Denot)). IsChained whole.loaded.profiles fs all scripts name it) read
+    (subst (λ (ps : List NamedProfile). IsChained ps filters all scripts name it) same named))) in
     let called : c.as_str-name.result.now ≡ name =
     cc (c.as_str-name.ensures, name_is profiles c.in-Some.place c.index-profiles-place.result c.in-Some.ensures.within, c.in-Some.ensures.found) in
     let root : c.as_str.result.now ≡ whole.root = cc (c.as_str.ensures, ap (λ whole. whole.root) c.self.view_is) in
@@ -34,7 +37,9 @@ returns-in_ok-dir_in_store-in-Some g c =
       chained = chained.chained;
       filtered = chained.filtered;
       ruled = chained.ruled;
+      scripted = chained.scripted;
       grouped = groups;
+      defined = ap (λ whole. whole.loaded.scripts) c.self.view_is;
     }
 
 pub invariant_of-result : goal.invariant_of-result
@@ -43,9 +48,11 @@ invariant_of-result g c =
     let profiles = c.as_slice-profiles.result.now in
     let filters = c.as_slice-filters.result.now in
     let all = c.as_slice-all.result.now in
+    let scripts = c.as_slice-all_scripts.result.now in
     let it = c.in_ok-values-in-Some.field-0 in
     let name = name_at (all_of profiles) c.in-Some.place in
     early_askable g.F.Filters.serves_as_default g.F.Filters.asks_groups loaded name it c.self.invariant
-    (subst (λ (rs : List (LoadedOverride g.row.F.Denot g.row.S.Denot)). IsChained loaded.profiles loaded.default_filters rs name it) c.as_slice-all.ensures
-    (subst (λ (fs : List (Option g.row.F.Denot)). IsChained loaded.profiles fs all name it) c.as_slice-filters.ensures
-    (subst (λ (ps : List NamedProfile). IsChained ps filters all name it) c.as_slice-profiles.ensures c.in_ok-values-in-Some.ensures)))
+    (subst (λ (rs : List (LoadedScriptRule g.row.F.Denot g.row.S.Denot)). IsChained loaded.profiles loaded.default_filters loaded.rules rs name it) c.as_slice-all_scripts.ensures
+    (subst (λ (rs : List (LoadedOverride g.row.F.Denot g.row.S.Denot)). IsChained loaded.profiles loaded.default_filters rs scripts name it) c.as_slice-all.ensures
+    (subst (λ (fs : List (Option g.row.F.Denot)). IsChained loaded.profiles fs all scripts name it) c.as_slice-filters.ensures
+    (subst (λ (ps : List NamedProfile). IsChained ps filters all scripts name it) c.as_slice-profiles.ensures c.in_ok-values-in-Some.ensures))))

@@ -1,0 +1,247 @@
+-- The setup scripts that are enabled: by the rules that hold on some tests, and by the columns of rules.
+use Rattle.std.proofs.Common.{◌≡◌, ◌↔◌, ℕ, zero, suc, ◌+◌, ◌<◌, ◌≤◌, Bool, true, false, ◌||◌, List, [], ◌∷◌, ◌++◌, Option, Some, length, get_or, map, take, refl, sym, ap, ◌∙◌, subst, ◌⊎◌, inl, inr, arith, IsTrue}
+use Rattle.std.specs.BTreeSet.{BTreeSet, contains}
+use Rattle.std.specs.List.{AllZip, Contains, filter_map, list_any, slice_get}
+use Rattle.std.specs.List.Sorted.{IsStrictlySortedBy}
+use Rattle.std.specs.Ordering.{is_eq, nat_cmp}
+use Rattle.std.specs.Cmp.Lexicographic.{slice_cmp}
+use Rattle.std.specs.Str.{bytes_eq}
+use Rattle.std.proofs.lemmas.Bool.{false≢true}
+use Rattle.std.proofs.lemmas.List.{map_push, take_all}
+use Rattle.std.proofs.lemmas.List.Elements.{Contains-append_cases, Contains-append_left, Contains-append_right, Contains-push, Contains-push_cases}
+use Rattle.std.proofs.lemmas.Map.Text.{is_eq-slice_cmp}
+use Rattle.std.proofs.lemmas.Slice.Eq.{bytes_eq-Decides}
+use Rattle.nextest_config_resolution_load.proofs.Passing.{taken_more}
+use Rattle.nextest_config_resolution_profiles.specs.Enabled.{AreNamesOf, HasEnabled, HoldsOnSome, IsEnabled, Rise, any_in, has_name, is_named, setup_of, test_in}
+use Rattle.nextest_config_resolution_profiles.specs.Evaluatable.{Evaluatable}
+use Rattle.nextest_config_resolution_profiles.specs.Held.{Holds, placed_of}
+use Rattle.nextest_config_resolution_profiles.specs.HeldRules.{AreColumns, AreToldBy, IsColumn, picked, value_at}
+use Rattle.nextest_config_resolution_profiles.specs.Platforms.{RuleOn, ScriptRuleOn}
+use Rattle.nextest_config_resolution_profiles.specs.RuleLaws.{MoreEnableNoFewer}
+use Rattle.nextest_filtering_filters.specs.Meaning.{Tells}
+use Rattle.nextest_filtering_filters.specs.Query.{Binary, Test}
+
+-- ---- truth values
+
+either : (a b : Bool) → (a || b) ≡ true → (a ≡ true) ⊎ (b ≡ true)
+either true b h = inl refl
+either false b h = inr h
+
+either_left : (a b : Bool) → a ≡ true → (a || b) ≡ true
+either_left true b h = refl
+either_left false b h = absurd (false≢true h)
+
+either_right : (a b : Bool) → b ≡ true → (a || b) ≡ true
+either_right true b h = refl
+either_right false b h = h
+
+-- a text among others
+pub among : (id : List ℕ) (ids : List (List ℕ)) → list_any (bytes_eq id) ids ≡ true → Contains ids id
+among id [] h = absurd (false≢true h)
+among id (other ∷ ids) h = by_side (either (bytes_eq id other) (list_any (bytes_eq id) ids) h)
+  where
+    by_side : (bytes_eq id other ≡ true) ⊎ (list_any (bytes_eq id) ids ≡ true) → Contains (other ∷ ids) id
+    by_side (inl here) = subst (λ (it : List ℕ). Contains (it ∷ ids) id) ((bytes_eq-Decides id other).0 here) (0, omega arith, refl)
+    by_side (inr behind) = Contains-append_right (other ∷ []) ids id (among id ids behind)
+
+pub among_back : (id : List ℕ) (ids : List (List ℕ)) → Contains ids id → list_any (bytes_eq id) ids ≡ true
+among_back id [] (k, within, is) = absurd (omega (arith, within))
+among_back id (other ∷ ids) has = by_side (Contains-append_cases (other ∷ []) ids id has)
+  where
+    by_side : Contains (other ∷ []) id ⊎ Contains ids id → (bytes_eq id other || list_any (bytes_eq id) ids) ≡ true
+    by_side (inl (zero, within, is)) = either_left (bytes_eq id other) (list_any (bytes_eq id) ids) ((bytes_eq-Decides id other).1 (sym is))
+    by_side (inl (suc k, within, is)) = absurd (omega (arith, within))
+    by_side (inr behind) = either_right (bytes_eq id other) (list_any (bytes_eq id) ids) (among_back id ids behind)
+
+-- ---- what rules name
+
+-- a rule of which this is so names it
+pub record Names {F S : Type 0} (Holding : ScriptRuleOn F S → Type 0) (rules : List (ScriptRuleOn F S)) (id : List ℕ) : Type 0 where
+  pub rule : ScriptRuleOn F S
+  pub of : Contains rules rule
+  pub holds : Holding rule
+  pub names : Contains (setup_of rule) id
+
+module _ {F S : Type 0} (Holding : ScriptRuleOn F S → Type 0) where
+  names_behind : (first : ScriptRuleOn F S) (rules : List (ScriptRuleOn F S)) (id : List ℕ) → Names Holding rules id → Names Holding (first ∷ rules) id
+  names_behind first rules id it = record { rule = it.rule; of = Contains-append_right (first ∷ []) rules it.rule it.of; holds = it.holds; names = it.names }
+
+  pub named_by : (rules : List (ScriptRuleOn F S)) (row : List Bool) → AreToldBy Holding rules row → (id : List ℕ) → is_named (map placed_of (picked row rules)) id ≡ true → Names Holding rules id
+  named_by [] row told id h = absurd (false≢true h)
+  named_by (rule ∷ rules) [] told id h = absurd told
+  named_by (rule ∷ rules) (true ∷ row) told id h = by_side (either (list_any (bytes_eq id) (setup_of rule)) (is_named (map placed_of (picked row rules)) id) h)
+    where
+      by_side : (list_any (bytes_eq id) (setup_of rule) ≡ true) ⊎ (is_named (map placed_of (picked row rules)) id ≡ true) → Names Holding (rule ∷ rules) id
+      by_side (inl here) = record { rule = rule; of = (0, omega arith, refl); holds = told.0.0 refl; names = among id (setup_of rule) here }
+      by_side (inr behind) = names_behind rule rules id (named_by rules row told.1 id behind)
+  named_by (rule ∷ rules) (false ∷ row) told id h = names_behind rule rules id (named_by rules row told.1 id h)
+
+  pub named_back : (rules : List (ScriptRuleOn F S)) (row : List Bool) → AreToldBy Holding rules row → (id : List ℕ) → Names Holding rules id → is_named (map placed_of (picked row rules)) id ≡ true
+  named_back [] row told id it = absurd (none it.of)
+    where
+      none : {x : ScriptRuleOn F S} → Contains [] x → ⊥
+      none (k, within, is) = omega (arith, within)
+  named_back (rule ∷ rules) [] told id it = absurd told
+  named_back (rule ∷ rules) (value ∷ row) told id it = by_value value told.0 (Contains-append_cases (rule ∷ []) rules it.rule it.of)
+    where
+      here : Contains (rule ∷ []) it.rule → rule ≡ it.rule
+      here (zero, within, is) = is
+      here (suc k, within, is) = absurd (omega (arith, within))
+      behind : Contains rules it.rule → is_named (map placed_of (picked row rules)) id ≡ true
+      behind of = named_back rules row told.1 id (record { rule = it.rule; of = of; holds = it.holds; names = it.names })
+      by_value : (value : Bool) → Tells (Holding rule) value → Contains (rule ∷ []) it.rule ⊎ Contains rules it.rule → is_named (map placed_of (picked (value ∷ row) (rule ∷ rules))) id ≡ true
+      by_value true tells (inl of) = either_left (list_any (bytes_eq id) (setup_of rule)) (is_named (map placed_of (picked row rules)) id)
+          (among_back id (setup_of rule) (subst (λ (r : ScriptRuleOn F S). Contains (setup_of r) id) (sym (here of)) it.names))
+      by_value true tells (inr of) = either_right (list_any (bytes_eq id) (setup_of rule)) (is_named (map placed_of (picked row rules)) id) (behind of)
+      by_value false tells (inl of) = absurd (false≢true (tells.1 (subst Holding (sym (here of)) it.holds)))
+      by_value false tells (inr of) = behind of
+
+-- ---- some of the tests of a binary
+
+-- a rule holds on some of them, by its column
+some_told : (So : List ℕ → Type 0) (names : List (List ℕ)) (column : List Bool)
+    → ((place : ℕ) (name : List ℕ) → slice_get names place ≡ Some name → Tells (So name) (value_at place column))
+    → Tells ((name : List ℕ) × Contains names name × So name) (any_in (length names) column)
+some_told So [] column tells = ((λ h. absurd (false≢true (sym (none column) ∙ h))), (λ (name, (k, within, is), so). absurd (omega (arith, within))))
+  where
+    none : (column : List Bool) → any_in 0 column ≡ false
+    none [] = refl
+    none (value ∷ column) = refl
+some_told So (first ∷ names) [] tells = ((λ h. absurd (false≢true h)), (λ (name, has, so). absurd (by_side name has so)))
+  where
+    rest = some_told So names [] (λ place name at. tells (suc place) name at)
+    by_side : (name : List ℕ) → Contains (first ∷ names) name → So name → ⊥
+    by_side name has so = at (Contains-append_cases (first ∷ []) names name has)
+      where
+        at : Contains (first ∷ []) name ⊎ Contains names name → ⊥
+        at (inl (zero, within, is)) = false≢true ((tells 0 first refl).1 (subst So (sym is) so))
+        at (inl (suc k, within, is)) = omega (arith, within)
+        at (inr behind) = false≢true (empty (rest.1 (name, behind, so)))
+          where
+            empty : any_in (length names) [] ≡ true → false ≡ true
+            empty h = h
+some_told So (first ∷ names) (value ∷ column) tells = (
+  (λ h. forth (either value (any_in (length names) column) h)),
+  (λ (name, has, so). back name so (Contains-append_cases (first ∷ []) names name has)),
+)
+  where
+    rest = some_told So names column (λ place name at. tells (suc place) name at)
+    forth : (value ≡ true) ⊎ (any_in (length names) column ≡ true) → (name : List ℕ) × Contains (first ∷ names) name × So name
+    forth (inl here) = (first, (0, omega arith, refl), (tells 0 first refl).0 here)
+    forth (inr behind) = let (name, has, so) = rest.0 behind in (name, Contains-append_right (first ∷ []) names name has, so)
+    back : (name : List ℕ) → So name → Contains (first ∷ []) name ⊎ Contains names name → (value || any_in (length names) column) ≡ true
+    back name so (inl (zero, within, is)) = either_left value (any_in (length names) column) ((tells 0 first refl).1 (subst So (sym is) so))
+    back name so (inl (suc k, within, is)) = absurd (omega (arith, within))
+    back name so (inr behind) = either_right value (any_in (length names) column) (rest.1 (name, behind, so))
+
+-- tests of a binary by their names
+contains_test : (binary : Binary) (names : List (List ℕ)) (name : List ℕ) → Contains names name → Contains (map (test_in binary) names) (test_in binary name)
+contains_test binary [] name (k, within, is) = absurd (omega (arith, within))
+contains_test binary (first ∷ names) name has = by_side (Contains-append_cases (first ∷ []) names name has)
+  where
+    by_side : Contains (first ∷ []) name ⊎ Contains names name → Contains (map (test_in binary) (first ∷ names)) (test_in binary name)
+    by_side (inl (zero, within, is)) = (0, omega arith, ap (test_in binary) is)
+    by_side (inl (suc k, within, is)) = absurd (omega (arith, within))
+    by_side (inr behind) = Contains-append_right (test_in binary first ∷ []) (map (test_in binary) names) (test_in binary name) (contains_test binary names name behind)
+
+name_of_test : (binary : Binary) (names : List (List ℕ)) (test : Test) → Contains (map (test_in binary) names) test → (name : List ℕ) × Contains names name × (test_in binary name ≡ test)
+name_of_test binary [] test (k, within, is) = absurd (omega (arith, within))
+name_of_test binary (first ∷ names) test has = by_side (Contains-append_cases (test_in binary first ∷ []) (map (test_in binary) names) test has)
+  where
+    by_side : Contains (test_in binary first ∷ []) test ⊎ Contains (map (test_in binary) names) test → (name : List ℕ) × Contains (first ∷ names) name × (test_in binary name ≡ test)
+    by_side (inl (zero, within, is)) = (first, (0, omega arith, refl), is)
+    by_side (inl (suc k, within, is)) = absurd (omega (arith, within))
+    by_side (inr behind) =
+        let (name, has, same) = name_of_test binary names test behind in
+        (name, Contains-append_right (first ∷ []) names name has, same)
+
+module _ {P F S : Type 0} (OnTest : F → F → Test → Bool → Type 0) (default : F) (binary : Binary) (names : List (List ℕ)) where
+  some_of_binary : (rule : RuleOn P F S) (column : List Bool) → IsColumn OnTest default binary names rule column
+      → Tells (HoldsOnSome OnTest default (map (test_in binary) names) rule) (any_in (length names) column)
+  some_of_binary rule column told =
+      let So : List ℕ → Type 0 = λ name. Holds OnTest default (test_in binary name) rule in
+      let some = some_told So names column told in (
+        (λ h. let (name, has, so) = some.0 h in (test_in binary name, contains_test binary names name has, so)),
+        (λ (test, has, holds).
+            let (name, among, same) = name_of_test binary names test has in
+            some.1 (name, among, subst (λ (it : Test). Holds OnTest default it rule) (sym same) holds)),
+      )
+
+  pub told_by_columns : (rules : List (RuleOn P F S)) (columns : List (List Bool)) (count : ℕ) → count ≡ length names → AreColumns OnTest default binary names rules columns
+      → AreToldBy (HoldsOnSome OnTest default (map (test_in binary) names)) rules (map (any_in count) columns)
+  told_by_columns [] [] count same are = tt
+  told_by_columns [] (column ∷ columns) count same are = absurd are
+  told_by_columns (rule ∷ rules) [] count same are = absurd are
+  told_by_columns (rule ∷ rules) (column ∷ columns) count same are = (
+    subst (λ (n : ℕ). Tells (HoldsOnSome OnTest default (map (test_in binary) names) rule) (any_in n column)) (sym same) (some_of_binary rule column are.0),
+    told_by_columns rules columns count same are.1,
+  )
+
+-- ---- scripts of some tests, and of more
+
+module _ {F S : Type 0} (OnTest : F → F → Test → Bool → Type 0) (profile : Evaluatable F S) where
+  pub enabled_more : (some more : List Test) (id : List ℕ) → ((test : Test) → Contains some test → Contains more test) → IsEnabled OnTest profile some id → IsEnabled OnTest profile more id
+  enabled_more some more id among it = record {
+    rule = it.rule;
+    of_profile = it.of_profile;
+    names = it.names;
+    holds = (it.holds.0, among it.holds.0 it.holds.1.0, it.holds.1.1);
+  }
+
+  -- by what holds on some tests and what holds on others
+  pub enabled_both : (tests more : List Test) (old new : BTreeSet (List ℕ)) (row : List Bool) → HasEnabled OnTest profile tests old
+      → AreToldBy (HoldsOnSome OnTest profile.default_filter.filter.now more) profile.script_rules row
+      → ((id : List ℕ) → has_name new id ≡ has_name old id || is_named (map placed_of (picked row profile.script_rules)) id) → HasEnabled OnTest profile (tests ++ more) new
+  enabled_both tests more old new row before told adds = λ id. ((λ h. forth id (either _ _ (sym (adds id) ∙ h))), (λ it. adds id ∙ back id it (Contains-append_cases tests more it.holds.0 it.holds.1.0)))
+    where
+      Holding = HoldsOnSome OnTest profile.default_filter.filter.now more
+      forth : (id : List ℕ) → (has_name old id ≡ true) ⊎ (is_named (map placed_of (picked row profile.script_rules)) id ≡ true) → IsEnabled OnTest profile (tests ++ more) id
+      forth id (inl early) = enabled_more tests (tests ++ more) id (λ test has. Contains-append_left tests more test has) ((before id).0 early)
+      forth id (inr named) =
+          let it = named_by Holding profile.script_rules row told id named in
+          record { rule = it.rule; of_profile = it.of; names = it.names; holds = (it.holds.0, Contains-append_right tests more it.holds.0 it.holds.1.0, it.holds.1.1) }
+      back : (id : List ℕ) (it : IsEnabled OnTest profile (tests ++ more) id) → Contains tests it.holds.0 ⊎ Contains more it.holds.0
+          → (has_name old id || is_named (map placed_of (picked row profile.script_rules)) id) ≡ true
+      back id it (inl has) = either_left _ _ ((before id).1 (record { rule = it.rule; of_profile = it.of_profile; names = it.names; holds = (it.holds.0, has, it.holds.1.1) }))
+      back id it (inr has) =
+          either_right _ _ (named_back Holding profile.script_rules row told id (record { rule = it.rule; of = it.of_profile; holds = (it.holds.0, has, it.holds.1.1); names = it.names }))
+
+  -- no tests enable any
+  pub none_enabled : (names : BTreeSet (List ℕ)) → ((id : List ℕ) → has_name names id ≡ false) → HasEnabled OnTest profile [] names
+  none_enabled names none = λ id. ((λ h. absurd (false≢true (sym (none id) ∙ h))), (λ it. absurd (empty it.holds.1.0)))
+    where
+      empty : {x : Test} → Contains [] x → ⊥
+      empty (k, within, is) = omega (arith, within)
+
+pub more_enable_no_fewer : {F : Type 0} (OnTest : F → F → Test → Bool → Type 0) (S : Type 0) → MoreEnableNoFewer OnTest S
+more_enable_no_fewer OnTest S profile some more id among it = enabled_more OnTest profile some more id among it
+
+-- ---- the names of a set
+
+-- what a set has is what its keys have
+pub has_key : (keys : List (List ℕ)) (id : List ℕ) → list_any (λ k. is_eq (slice_cmp nat_cmp id k)) keys ≡ list_any (bytes_eq id) keys
+has_key [] id = refl
+has_key (key ∷ keys) id = ap (λ (b : Bool). b || list_any (λ k. is_eq (slice_cmp nat_cmp id k)) keys) (is_eq-slice_cmp id key) ∙ ap (λ (b : Bool). bytes_eq id key || b) (has_key keys id)
+
+pub names_of_set : (names : BTreeSet (List ℕ)) → IsStrictlySortedBy (slice_cmp nat_cmp) names.keys → AreNamesOf (λ id. IsTrue (has_name names id)) names.keys
+names_of_set names ordered = record {
+  rise = ordered;
+  exactly = λ id. ((λ has. has_key names.keys id ∙ among_back id names.keys has), (λ h. among id names.keys (sym (has_key names.keys id) ∙ h)));
+}
+
+pub same_names : {Is Also : List ℕ → Type 0} (names : List (List ℕ)) → ((id : List ℕ) → Is id ↔ Also id) → AreNamesOf Is names → AreNamesOf Also names
+same_names names same are = record {
+  rise = are.rise;
+  exactly = λ id. ((λ has. (same id).0 ((are.exactly id).0 has)), (λ it. (are.exactly id).1 ((same id).1 it)));
+}
+
+-- ---- a loop over tests
+
+-- a rule that holds on none so far, and not on the next
+pub none_so_far : {P F S : Type 0} (OnTest : F → F → Test → Bool → Type 0) (default : F) (rule : RuleOn P F S) (front : List Test) (test : Test) → ¬ HoldsOnSome OnTest default front rule → ¬ Holds OnTest default test rule
+    → ¬ HoldsOnSome OnTest default (front ++ test ∷ []) rule
+none_so_far OnTest default rule front test none fails (it, has, holds) = by_side (Contains-push_cases front test it has)
+  where
+    by_side : Contains front it ⊎ (test ≡ it) → ⊥
+    by_side (inl early) = none (it, early, holds)
+    by_side (inr here) = fails (subst (λ (t : Test). Holds OnTest default t rule) (sym here) holds)
