@@ -6,6 +6,7 @@ use nextest_text::{Listing, Text};
 use std::alloc::{AllocError, Global};
 
 /// The command of a script.
+#[derive(PartialEq, Eq)]
 pub struct ScriptCommand {
     /// The program, as it is written.
     pub program: Text,
@@ -15,6 +16,22 @@ pub struct ScriptCommand {
     pub env: ScriptCommandEnvMap,
     /// Where its program is looked for.
     pub relative_to: ScriptCommandRelativeTo,
+}
+
+impl Clone for ScriptCommand {
+    ghost is_clone = { λ original copy. copy ≡ original };
+
+    fn clone(&self) -> Result<ScriptCommand, AllocError> {
+        let program = self.program.clone()?;
+        let args = self.args.clone()?;
+        let env = self.env.clone()?;
+        Ok(ScriptCommand {
+            program,
+            args,
+            env,
+            relative_to: self.relative_to,
+        })
+    }
 }
 
 // One call drops it, whoever holds it.
@@ -61,9 +78,20 @@ fn path_in(alloc: Global, directory: &str, path: &str) -> Result<Text, AllocErro
 }
 
 /// Environment variables with their values, by the bytes of their names.
+#[derive(PartialEq, Eq)]
 pub struct ScriptCommandEnvMap {
     /// Each variable's name and value.
     pub variables: Listing<(Text, Text)>,
+}
+
+impl Clone for ScriptCommandEnvMap {
+    ghost is_clone = { λ original copy. copy ≡ original };
+
+    fn clone(&self) -> Result<ScriptCommandEnvMap, AllocError> {
+        Ok(ScriptCommandEnvMap {
+            variables: self.variables.clone()?,
+        })
+    }
 }
 
 // One call drops it, whoever holds it.
