@@ -1,4 +1,5 @@
 // Wrapper scripts.
+ghost use Rattle.std.specs.Prelude.{◌≡◌};
 ghost use Rattle.toml.specs.View.{table_view};
 ghost use Rattle.nextest_config_elements_reading.specs.Paths.{Gives};
 ghost use Rattle.nextest_config_elements_readers.specs.Keys.{table_by};
@@ -7,15 +8,27 @@ ghost use Rattle.nextest_config_resolution_scripts.specs.Scripts.{wrapper_script
 use nextest_config_elements_readers::{Any, ConfigValue, DeserializeValue, defaulted};
 use nextest_config_elements_reading::{ValueError, refused};
 use nextest_config_resolution_commands::{ScriptCommand, required_value};
-use std::alloc::Global;
+use std::alloc::{AllocError, Global};
 use toml::{Table, Value};
 
 /// A wrapper script: a command that the command of a test, or of what lists tests, is handed to.
+#[derive(PartialEq, Eq)]
 pub struct WrapperScriptConfig {
     /// `command`: what is run.
     pub command: ScriptCommand,
     /// `target-runner`: what becomes of the runner that the target has.
     pub target_runner: WrapperScriptTargetRunner,
+}
+
+impl Clone for WrapperScriptConfig {
+    ghost is_clone = { λ original copy. copy ≡ original };
+
+    fn clone(&self) -> Result<WrapperScriptConfig, AllocError> {
+        Ok(WrapperScriptConfig {
+            command: self.command.clone()?,
+            target_runner: self.target_runner,
+        })
+    }
 }
 
 // One call drops it, whoever holds it.
