@@ -5,16 +5,19 @@ use nextest_config_elements_counts::{
 };
 use nextest_config_elements_identifiers::TestGroup;
 use nextest_config_elements_plain::{FlakyResult, TestOutputDisplay};
+use nextest_config_resolution_scripts::WrapperScriptConfig;
 use nextest_text::{Listing, Text};
 use std::alloc::AllocError;
 
-/// The settings of a selected test, as a plan keeps them: those of `TestSettings`, owned, but for a wrapper script, which no test has yet.
+/// The settings of a selected test, as a plan keeps them: those of `TestSettings`, owned.
 #[derive(PartialEq, Eq)]
 pub struct PlanSettings {
     /// `priority`: before which tests it runs.
     pub priority: TestPriority,
     /// `threads-required`: how many threads it takes.
     pub threads_required: ThreadsRequired,
+    /// `run-wrapper`: the script that its command is handed to, if there is one.
+    pub run_wrapper: Option<WrapperScriptConfig>,
     /// `run-extra-args`: the arguments that it is run with besides.
     pub run_extra_args: Listing<Text>,
     /// `retries`: how it is tried again.
@@ -47,9 +50,11 @@ impl Clone for PlanSettings {
     ghost is_clone = { λ original copy. copy ≡ original };
 
     fn clone(&self) -> Result<PlanSettings, AllocError> {
+        let run_wrapper = self.run_wrapper.clone()?;
         let run_extra_args = self.run_extra_args.clone()?;
         let test_group = self.test_group.clone()?;
         Ok(PlanSettings {
+            run_wrapper,
             run_extra_args,
             test_group,
             ..*self
@@ -63,6 +68,7 @@ impl Drop for PlanSettings {
         let Self {
             priority: _,
             threads_required: _,
+            run_wrapper: _,
             run_extra_args: _,
             retries: _,
             flaky_result: _,
