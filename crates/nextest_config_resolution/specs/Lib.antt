@@ -6,7 +6,6 @@ pub use Rattle.nextest_config_resolution_load.specs.Checks as LoadChecks
 pub use Rattle.nextest_config_resolution_load.specs.File as OneFile
 pub use Rattle.nextest_config_resolution_load.specs.Languages as Reading
 pub use Rattle.nextest_config_resolution_load.specs.Kinds
-pub use Rattle.nextest_config_resolution_load.specs.Later
 pub use Rattle.nextest_config_resolution_load.specs.Load
 pub use Rattle.nextest_config_resolution_load.specs.Laws as LoadLaws
 pub use Rattle.nextest_config_resolution_load.specs.Refusal as Refusals

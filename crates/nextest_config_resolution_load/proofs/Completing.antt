@@ -64,7 +64,6 @@ module _ {F S : Type 0} (Is : IsFilterBy F) (IsSpec : IsSpecBy S) (IsTooDeep : L
       filters = passes.1.filters;
       rules = subst (AreReadRules Is IsSpec (rules_downward sources)) (sym passes.1.rules) (overrides_downward Is IsSpec (counted sources) read.rules.items are.rules);
       script_rules = subst (AreReadScriptRules Is IsSpec (script_rules_downward sources)) (sym passes.1.script_rules) (scripts_downward Is IsSpec (counted sources) read.rules.items are.rules);
-      later = passes.1.later ∙ are.later;
     }
     completed (Err told) passes =
         loaded_error told (refuses_behind Is IsSpec IsTooDeep (flat_map (source_checks features) (counted sources)) (merged_checks (rules_upward sources) (script_rules_upward sources) (config_in (merged_in built_in sources))) told of_sources

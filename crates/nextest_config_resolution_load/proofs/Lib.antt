@@ -4,7 +4,6 @@ pub mod Defining
 pub mod Downward
 pub mod FilesRead
 pub mod Kept
-pub mod LaterFiles
 pub mod Loads
 pub mod NameChecks
 pub mod Passing

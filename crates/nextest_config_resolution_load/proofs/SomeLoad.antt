@@ -11,7 +11,7 @@ use Rattle.nextest_config_resolution_inheritance.proofs.Verdict.{one_verdict}
 use Rattle.nextest_config_resolution_load.specs.Checks.{Check, broken, is_filter, is_spec, inheritance, Refusal, unread, no_toml, bad_value, both_script_tables, feature_not_enabled, bad_name, repeated_script, no_constraint, filter_and_default_filter, bad_spec, bad_rule_filter, bad_merged, unknown_group, unknown_script, unknown_wrapper, inherits_badly, bad_filter, MergedConfig, checks_of, config_in, default_check, default_checks, defined_checks, file_checks, merged_checks, document_checks, document_of, merged_in, no_rules, outcome_checks, rules_in, rules_in_file, rules_of_source, rules_upward, script_rules_upward, source_checks}
 use Rattle.nextest_config_resolution_load.specs.File.{file_in}
 use Rattle.nextest_config_resolution_load.specs.Laws.{SomeLoad}
-use Rattle.nextest_config_resolution_load.specs.Load.{AreReadBy, Breaks, BreaksFirst, IsFilterBy, IsKept, IsLoaded, IsReadAs, IsReadBy, IsSpecBy, LoadedOverride, LoadedScriptRule, named, reason_of, sets_later_keys}
+use Rattle.nextest_config_resolution_load.specs.Load.{AreReadBy, Breaks, BreaksFirst, IsFilterBy, IsKept, IsLoaded, IsReadAs, IsReadBy, IsSpecBy, LoadedOverride, LoadedScriptRule, named, reason_of}
 use Rattle.nextest_config_resolution_load.specs.Reading.{AreReadDefaults, AreReadInFile, AreRulesOf, downward}
 use Rattle.nextest_config_resolution_load.specs.RuleTexts.{checks_by}
 use Rattle.nextest_config_resolution_load.specs.Rules.{Conditions, both_checks, conditions_of, constraint_checks, filter_checks, listing_checks, placed_in, profile_checks, rule_checks, rules_at, script_conditions_of, script_placed_in, script_rule_checks, script_rules_at, spec_checks, text_checks, wraps_lists}
@@ -75,9 +75,9 @@ profiles_again : (profiles : List Named) → map named (map profile_from profile
 profiles_again [] = refl
 profiles_again (it ∷ profiles) = ap (λ (more : List Named). it ∷ more) (profiles_again profiles)
 
-abbrev config_from : {F S : Type 0} → List ConfigSource → MergedConfig → List (Option F) → List (LoadedOverride F S) → List (LoadedScriptRule F S) → LoadedConfig F S
-config_from sources it found rules scripts =
-    record { profiles = map profile_from it.profiles; default_filters = found; rules = rules; script_rules = scripts; groups = it.groups; scripts = it.scripts; store_dir = it.store_dir; sets_later_keys = sets_later_keys sources }
+abbrev config_from : {F S : Type 0} → MergedConfig → List (Option F) → List (LoadedOverride F S) → List (LoadedScriptRule F S) → LoadedConfig F S
+config_from it found rules scripts =
+    record { profiles = map profile_from it.profiles; default_filters = found; rules = rules; script_rules = scripts; groups = it.groups; scripts = it.scripts; store_dir = it.store_dir }
 
 module _ {F S : Type 0} (Is : IsFilterBy F) (IsSpec : IsSpecBy S) where
   -- the filter of a check that is kept
@@ -202,14 +202,13 @@ module _ {F S : Type 0} (Is : IsFilterBy F) (IsSpec : IsSpecBy S) where
       let config = given.0 in
       let found = given.2.0 in
       let again = sym (profiles_again config.profiles) in (
-        config_from sources config found (downward (λ own. own.overrides) rules.0) (downward (λ own. own.scripts) rules.0),
+        config_from config found (downward (λ own. own.overrides) rules.0) (downward (λ own. own.scripts) rules.0),
         record {
           kept = kept;
           values = given.1 ∙ ap (λ (all : List Named). Ok (record config { profiles = all })) again;
           filters = subst (λ (all : List Named). AreReadDefaults Is all found) again given.2.1;
           rules = overrides_downward Is IsSpec (counted sources) rules.0 rules.1;
           script_rules = scripts_downward Is IsSpec (counted sources) rules.0 rules.1;
-          later = refl;
         },
       )
 

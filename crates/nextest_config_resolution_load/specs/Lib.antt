@@ -3,7 +3,6 @@ pub mod File
 pub mod Files
 pub mod Kinds
 pub mod Languages
-pub mod Later
 pub mod Laws
 pub mod Load
 pub mod Reading

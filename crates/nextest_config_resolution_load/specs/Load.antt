@@ -1,8 +1,7 @@
 -- What a configuration comes to, or why it is refused. A text is a filter by `Is`, for what filters are for, and a platform spec by
 -- `IsSpec`; the reader may also refuse a filter for which `IsTooDeep` holds.
-use Rattle.std.specs.Prelude.{◌≡◌, ◌⊎◌, ℕ, Bool, false, List, [], ◌∷◌, map, Option, None, Some, Result, Ok, Err, ⊤}
-use Rattle.std.specs.List.{AllByRecursion, AllZip, list_any}
-use Rattle.std.specs.Option.{option_map_or}
+use Rattle.std.specs.Prelude.{◌≡◌, ◌⊎◌, ℕ, List, [], ◌∷◌, map, Option, None, Some, Result, Ok, Err, ⊤}
+use Rattle.std.specs.List.{AllByRecursion, AllZip}
 use Rattle.toml.specs.Data.{Members}
 use Rattle.nextest_config_resolution_inheritance.specs.Inheritance.{IsAccepted}
 use Rattle.nextest_config_resolution_inheritance.specs.Refusals.{IsFirstFault}
@@ -10,11 +9,9 @@ use Rattle.nextest_config_resolution_inheritance.specs.declared.inheritance_faul
 use Rattle.nextest_config_elements_versions.specs.declared.feature.FeatureSet.{FeatureSet}
 use Rattle.nextest_config_resolution_overrides.specs.declared.placed_override.PlacedOverride.{PlacedOverride}
 use Rattle.nextest_config_resolution_scripts.specs.declared.script_rule.PlacedScriptRule.{PlacedScriptRule}
-use Rattle.nextest_config_resolution_sources.specs.Counting.{counted}
 use Rattle.nextest_config_resolution_sources.specs.declared.source.ConfigSource.{ConfigSource}
 use Rattle.nextest_config_resolution_values.specs.File.{Named}
-use Rattle.nextest_config_resolution_load.specs.Checks.{Check, broken, is_filter, is_spec, inheritance, Refusal, unread, no_toml, bad_value, both_script_tables, feature_not_enabled, bad_name, repeated_script, no_constraint, filter_and_default_filter, bad_spec, bad_rule_filter, bad_merged, unknown_group, unknown_script, unknown_wrapper, inherits_badly, bad_filter, MergedConfig, checks_of, config_in, file_of, merged_in, rules_downward, script_rules_downward}
-use Rattle.nextest_config_resolution_load.specs.Later.{is_later}
+use Rattle.nextest_config_resolution_load.specs.Checks.{Check, broken, is_filter, is_spec, inheritance, Refusal, unread, no_toml, bad_value, both_script_tables, feature_not_enabled, bad_name, repeated_script, no_constraint, filter_and_default_filter, bad_spec, bad_rule_filter, bad_merged, unknown_group, unknown_script, unknown_wrapper, inherits_badly, bad_filter, MergedConfig, checks_of, config_in, merged_in, rules_downward, script_rules_downward}
 use Rattle.nextest_config_resolution_load.specs.Rules.{Conditions, conditions_of, script_conditions_of}
 use Rattle.nextest_config_resolution_load.specs.declared.languages.FilterPurpose.{FilterPurpose}
 use Rattle.nextest_config_resolution_load.specs.declared.languages.FilterPurpose.TheVariants as purpose
@@ -102,13 +99,6 @@ AreReadRules Is IsSpec rules loaded = AreReadBy conditions_of Is IsSpec rules lo
 abbrev pub AreReadScriptRules : {F S : Type 0} → IsFilterBy F → IsSpecBy S → List PlacedScriptRule → List (LoadedScriptRule F S) → Type 0
 AreReadScriptRules Is IsSpec rules loaded = AreReadBy script_conditions_of Is IsSpec rules loaded
 
--- some source that counts has a file that sets a key that isn't read yet; what is built in is no source
-abbrev pub is_later_source : ConfigSource → Bool
-is_later_source source = option_map_or is_later (file_of source) false
-
-abbrev pub sets_later_keys : List ConfigSource → Bool
-sets_later_keys sources = list_any is_later_source (counted sources)
-
 -- a configuration is what sources come to: all checks are kept, and these are its values, filters and rules
 pub record IsLoadedAs {F S : Type 0} (Is : IsFilterBy F) (IsSpec : IsSpecBy S) (features : FeatureSet) (built_in : Members)
     (sources : List ConfigSource) (it : LoadedConfig F S) : Type 0 where
@@ -117,7 +107,6 @@ pub record IsLoadedAs {F S : Type 0} (Is : IsFilterBy F) (IsSpec : IsSpecBy S) (
   pub filters : AllZip (λ profile found. IsReadAs (Is purpose.Default) profile.1.default_filter found) (seen it).profiles it.default_filters
   pub rules : AreReadRules Is IsSpec (rules_downward sources) it.rules
   pub script_rules : AreReadScriptRules Is IsSpec (script_rules_downward sources) it.script_rules
-  pub later : it.sets_later_keys ≡ sets_later_keys sources
 
 -- what a fault tells, without its words
 abbrev pub reason_of : LoadFault → Refusal

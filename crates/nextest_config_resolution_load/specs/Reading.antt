@@ -13,7 +13,7 @@ use Rattle.nextest_config_elements_reading.specs.declared.value_error.ValueError
 use Rattle.nextest_config_resolution_inheritance.specs.Inheritance.{Rise}
 use Rattle.nextest_config_resolution_load.specs.Checks.{Check, FileRules, must_hold, repeated_script, MergedConfig, bad_merged, config_in, file_of, merged_in, no_toml, parents_of, rules_in, rules_of_source, source_checks, value_checks}
 use Rattle.nextest_config_resolution_load.specs.Files.{members_in, told_in}
-use Rattle.nextest_config_resolution_load.specs.Load.{AreReadRules, AreReadScriptRules, IsFilterBy, IsReadAs, IsSpecBy, LoadedOverride, LoadedScriptRule, named, reason_of, seen, sets_later_keys}
+use Rattle.nextest_config_resolution_load.specs.Load.{AreReadRules, AreReadScriptRules, IsFilterBy, IsReadAs, IsSpecBy, LoadedOverride, LoadedScriptRule, named, reason_of, seen}
 use Rattle.nextest_config_resolution_load.specs.Rules.{rules_at, script_placed_in, script_rules_at}
 use Rattle.nextest_config_resolution_load.specs.Rules as words
 use Rattle.nextest_config_resolution_load.specs.Telling.{told_of, warnings_in}
@@ -146,7 +146,6 @@ early_checks features built_in sources = flat_map (source_checks features) (coun
 pub record AreReadSources {F S : Type 0} (Is : IsFilterBy F) (IsSpec : IsSpecBy S) (built_in : Members) (sources : List ConfigSource) (it : ReadSources F S) : Type 0 where
   pub values : config_in (merged_in built_in sources) ≡ read_as it.config
   pub rises : Rise (parents_of (values_of it.config).profiles)
-  pub later : it.config.sets_later_keys ≡ sets_later_keys sources
   pub told : flat_map told_in it.files.items ≡ warnings_in sources
   pub rules : AreRulesOf Is IsSpec (counted sources) it.rules.items
 
@@ -156,4 +155,3 @@ pub record IsCompleted {F S : Type 0} (Is : IsFilterBy F) (read : ReadConfig) (o
   pub filters : AreReadDefaults Is (seen it).profiles it.default_filters
   pub rules : it.rules ≡ downward (λ own. own.overrides) of_sources
   pub script_rules : it.script_rules ≡ downward (λ own. own.scripts) of_sources
-  pub later : it.sets_later_keys ≡ read.sets_later_keys

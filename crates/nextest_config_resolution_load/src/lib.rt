@@ -14,7 +14,6 @@ mod file_reading;
 mod files;
 mod groups;
 mod languages;
-mod later;
 pub mod laws;
 mod load_error;
 mod load_fault;

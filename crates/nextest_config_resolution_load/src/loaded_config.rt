@@ -55,8 +55,6 @@ pub struct LoadedConfig<Filter, Spec> {
     pub scripts: ScriptConfig,
     /// The directory of the store, if one is set.
     pub store_dir: Option<Text>,
-    /// Whether a file that counts sets a key that isn't read yet: `script` or `scripts`, or, in a profile, `scripts`.
-    pub sets_later_keys: bool,
 }
 
 // One call drops it, whoever holds it.
@@ -70,7 +68,6 @@ impl<Filter: Drop, Spec: Drop> Drop for LoadedConfig<Filter, Spec> {
             groups: _,
             scripts: _,
             store_dir: _,
-            sets_later_keys: _,
         } = self;
     }
 }
@@ -82,5 +79,4 @@ pub(crate) struct ReadConfig {
     pub(crate) groups: Listing<NamedGroup>,
     pub(crate) scripts: ScriptConfig,
     pub(crate) store_dir: Option<Text>,
-    pub(crate) sets_later_keys: bool,
 }

@@ -1,12 +1,10 @@
 // What the sources of a configuration come to.
 ghost use Rattle.std.specs.Prelude.{◌≡◌, ⊤, [], ◌∷◌, map, IfOk};
-ghost use Rattle.std.specs.List.{list_any};
 ghost use Rattle.toml.specs.Data.{table};
 ghost use Rattle.toml.specs.View.{table_view};
 ghost use Rattle.nextest_config_resolution_inheritance.specs.Inheritance.{Rise};
 ghost use Rattle.nextest_config_resolution_load.specs.Checks.{bad_merged, config_in, inheritance, members_of, merged_checks, moved, named_checks, parents_of, raised, value_checks};
 ghost use Rattle.nextest_config_resolution_load.specs.Files.{members_in};
-ghost use Rattle.nextest_config_resolution_load.specs.Later.{is_later};
 ghost use Rattle.nextest_config_resolution_load.specs.Load.{IsLoaded, seen};
 ghost use Rattle.nextest_config_resolution_load.specs.Reading.{AreReadSources, IsCompleted, all_placed, downward, early_checks, overrides_of, read_as, scripts_of, values_of};
 ghost use Rattle.nextest_config_resolution_load.specs.Refusing.{Passes};
@@ -16,7 +14,6 @@ use crate::default_filters::read_defaults;
 use crate::files::read_files;
 use crate::groups::check_groups;
 use crate::languages::Languages;
-use crate::later::set_later_keys;
 use crate::load_error::LoadError;
 use crate::load_fault::LoadFault;
 use crate::loaded_config::{LoadedConfig, ReadConfig};
@@ -125,11 +122,10 @@ fn read_merged<R: Languages>(
     ensures read { let given = config_in (members_of (raised (table (table_view built_in.now)) (map moved (map members_in files.now)))) in
         Passes (R.is_filter cx.now) R.is_spec R.is_too_deep (value_checks bad_merged given) (λ it. given ≡ read_as it) result }
     ensures rises { IfOk result (λ it. Rise (parents_of (values_of it).profiles)) }
-    ensures later { IfOk result (λ it. it.sets_later_keys ≡ list_any is_later (map members_in files.now)) }
 {
     let layers = layered(alloc, files)?;
     let tree = merge_files(alloc, built_in, layers.as_slice())?;
-    match read_config(alloc, &tree, set_later_keys(files)) {
+    match read_config(alloc, &tree) {
         Ok(config) => Ok(config),
         Err(ValueError::Refused(value)) => {
             Err(LoadError::Refused(LoadFault::BadMergedValue { value }))
@@ -160,7 +156,6 @@ fn accepted<R: Languages>(
         groups,
         scripts,
         store_dir,
-        sets_later_keys,
     } = read;
     Ok(LoadedConfig {
         profiles,
@@ -170,7 +165,6 @@ fn accepted<R: Languages>(
         groups,
         scripts,
         store_dir,
-        sets_later_keys,
     })
 }
 

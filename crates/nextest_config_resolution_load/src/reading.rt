@@ -1,5 +1,5 @@
 // What a merged tree says.
-ghost use Rattle.std.specs.Prelude.{◌≡◌, [], ◌∷◌, codes, map, option_map, IfOk, Some};
+ghost use Rattle.std.specs.Prelude.{◌≡◌, [], ◌∷◌, codes, map, option_map, Some};
 ghost use Rattle.toml.specs.Data.{Data, table, Members};
 ghost use Rattle.toml.specs.View.{table_view, view};
 ghost use Rattle.nextest_config_elements_reading.specs.Reading.{under};
@@ -23,14 +23,9 @@ use nextest_text::{Listing, Text};
 use std::alloc::Global;
 use toml::{Table, Value};
 
-// What a tree says of profiles, scripts, the store and groups, beside what its files say of keys that aren't read yet.
-pub(crate) fn read_config(
-    alloc: Global,
-    tree: &MergedTree<'_>,
-    sets_later_keys: bool,
-) -> Result<ReadConfig, ValueError>
-    ensures later { IfOk result (λ it. it.sets_later_keys ≡ sets_later_keys) }
-    ensures read { (top : Members) → IsTree tree.now (table top) → GivesSeen values_of result (config_in top) }
+// What a tree says of profiles, scripts, the store and groups.
+pub(crate) fn read_config(alloc: Global, tree: &MergedTree<'_>) -> Result<ReadConfig, ValueError>
+    ensures { (top : Members) → IsTree tree.now (table top) → GivesSeen values_of result (config_in top) }
 {
     let profiles = match read_profiles(alloc, tree) {
         Ok(profiles) => profiles,
@@ -50,7 +45,6 @@ pub(crate) fn read_config(
             groups,
             scripts,
             store_dir,
-            sets_later_keys,
         }),
         Err(error) => Err(error),
     }

@@ -2,7 +2,7 @@ pub mod Askable
 pub mod Chained
 pub mod Columns
 pub mod DefaultKept
-pub mod Enabled
+pub mod Enabling
 pub mod Ending
 pub mod Filtered
 pub mod Inheriting
@@ -24,4 +24,5 @@ pub mod SomeConfig
 pub mod SomeSettings
 pub mod Sound
 pub mod Tables
+pub mod Undefined
 pub mod Values

@@ -76,8 +76,8 @@ impl<'c> SetupScripts<'c> {
 
     /// Whether there are none.
     pub fn is_empty(&self) -> bool
-        ensures { OnTrue result (self.now ≡ []) }
-        ensures { OnFalse result (self.now ≢ []) }
+        ensures yes { OnTrue result (self.now ≡ []) }
+        ensures no { OnFalse result (self.now ≢ []) }
     {
         self.scripts.is_empty()
     }
@@ -279,11 +279,7 @@ fn holds_on_binary<P, F: Filters, S>(
 }
 
 // Of each column, whether one of its first values is true.
-fn any_of_each(
-    alloc: Global,
-    columns: &[Vec<bool>],
-    count: usize,
-) -> Result<Vec<bool>, AllocError>
+fn any_of_each(alloc: Global, columns: &[Vec<bool>], count: usize) -> Result<Vec<bool>, AllocError>
     ensures { IfOk result (λ row. row.items ≡ map (λ column. words.any_in count column.items) columns.now) }
 {
     let mut row = Vec::with_capacity(alloc, columns.len())?;
@@ -364,13 +360,8 @@ impl<'c, F: Filters, S: Specs> EvaluatableProfile<'c, F, S> {
         ensures { IfOk result (λ it. words.IsListWrapper F.on_binary self.now (binary_of query.now)
             (option_copied it.list_wrapper.0)) }
     {
-        match self.script_rules_on(alloc, Asked::Binary(query)) {
-            Ok(rules) => Ok(list_settings_by(
-                rules.as_slice(),
-                self.scripts.wrapper.as_slice(),
-            )),
-            Err(error) => Err(error),
-        }
+        let rules = self.script_rules_on(alloc, Asked::Binary(query))?;
+        Ok(list_settings_by(rules.as_slice(), self.scripts.wrapper.as_slice()))
     }
 
     // The script rules that hold on what is asked, in their order.

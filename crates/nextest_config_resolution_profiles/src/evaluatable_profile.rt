@@ -6,10 +6,9 @@ ghost use Rattle.nextest_config_resolution_profiles.specs.Finding.{FindsHeld};
 ghost use Rattle.nextest_config_resolution_profiles.specs.Held.{AreSettingsFor, Holds, IsGroupFor, layers_of};
 ghost use Rattle.nextest_config_resolution_settings.specs.Fallbacks as fallback;
 ghost use Rattle.nextest_config_resolution_settings.specs.Keys as key;
-ghost use Rattle.nextest_config_resolution_settings.specs.Layers.{layers_in};
 ghost use Rattle.nextest_config_resolution_settings.specs.Nearest.{lent};
 ghost use Rattle.nextest_config_resolution_settings.specs.Profile.{OfProfiles};
-ghost use Rattle.nextest_config_resolution_settings.specs.TestSettings.{group_of};
+ghost use Rattle.nextest_config_resolution_settings.specs.TestSettings.{AreSettings, group_of};
 ghost use Rattle.nextest_config_resolution_settings.specs.Tracking.{TellsAll, TellsNothing};
 ghost use Rattle.nextest_filtering_filters.specs.Query.{test_of};
 
@@ -351,31 +350,26 @@ impl<'c, F: Filters, S: Specs> EvaluatableProfile<'c, F, S> {
         ensures { IfOk result (AreSettingsFor F.on_test T.tells self.now mode (test_of query.now)) }
     {
         let held = self.held(alloc, query)?;
-        match self.held_scripts(alloc, query) {
-            Ok(found) => {
-                let overrides = held.as_slice();
-                let scripts = found.as_slice();
-                let layers = self.layers(overrides, scripts);
-                Ok(settings_by::<T>(layers, mode))
-            }
-            Err(error) => Err(error),
-        }
+        let scripts = self.held_scripts(alloc, query)?;
+        Ok(self.settings_of::<T>(mode, held.as_slice(), scripts.as_slice()))
     }
 
-    // What sets the settings of a test on which these rules hold.
-    pub(crate) fn layers<'l>(
+    // The settings of a test on which these rules hold.
+    pub(crate) fn settings_of<'l, T: TrackSource<'c>>(
         &'l self,
+        mode: NextestRunMode,
         overrides: &'l [&'c PlacedOverride],
         scripts: &'l [&'c PlacedScriptRule],
-    ) -> TestLayers<'l, 'c>
-        ensures { layers_in result ≡ layers_of self.now (lent overrides.now) (lent scripts.now) }
+    ) -> TestSettings<'c, T>
+        ensures { AreSettings T.tells mode (layers_of self.now (lent overrides.now) (lent scripts.now)) result }
     {
-        TestLayers {
+        let layers = TestLayers {
             overrides,
             scripts,
             wrappers: self.scripts.wrapper.as_slice(),
             chain: self.chain(),
-        }
+        };
+        settings_by::<T>(layers, mode)
     }
 
     // The overrides that hold on a test, in their order.

@@ -14,7 +14,7 @@ use nextest_config_elements_plain::NextestRunMode;
 use nextest_config_resolution_filters::{Filters, Specs};
 use nextest_config_resolution_overrides::PlacedOverride;
 use nextest_config_resolution_scripts::PlacedScriptRule;
-use nextest_config_resolution_settings::{TestSettings, settings_by};
+use nextest_config_resolution_settings::TestSettings;
 use nextest_filtering_filters::BinaryQuery;
 use std::alloc::{AllocError, Global};
 use std::marker::Model;
@@ -68,11 +68,7 @@ impl HeldRules {
 }
 
 // Adds what columns say of the test at a place.
-fn push_row(
-    columns: &Vec<Vec<bool>>,
-    place: usize,
-    row: &mut Vec<bool>,
-) -> Result<(), AllocError>
+fn push_row(columns: &Vec<Vec<bool>>, place: usize, row: &mut Vec<bool>) -> Result<(), AllocError>
     ensures { OnOk result (row.new.items
         ≡ row.old.items ++ row_at place (map (λ column. column.items) columns.now.items)) }
 {
@@ -244,16 +240,9 @@ impl<'c, F: Filters, S: Specs> EvaluatableProfile<'c, F, S> {
         ensures { IfOk result (λ it. (test : Test) → IsHeldRow F.on_test self.now test row.now
             → AreSettingsFor F.on_test TellsNothing self.now mode test it) }
     {
-        let picked = self.picked_overrides(alloc, row)?;
-        match self.picked_scripts(alloc, row) {
-            Ok(found) => {
-                let overrides = picked.as_slice();
-                let scripts = found.as_slice();
-                let layers = self.layers(overrides, scripts);
-                Ok(settings_by::<()>(layers, mode))
-            }
-            Err(error) => Err(error),
-        }
+        let overrides = self.picked_overrides(alloc, row)?;
+        let scripts = self.picked_scripts(alloc, row)?;
+        Ok(self.settings_of::<()>(mode, overrides.as_slice(), scripts.as_slice()))
     }
 
     // What the overrides say at which a row is true, in their order.

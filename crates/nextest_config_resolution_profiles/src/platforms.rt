@@ -78,7 +78,9 @@ pub(crate) fn chosen_default<'c, F: Drop, S>(
 }
 
 // The default filter that is set by the first rule that holds for the target and sets one.
-fn default_of_rules<'c, F, S>(rules: &[ChainRule<'c, PlacedOverride, F, S>]) -> Option<CompiledDefaultFilter<'c, F>>
+fn default_of_rules<'c, F, S>(
+    rules: &[ChainRule<'c, PlacedOverride, F, S>],
+) -> Option<CompiledDefaultFilter<'c, F>>
     ensures found { IfSome result (words.IsDefaultOfRules (seen_rules rules.now)) }
     ensures none { IfNone result (NoneHoldsAndSets words.ForTarget words.default_set (seen_rules rules.now)) }
 {
@@ -91,7 +93,9 @@ fn default_of_rules<'c, F, S>(rules: &[ChainRule<'c, PlacedOverride, F, S>]) -> 
 }
 
 // The default filter that a rule sets, if it holds for the target.
-fn default_of_rule<'c, F, S>(rule: &ChainRule<'c, PlacedOverride, F, S>) -> Option<CompiledDefaultFilter<'c, F>>
+fn default_of_rule<'c, F, S>(
+    rule: &ChainRule<'c, PlacedOverride, F, S>,
+) -> Option<CompiledDefaultFilter<'c, F>>
     ensures holds { OnSome result (words.ForTarget (seen_rule rule.now)) }
     ensures found { IfSome result (words.IsDefaultOf (seen_rule rule.now)) }
     ensures none { IfNone result (¬ HoldsAndSets words.ForTarget words.default_set (seen_rule rule.now)) }

@@ -140,7 +140,6 @@ never_zero plan_refused.VersionSource zero = absurd (let none : 0 ≡ 96 = zero 
 never_zero plan_refused.VersionError zero = absurd (let none : 0 ≡ 92 = zero in cc)
 never_zero plan_refused.UnknownFeature zero = absurd (let none : 0 ≡ 96 = zero in cc)
 never_zero (plan_refused.Load why) zero = absurd (let none : 0 ≡ 96 = zero in cc)
-never_zero plan_refused.NotYet zero = absurd (let none : 0 ≡ 96 = zero in cc)
 never_zero (plan_refused.ProfileNotFound told) zero = absurd (let none : 0 ≡ 96 = zero in cc)
 never_zero plan_refused.RepeatedFact zero = absurd (let none : 0 ≡ 96 = zero in cc)
 never_zero plan_refused.Filterset zero = absurd (let none : 0 ≡ 96 = zero in cc)

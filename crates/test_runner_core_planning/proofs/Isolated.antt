@@ -1,5 +1,7 @@
 -- Profiles outside of the chosen one's chain change nothing of a plan, its warnings aside; and inputs ask for something.
 use Rattle.std.proofs.Common.{◌≡◌, ℕ, Bool, List, ◌++◌, map, Option, Result, Ok, Err, refl, sym, ap, ◌∙◌, subst}
+use Rattle.nextest_config_resolution_profiles.specs.Enabled.{AreNamesOf}
+use Rattle.nextest_config_resolution_profiles.proofs.Enabling.{one_names, same_names}
 use Rattle.nextest_filtering_filters.specs.Query.{Test}
 use Rattle.test_runner_core_inputs.specs.declared.inputs.Inputs.{Inputs}
 use Rattle.test_runner_core_listing.specs.Answers.{Answers}
@@ -12,11 +14,11 @@ use Rattle.test_runner_core_planning.specs.Refusals.{of_settings}
 use Rattle.test_runner_core_planning.specs.declared.plan_fault.PlanFault.{PlanFault}
 use Rattle.test_runner_core_planning.proofs.Once.{Parts, chosen_once, parts_of, settled_sets}
 use Rattle.test_runner_core_planning.proofs.OnePlan.{plans_same, tests_of_one, with_warnings}
-use Rattle.test_runner_core_settings.specs.Sets.{Sets, SetsTest}
+use Rattle.test_runner_core_settings.specs.Sets.{IsEnabled, Sets, SetsTest}
 use Rattle.test_runner_core_settings.specs.declared.configured.RunSettings.{RunSettings}
 use Rattle.test_runner_core_settings.specs.declared.pass.VersionPass.{VersionPass}
 use Rattle.test_runner_core_settings.specs.declared.settings_fault.SettingsFault.{SettingsFault}
-use Rattle.test_runner_core_settings.proofs.Isolated.{isolated, isolates_tests}
+use Rattle.test_runner_core_settings.proofs.Isolated.{isolated, isolates_scripts, isolates_tests}
 use Rattle.test_runner_core_settings.proofs.Some.{some_settings, some_test}
 use Rattle.test_runner_core_workspace.specs.Lister.{Answer}
 use Rattle.test_runner_core_workspace.specs.declared.record.Binary.{Binary}
@@ -64,19 +66,33 @@ planned_alike answer inputs other a b differ first second =
     let found : a.found ≡ b.found = (let e = sym first.listed ∙ listed in cc) in
     λ i. record { choice = choice i; answers = answers i; found = found i }
 
+-- the same setup scripts are enabled
+scripts_alike : (inputs other : Inputs) (a b : Choice) (tests : List Test) (one second : List (List ℕ)) → DifferOutside inputs other → Settles inputs (Ok a) → Settles other (Ok b)
+    → AreNamesOf (IsEnabled (context_of inputs.workspace) inputs tests) one → AreNamesOf (IsEnabled (context_of other.workspace) other tests) second → second ≡ one
+scripts_alike inputs other a b tests one second differ first next are also =
+    let cx = context_of inputs.workspace in
+    let sets = settled_sets inputs a first in
+    let sets_other = subst (λ (w : WorkspaceRecord). Sets (context_of w) other (Ok b.run)) differ.workspace (settled_sets other b next).run in
+    let there = subst (λ (w : WorkspaceRecord). AreNamesOf (IsEnabled (context_of w) other tests) second) differ.workspace also in
+    one_names second one (same_names second (λ id. isolates_scripts cx inputs other a.run b.run tests id differ.chain sets.run sets_other) there) are
+
 -- plans of one selection are the same but for their warnings
-plans_alike : (answer : Binary → Answer) (inputs other : Inputs) (it : Planned) (one second : Plan) → other.workspace ≡ inputs.workspace → Plans answer inputs (Ok it) → IsPlanOf inputs it one
-    → IsPlanOf other it second → second ≡ with_warnings second.warnings one
-plans_alike answer inputs other it one second workspace planned first next =
-    plans_same second (with_warnings second.warnings one) (next.scripts ∙ sym first.scripts)
+plans_alike : (answer : Binary → Answer) (inputs other : Inputs) (it : Planned) (one second : Plan) → other.workspace ≡ inputs.workspace → second.scripts ≡ one.scripts → Plans answer inputs (Ok it)
+    → IsPlanOf inputs it one → IsPlanOf other it second → second ≡ with_warnings second.warnings one
+plans_alike answer inputs other it one second workspace scripts planned first next =
+    plans_same second (with_warnings second.warnings one) scripts
     (tests_of_one answer inputs it second.tests one.tests planned next.tests first.tests next.order first.order)
     (next.listed ∙ ap (λ (w : WorkspaceRecord). map (λ (binary : Binary). binary.id) (listed_of it.answers w.binaries)) workspace ∙ sym first.listed)
     (next.skipped ∙ sym first.skipped) (next.limit ∙ sym first.limit) (next.levels ∙ sym first.levels) refl
 
 pub isolates_plans : IsolatesPlans
 isolates_plans answer inputs other one second differ (a, plans, is) (b, plans_other, is_other) =
-    let same : a ≡ b = planned_alike answer inputs other a b differ (parts_of answer inputs a plans) (parts_of answer other b plans_other) in
-    plans_alike answer inputs other b one second differ.workspace (subst (λ (it : Planned). Plans answer inputs (Ok it)) same plans) (subst (λ (it : Planned). IsPlanOf inputs it one) same is) is_other
+    let first = parts_of answer inputs a plans in
+    let next = parts_of answer other b plans_other in
+    let same : a ≡ b = planned_alike answer inputs other a b differ first next in
+    let scripts = scripts_alike inputs other a.choice b.choice b.found.tests one.scripts second.scripts differ first.asked next.asked
+    (subst (λ (it : Planned). AreNamesOf (IsEnabled (context_of inputs.workspace) inputs it.found.tests) one.scripts) same is.scripts) is_other.scripts in
+    plans_alike answer inputs other b one second differ.workspace scripts (subst (λ (it : Planned). Plans answer inputs (Ok it)) same plans) (subst (λ (it : Planned). IsPlanOf inputs it one) same is) is_other
 
 -- ---- what inputs ask for
 

@@ -93,10 +93,8 @@ same_by one other e = subst (λ (x : Result _ PlanFault). Same one x) e (same_as
 
 same_reason : (one other : SettingsFault) → HaveOneReason one other → (name_of (of_settings one) ≡ name_of (of_settings other)) × (status_of (of_settings one) ≡ status_of (of_settings other))
 same_reason (set.Load told) (set.Load other) same = (ap name_of_load same, refl)
-same_reason (set.Load told) set.NotYet same = absurd (let h = same in cc)
 same_reason (set.Load told) (set.ProfileNotFound other) same = absurd (let h = same in cc)
 same_reason (set.Load told) set.RepeatedFact same = absurd (let h = same in cc)
-same_reason set.NotYet other same = (ap (λ (f : SettingsFault). name_of (of_settings f)) same, ap (λ (f : SettingsFault). status_of (of_settings f)) same)
 same_reason (set.ProfileNotFound told) other same = (ap (λ (f : SettingsFault). name_of (of_settings f)) same, ap (λ (f : SettingsFault). status_of (of_settings f)) same)
 same_reason set.RepeatedFact other same = (ap (λ (f : SettingsFault). name_of (of_settings f)) same, ap (λ (f : SettingsFault). status_of (of_settings f)) same)
 

@@ -1,6 +1,7 @@
 -- Inputs have one plan.
 use Rattle.std.proofs.Common.{◌≡◌, List, ℕ, map, Ok, Err, sym, ap, ◌∙◌, subst}
 use Rattle.nextest_config_elements_plain.specs.declared.max_fail.MaxFail.{MaxFail}
+use Rattle.nextest_config_resolution_profiles.proofs.Enabling.{one_names}
 use Rattle.nextest_run_events_visibility.specs.declared.visibility.StatusLevels.{StatusLevels}
 use Rattle.nextest_run_events_results.specs.declared.instance.OwnedTestInstanceId.{OwnedTestInstanceId}
 use Rattle.test_runner_core_inputs.specs.declared.inputs.Inputs.{Inputs}
@@ -39,7 +40,7 @@ tests_of_one answer inputs it one other planned = one_rising (map (plan_test it.
 
 plans_of_one : (answer : Binary → Answer) (inputs : Inputs) (it : Planned) (a b : Plan) → Plans answer inputs (Ok it) → IsPlanOf inputs it a → IsPlanOf inputs it b → a ≡ b
 plans_of_one answer inputs it a b planned of_a of_b =
-    plans_same a b (of_a.scripts ∙ sym of_b.scripts) (tests_of_one answer inputs it a.tests b.tests planned of_a.tests of_b.tests of_a.order of_b.order)
+    plans_same a b (one_names a.scripts b.scripts of_a.scripts of_b.scripts) (tests_of_one answer inputs it a.tests b.tests planned of_a.tests of_b.tests of_a.order of_b.order)
     (of_a.listed ∙ sym of_b.listed) (of_a.skipped ∙ sym of_b.skipped) (of_a.limit ∙ sym of_b.limit) (of_a.levels ∙ sym of_b.levels) (of_a.warnings ∙ sym of_b.warnings)
 
 pub one_plan : OnePlan

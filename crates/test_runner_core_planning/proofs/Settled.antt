@@ -3,7 +3,8 @@ use Rattle.std.proofs.Common.{◌≡◌, ℕ, ◌+◌, ◌<◌, Bool, true, fals
 use Rattle.std.specs.BTreeMap.{BTreeMap, get_by, insert_entry, is_at}
 use Rattle.std.specs.List.{enumerate_from}
 use Rattle.std.specs.Map.{values_of}
-use Rattle.std.proofs.lemmas.List.{map_push}
+use Rattle.std.proofs.lemmas.Grind.{flat_map-append}
+use Rattle.std.proofs.lemmas.List.{append-nil, map-append, map_push}
 use Rattle.std.proofs.lemmas.Map.Views.{All-values-insert_entry, IfSome-lookup_from_All}
 use Rattle.std.proofs.lemmas.Slice.Eq.{slice_eq-Decides}
 use Rattle.std.specs.Bool.{beq}
@@ -13,9 +14,13 @@ use Rattle.std.proofs.lemmas.List.FromFn.{get_or-enumerate_from, length-enumerat
 use Rattle.std.proofs.lemmas.Option.{slice_get_read}
 use Rattle.nextest_config_elements_plain.specs.declared.run_mode.NextestRunMode.{NextestRunMode}
 use Rattle.nextest_config_resolution_profiles.specs.Evaluatable.{Evaluatable}
+use Rattle.nextest_config_resolution_profiles.specs.HeldRules.{AreHeldColumns, Columns}
 use Rattle.nextest_filtering_compiling.specs.declared.filterset.Filterset.{Filterset}
+use Rattle.nextest_filtering_filters.specs.Query as query
 use Rattle.nextest_filtering_filters.specs.Query.{Test}
 use Rattle.test_runner_core_listing.specs.Answers.{seen_test}
+use Rattle.test_runner_core_listing.specs.Selected.{tests_in, tests_of_one}
+use Rattle.test_runner_core_listing.specs.declared.selection.SelectedTests.{SelectedTests}
 use Rattle.test_runner_core_plan.specs.declared.plan.PlanTest.{PlanTest}
 use Rattle.test_runner_core_plan.specs.declared.plan_settings.PlanSettings.{PlanSettings}
 use Rattle.test_runner_core_planning.specs.Plan.{with_settings}
@@ -67,6 +72,23 @@ one_row row other differ is same = (slice_eq-Decides booleans_Decides row other 
 pub copied : {X E : Type 0} (Fails : E → Type 0) (P : X → Type 0) (it : X) (result : Result X E) → MatchResult result (λ (copy : X). copy ≡ it) Fails → P it → IfOk result P
 copied Fails P it (Ok copy) same is = subst P (sym same) is
 copied Fails P it (Err error) same is = tt
+
+-- the columns of rules, by other words for the same names
+pub held_names : {F S : Type 0} (OnTest : F → F → query.Test → Bool → Type 0) (profile : Evaluatable F S) (binary : query.Binary) (names others : List (List ℕ)) (held : Columns) → names ≡ others
+    → AreHeldColumns OnTest profile binary names held → AreHeldColumns OnTest profile binary others held
+held_names OnTest profile binary names others held same are = subst (λ (them : List (List ℕ)). AreHeldColumns OnTest profile binary them held) same are
+
+-- the tests of one more binary
+pub tests_more : (selected : List SelectedTests) (it : SelectedTests) → tests_in (selected ++ it ∷ []) ≡ tests_in selected ++ tests_of_one it
+tests_more selected it = flat_map-append tests_of_one selected (it ∷ []) ∙ ap (λ (last : List Test). tests_in selected ++ last) (append-nil (tests_of_one it))
+
+pub settled_more : (of_test : Test → PlanSettings) (selected : List SelectedTests) (it : SelectedTests) (before after : List PlanTest) → before ≡ map (with_settings of_test) (tests_in selected)
+    → after ≡ before ++ map (with_settings of_test) (tests_of_one it) → after ≡ map (with_settings of_test) (tests_in (selected ++ it ∷ []))
+settled_more of_test selected it before after so_far adds =
+    adds
+    ∙ ap (λ (front : List PlanTest). front ++ map (with_settings of_test) (tests_of_one it)) so_far
+    ∙ sym (map-append (with_settings of_test) (tests_in selected) (tests_of_one it))
+    ∙ sym (ap (map (with_settings of_test)) (tests_more selected it))
 
 -- ---- tests with their settings
 

@@ -3,6 +3,7 @@ use Rattle.std.specs.Prelude.{◌≡◌, ℕ, ◌+◌, Bool, true, false, List, 
 use Rattle.std.specs.List.{list_any}
 use Rattle.std.specs.List.Sorted.{IsPermutation, IsSorted}
 use Rattle.nextest_config_elements_counts.specs.Retries.{count_of}
+use Rattle.nextest_config_resolution_profiles.specs.Enabled.{AreNamesOf}
 use Rattle.nextest_filtering_filters.specs.Query.{Test}
 use Rattle.nextest_run_events_results.specs.declared.instance.OwnedTestInstanceId.{OwnedTestInstanceId}
 use Rattle.test_runner_core_inputs.specs.declared.inputs.Inputs.{Inputs}
@@ -16,7 +17,7 @@ use Rattle.test_runner_core_plan.specs.declared.plan.Plan.{Plan}
 use Rattle.test_runner_core_plan.specs.declared.plan.PlanTest.{PlanTest}
 use Rattle.test_runner_core_plan.specs.declared.plan_settings.PlanSettings.{PlanSettings}
 use Rattle.test_runner_core_settings.specs.Pass.{pass_of}
-use Rattle.test_runner_core_settings.specs.Sets.{Sets, SetsTest, key_warnings}
+use Rattle.test_runner_core_settings.specs.Sets.{IsEnabled, Sets, SetsTest, key_warnings}
 use Rattle.test_runner_core_settings.specs.declared.pass.VersionPass.{VersionPass}
 use Rattle.test_runner_core_settings.specs.declared.pass_error.VersionPassFault.{VersionPassFault}
 use Rattle.test_runner_core_settings.specs.declared.settings_fault.SettingsFault.{SettingsFault}
@@ -140,7 +141,7 @@ pub record IsPlanOf (inputs : Inputs) (it : Planned) (plan : Plan) : Type 0 wher
   pub listed : plan.listed ≡ map (λ binary. binary.id) (listed_in inputs it.answers)
   pub limit : plan.limit ≡ it.choice.run.max_fail
   pub levels : plan.levels ≡ it.choice.run.levels
-  pub scripts : plan.scripts ≡ []
+  pub scripts : AreNamesOf (IsEnabled (context_of inputs.workspace) inputs it.found.tests) plan.scripts
   pub warnings : plan.warnings ≡ warnings_of inputs
 
 -- a call builds the plan, or refuses as is written; want of memory says nothing

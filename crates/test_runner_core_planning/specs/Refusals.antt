@@ -34,7 +34,6 @@ of_pass passing.UnknownFeature = fault.UnknownFeature
 
 abbrev pub of_settings : SettingsFault → PlanFault
 of_settings (set.Load told) = fault.Load told
-of_settings set.NotYet = fault.NotYet
 of_settings (set.ProfileNotFound told) = fault.ProfileNotFound told
 of_settings set.RepeatedFact = fault.RepeatedFact
 

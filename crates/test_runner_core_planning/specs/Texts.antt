@@ -38,7 +38,6 @@ name_of fault.VersionError = codes "VersionError"
 name_of fault.UnknownFeature = codes "UnknownFeature"
 name_of (fault.Load told) = name_of_load (kind_of told)
 name_of (fault.ProfileNotFound told) = codes "ProfileNotFound"
-name_of fault.NotYet = codes "NotYet"
 name_of fault.RepeatedFact = codes "RepeatedFact"
 name_of fault.Filterset = codes "Filterset"
 name_of (fault.ListFault cause) = codes "ListFault"

@@ -1,5 +1,5 @@
 // How a plan is built.
-ghost use Rattle.std.specs.Prelude.{◌≡◌, [], IfOk, Ok, OnOk, false, map};
+ghost use Rattle.std.specs.Prelude.{◌≡◌, IfOk, Ok, OnOk, false, map};
 ghost use Rattle.std.specs.List.{list_any};
 ghost use Rattle.std.specs.List.Sorted.{IsPermutation, IsSorted};
 ghost use Rattle.nextest_filtering_filters.specs.Filter.{is_default, is_group};
@@ -15,7 +15,7 @@ use crate::filtering::filters_in_force;
 use crate::groups::ProfileGroups;
 use crate::plan_error::PlanError;
 use crate::plan_fault::PlanFault;
-use crate::settled_tests::settled_tests;
+use crate::settled_tests::{SettledTests, settled_tests};
 use crate::wanted::{Settled, Wanted, settle, wanted_in};
 use nextest_filtering_filters::{CompiledExpr, EvalContext};
 use nextest_run_events_results::OwnedTestInstanceId;
@@ -64,13 +64,14 @@ fn plan_in<L: Lister>(alloc: Global, inputs: &Inputs, lister: &mut L) -> Result<
         tests: selected,
         skipped,
     } = selection_by(alloc, inputs, &wanted, lister)?;
-    let tests = settled_tests(alloc, &wanted.run.profile, inputs.mode, selected)?;
+    let SettledTests { tests, scripts } =
+        settled_tests(alloc, &wanted.run.profile, inputs.mode, selected)?;
     if has_too_many(tests.as_slice()) {
         return Err(PlanError::Refused(PlanFault::RetriesTooMany));
     }
     Ok(plan_of(
-        alloc,
         &wanted.run.settings,
+        scripts,
         listed,
         tests,
         skipped,
@@ -151,8 +152,8 @@ fn overflows(test: &PlanTest) -> bool
 
 // The plan of these tests.
 fn plan_of(
-    alloc: Global,
     settings: &RunSettings,
+    scripts: Listing<Text>,
     listed: Listing<Text>,
     tests: Vec<PlanTest>,
     skipped: Listing<OwnedTestInstanceId>,
@@ -164,11 +165,11 @@ fn plan_of(
     ensures listed { result.listed ≡ listed }
     ensures limit { result.limit ≡ settings.now.max_fail }
     ensures levels { result.levels ≡ settings.now.levels }
-    ensures scripts { result.scripts ≡ [] }
+    ensures scripts { result.scripts ≡ scripts }
     ensures warnings { result.warnings ≡ warnings }
 {
     Plan {
-        scripts: Listing::new(alloc),
+        scripts,
         tests: in_order(tests),
         listed,
         skipped,

@@ -47,9 +47,6 @@ pub enum PlanFault {
     /// The configuration isn't loaded.
     #[error(transparent)]
     Load(LoadFault),
-    /// A file sets a key of scripts, which isn't read yet; looked for last among the reasons of the configuration.
-    #[error("NotYet")]
-    NotYet,
     /// There is no profile of the chosen name.
     #[error(transparent)]
     ProfileNotFound(ProfileNotFound),
@@ -89,7 +86,6 @@ impl Drop for PlanFault {
             Self::VersionError => {}
             Self::UnknownFeature => {}
             Self::Load(_) => {}
-            Self::NotYet => {}
             Self::ProfileNotFound(_) => {}
             Self::RepeatedFact => {}
             Self::Filterset => {}
@@ -120,7 +116,6 @@ impl PlanFault {
             PlanFault::VersionError => "VersionError",
             PlanFault::UnknownFeature => "UnknownFeature",
             PlanFault::Load(told) => load_name(told.kind()),
-            PlanFault::NotYet => "NotYet",
             PlanFault::ProfileNotFound(_) => "ProfileNotFound",
             PlanFault::RepeatedFact => "RepeatedFact",
             PlanFault::Filterset => "Filterset",
@@ -210,7 +205,6 @@ impl From<SettingsFault> for PlanFault {
     fn from(fault: SettingsFault) -> PlanFault {
         match fault {
             SettingsFault::Load(told) => PlanFault::Load(told),
-            SettingsFault::NotYet => PlanFault::NotYet,
             SettingsFault::ProfileNotFound(told) => PlanFault::ProfileNotFound(told),
             SettingsFault::RepeatedFact => PlanFault::RepeatedFact,
         }

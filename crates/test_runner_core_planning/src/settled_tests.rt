@@ -1,22 +1,25 @@
-// The selected tests with their settings.
-ghost use Rattle.std.specs.Prelude.{◌≡◌, [], ◌∷◌, ◌++◌, IfOk, IfSome, OnOk, map};
+// The selected tests with their settings, and the setup scripts that are enabled for them.
+ghost use Rattle.std.specs.Prelude.{◌≡◌, [], ◌∷◌, ◌++◌, List, IfOk, IfSome, OnOk, map};
 ghost use Rattle.nextest_config_elements_plain.specs.declared.run_mode.NextestRunMode.{NextestRunMode};
+ghost use Rattle.nextest_config_resolution_profiles.specs.Enabled.{AreNamesOf, HasEnabled, IsEnabled};
 ghost use Rattle.nextest_config_resolution_profiles.specs.Evaluatable.{Evaluatable};
+ghost use Rattle.nextest_config_resolution_profiles.specs.HeldRules.{AreHeldColumns};
 ghost use Rattle.nextest_config_resolution_settings.specs.Nearest.{lent};
+ghost use Rattle.nextest_filtering_compiling.specs.Filtersets.{HasOnTest};
 ghost use Rattle.nextest_filtering_compiling.specs.declared.filterset.Filterset.{Filterset};
 ghost use Rattle.nextest_filtering_filters.specs.Query.{Test};
-ghost use Rattle.test_runner_core_listing.specs.Answers.{seen_test};
+ghost use Rattle.test_runner_core_listing.specs.Answers.{seen, seen_test};
 ghost use Rattle.test_runner_core_listing.specs.Selected.{tests_in, tests_of_one};
 ghost use Rattle.test_runner_core_plan.specs.declared.plan_settings.PlanSettings.{PlanSettings};
 ghost use Rattle.test_runner_core_planning.specs.Plan.{with_settings};
 ghost use Rattle.test_runner_core_platforms.specs.declared.platform_spec.PlatformSpec.{PlatformSpec};
-ghost use Rattle.test_runner_core_planning.specs.Tests.{AreShared, HasForEach, HasForRow, HasRows};
+ghost use Rattle.test_runner_core_planning.specs.Tests.{AreShared, HasForEach, HasForRow};
 
 use nextest_config_elements_plain::NextestRunMode;
-use nextest_config_resolution_profiles::{EvaluatableProfile, HeldRules};
+use nextest_config_resolution_profiles::{EnabledNames, EvaluatableProfile, HeldRules};
 use nextest_filtering_compiling::Filterset;
 use nextest_run_events_results::OwnedTestInstanceId;
-use nextest_text::Text;
+use nextest_text::{Listing, Text};
 use std::alloc::{AllocError, Global};
 use std::collections::BTreeMap;
 use test_runner_core_listing::{SelectedTests, query_of};
@@ -24,6 +27,22 @@ use test_runner_core_plan::{PlanTest, SharedSettings};
 use test_runner_core_platforms::PlatformSpec;
 use test_runner_core_settings::owned_settings;
 use test_runner_core_workspace::Binary;
+
+// The selected tests, each with its settings, and the names of the setup scripts that are enabled for them.
+pub(crate) struct SettledTests {
+    pub(crate) tests: Vec<PlanTest>,
+    pub(crate) scripts: Listing<Text>,
+}
+
+// One call drops it, whoever holds it.
+impl Drop for SettledTests {
+    fn drop(self) {
+        let Self {
+            tests: _,
+            scripts: _,
+        } = self;
+    }
+}
 
 // The settings of each test on which just the rules of a row hold.
 pub(crate) struct RowSettings {
@@ -44,26 +63,32 @@ impl Drop for RowSettings {
 // Settings that tests share, by a number of the row.
 type SettingsByRow = BTreeMap<u64, RowSettings>;
 
-// The selected tests, each with the settings that a profile has for it. Those on which the same rules hold share them.
+// The selected tests, each with the settings that a profile has for it, and the setup scripts that the profile enables for them.
+// Tests on which the same rules hold share their settings.
 pub(crate) fn settled_tests(
     alloc: Global,
     profile: &EvaluatableProfile<'_, Filterset, PlatformSpec>,
     mode: NextestRunMode,
     selected: Vec<SelectedTests<'_>>,
-) -> Result<Vec<PlanTest>, AllocError>
-    ensures { (of_test : Test → PlanSettings) → HasForEach profile.now mode of_test
-        → IfOk result (λ tests. tests.items
+) -> Result<SettledTests, AllocError>
+    ensures tests { (of_test : Test → PlanSettings) → HasForEach profile.now mode of_test
+        → IfOk result (λ it. it.tests.items
         ≡ map (with_settings of_test) (tests_in selected.entry.items)) }
+    ensures scripts { IfOk result (λ it.
+        AreNamesOf (IsEnabled HasOnTest profile.now (tests_in selected.entry.items)) it.scripts) }
 {
     let mut shared = BTreeMap::new(alloc);
     let mut tests = Vec::new(alloc);
+    let mut names = EnabledNames::new(alloc);
     for of_binary in selected {
-        push_tests(alloc, profile, mode, of_binary, &mut shared, &mut tests)?;
+        push_tests(alloc, profile, mode, of_binary, &mut shared, &mut tests, &mut names)?;
     }
-    Ok(tests)
+    let scripts = names.listed(alloc)?;
+    Ok(SettledTests { tests, scripts })
 }
 
-// Adds the selected tests of a binary, and to what is shared the settings of each row of rules that is new there.
+// Adds the selected tests of a binary, the names of the setup scripts that are enabled for them, and to what is shared the
+// settings of each row of rules that is new there.
 fn push_tests(
     alloc: Global,
     profile: &EvaluatableProfile<'_, Filterset, PlatformSpec>,
@@ -71,15 +96,19 @@ fn push_tests(
     of_binary: SelectedTests<'_>,
     shared: &mut SettingsByRow,
     tests: &mut Vec<PlanTest>,
+    scripts: &mut EnabledNames,
 ) -> Result<(), AllocError>
     requires { AreShared profile.now mode shared.old }
     ensures shared { OnOk result (AreShared profile.now mode shared.new) }
     ensures tests { (of_test : Test → PlanSettings) → HasForEach profile.now mode of_test
         → OnOk result (tests.new.items
         ≡ tests.old.items ++ map (with_settings of_test) (tests_of_one of_binary.entry)) }
+    ensures scripts { (before : List Test) → HasEnabled HasOnTest profile.now before scripts.old
+        → OnOk result (HasEnabled HasOnTest profile.now (before ++ tests_of_one of_binary.entry) scripts.new) }
 {
     let SelectedTests { binary, names } = of_binary;
     let held = held_rules_of(alloc, profile, binary, names.as_slice())?;
+    profile.add_scripts(alloc, &held, names.len(), scripts)?;
     let mut row = Vec::new(alloc);
     for (place, name) in Vec::from(names).into_iter().enumerate() {
         held.row(place, &mut row)?;
@@ -96,7 +125,7 @@ fn held_rules_of(
     binary: &Binary,
     names: &[Text],
 ) -> Result<HeldRules, AllocError>
-    ensures { IfOk result (HasRows profile.now binary.now names.now) }
+    ensures { IfOk result (AreHeldColumns HasOnTest profile.now (seen binary.now) names.now) }
 {
     let texts = texts_of(alloc, names)?;
     profile.held_rules(alloc, &query_of(binary), texts.as_slice())

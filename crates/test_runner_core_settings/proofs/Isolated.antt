@@ -1,5 +1,5 @@
 -- Profiles outside of the chosen one's chain change nothing.
-use Rattle.std.proofs.Common.{◌≡◌, List, map, sym, ap, ◌∙◌, subst}
+use Rattle.std.proofs.Common.{◌≡◌, ℕ, List, map, sym, ap, ◌∙◌, subst}
 use Rattle.std.specs.List.{All}
 use Rattle.std.specs.Option.{option_map, unwrap_or}
 use Rattle.nextest_config_elements_plain.specs.declared.run_mode.NextestRunMode.{NextestRunMode}
@@ -13,6 +13,7 @@ use Rattle.nextest_config_resolution_profiles.proofs.SameChain.{same_chain, same
 use Rattle.nextest_config_resolution_values.specs.File.{Named}
 use Rattle.nextest_filtering_compiling.specs.Context.{Context}
 use Rattle.nextest_filtering_compiling.specs.declared.filterset.Filterset.{Filterset}
+use Rattle.nextest_filtering_filters.specs.Query.{Test}
 use Rattle.nextest_filtering_trees.specs.Tree.{Tree}
 use Rattle.nextest_filtering_filters.specs.declared.known_groups.KnownGroups.TheVariants.{Known}
 use Rattle.test_runner_core_inputs.specs.declared.inputs.Inputs.{Inputs}
@@ -23,7 +24,7 @@ use Rattle.test_runner_core_settings.specs.Chosen.{Chosen}
 use Rattle.test_runner_core_settings.specs.Laws.{AgreeOnChain, Isolated, IsolatesScripts, IsolatesTests}
 use Rattle.test_runner_core_settings.specs.Platforms.{Platforms, facts_of, platforms_of}
 use Rattle.test_runner_core_settings.specs.Settings.{AreOfRun, AreOfTest}
-use Rattle.test_runner_core_settings.specs.Sets.{IsAsked, IsChosen, Reads, groups_in, rules_in, script_rules_in}
+use Rattle.test_runner_core_settings.specs.Sets.{IsAsked, IsChosen, NeedsScript, Reads, groups_in, rules_in, script_rules_in}
 use Rattle.test_runner_core_settings.proofs.Once.{one_default_tree, one_run, one_test_by, same_chosen, same_seen}
 
 same_groups : (cx : Context) (inputs : Inputs) (one other : Whole Filterset PlatformSpec) → Reads cx inputs one → Reads cx inputs other → groups_in one ≡ groups_in other
@@ -84,49 +85,43 @@ isolates_tests cx inputs other test one second agree a b =
 
 -- ---- setup scripts
 
--- the chain of the chosen profile is the one that these inputs have
-chain_back : (cx : Context) (inputs other : Inputs) (profile : Chosen) → (agree : AgreeOnChain cx inputs other) → IsChosen cx other profile → IsChainOf (profiles_of agree.config) inputs.profile profile.chain
-chain_back cx inputs other profile agree b =
-    let others = profiles_of agree.second in
-    let there : profiles_of b.config ≡ others = ap (λ (it : MergedConfig). it.profiles) (same_seen cx other b.config agree.second b.reads agree.reads_second) in
-    let here = subst (λ (name : Name). IsChainOf others name profile.chain) agree.profile (subst (λ (all : List Named). IsChainOf all other.profile profile.chain) there b.chained) in
-    let names : agree.names ≡ here.names = one_order (parents_of others) (same_order (profiles_of agree.config) others agree.each agree.chain) here.in_order in
-    same_chain others (profiles_of agree.config) inputs.profile profile.chain here
-    (subst (λ (all : List Name). All (λ name. values_of (profiles_of agree.config) name ≡ values_of others name) all) names (λ k d within. sym (agree.each k d within)))
-
--- they choose the same profile
-chosen_back : (cx : Context) (inputs other : Inputs) (profile : Chosen) → AgreeOnChain cx inputs other → IsChosen cx other profile → IsChosen cx inputs profile
-chosen_back cx inputs other profile agree b =
-    let chained = chain_back cx inputs other profile agree b in
-    let own : Chosen = record {
-      rules = rules_in inputs chained.names;
-      script_rules = script_rules_in inputs chained.names;
-      wrappers = agree.config.loaded.scripts.wrapper;
-      chain = profile.chain;
-    } in
-    let is : IsChosen cx inputs own = record { config = agree.config; reads = agree.reads; chained = chained; ruled = refl; scripted = refl; defined = refl } in
-    subst (IsChosen cx inputs) (sym (chosen_alike cx inputs other own profile agree is b)) is
-
--- what is asked of other inputs is asked of these
-asked_back : (cx : Context) (inputs other : Inputs) (profile : Chosen) (default : Tree) → AgreeOnChain cx inputs other → IsAsked cx other profile default → IsAsked cx inputs profile default
-asked_back cx inputs other profile default agree b = record {
-  chosen = chosen_back cx inputs other profile agree b.chosen;
+-- what is asked of either inputs is asked of the other, where both choose a profile
+asked_here : (cx : Context) (inputs other : Inputs) (one profile : Chosen) (default : Tree) → AgreeOnChain cx inputs other → IsChosen cx inputs one → IsAsked cx other profile default
+    → IsAsked cx inputs profile default
+asked_here cx inputs other one profile default agree a b = record {
+  chosen = subst (IsChosen cx inputs) (sym (chosen_alike cx inputs other one profile agree a b.chosen)) a;
   text = b.text;
   set = subst (λ (p : Platforms). IsDefaultText p profile.rules profile.chain b.text) (same_platforms inputs other agree.host agree.target) b.set;
   read = b.read;
 }
 
+asked_there : (cx : Context) (inputs other : Inputs) (profile second : Chosen) (default : Tree) → AgreeOnChain cx inputs other → IsAsked cx inputs profile default → IsChosen cx other second
+    → IsAsked cx other profile default
+asked_there cx inputs other profile second default agree a b = record {
+  chosen = subst (IsChosen cx other) (chosen_alike cx inputs other profile second agree a.chosen b) b;
+  text = a.text;
+  set = subst (λ (p : Platforms). IsDefaultText p profile.rules profile.chain a.text) (sym (same_platforms inputs other agree.host agree.target)) a.set;
+  read = a.read;
+}
+
+-- a script that one test needs, where the same is asked on the same platforms
+needs_across : (cx : Context) (inputs other : Inputs) (test : Test) (id : List ℕ) → (it : NeedsScript cx inputs test id) → IsAsked cx other it.profile it.default → platforms_of inputs ≡ platforms_of other
+    → NeedsScript cx other test id
+needs_across cx inputs other test id it asked same = record {
+  profile = it.profile;
+  default = it.default;
+  asked = asked;
+  rule = it.rule;
+  of_profile = it.of_profile;
+  names = it.names;
+  holds = subst (λ (p : Platforms). ScriptRuleHolds cx p it.default test it.rule) same it.holds;
+}
+
 pub isolates_scripts : IsolatesScripts
-isolates_scripts cx inputs other tests id agree (test, among, it) = (
-  test,
-  among,
-  record {
-    profile = it.profile;
-    default = it.default;
-    asked = asked_back cx inputs other it.profile it.default agree it.asked;
-    rule = it.rule;
-    of_profile = it.of_profile;
-    names = it.names;
-    holds = subst (λ (p : Platforms). ScriptRuleHolds cx p it.default test it.rule) (same_platforms inputs other agree.host agree.target) it.holds;
-  },
-)
+isolates_scripts cx inputs other one second tests id agree a b =
+    let same = same_platforms inputs other agree.host agree.target in (
+      (λ (test, among, it).
+          (test, among, needs_across cx other inputs test id it (asked_here cx inputs other a.profile it.profile it.default agree a.chosen it.asked) same)),
+      (λ (test, among, it).
+          (test, among, needs_across cx inputs other test id it (asked_there cx inputs other it.profile b.profile it.default agree it.asked b.chosen) (sym same))),
+    )

@@ -1,5 +1,5 @@
 -- What the laws say.
-use Rattle.std.specs.Prelude.{◌≡◌, ◌<◌, ℕ, true, is_some, List, All, Contains, Result, Ok, Err, ⊤}
+use Rattle.std.specs.Prelude.{◌≡◌, ◌↔◌, ◌<◌, ℕ, true, is_some, List, All, Contains, Result, Ok, Err, ⊤}
 use Rattle.nextest_config_elements_plain.specs.declared.max_fail.MaxFail.{MaxFail}
 use Rattle.nextest_config_elements_plain.specs.declared.max_fail.MaxFail.TheVariants as limits
 use Rattle.nextest_config_resolution_inheritance.specs.Inheritance.{IsChain, Name}
@@ -75,10 +75,10 @@ abbrev pub IsolatesTests : Type 0
 IsolatesTests = (cx : Context) (inputs other : Inputs) (test : Test) (one second : PlanSettings)
     → AgreeOnChain cx inputs other → SetsTest cx inputs test one → SetsTest cx other test second → one ≡ second
 
--- and nothing of which setup scripts tests need
+-- and nothing of which setup scripts are enabled
 abbrev pub IsolatesScripts : Type 0
-IsolatesScripts = (cx : Context) (inputs other : Inputs) (tests : List Test) (id : List ℕ)
-    → AgreeOnChain cx inputs other → IsEnabled cx other tests id → IsEnabled cx inputs tests id
+IsolatesScripts = (cx : Context) (inputs other : Inputs) (one second : RunSettings) (tests : List Test) (id : List ℕ)
+    → AgreeOnChain cx inputs other → Sets cx inputs (Ok one) → Sets cx other (Ok second) → IsEnabled cx other tests id ↔ IsEnabled cx inputs tests id
 
 -- more tests enable no fewer setup scripts
 abbrev pub MoreEnableNoFewer : Type 0

@@ -71,6 +71,5 @@ returns g c =
         filters = rw c.as_slice-2.ensures at c.in_ok-default_filters.ensures.1;
         rules = c.in_ok-rules.ensures.overrides;
         script_rules = c.in_ok-rules.ensures.scripts;
-        later = refl;
       },
     )

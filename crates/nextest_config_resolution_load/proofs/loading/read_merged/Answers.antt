@@ -17,7 +17,7 @@ returns-in-Ok-clause-read g c =
     let tree = raised (table (table_view c.args.built_in.now)) (map moved (map members_in c.args.files.now)) in
     let merged = subst (λ (files : List Members). IsTree c.in_ok-tree.tree (raised (table (table_view c.args.built_in.now)) files)) (ap (λ (them : List LayeredFile). map layered_in them) c.as_slice.ensures.value ∙ c.in_ok-layers.ensures) c.in_ok-tree.ensures in
     let it = subst (IsTree c.in_ok-tree.tree) (raised_table (table_view c.args.built_in.now) (map moved (map members_in c.args.files.now))) merged in
-    let is = c.in-Ok.ensures.read (members_of tree) it in
+    let is = c.in-Ok.ensures (members_of tree) it in
     (subst (λ (reading : Reading MergedConfig). AllByRecursion (IsKept (g.R.Languages.is_filter c.args.cx.now) g.R.Languages.is_spec) (value_checks bad_merged reading)) (sym is) tt, is)
 
 pub returns-in-Ok-clause-rises : goal.returns-in-Ok-clause-rises
@@ -25,7 +25,7 @@ returns-in-Ok-clause-rises g c =
     let tree = raised (table (table_view c.args.built_in.now)) (map moved (map members_in c.args.files.now)) in
     let merged = subst (λ (files : List Members). IsTree c.in_ok-tree.tree (raised (table (table_view c.args.built_in.now)) files)) (ap (λ (them : List LayeredFile). map layered_in them) c.as_slice.ensures.value ∙ c.in_ok-layers.ensures) c.in_ok-tree.ensures in
     let it = subst (IsTree c.in_ok-tree.tree) (raised_table (table_view c.args.built_in.now) (map moved (map members_in c.args.files.now))) merged in
-    config_rises (members_of tree) (values_of c.in-Ok.config) it.sorted (c.in-Ok.ensures.read (members_of tree) it)
+    config_rises (members_of tree) (values_of c.in-Ok.config) it.sorted (c.in-Ok.ensures (members_of tree) it)
 
 pub returns-in-Err-Refused-clause-read : goal.returns-in-Err-Refused-clause-read
 returns-in-Err-Refused-clause-read g c =
@@ -35,4 +35,4 @@ returns-in-Err-Refused-clause-read g c =
     let bad = c.in-Err-Refused in
     subst (λ (reading : Reading MergedConfig). BreaksFirst (g.R.Languages.is_filter c.args.cx.now) g.R.Languages.is_spec g.R.Languages.is_too_deep (value_checks bad_merged reading)
     (bad_merged bad.value.path.keys))
-    (sym (seen_refused values_of (config_in (members_of tree)) bad.field-0 bad.value bad.field-0-is (bad.ensures.read (members_of tree) it))) (inl refl)
+    (sym (seen_refused values_of (config_in (members_of tree)) bad.field-0 bad.value bad.field-0-is (bad.ensures (members_of tree) it))) (inl refl)

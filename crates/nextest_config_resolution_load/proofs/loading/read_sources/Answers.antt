@@ -1,16 +1,14 @@
 use Rattle.std.proofs.Common.{◌≡◌, Bor, List, filter_map, map, sym, ap, ◌∙◌, subst}
-use Rattle.std.specs.List.{AllByRecursion, flat_map, list_any}
+use Rattle.std.specs.List.{AllByRecursion, flat_map}
 use Rattle.toml.specs.Data.{table, Members}
 use Rattle.toml.specs.View.{table_view}
 use Rattle.nextest_config_resolution_load.specs.Checks.{bad_merged, config_in, file_of, members_of, merged_in, moved, raised, source_checks, value_checks}
 use Rattle.nextest_config_resolution_load.specs.Files.{members_in}
-use Rattle.nextest_config_resolution_load.specs.Later.{is_later}
 use Rattle.nextest_config_resolution_load.specs.Load.{IsKept}
 use Rattle.nextest_config_resolution_load.specs.Reading.{AreReadSources, AreRulesOf, early_checks, read_as}
 use Rattle.nextest_config_resolution_load.specs.Refusing.{RefusesFor}
 use Rattle.nextest_config_resolution_load.specs.Telling.{told_of}
 use Rattle.nextest_config_resolution_load.specs.declared.placed_file.PlacedFile.{PlacedFile}
-use Rattle.nextest_config_resolution_load.proofs.LaterFiles.{later_files}
 use Rattle.nextest_config_resolution_load.proofs.Passing.{kept_both, passes_on, refuses_before, refuses_behind}
 use Rattle.nextest_config_resolution_load.proofs.loading.read_sources.Goals as goal
 use Rattle.nextest_config_resolution_sources.specs.Counting.{counted}
@@ -70,7 +68,6 @@ returns g c =
       record {
         values = subst (λ (given : List Members). config_in (members_of (raised (table built_in) (map moved given))) ≡ read_as config) files c.in_ok-config.ensures.read.1;
         rises = c.in_ok-config.ensures.rises;
-        later = c.in_ok-config.ensures.later ∙ ap (list_any is_later) files ∙ later_files (counted sources);
         told = c.in_ok-read.ensures.1.told ∙ ap (flat_map told_of) same;
         rules = subst (λ (all : List ConfigSource). AreRulesOf Is IsSpec all read.rules.items) same c.in_ok-read.ensures.1.rules;
       },

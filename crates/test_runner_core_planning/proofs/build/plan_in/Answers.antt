@@ -2,14 +2,18 @@ use Rattle.std.proofs.Common.{◌≡◌, ap, sym, subst, ◌∙◌, List, Err, t
 use Rattle.std.specs.List.{list_any}
 use Rattle.std.specs.List.Sorted.{IsPermutation}
 use Rattle.std.proofs.lemmas.Result.{err_from_is_err_and}
+use Rattle.nextest_config_resolution_profiles.specs.Enabled.{AreNamesOf}
+use Rattle.nextest_config_resolution_profiles.proofs.Enabling.{same_names}
 use Rattle.test_runner_core_listing.specs.Listing.{asked_of}
 use Rattle.test_runner_core_listing.specs.Selected.{tests_in}
 use Rattle.test_runner_core_listing.specs.declared.selection.Selection.{Selection}
 use Rattle.test_runner_core_plan.specs.declared.plan.PlanTest.{PlanTest}
+use Rattle.test_runner_core_planning.specs.Filtering.{context_of}
 use Rattle.test_runner_core_planning.specs.Plan.{has_too_many, lacks_memory, listed_in, overflows, plan_test, with_settings}
 use Rattle.test_runner_core_planning.proofs.Building.{any_overflows, asks_lacking, asks_nothing, asks_with, plans_found, refused_before, refused_listing, tries_fit, wants_settled}
 use Rattle.test_runner_core_planning.proofs.Choosing.{has_each, own, own_settles, wanted_chosen}
 use Rattle.test_runner_core_planning.proofs.build.plan_in.Goals as goal
+use Rattle.test_runner_core_settings.specs.Sets.{IsEnabled}
 
 pub returns-in_err-config-clause-builds : goal.returns-in_err-config-clause-builds
 returns-in_err-config-clause-builds g c =
@@ -77,7 +81,7 @@ returns-then-has_too_many-clause-builds g c =
     let made = wanted_chosen inputs wanted has in
     let selection = c.in_ok-listed.field-0 in
     let selects = c.in_ok-listed.ensures.selects choice made.0 settles made.1 in
-    let tests = c.in_ok-tests.ensures choice.of_test (has_each inputs wanted.run has.chooses) in
+    let tests = c.in_ok-tests.ensures.tests choice.of_test (has_each inputs wanted.run has.chooses) in
     let many : has_too_many choice.of_test (tests_in selection.tests.items) ≡ true =
     sym (any_overflows choice.of_test (tests_in selection.tests.items))
     ∙ ap (λ (it : List PlanTest). list_any (λ (test : PlanTest). overflows test.settings) it) (sym (c.as_slice.ensures.value ∙ tests))
@@ -103,7 +107,7 @@ returns-clause-builds g c =
     let made = wanted_chosen inputs wanted has in
     let selection = c.in_ok-listed.field-0 in
     let selects = c.in_ok-listed.ensures.selects choice made.0 settles made.1 in
-    let tests = c.in_ok-tests.ensures choice.of_test (has_each inputs wanted.run has.chooses) in
+    let tests = c.in_ok-tests.ensures.tests choice.of_test (has_each inputs wanted.run has.chooses) in
     let few : has_too_many choice.of_test (tests_in selection.tests.items) ≡ false =
     sym (any_overflows choice.of_test (tests_in selection.tests.items))
     ∙ ap (λ (it : List PlanTest). list_any (λ (test : PlanTest). overflows test.settings) it) (sym (c.as_slice.ensures.value ∙ tests))
@@ -118,7 +122,8 @@ returns-clause-builds g c =
         listed = plan.listed ∙ selects.1;
         limit = plan.limit;
         levels = plan.levels;
-        scripts = plan.scripts;
+        scripts = subst (AreNamesOf (IsEnabled (context_of inputs.workspace) inputs (tests_in selection.tests.items))) (sym plan.scripts)
+            (same_names c.in_ok-tests.field-0.scripts (has.chooses.answers.enabled (tests_in selection.tests.items)) c.in_ok-tests.ensures.scripts);
         warnings = plan.warnings ∙ c.in_ok-config.ensures.1;
       },
     )

@@ -3,12 +3,12 @@ use Rattle.std.proofs.lemmas.Iterator.Adapters.{YieldsList-from_vec}
 use Rattle.std.proofs.lemmas.Iterator.Consumers.{YieldsList-end, YieldsList-from_enumerate, YieldsList-turn}
 use Rattle.std.proofs.lemmas.List.{map-id}
 use Rattle.nextest_config_resolution_profiles.specs.HeldRules.{IsHeldRow}
+use Rattle.nextest_config_resolution_profiles.proofs.Columns.{held_at}
 use Rattle.nextest_filtering_compiling.specs.Filtersets.{HasOnTest}
-use Rattle.test_runner_core_listing.specs.Answers.{seen_test}
+use Rattle.test_runner_core_listing.specs.Answers.{seen, seen_test}
 use Rattle.test_runner_core_plan.specs.declared.plan.PlanTest.{PlanTest}
 use Rattle.test_runner_core_planning.specs.Plan.{with_settings}
-use Rattle.test_runner_core_planning.specs.Tests.{HasRows}
-use Rattle.test_runner_core_planning.proofs.Settled.{all_settled, placed, test_more}
+use Rattle.test_runner_core_planning.proofs.Settled.{all_settled, held_names, placed, test_more}
 use Rattle.test_runner_core_planning.proofs.settled_tests.push_tests.Goals as goal
 
 pub loop-place-preserved : goal.loop-place-preserved
@@ -21,10 +21,9 @@ loop-place-preserved c =
     let numbered = YieldsList-from_enumerate {s = start} listed (search rules) in
     let turn = YieldsList-turn numbered c.loop-place.yielded c.loop-place.place-iterator c.loop-place.yielded_by c.next.result c.next.new.self (c.in-Some.place, c.in-Some.name) c.in-Some.is c.next.ensures.steps in
     let stands = placed names (length c.loop-place.yielded) (c.in-Some.place, c.in-Some.name) turn.0 turn.1 in
-    let rows : HasRows profile binary names c.in_ok-held.held
-    = subst (λ (names : List (List ℕ)). HasRows profile binary names c.in_ok-held.held) c.as_slice.ensures c.in_ok-held.ensures in
+    let held = held_names HasOnTest profile (seen binary) c.as_slice.result.now names c.in_ok-held.held c.as_slice.ensures c.in_ok-held.ensures in
     let row : IsHeldRow HasOnTest profile (seen_test binary c.in-Some.name) c.as_slice-in-loop-place.result.now
-    = rw (c.as_slice-in-loop-place.ensures.value ∙ c.in_ok-row.ensures) (rows c.in-Some.place c.in-Some.name stands) in
+    = rw (c.as_slice-in-loop-place.ensures.value ∙ c.in_ok-row.ensures) (held_at HasOnTest profile (seen binary) names c.in_ok-held.held held c.in-Some.place c.in-Some.name stands) in
     record {
       shared = c.in_ok-settings.ensures.shared;
       tests = λ of_test has.
@@ -44,3 +43,11 @@ returns-clause-tests c = λ of_test has.
     c.loop-place.invariant.tests of_test has
     ∙ ap (λ (tests : List PlanTest). c.args.tests.now.items ++ tests)
     (ap (map (λ (one : ℕ × List ℕ). with_settings of_test (seen_test binary one.1))) (sym (map-id c.loop-place.yielded) ∙ end.0) ∙ all_settled of_test binary 0 names)
+
+pub returns-clause-scripts : goal.returns-clause-scripts
+returns-clause-scripts c = λ before has.
+    let profile = c.args.profile.now in
+    let binary = c.args.of_binary.binary.now in
+    let names = c.args.of_binary.names in
+    c.in_ok-add_scripts.ensures (seen binary) names before (held_names HasOnTest profile (seen binary) c.as_slice.result.now names c.in_ok-held.held c.as_slice.ensures c.in_ok-held.ensures)
+    c.len.ensures has

@@ -1,4 +1,6 @@
 use Rattle.std.proofs.Common.{◌≡◌, map}
+use Rattle.nextest_config_resolution_profiles.specs.Enabled.{HasEnabled}
+use Rattle.nextest_filtering_compiling.specs.Filtersets.{HasOnTest}
 use Rattle.nextest_filtering_filters.specs.Query.{Test}
 use Rattle.test_runner_core_listing.specs.Selected.{tests_in}
 use Rattle.test_runner_core_plan.specs.declared.plan_settings.PlanSettings.{PlanSettings}
@@ -10,4 +12,5 @@ abbrev pub invariant-loop-of_binary : goal.invariant-loop-of_binary
 invariant-loop-of_binary l = record {
   shared : AreShared l.profile l.mode l.shared;
   tests : (of_test : Test → PlanSettings) → HasForEach l.profile l.mode of_test → l.tests.items ≡ map (with_settings of_test) (tests_in l.yielded);
+  scripts : HasEnabled HasOnTest l.profile (tests_in l.yielded) l.names;
 }

@@ -1,13 +1,11 @@
-use Rattle.std.proofs.Common.{ap, drop, length, subst, refl, ◌∙◌}
+use Rattle.std.proofs.Common.{ap, drop, length, refl, ◌∙◌}
 use Rattle.nextest_config_resolution_profiles.proofs.Columns.{settings_picked}
 use Rattle.nextest_config_resolution_profiles.proofs.evaluatable_profile.EvaluatableProfile.settings_by_rules.Goals as goal
-use Rattle.nextest_config_resolution_settings.specs.Layers.{Layers}
 use Rattle.nextest_config_resolution_settings.specs.Nearest.{lent}
-use Rattle.nextest_config_resolution_settings.specs.TestSettings.{AreSettings}
 use Rattle.nextest_config_resolution_settings.specs.Tracking.{TellsNothing}
 
-pub returns-in-Ok : goal.returns-in-Ok
-returns-in-Ok g c =
+pub returns-in_ok-scripts : goal.returns-in_ok-scripts
+returns-in_ok-scripts g c =
     settings_picked g.F.Filters.on_test TellsNothing c.args.self.now c.args.mode c.args.row.now (drop (length c.args.self.now.rules) c.args.row.now) (lent c.as_slice-overrides.result.now)
-    (lent c.as_slice-scripts.result.now) c.settings_by.result refl (ap lent c.as_slice-overrides.ensures.value ∙ c.in_ok-picked.ensures) (ap lent c.as_slice-scripts.ensures.value ∙ c.in-Ok.ensures)
-    (subst (λ (layers : Layers). AreSettings TellsNothing c.args.mode layers c.settings_by.result) c.layers.ensures c.settings_by.ensures)
+    (lent c.as_slice-scripts.result.now) c.settings_of.result refl (ap lent c.as_slice-overrides.ensures.value ∙ c.in_ok-overrides.ensures) (ap lent c.as_slice-scripts.ensures.value ∙ c.in_ok-scripts.ensures)
+    c.settings_of.ensures

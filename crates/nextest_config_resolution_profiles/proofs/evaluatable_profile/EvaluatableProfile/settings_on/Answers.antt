@@ -5,17 +5,15 @@ use Rattle.nextest_config_resolution_profiles.specs.Held.{Holds}
 use Rattle.nextest_config_resolution_profiles.proofs.Holding.{settings_found}
 use Rattle.nextest_config_resolution_profiles.proofs.evaluatable_profile.EvaluatableProfile.settings_on.Goals as goal
 use Rattle.nextest_config_resolution_scripts.specs.declared.script_rule.PlacedScriptRule.{PlacedScriptRule}
-use Rattle.nextest_config_resolution_settings.specs.Layers.{Layers}
 use Rattle.nextest_config_resolution_settings.specs.Nearest.{lent}
-use Rattle.nextest_config_resolution_settings.specs.TestSettings.{AreSettings}
 use Rattle.nextest_filtering_filters.specs.Query.{test_of}
 
-pub returns-in-Ok : goal.returns-in-Ok
-returns-in-Ok g c =
+pub returns-in_ok-scripts : goal.returns-in_ok-scripts
+returns-in_ok-scripts g c =
     let profile = c.args.self.now in
     let test = test_of c.args.query.now in
     let Holding = Holds g.F.Filters.on_test profile.default_filter.filter.now test in
-    settings_found g.F.Filters.on_test g.T.TrackSource.tells profile c.args.mode test c.settings_by.result (lent c.as_slice-overrides.result.now) (lent c.as_slice-scripts.result.now)
-    (subst (λ (them : List PlacedOverride). FindsHeld Holding profile.rules them) (sym (ap lent c.as_slice-overrides.ensures.value)) c.in_ok-held.ensures)
-    (subst (λ (them : List PlacedScriptRule). FindsHeld Holding profile.script_rules them) (sym (ap lent c.as_slice-scripts.ensures.value)) c.in-Ok.ensures)
-    (subst (λ (layers : Layers). AreSettings g.T.TrackSource.tells c.args.mode layers c.settings_by.result) c.layers.ensures c.settings_by.ensures)
+    settings_found g.F.Filters.on_test g.T.TrackSource.tells profile c.args.mode test c.settings_of.result (lent c.as_slice-held.result.now) (lent c.as_slice-scripts.result.now)
+    (subst (λ (them : List PlacedOverride). FindsHeld Holding profile.rules them) (sym (ap lent c.as_slice-held.ensures.value)) c.in_ok-held.ensures)
+    (subst (λ (them : List PlacedScriptRule). FindsHeld Holding profile.script_rules them) (sym (ap lent c.as_slice-scripts.ensures.value)) c.in_ok-scripts.ensures)
+    c.settings_of.ensures

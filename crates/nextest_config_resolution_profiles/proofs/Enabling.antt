@@ -4,11 +4,13 @@ use Rattle.std.specs.BTreeSet.{BTreeSet, contains}
 use Rattle.std.specs.List.{AllZip, Contains, filter_map, list_any, slice_get}
 use Rattle.std.specs.List.Sorted.{IsStrictlySortedBy}
 use Rattle.std.specs.Ordering.{is_eq, nat_cmp}
-use Rattle.std.specs.Cmp.Lexicographic.{slice_cmp}
+use Rattle.std.specs.declared.cmp.Ordering.TheVariants.{Equal}
+use Rattle.std.specs.Cmp.Lexicographic.{on_texts, slice_cmp}
 use Rattle.std.specs.Str.{bytes_eq}
 use Rattle.std.proofs.lemmas.Bool.{false≢true}
 use Rattle.std.proofs.lemmas.List.{map_push, take_all}
 use Rattle.std.proofs.lemmas.List.Elements.{Contains-append_cases, Contains-append_left, Contains-append_right, Contains-push, Contains-push_cases}
+use Rattle.std.proofs.lemmas.Map.Lookups.{btree_set_from_contains}
 use Rattle.std.proofs.lemmas.Map.Text.{is_eq-slice_cmp}
 use Rattle.std.proofs.lemmas.Slice.Eq.{bytes_eq-Decides}
 use Rattle.nextest_config_resolution_load.proofs.Passing.{taken_more}
@@ -87,8 +89,10 @@ module _ {F S : Type 0} (Holding : ScriptRuleOn F S → Type 0) where
       here : Contains (rule ∷ []) it.rule → rule ≡ it.rule
       here (zero, within, is) = is
       here (suc k, within, is) = absurd (omega (arith, within))
+
       behind : Contains rules it.rule → is_named (map placed_of (picked row rules)) id ≡ true
       behind of = named_back rules row told.1 id (record { rule = it.rule; of = of; holds = it.holds; names = it.names })
+
       by_value : (value : Bool) → Tells (Holding rule) value → Contains (rule ∷ []) it.rule ⊎ Contains rules it.rule → is_named (map placed_of (picked (value ∷ row) (rule ∷ rules))) id ≡ true
       by_value true tells (inl of) = either_left (list_any (bytes_eq id) (setup_of rule)) (is_named (map placed_of (picked row rules)) id)
           (among_back id (setup_of rule) (subst (λ (r : ScriptRuleOn F S). Contains (setup_of r) id) (sym (here of)) it.names))
@@ -110,6 +114,7 @@ some_told So [] column tells = ((λ h. absurd (false≢true (sym (none column) �
 some_told So (first ∷ names) [] tells = ((λ h. absurd (false≢true h)), (λ (name, has, so). absurd (by_side name has so)))
   where
     rest = some_told So names [] (λ place name at. tells (suc place) name at)
+
     by_side : (name : List ℕ) → Contains (first ∷ names) name → So name → ⊥
     by_side name has so = at (Contains-append_cases (first ∷ []) names name has)
       where
@@ -126,9 +131,11 @@ some_told So (first ∷ names) (value ∷ column) tells = (
 )
   where
     rest = some_told So names column (λ place name at. tells (suc place) name at)
+
     forth : (value ≡ true) ⊎ (any_in (length names) column ≡ true) → (name : List ℕ) × Contains (first ∷ names) name × So name
     forth (inl here) = (first, (0, omega arith, refl), (tells 0 first refl).0 here)
     forth (inr behind) = let (name, has, so) = rest.0 behind in (name, Contains-append_right (first ∷ []) names name has, so)
+
     back : (name : List ℕ) → So name → Contains (first ∷ []) name ⊎ Contains names name → (value || any_in (length names) column) ≡ true
     back name so (inl (zero, within, is)) = either_left value (any_in (length names) column) ((tells 0 first refl).1 (subst So (sym is) so))
     back name so (inl (suc k, within, is)) = absurd (omega (arith, within))
@@ -195,11 +202,13 @@ module _ {F S : Type 0} (OnTest : F → F → Test → Bool → Type 0) (profile
   enabled_both tests more old new row before told adds = λ id. ((λ h. forth id (either _ _ (sym (adds id) ∙ h))), (λ it. adds id ∙ back id it (Contains-append_cases tests more it.holds.0 it.holds.1.0)))
     where
       Holding = HoldsOnSome OnTest profile.default_filter.filter.now more
+
       forth : (id : List ℕ) → (has_name old id ≡ true) ⊎ (is_named (map placed_of (picked row profile.script_rules)) id ≡ true) → IsEnabled OnTest profile (tests ++ more) id
       forth id (inl early) = enabled_more tests (tests ++ more) id (λ test has. Contains-append_left tests more test has) ((before id).0 early)
       forth id (inr named) =
           let it = named_by Holding profile.script_rules row told id named in
           record { rule = it.rule; of_profile = it.of; names = it.names; holds = (it.holds.0, Contains-append_right tests more it.holds.0 it.holds.1.0, it.holds.1.1) }
+
       back : (id : List ℕ) (it : IsEnabled OnTest profile (tests ++ more) id) → Contains tests it.holds.0 ⊎ Contains more it.holds.0
           → (has_name old id || is_named (map placed_of (picked row profile.script_rules)) id) ≡ true
       back id it (inl has) = either_left _ _ ((before id).1 (record { rule = it.rule; of_profile = it.of_profile; names = it.names; holds = (it.holds.0, has, it.holds.1.1) }))
@@ -234,6 +243,23 @@ same_names names same are = record {
   rise = are.rise;
   exactly = λ id. ((λ has. (same id).0 ((are.exactly id).0 has)), (λ it. (are.exactly id).1 ((same id).1 it)));
 }
+
+-- two lists of the names of which one thing is so are the same
+contains_named : {Is : List ℕ → Type 0} (one other : List (List ℕ)) → AreNamesOf Is one → AreNamesOf Is other → (id : List ℕ) → list_any (bytes_eq id) one ≡ true → list_any (bytes_eq id) other ≡ true
+contains_named one other a b id h = among_back id other ((b.exactly id).1 ((a.exactly id).0 (among id one h)))
+
+both_ways : (a b : Bool) → (a ≡ true → b ≡ true) → (b ≡ true → a ≡ true) → a ≡ b
+both_ways true b there back = sym (there refl)
+both_ways false true there back = back refl
+both_ways false false there back = refl
+
+texts_tie : (a b : List ℕ) → slice_cmp nat_cmp a b ≡ Equal → a ≡ b
+texts_tie a b tie = (bytes_eq-Decides a b).0 (sym (is_eq-slice_cmp a b) ∙ ap is_eq tie)
+
+pub one_names : {Is : List ℕ → Type 0} (one other : List (List ℕ)) → AreNamesOf Is one → AreNamesOf Is other → one ≡ other
+one_names one other a b =
+    btree_set_from_contains (on_texts (λ (id : List ℕ). id)) (record { keys = one }) (record { keys = other }) a.rise b.rise
+    (λ id. has_key one id ∙ both_ways (list_any (bytes_eq id) one) (list_any (bytes_eq id) other) (contains_named one other a b id) (contains_named other one b a id) ∙ sym (has_key other id)) texts_tie
 
 -- ---- a loop over tests
 
