@@ -255,9 +255,7 @@ class FirstThatHoldsAlone(OtherProfile):
     """A setting is that of the first override that holds, whatever it sets."""
 
     def settings(self, filtering, binary, test):
-        built = self.host if binary.platform == "host" else self.target
-        rules = [it for it in self.rules if self.fits(it, built) and (it.filter is None or filtering.holds(it.filter, binary, test, None))]
-        kept, self.rules = self.rules, rules[:1]
+        kept, self.rules = self.rules, self.holding(self.rules, filtering, binary, test)[:1]
         found = super().settings(filtering, binary, test)
         self.rules = kept
         return found
@@ -335,7 +333,7 @@ TWICE = [["unix", True], ["windows", False], ["unix", True]]
 BOTH = [["target_os", "linux", True], ["target_os", "linux", False]]
 OVERRIDE = "[[profile.default.overrides]]\n"
 # In the order in which they are told: the name under which inputs are refused, where the fault stands (the file, the tests of the binary, or other fields),
-# and what stands there.
+# and what stands there. A script is no fault, so what is told is the other one's.
 FAULTS = [
     ("Load.BadName", "file", '[test-groups."@tool:t:g"]\nmax-threads = 1\n'),
     ("Load.NoConstraint", "file", f"{OVERRIDE}retries = 1\n"),
@@ -344,7 +342,7 @@ FAULTS = [
     ("Load.BadFilter", "file", f'{OVERRIDE}filter = "group(@global)"\n'),
     ("Load.UnknownGroup", "file", f'{OVERRIDE}filter = "all()"\ntest-group = "h"\n'),
     ("Load.Cycle", "file", '[profile.a]\ninherits = "a"\n'),
-    ("NotYet", "file", "[experimental]\nsetup-scripts = true\n[scripts.setup.s]\ncommand = \"x\"\n"),
+    (None, "file", "[experimental]\nsetup-scripts = true\n[scripts.setup.s]\ncommand = \"x\"\n"),
     ("ProfileNotFound", "fields", {"profile": "ci"}),
     ("RepeatedFact", "fields", {"host": {"triple": "", "facts": TWICE}}),
     ("RepeatedFact", "fields", {"target": {"triple": "", "facts": BOTH}}),
@@ -364,11 +362,11 @@ def faulty_rows(plan):
     """Inputs with each two faults, each with its answer: that of the first in the list."""
     for one, other in itertools.combinations(FAULTS, 2):
         # of two faults of the load those of one file and of the profiles stand in a table of loads
-        if one[0].startswith("Load.") and other[0].startswith("Load."):
+        if all(name and name.startswith("Load.") for name, _, _ in (one, other)):
             continue
         changes = faulty(one, other)
         answer = plans.shown_selection(json.loads(changed(plan, changes)))
-        assert answer.split(";")[0] == one[0], (changes, answer)
+        assert answer.split(";")[0] == (one[0] or other[0]), (changes, answer)
         yield tuple(changes), answer
 
 
