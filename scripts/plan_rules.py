@@ -549,7 +549,6 @@ class Settings(NamedTuple):
     flaky_result: str
     success_output: str
     failure_output: str
-    run_wrapper: Optional[dict]
 
 
 class Profile:
@@ -581,6 +580,10 @@ class Profile:
         """The names of the setup scripts that are planned where this test is selected."""
         return {name for rule in self.holding(self.script_rules, filtering, binary, test) for name in rule.values.get("setup", [])}
 
+    def script_order(self, scripts):
+        """Scripts in the order in which they run."""
+        return in_order(scripts)
+
     def run_wrapper(self, filtering, binary, test):
         """The wrapper script of a test, or None."""
         rules = self.holding(self.script_rules, filtering, binary, test)
@@ -599,7 +602,6 @@ class Profile:
             priority=int(re.search("-?[0-9]+", setting("priority", "0"))[0]),
             tries=int(re.search("count: ([0-9]+)", setting("retries", self.setting("retries")))[1]) + 1,
             group="@global" if group == "Global" else json.loads(group.removeprefix("Custom(").removesuffix(")")),
-            run_wrapper=self.run_wrapper(filtering, binary, test),
             **{key.replace("-", "_"): setting(key, self.setting(key)) for key in ("flaky-result", "success-output", "failure-output")},
         )
 
@@ -611,6 +613,7 @@ class PlanTest(NamedTuple):
     binary: str
     name: str
     settings: Settings
+    run_wrapper: Optional[dict]
 
 
 class Plan(NamedTuple):
@@ -689,9 +692,9 @@ def plan_of(inputs):
         listed.append(binary.id)
         check_names(it["tests"], listed)
         for test in it["tests"]:
-            settings = profile.settings(filtering, binary, test)
+            settings, wrapper = profile.settings(filtering, binary, test), profile.run_wrapper(filtering, binary, test)
             holds = all(filtering.holds(formula, binary, test, settings.group) for formula in in_force)
-            (selected if holds else skipped).append(PlanTest(binary.id, test, settings))
+            (selected if holds else skipped).append(PlanTest(binary.id, test, settings, wrapper))
             scripts |= profile.setup_scripts(filtering, binary, test) if holds else set()
     if any(test.settings.tries > MOST_RETRIES for test in selected):
         raise Refused("RetriesTooMany", listed)
@@ -699,7 +702,7 @@ def plan_of(inputs):
     for path, text in ((it["path"], it["text"]) for it in sources if "text" in it):
         warnings += [line for line in configs.warning_answer(path, text).split("; ") if line != "-"]
     levels = profile.setting("status-level"), profile.setting("final-status-level")
-    return Plan(warnings, in_order(scripts), selected, skipped, listed, profile.setting("fail-fast"), levels)
+    return Plan(warnings, profile.script_order(scripts), selected, skipped, listed, profile.setting("fail-fast"), levels)
 
 
 def each(words, form="{}"):
@@ -715,7 +718,7 @@ def test_shown(test):
     """A test with its settings, and its wrapper script where it has one."""
     it = test.settings
     words = [test.binary, test.name, f"x{it.tries}", it.flaky_result, it.success_output, it.failure_output]
-    return " ".join(words if it.run_wrapper is None else [*words, "wrapper", configs.wrapper_told(it.run_wrapper)])
+    return " ".join(words if test.run_wrapper is None else [*words, "wrapper", configs.wrapper_told(test.run_wrapper)])
 
 
 def shown_settings(inputs):

@@ -54,6 +54,15 @@ SUCCESSES = ("pass", "leak:pass", "timeout:pass")
 # Under which counter a script counts that ended, by the first word of its end; of leaks by the whole.
 COUNTED_SCRIPTS = {"pass": "passed", "leak:pass": "passed", "leak:fail": "failed", "fail": "failed", "abort": "failed", "exec-fail": "exec-failed", "timeout": "timed-out"}
 
+# The lines of a log, but for the bounds of numbers.
+RECORD = (
+    r"(?:(?:pass|(?:leak|timeout):(?:pass|fail)|(?:fail:-?|abort:)[1-9][0-9]*(?::leaked)?)\t(?:slow|-)\t(?:0|[1-9][0-9]*)(?:\t(?:-|(?:[0-9a-f]{2})*)){2}"
+    r"|exec-fail\t(?:slow|-)\t(?:0|[1-9][0-9]*)\t(?:[0-9a-f]{2})*\t-)"
+)
+LINE = re.compile(
+    rf"script\t[^\t]*\t{RECORD}|start\t[^\t]*\t[^\t]*|end\t[^\t]*\t[^\t]*\t{RECORD}|stop\t(?:report-error|global-timeout|signal|interrupt|second-signal)"
+)
+
 # ---- runs
 
 WHITE = "\t\n\v\f\r \u0085\u00a0\u1680\u2028\u2029\u202f\u205f\u3000" + "".join(map(chr, range(0x2000, 0x200B)))
@@ -231,6 +240,8 @@ class Run:
 
     def take(self, fields):
         """The tests that a line finishes, in the order in which they are told."""
+        if not LINE.fullmatch("\t".join(fields)):
+            raise Refused("BadLine")
         if fields[0] == "stop":
             return self.stop(fields[1])
         if fields[0] == "script":
@@ -287,14 +298,17 @@ class Run:
             return 100, f"cancelled {numbers} {reason}"
         return (0, "success") if initial else (4, "no-tests-run")
 
+    def parts(self):
+        """The lines of scripts and tests in the final text."""
+        return [line for it in [*self.scripts, *self.tests.values()] for line in it.part()]
+
     def final_text(self):
         """The final text and the status."""
         reason = self.reason or "-"
         status, outcome = self.summary(reason)
         lines = ["== final ==", f"status\t{status}", f"outcome {outcome}"]
         lines += [f"{name}\t{count}" for name, count in self.counters().items()]
-        parts = itertools.chain(*(it.part() for it in [*self.scripts, *self.tests.values()]))
-        return [*lines, f"cancel-reason\t{reason}", *parts], status
+        return [*lines, f"cancel-reason\t{reason}", *self.parts()], status
 
 
 def run_answer(stream):
@@ -595,7 +609,11 @@ def main():
         "Changes of plan.json => the tests, each with its most attempts, its flaky rule and when its output is shown where it passes and"
         " where it fails, and behind `wrapper` what its wrapper script runs, where it has one; the scripts where there are some; the limit,"
         " the levels of lines and of the final text, and the warnings; or the name under which it is refused.",
-        [*made, *plan_rows.drawn(plan_rows.SEED + 1, plans.shown_settings, plan)],
+        [
+            *made,
+            *plan_rows.drawn(plan_rows.SEED + 1, plans.shown_settings, plan),
+            *plan_rows.drawn_with_scripts(plan_rows.SCRIPTS_SEED + 1, plans.shown_settings, plan, plan_rows.WRONG_SCRIPTS),
+        ],
     )
     tell_numbers({"profiles_plans": number})
     write(
