@@ -10,6 +10,7 @@ have a last line that is perhaps refused. Each of the wrong rules of `WRONG` com
 `KINDS` is among them.
 """
 import contextlib
+import itertools
 import json
 import random
 import re
@@ -88,9 +89,9 @@ FAILS, TIMES_OUT = "script s fail:1 - 1 - -", "script s timeout:pass - 1 - -"
 
 def ends_by_hand():
     """How scripts end, and what that makes of a run."""
-    for result in RESULTS:
-        out = "6e6f -" if result == "exec-fail" else "6f6b 4572726f723a2065"
-        yield [], [f"script s {result} - 5 {out}", *(BOTH_PASS if result in runs.SUCCESSES else [])]
+    for result, slow in itertools.product(RESULTS, ("-", "slow")):
+        out = "6e6f -" if result == "exec-fail" else "6f6b 4572726f723a2065" if slow == "-" else "- 61"
+        yield [], [f"script s {result} {slow} 5 {out}", *(BOTH_PASS if result in runs.SUCCESSES else [])]
     yield [], [TIMES_OUT, *BOTH_PASS]
     yield [], [FAILS]
     yield [], ["script s pass slow 18446744073709551615  -", *BOTH_PASS]
@@ -186,6 +187,8 @@ def refusals_by_hand():
         yield THREE, [*before, line]
     yield [], [S, S]
     yield TWO, [T]
+    yield [], [START_A]
+    yield [], [FAILS, START_A]
     # a start of a test that isn't selected, in a stopped run, before scripts ended, and both
     for before in ([], [S], [S, T], ["stop interrupt"], [FAILS], [S, T, "stop interrupt"], [S, T, START_A]):
         yield TWO, [*before, START_NONE]
