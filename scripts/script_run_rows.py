@@ -58,7 +58,7 @@ def rule(profile="default", **sets):
 
 def scripts(*names):
     """The changes that define setup scripts of these names."""
-    return [inner(SETUP), inner("".join(f"[scripts.setup.{quoted(it) if bare(it) != it else it}]\ncommand = 'x'\n" for it in names))]
+    return [inner(SETUP), inner("".join(f"[scripts.setup.{bare(it)}]\ncommand = 'x'\n" for it in names))]
 
 
 def ruled(*rules):
@@ -87,8 +87,8 @@ BOTH_PASS = [START_A, A, START_B, B]
 FAILS, TIMES_OUT = "script s fail:1 - 1 - -", "script s timeout:pass - 1 - -"
 
 
-def ends_by_hand():
-    """How scripts end, and what that makes of a run."""
+def ends():
+    """How a script ends: each result, slow or not, with outputs or without."""
     for result, slow in itertools.product(RESULTS, ("-", "slow")):
         out = "6e6f -" if result == "exec-fail" else "6f6b 4572726f723a2065" if slow == "-" else "- 61"
         yield [], [f"script s {result} {slow} 5 {out}", *(BOTH_PASS if result in runs.SUCCESSES else [])]
@@ -98,7 +98,10 @@ def ends_by_hand():
     yield [], ["script s exec-fail slow 0  -"]
     yield [], ["script s abort:127:leaked - 1  "]
     yield [], ["script s fail:-2147483648 - 1 00ff -"]
-    # of what fails the run, the scripts' part counts most
+
+
+def failures():
+    """What fails a run with scripts: of all the scripts' part counts most."""
     for first in (S, TIMES_OUT):
         yield [], [first, START_A, "end p a fail:1 - 1 - -"]
         yield [], [first, START_A, A]
@@ -110,22 +113,24 @@ def ends_by_hand():
     yield THREE, [TIMES_OUT, T]
     yield THREE, [S, T, U, *BOTH_PASS]
     yield THREE, ["script s leak:pass slow 1 - -", "script t timeout:pass - 2 - -", "script u timeout:pass slow 3 - -", *BOTH_PASS]
-    # stops before, among and behind scripts
-    for reason in runs.REASONS:
-        if reason not in ("setup-script-failure", "test-failure", "test-failure-immediate"):
-            yield TWO, [f"stop {reason}"]
-            yield TWO, [S, f"stop {reason}"]
-            yield TWO, [S, T, f"stop {reason}"]
-            yield TWO, [S, T, START_A, f"stop {reason}", A]
-            yield TWO, [FAILS, f"stop {reason}"]
-            yield TWO, [TIMES_OUT, T, *BOTH_PASS, f"stop {reason}"]
+
+
+def stops():
+    """Stops before, among and behind scripts."""
+    for reason in dict.fromkeys(REASONS):
+        yield TWO, [f"stop {reason}"]
+        yield TWO, [S, f"stop {reason}"]
+        yield TWO, [S, T, f"stop {reason}"]
+        yield TWO, [S, T, START_A, f"stop {reason}", A]
+        yield TWO, [FAILS, f"stop {reason}"]
+        yield TWO, [TIMES_OUT, T, *BOTH_PASS, f"stop {reason}"]
     yield [], ["stop signal", "stop report-error"]
     yield [], ["stop signal", "stop interrupt"]
     yield [], []
 
 
-def plans_by_hand():
-    """Which scripts are planned."""
+def enabled():
+    """Which scripts are planned: none where nothing is selected, or by a rule that holds only on a test that isn't; and what warnings there are."""
     for log in ([], ["stop interrupt"], [S], [START_A], ["stop interrupt", S]):
         yield NOTHING, log
     yield ['experimental = [\\"setup-scripts\\"]\\n', ""], []
@@ -138,79 +143,115 @@ def plans_by_hand():
     yield ON_B, [S, *BOTH_PASS]
     for log in ([], [START_A, A], [S]):
         yield [*ON_B, *ONLY_A], log
-    # a name counts in its NFC, in a rule as in a definition, but not in a log
-    for name in ("\u00e9", "e\u0301"):
-        for other in ("\u00e9", "e\u0301"):
-            yield [*scripts(name), *ruled(rule(filter="all()", setup=other))], [S.replace(" s ", " \u00e9 "), *BOTH_PASS]
+
+
+def names():
+    """A name counts in its NFC, in a rule as in a definition, but not in a log; scripts stand by the bytes of their names, each once."""
+    for name, other in itertools.product(("\u00e9", "e\u0301"), repeat=2):
+        yield [*scripts(name), *ruled(rule(filter="all()", setup=other))], [S.replace(" s ", " \u00e9 "), *BOTH_PASS]
     yield [*scripts("\u00e9"), *ruled(rule(filter="all()", setup="\u00e9"))], [S.replace(" s ", " e\u0301 ")]
-    # by the bytes of their names, each once
     yield [*scripts("a", "Z", "\u00e9", "z"), *ruled(rule(filter="all()", setup=["z", "a"]), rule(filter="test(b)", setup=["\u00e9", "Z", "z"]))], []
     yield [*scripts("s", "s2", "s-1"), *ruled(rule(filter="all()", setup=["s2", "s", "s-1", "s"]))], []
-    # a wrapper script is none of these, and changes nothing of a report
-    wrapper = ['[\\"setup-scripts\\"]', '[\\"setup-scripts\\", \\"wrapper-scripts\\"]', *scripts("s")]
-    wrapped = [*wrapper[:3], wrapper[3] + inner("[scripts.wrapper.w]\ncommand = 'y'\n")]
+
+
+def wrappers():
+    """A wrapper script is no setup script, and changes nothing of a report."""
+    part, other = scripts("s")
+    wrapped = ['[\\"setup-scripts\\"]', '[\\"setup-scripts\\", \\"wrapper-scripts\\"]', part, other + inner("[scripts.wrapper.w]\ncommand = 'y'\n")]
     yield [*wrapped, *ruled(rule(filter="all()", setup="s", run_wrapper="w"))], [S, *BOTH_PASS]
     yield [*wrapped, *ruled(rule(filter="all()", run_wrapper="w"))], BOTH_PASS
     yield [*wrapped, *ruled(rule(filter="all()", list_wrapper="w"))], [PASSES.format("script w")]
-    # in a filter `default()` is the default filter, also where it is left aside
+
+
+def default_filters():
+    """In a filter of a rule `default()` is the default filter, also where it is left aside."""
     default = keyed("[profile.default]\ndefault-filter = 'test(a)'\n")
-    for text in ("default()", "not default()"):
-        for ignored in (False, True):
-            yield [*default, inner(RULE), inner(rule(filter=text, setup="s")), *(with_fields(ignore_default_filter=True) if ignored else [])], [S, START_A, A]
-    # platforms, by what is known of the host
-    for given in ({}, {"host": facts(unix=True)}, {"host": facts(unix=False)}, {"host": facts(unix=True), "target": facts(unix=False)}):
-        for platform in ("cfg(unix)", {"host": "cfg(unix)"}):
-            yield [*ruled(rule(platform=platform, setup="s")), *with_fields(**given)], [S, *BOTH_PASS]
-    # of profiles: the chosen one, its parents and `default`, and no other
+    for text, fields in itertools.product(("default()", "not default()"), ({}, {"ignore_default_filter": True})):
+        yield [*default, inner(RULE), inner(rule(filter=text, setup="s")), *with_fields(**fields)], [S, START_A, A]
+
+
+def platforms():
+    """Rules hold by what is known of the platforms of a test's binary."""
+    given = ({}, {"host": facts(unix=True)}, {"host": facts(unix=False)}, {"host": facts(unix=True), "target": facts(unix=False)})
+    for fields, platform in itertools.product(given, ("cfg(unix)", {"host": "cfg(unix)"})):
+        yield [*ruled(rule(platform=platform, setup="s")), *with_fields(**fields)], [S, *BOTH_PASS]
+
+
+def profiles():
+    """Rules are those of the chosen profile, of its parents and of `default`, and of no other."""
     chain = "[profile.ci]\ninherits = 'base'\n[profile.base]\n"
     for profile in ("ci", "base", "default", "other"):
         yield [*ruled(chain, rule(profile, filter="all()", setup="s")), *with_fields(profile="ci")], [S, *BOTH_PASS]
     yield ruled("[profile.ci]\n", rule("ci", filter="all()", setup="s")), [S]
 
 
-def refusals_by_hand():
-    """Each refusal of a line, beside each that comes behind it and can meet it."""
+# Each refusal of a line, beside each that comes behind it and can meet it.
+
+
+def bad_lines():
+    """A line of a script that spells nothing, of a script that isn't planned, and in a stopped run."""
     for line in ("script zz pass - 01 - -", "script s pass - 1 -", "script s pass - 1 - - -", "script s exec-fail - 1 - -", "script s pass - 1 - A0", "script s", "script"):
         yield [], [line]
         yield [], ["stop interrupt", line]
-    # a script that isn't planned: in a run that goes on, is stopped, has scripts behind it
+
+
+def unknown_scripts():
+    """A script that isn't planned: in a run that goes on, is stopped, has scripts behind it."""
     for before in ([], [S], ["stop interrupt"], [FAILS], [S, START_A]):
         yield [], [*before, ZZ]
         yield TWO, [*before[:1], PASSES.format("script ")]
     yield [*scripts("s", "t"), *ruled(rule(filter="all()", setup="s"))], [S, T]
-    # a script of a stopped run: the next one, one behind it, one that ended
-    for before in (["stop interrupt"], [S, "stop report-error"], [FAILS], [S, T, "stop signal"], ["stop signal", "stop second-signal"]):
-        for line in (S, T, U):
-            yield THREE, [*before, line]
-    # a script out of order: one that ended, and one before whose turn it is
+
+
+def stopped_scripts():
+    """A script of a stopped run: the next one, one behind it, one that ended."""
+    logs = (["stop interrupt"], [S, "stop report-error"], [FAILS], [S, T, "stop signal"], ["stop signal", "stop second-signal"])
+    for before, line in itertools.product(logs, (S, T, U)):
+        yield THREE, [*before, line]
+
+
+def scripts_out_of_order():
+    """A script that ended, and one whose turn it isn't yet."""
     for before, line in (([], T), ([], U), ([S], S), ([S], U), ([S, T], S), ([S, T], T), ([S, T, U], S), ([S, T, U], U), ([S, T, U, START_A], T), ([S, T, U, START_A, A], U)):
         yield THREE, [*before, line]
     yield [], [S, S]
     yield TWO, [T]
-    yield [], [START_A]
-    yield [], [FAILS, START_A]
-    # a start of a test that isn't selected, in a stopped run, before scripts ended, and both
+
+
+def unknown_starts():
+    """A start of a test that isn't selected: in a stopped run, before scripts ended, and both."""
     for before in ([], [S], [S, T], ["stop interrupt"], [FAILS], [S, T, "stop interrupt"], [S, T, START_A]):
         yield TWO, [*before, START_NONE]
         yield TWO, [*before, "start q a"]
     yield ONLY_A, [START_B]
     yield ONLY_A, [S, START_B]
-    # a start in a stopped run: before scripts ended, of a test that runs or is finished
+
+
+def stopped_starts():
+    """A start in a stopped run: before scripts ended, of a test that runs or is finished."""
+    yield [], [FAILS, START_A]
     for before in (["stop interrupt"], [FAILS], [S, "stop signal"], [S, T, "stop signal"], [S, T, START_A, "stop signal"], [S, T, START_A, A, "stop signal"]):
         yield TWO, [*before, START_A]
-    # a start before scripts ended, of a test that runs, and of one that is finished
+
+
+def other_starts():
+    """A start before scripts ended, of a test that runs, and of one that is finished."""
+    yield [], [START_A]
     for before in ([], [S], [TIMES_OUT], [S, T, START_A], [S, T, START_A, A]):
         yield TWO, [*before, START_A]
-    # an end of a test that isn't selected, and of one that doesn't run
+
+
+def refused_ends():
+    """An end of a test that isn't selected, and of one that doesn't run."""
     for before in ([], [S], [S, T], ["stop interrupt"], [FAILS], [S, T, START_A, A]):
         yield TWO, [*before, NO_TEST]
         yield TWO, [*before, A]
 
 
-def by_hand():
-    yield from ends_by_hand()
-    yield from plans_by_hand()
-    yield from refusals_by_hand()
+BY_HAND = [
+    ends, failures, stops, enabled, names, wrappers, default_filters, platforms, profiles, bad_lines, unknown_scripts, stopped_scripts, scripts_out_of_order,
+    unknown_starts, stopped_starts, other_starts, refused_ends,
+]
 
 
 # ---- drawn plans
@@ -387,10 +428,9 @@ class TestsCountMost(OtherRun):
     """Failed tests come before scripts in the outcome."""
 
     def summary(self, reason):
-        scripts = self.scripts
-        self.scripts = [] if any(test.fails() for test in self.finished()) else scripts
+        kept, self.scripts = self.scripts, [] if any(test.fails() for test in self.finished()) else self.scripts
         told = super().summary(reason)
-        self.scripts = scripts
+        self.scripts = kept
         return told
 
 
@@ -398,9 +438,9 @@ class FailedScriptsAlone(OtherRun):
     """Scripts that didn't end count for nothing."""
 
     def summary(self, reason):
-        scripts, self.scripts = self.scripts, [script for script in self.scripts if script.ended]
+        kept, self.scripts = self.scripts, [script for script in self.scripts if script.ended]
         told = super().summary(reason)
-        self.scripts = scripts
+        self.scripts = kept
         return told
 
 
@@ -541,7 +581,7 @@ def main():
     text = changed(plan, ['"sources":[]', f'"sources":{shown([source(TEXT)])}']) + "\n"
     (ROWS / "script_runs.in").write_text(text, encoding="utf-8")
     rows, draw = Rows(text), random.Random(SEED)
-    for changes, lines in by_hand():
+    for changes, lines in itertools.chain(*(make() for make in BY_HAND)):
         rows.add(changes, lines)
     hand = len(rows.answers)
     while len(rows.answers) < hand + DRAWN:
