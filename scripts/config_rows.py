@@ -609,9 +609,13 @@ def setup_told(name, it):
     return f"[setup {name}: {command_told(it['command'])}, {elements.shown(slow)}, {elements.shown(leak)}, {' '.join(truths)}]"
 
 
+def wrapper_told(it):
+    return f"{command_told(it['command'])}, {it.get('target-runner', 'Ignore')}"
+
+
 def scripts_told(scripts):
     told = [setup_told(*it) for it in scripts.get("setup", [])]
-    told += [f"[wrapper {name}: {command_told(it['command'])}, {it.get('target-runner', 'Ignore')}]" for name, it in scripts.get("wrapper", [])]
+    told += [f"[wrapper {name}: {wrapper_told(it)}]" for name, it in scripts.get("wrapper", [])]
     return " ".join(told) or "-"
 
 

@@ -1,16 +1,18 @@
 #!/usr/bin/env python3
-"""Writes the end of the table `plans` of the program `worked_rows`, behind the line `MARK`: plans of inputs with overrides, groups and platforms,
-and refusals of inputs that have two faults. What is before that line was written by hand.
+"""Writes the end of the table `plans` of the program `worked_rows`, behind the line `MARK`: refusals of inputs that have two faults, and plans of
+inputs with overrides, groups and platforms, and of inputs with scripts. What is before that line was written by hand.
 
     python3 scripts/plan_rows.py
 
 It knows nothing of the program: what inputs come to is reckoned by scripts/plan_rules.py. `drawn` draws inputs from one seed; scripts/run_rows.py puts
-others of them into `profiles_plans`. Each of the wrong rules of `WRONG` comes to something else on at least `EACH` of the drawn rows of either table.
+others of them into `profiles_plans`. Each of the wrong rules of `WRONG` comes to something else on at least `EACH` of the drawn rows of either table,
+and so does each of `WRONG_SCRIPTS` on those with scripts, but for those of `WRONG_WRAPPERS`, which only `profiles_plans` tells apart.
 """
 import contextlib
 import itertools
 import json
 import random
+import re
 import sys
 
 sys.dont_write_bytecode = True
@@ -20,6 +22,7 @@ from config_rows import bare
 from element_rows import CRATE, SIGNS, toml
 
 SEED, DRAWN, EACH = 47, 40, 3
+SCRIPTS_SEED, SCRIPTS_DRAWN = 53, 30
 MARK = "# Made by scripts/plan_rows.py, as all rows below this line."
 
 # ---- inputs as changes of plan.json
@@ -132,11 +135,19 @@ def drawn_row(draw):
     tools = draw.choice(["t", "t", "tu", "tu"])
     texts = {tool: drawn_file(draw, chain, [f"@tool:{tool}:slow"]) for tool in tools}
     own = drawn_file(draw, chain, ["g", "h"])
-    parents = dict(zip(chain[:-1], chain[1:]))
-    for name, parent in parents.items():
-        # each profile of the chain is somewhere, and says what its parent is
+    return drawn_changes(draw, chain, with_parents(own, chain), texts)
+
+
+def with_parents(own, chain):
+    """The repository's file, in which each profile of a chain is somewhere, and says what its parent is."""
+    for name, parent in zip(chain[:-1], chain[1:]):
         line = f"[profile.{name}]\n" + (f'inherits = "{parent}"\n' if parent != "default" else "")
         own = own.replace(f"[profile.{name}]\n", line) if f"[profile.{name}]\n" in own else own + line
+    return own
+
+
+def drawn_changes(draw, chain, own, texts):
+    """Changes that give inputs the first profile of a chain, the repository's file and those of tools, and drawn binaries, platforms and filterset."""
     binaries = draw.sample(BINARIES, draw.choice([1, 2, 2, 3]))
     others = [{"id": id, "name": name, "package": package, "kind": kind, "platform": platform, "tests": draw.sample(TESTS, draw.choice([1, 2, 3]))}
               for id, name, package, kind, platform in binaries]
@@ -155,6 +166,60 @@ def drawn_row(draw):
         '["a","b"]', shown(draw.sample(TESTS, draw.choice([2, 3, 4]))), '{"id":"p","name":"p"}', '{"id":"p","name":"p"},{"id":"q-1","name":"q"}',
         '"links":[]', '"links":[["p","q-1"]]', '"binaries":[', f'"binaries":{shown(others)[:-1]},', *with_sources(sources, **fields),
     ]
+
+
+# ---- drawn inputs with scripts
+
+SETUPS, WRAPPERS = ["s", "t", "Z", "über"], ["w", "v"]
+OF_TOOL = {"setup": "@tool:t:s", "wrapper": "@tool:t:w"}
+COMMANDS = ["x", "y --z 'a b'", ["v", ""], {"command-line": "w 1", "relative-to": "target"}, {"command-line": ["u"], "env": {"B": "2", "A": ""}}]
+RUNNERS = [{}, {}, {"target-runner": "ignore"}, {"target-runner": "within-wrapper"}, {"target-runner": "around-wrapper"}]
+
+
+def drawn_scripts(draw, setups, wrappers):
+    """The text that defines setup scripts and wrapper scripts of these names."""
+    text = "".join(f"{bare(name)}.command = 'x'\n" for name in setups)
+    told = "".join(f"{bare(name)} = {toml({'command': draw.choice(COMMANDS), **draw.choice(RUNNERS)})}\n" for name in wrappers)
+    return f"[scripts.setup]\n{text}[scripts.wrapper]\n{told}"
+
+
+def drawn_script_rule(draw):
+    """A script rule that holds somewhere, or nowhere, and names some scripts, or none."""
+    it, spec = {}, lambda: draw.choice(SPECS)
+    kind = draw.choice(["filter", "filter", "both", "platform"])
+    if kind != "filter":
+        it["platform"] = draw.choice([spec(), {"host": spec()}, {"target": spec()}, {"host": spec(), "target": spec()}])
+    if kind != "platform":
+        it["filter"] = drawn_filter(draw)
+    # a decomposed name is the composed one
+    setups = draw.sample([*SETUPS, "u\u0308ber", OF_TOOL["setup"]], draw.choice([0, 1, 1, 2, 3]))
+    if setups or draw.random() < 0.3:
+        it["setup"] = setups[0] if len(setups) == 1 and draw.random() < 0.7 else setups
+    if draw.random() < 0.5:
+        it["run-wrapper"] = draw.choice([*WRAPPERS, OF_TOOL["wrapper"]])
+    if draw.random() < 0.3 and not re.search(r"test\(|default\(", it.get("filter", "")):
+        it["list-wrapper"] = draw.choice([*WRAPPERS, OF_TOOL["wrapper"]])
+    return it
+
+
+def drawn_script_file(draw, chain):
+    """The text of the script rules of a file, in the profiles of a chain and in another one."""
+    text = ""
+    for name in [*chain, "other"]:
+        for _ in range(draw.choice([0, 1, 1, 2, 3])):
+            text += f"[[profile.{name}.scripts]]\n" + "".join(f"{key} = {toml(value)}\n" for key, value in drawn_script_rule(draw).items())
+    return text
+
+
+def drawn_script_row(draw):
+    """Changes of plan.json: two files with scripts, a chain of one to three profiles, some binaries, platforms, and a filterset or none."""
+    chain = draw.choice([["default"], ["ci", "default"], ["ci", "default"], ["ci", "base", "default"]])
+    own = 'experimental = ["setup-scripts", "wrapper-scripts"]\n' + drawn_scripts(draw, SETUPS, WRAPPERS)
+    own += "[test-groups]\ng.max-threads = 1\nh.max-threads = 1\n" + with_parents("", chain)
+    of_tool = drawn_scripts(draw, [OF_TOOL["setup"]], [OF_TOOL["wrapper"]]) + drawn_script_file(draw, chain)
+    if draw.random() < 0.6:
+        own += f"[[profile.{chain[0]}.overrides]]\nplatform = 'cfg(all())'\ndefault-filter = {toml(draw.choice(DEFAULTS))}\n"
+    return drawn_changes(draw, chain, own + drawn_script_file(draw, chain), {"t": of_tool})
 
 
 # ---- wrong rules, to see that rows tell them from the right ones
@@ -255,9 +320,7 @@ class FirstThatHoldsAlone(OtherProfile):
     """A setting is that of the first override that holds, whatever it sets."""
 
     def settings(self, filtering, binary, test):
-        built = self.host if binary.platform == "host" else self.target
-        rules = [it for it in self.rules if self.fits(it, built) and (it.filter is None or filtering.holds(it.filter, binary, test, None))]
-        kept, self.rules = self.rules, rules[:1]
+        kept, self.rules = self.rules, self.holding(self.rules, filtering, binary, test)[:1]
         found = super().settings(filtering, binary, test)
         self.rules = kept
         return found
@@ -300,6 +363,147 @@ class DefaultIsEverything(OtherProfile):
 WRONG = [it for it in OtherProfile.__subclasses__()]
 
 
+class OtherScripts(plans.Profile):
+    """A profile whose scripts are planned by another rule."""
+
+    def __init__(self, *given):
+        super().__init__(*given)
+        self.selected = []
+        self.choose()
+
+    def choose(self):
+        pass
+
+    def chain(self):
+        return plans.configs.chain_of(self.config.merged["profile"], self.name)
+
+    def in_place(self, place):
+        """The script rules in the order of (profile of the chain, file from the highest, index) by a key of these."""
+        found = [((a, b, c), rule) for a, it in enumerate(self.chain()) for b, of_file in enumerate(self.config.script_rules[::-1])
+                 for c, rule in enumerate(of_file.get(it, []))]
+        self.script_rules = [rule for _, rule in sorted(found, key=lambda pair: place(*pair[0]))]
+
+
+class ScriptsOfTheChosenProfile(OtherScripts):
+    def choose(self):
+        self.script_rules = [rule for of_file in self.config.script_rules[::-1] for rule in of_file.get(self.chain()[0], [])]
+
+
+class ScriptsOfEveryProfile(OtherScripts):
+    def choose(self):
+        self.script_rules = self.script_rules + [rule for of_file in self.config.script_rules[::-1] for rule in of_file.get("other", [])]
+
+
+class ScriptsOfTheHighestFile(OtherScripts):
+    def choose(self):
+        self.script_rules = [rule for it in self.chain() for rule in self.config.script_rules[-1].get(it, [])]
+
+
+class ScriptsWhateverThePlatforms(OtherScripts):
+    fits = lambda self, rule, built: True
+
+
+class ScriptsOfKnownPlatforms(OtherScripts):
+    def fits(self, rule, built):
+        return all(tree is None or plans.spec_values(tree, it) == {True} for tree, it in ((rule.host, self.host), (rule.target, built)))
+
+
+class ScriptsByTheHostAlone(OtherScripts):
+    fits = lambda self, rule, built: plans.may_hold(rule.host, self.host) and plans.may_hold(rule.target, self.host)
+
+
+class ScriptsByTheTargetAlone(OtherScripts):
+    fits = lambda self, rule, built: super().fits(rule, self.target)
+
+
+class ScriptsWhateverTheFilters(OtherScripts):
+    def choose(self):
+        self.script_rules = [rule._replace(filter=None) for rule in self.script_rules]
+
+
+class ScriptsOfTheFirstThatHolds(OtherScripts):
+    def setup_scripts(self, filtering, binary, test):
+        rules = self.holding(self.script_rules, filtering, binary, test)
+        return {name for rule in rules[:1] for name in rule.values.get("setup", [])}
+
+
+class ScriptsOfTheFirstThatNamesSome(OtherScripts):
+    def setup_scripts(self, filtering, binary, test):
+        rules = self.holding(self.script_rules, filtering, binary, test)
+        return {*next((rule.values["setup"] for rule in rules if "setup" in rule.values), [])}
+
+
+class EachNamedScript(OtherScripts):
+    def setup_scripts(self, filtering, binary, test):
+        return {name for rule in self.script_rules for name in rule.values.get("setup", [])}
+
+
+class EachDefinedScript(OtherScripts):
+    def setup_scripts(self, filtering, binary, test):
+        return {name for name, _ in self.config.merged["scripts"]["setup"]}
+
+
+class ScriptsOfSkippedTests(OtherScripts):
+    """Tests that were listed before, selected or not, have scripts planned."""
+
+    def settings(self, filtering, binary, test):
+        self.selected.append((filtering, binary, test))
+        return super().settings(filtering, binary, test)
+
+    def setup_scripts(self, filtering, binary, test):
+        return {name for it in self.selected for name in super(ScriptsOfSkippedTests, self).setup_scripts(*it)}
+
+
+class EverythingIsDefault(OtherScripts):
+    """In filters of script rules `default()` is everything."""
+
+    def holding(self, rules, filtering, binary, test):
+        return super().holding(rules, filtering._replace(default=plans.filtersets.Leaf("all", "")), binary, test)
+
+
+class ScriptsInAnyCase(OtherScripts):
+    script_order = lambda self, scripts: sorted(super().script_order(scripts), key=str.lower)
+
+
+class LastScriptFirst(OtherScripts):
+    script_order = lambda self, scripts: super().script_order(scripts)[::-1]
+
+
+class WrapperOfTheLowestFile(OtherScripts):
+    choose = lambda self: self.in_place(lambda a, b, c: (a, -b, c))
+
+
+class WrapperOfTheHighestFile(OtherScripts):
+    choose = lambda self: self.in_place(lambda a, b, c: (b, a, c))
+
+
+class WrapperOfTheLastIndex(OtherScripts):
+    choose = lambda self: self.in_place(lambda a, b, c: (a, b, -c))
+
+
+class WrapperOfTheDefaultProfile(OtherScripts):
+    choose = lambda self: self.in_place(lambda a, b, c: (-a, b, c))
+
+
+class WrapperOfTheFirstThatHolds(OtherScripts):
+    def run_wrapper(self, filtering, binary, test):
+        name = next((rule.values.get("run-wrapper") for rule in self.holding(self.script_rules, filtering, binary, test)), None)
+        return None if name is None else self.config.wrapper(name)
+
+
+class WrapperOfLists(OtherScripts):
+    """A test has the wrapper script by which its binary is listed."""
+
+    def run_wrapper(self, filtering, binary, test):
+        rules = self.holding(self.script_rules, filtering, binary, test)
+        name = next((rule.values["list-wrapper"] for rule in rules if "list-wrapper" in rule.values), None)
+        return None if name is None else self.config.wrapper(name)
+
+
+WRONG_SCRIPTS = [it for it in OtherScripts.__subclasses__()]
+WRONG_WRAPPERS = [it for it in WRONG_SCRIPTS if it.__name__.startswith("Wrapper")]
+
+
 @contextlib.contextmanager
 def by_rule(profile):
     right, plans.Profile = plans.Profile, profile
@@ -311,22 +515,35 @@ def by_rule(profile):
 
 def drawn(seed, answer, plan):
     """Drawn changes, each with its answer by a form of answers."""
-    draw, found, told = random.Random(seed), {}, dict.fromkeys(WRONG, 0)
-    while len(found) < DRAWN or min(told.values()) < EACH:
-        changes = drawn_row(draw)
+    return drawn_by(random.Random(seed), answer, plan, (drawn_row, DRAWN, WRONG))
+
+
+def drawn_with_scripts(seed, answer, plan, wrongs):
+    """The same of inputs with scripts, which tell these wrong rules apart."""
+    return drawn_by(random.Random(seed), answer, plan, (drawn_script_row, SCRIPTS_DRAWN, wrongs))
+
+
+def drawn_by(draw, answer, plan, kind):
+    row, number, wrongs = kind
+    found, told = {}, dict.fromkeys(wrongs, 0)
+    while len(found) < number or min(told.values()) < EACH:
+        changes = row(draw)
         inputs = json.loads(changed(plan, changes))
-        right, others = answer(inputs), []
-        for wrong in WRONG:
-            with by_rule(wrong):
-                if answer(inputs) != right:
-                    others.append(wrong)
+        right = answer(inputs)
+        others = [wrong for wrong in wrongs if comes_to(wrong, inputs, answer) != right]
         # left out are rows that tell few wrong rules apart, but for those that are told apart rarely; and most that are refused
         is_rare = any(told[wrong] < EACH for wrong in others)
-        if tuple(changes) not in found and (is_rare or len(found) < DRAWN and len(others) >= draw.choice([0, 4, 6, 6])):
+        if tuple(changes) not in found and (is_rare or len(found) < number and len(others) >= draw.choice([0, 4, 6, 6])):
             found[tuple(changes)] = right
             for wrong in others:
                 told[wrong] += 1
     return found.items()
+
+
+def comes_to(wrong, inputs, answer):
+    """What inputs come to by a wrong rule."""
+    with by_rule(wrong):
+        return answer(inputs)
 
 
 # ---- inputs with two faults
@@ -335,7 +552,7 @@ TWICE = [["unix", True], ["windows", False], ["unix", True]]
 BOTH = [["target_os", "linux", True], ["target_os", "linux", False]]
 OVERRIDE = "[[profile.default.overrides]]\n"
 # In the order in which they are told: the name under which inputs are refused, where the fault stands (the file, the tests of the binary, or other fields),
-# and what stands there.
+# and what stands there. A script is no fault, so what is told is the other one's.
 FAULTS = [
     ("Load.BadName", "file", '[test-groups."@tool:t:g"]\nmax-threads = 1\n'),
     ("Load.NoConstraint", "file", f"{OVERRIDE}retries = 1\n"),
@@ -344,7 +561,7 @@ FAULTS = [
     ("Load.BadFilter", "file", f'{OVERRIDE}filter = "group(@global)"\n'),
     ("Load.UnknownGroup", "file", f'{OVERRIDE}filter = "all()"\ntest-group = "h"\n'),
     ("Load.Cycle", "file", '[profile.a]\ninherits = "a"\n'),
-    ("NotYet", "file", "[experimental]\nsetup-scripts = true\n[scripts.setup.s]\ncommand = \"x\"\n"),
+    (None, "file", "[experimental]\nsetup-scripts = true\n[scripts.setup.s]\ncommand = \"x\"\n"),
     ("ProfileNotFound", "fields", {"profile": "ci"}),
     ("RepeatedFact", "fields", {"host": {"triple": "", "facts": TWICE}}),
     ("RepeatedFact", "fields", {"target": {"triple": "", "facts": BOTH}}),
@@ -364,11 +581,11 @@ def faulty_rows(plan):
     """Inputs with each two faults, each with its answer: that of the first in the list."""
     for one, other in itertools.combinations(FAULTS, 2):
         # of two faults of the load those of one file and of the profiles stand in a table of loads
-        if one[0].startswith("Load.") and other[0].startswith("Load."):
+        if all(name and name.startswith("Load.") for name, _, _ in (one, other)):
             continue
         changes = faulty(one, other)
         answer = plans.shown_selection(json.loads(changed(plan, changes)))
-        assert answer.split(";")[0] == one[0], (changes, answer)
+        assert answer.split(";")[0] == (one[0] or other[0]), (changes, answer)
         yield tuple(changes), answer
 
 
@@ -377,7 +594,9 @@ def faulty_rows(plan):
 
 def main():
     plan = (CRATE / "data/plan.json").read_text(encoding="utf-8")
-    found = {**dict(faulty_rows(plan)), **dict(drawn(SEED, plans.shown_selection, plan))}
+    setups = [it for it in WRONG_SCRIPTS if it not in WRONG_WRAPPERS]
+    scripts = drawn_with_scripts(SCRIPTS_SEED, plans.shown_selection, plan, setups)
+    found = {**dict(faulty_rows(plan)), **dict(drawn(SEED, plans.shown_selection, plan)), **dict(scripts)}
     file = CRATE / "data/plans.txt"
     by_hand = file.read_text(encoding="utf-8").split(f"\n{MARK}\n")[0].rstrip("\n")
     lines = [f"{' => '.join(changes)} => {answer}".translate(SIGNS) for changes, answer in found.items()]

@@ -3,9 +3,9 @@
 What may stand at the keys of files, how files merge and how profiles inherit is reckoned by scripts/config_rows.py, which versions are asked for by
 scripts/version_rows.py, and what predicates of filtersets are on a binary by scripts/filterset_rows.py. Here are the rules above these:
 
-- Inputs are refused for the first of these: a fault of the workspace, of versions and features, of the load; a file that sets a key of scripts; a
-  profile that isn't there; a repeated fact, of the host before the target; a filterset that is none; as soon as a listed binary answered what is
-  wrong with its tests; and a selected test whose retries can't be counted.
+- Inputs are refused for the first of these: a fault of the workspace, of versions and features, of the load; a profile that isn't there; a
+  repeated fact, of the host before the target; a filterset that is none; as soon as a listed binary answered what is wrong with its tests; and a
+  selected test whose retries can't be counted.
 - Overrides stand in one order: by the chain of the profile (itself, its parents one after another, `default`), then by file from the highest, then
   by index. One holds on a test where its spec of the host may hold on the host, and its spec of the target on the platform that the test's binary
   is built for: the host of a binary of the host; else the target, which is the host where none is given; and where its filter, if it has one, holds
@@ -13,6 +13,10 @@ scripts/version_rows.py, and what predicates of filtersets are on a binary by sc
 - The default filter is that of the first override that has one and whose specs may hold on the host and on the target, else that of the nearest
   profile. `default()` is this filter, in a filter of an override as in the filterset, also where it is left aside.
 - The filter of a script rule with a `list-wrapper` asks for no `test(..)`, `group(..)` or `default()`.
+- Script rules stand in one order as overrides do, and hold on a test by the same rule. A setup script is planned exactly if a script rule that
+  names it under `setup` holds on a selected test; so none is where nothing is selected. Planned scripts run in the order of the bytes of their
+  names in NFC, each once. The wrapper script of a test is the one that the first script rule names that holds on it and sets `run-wrapper`, else
+  there is none; no report tells it.
 - In force are the filterset, where one is given, and the default filter, unless it is left aside. A binary is listed where each of them can hold on
   it, by answers of its own to each place of `test(..)` and `group(..)`; a test is selected where all hold on it. `group(..)` is asked of the group
   that is the test's setting, and may name `@global` and the groups that all files define together.
@@ -382,12 +386,17 @@ class Override(NamedTuple):
 
 
 class Config(NamedTuple):
-    """What sources come to: the settings of profiles, the overrides of each file by its profiles, the lowest file first, and groups."""
+    """What sources come to: the settings of profiles, the rules of each file by its profiles, the lowest file first, and groups."""
 
     merged: dict
     default_filters: dict
     overrides: list
+    script_rules: list
     groups: list
+
+    def wrapper(self, name):
+        """The wrapper script of a name."""
+        return dict(self.merged["scripts"]["wrapper"])[name]
 
 
 def counted(sources):
@@ -494,11 +503,8 @@ def load(sources, workspace, features=()):
     except NoFilterset:
         raise Refused("Load.BadFilter") from None
     overrides = [{name: it.overrides for name, it in of_file.items()} for of_file in rules]
-    return Config(merged, default_filters, overrides, list(merged.get("test-groups", {})))
-
-
-def sets_scripts(file):
-    return bool({"script", "scripts"} & set(file)) or any("scripts" in it for it in file.get("profile", {}).values())
+    script_rules = [{name: it.scripts for name, it in of_file.items()} for of_file in rules]
+    return Config(merged, default_filters, overrides, script_rules, list(merged.get("test-groups", {})))
 
 
 def versions_told(sources, inputs):
@@ -553,6 +559,7 @@ class Profile:
         self.target = host if target is None else target
         chain = configs.chain_of(config.merged["profile"], name)
         self.rules = [rule for it in chain for of_file in config.overrides[::-1] for rule in of_file.get(it, [])]
+        self.script_rules = [rule for it in chain for of_file in config.script_rules[::-1] for rule in of_file.get(it, [])]
         nearest = next(config.default_filters[it] for it in chain if it in config.default_filters)
         self.default = next((rule.default for rule in self.rules if rule.default is not None and self.fits(rule, self.target)), nearest)
 
@@ -564,10 +571,28 @@ class Profile:
         """Whether an override may hold for what is built for a platform."""
         return may_hold(rule.host, self.host) and may_hold(rule.target, built)
 
+    def holding(self, rules, filtering, binary, test):
+        """Those of some rules that hold on a test."""
+        built = self.host if binary.platform == "host" else self.target
+        return [it for it in rules if self.fits(it, built) and (it.filter is None or filtering.holds(it.filter, binary, test, None))]
+
+    def setup_scripts(self, filtering, binary, test):
+        """The names of the setup scripts that are planned where this test is selected."""
+        return {name for rule in self.holding(self.script_rules, filtering, binary, test) for name in rule.values.get("setup", [])}
+
+    def script_order(self, scripts):
+        """Scripts in the order in which they run."""
+        return in_order(scripts)
+
+    def run_wrapper(self, filtering, binary, test):
+        """The wrapper script of a test, or None."""
+        rules = self.holding(self.script_rules, filtering, binary, test)
+        name = next((rule.values["run-wrapper"] for rule in rules if "run-wrapper" in rule.values), None)
+        return None if name is None else self.config.wrapper(name)
+
     def settings(self, filtering, binary, test):
         """The settings of a test."""
-        built = self.host if binary.platform == "host" else self.target
-        rules = [it for it in self.rules if self.fits(it, built) and (it.filter is None or filtering.holds(it.filter, binary, test, None))]
+        rules = self.holding(self.rules, filtering, binary, test)
 
         def setting(key, otherwise):
             return next((elements.shown(rule.values[key]) for rule in rules if key in rule.values), otherwise)
@@ -588,12 +613,14 @@ class PlanTest(NamedTuple):
     binary: str
     name: str
     settings: Settings
+    run_wrapper: Optional[dict]
 
 
 class Plan(NamedTuple):
     """What inputs come to."""
 
     warnings: list
+    scripts: list
     tests: list
     skipped: list
     listed: list
@@ -643,9 +670,6 @@ def plan_of(inputs):
     workspace, sources = workspace_of(record), counted(inputs["sources"])
     warnings, features = versions_told(sources, inputs)
     config = load(sources, workspace, features)
-    texts = [(it["path"], it["text"]) for it in sources if "text" in it]
-    if any(sets_scripts(read_toml(text)) for _, text in texts):
-        raise Refused("NotYet")
     name = inputs.get("profile", "default")
     if name not in config.merged["profile"]:
         raise Refused("ProfileNotFound")
@@ -661,27 +685,40 @@ def plan_of(inputs):
     if not inputs.get("ignore_default_filter"):
         in_force.append(profile.default)
     filtering = Filtering(workspace, profile.default)
-    listed, selected, skipped = [], [], []
+    listed, selected, skipped, scripts = [], [], [], set()
     for binary, it in zip(workspace.binaries, record["binaries"]):
         if not all(filtering.can_hold(formula, binary) for formula in in_force):
             continue
         listed.append(binary.id)
         check_names(it["tests"], listed)
         for test in it["tests"]:
-            settings = profile.settings(filtering, binary, test)
+            settings, wrapper = profile.settings(filtering, binary, test), profile.run_wrapper(filtering, binary, test)
             holds = all(filtering.holds(formula, binary, test, settings.group) for formula in in_force)
-            (selected if holds else skipped).append(PlanTest(binary.id, test, settings))
+            (selected if holds else skipped).append(PlanTest(binary.id, test, settings, wrapper))
+            scripts |= profile.setup_scripts(filtering, binary, test) if holds else set()
     if any(test.settings.tries > MOST_RETRIES for test in selected):
         raise Refused("RetriesTooMany", listed)
     selected.sort(key=lambda test: (-test.settings.priority, test.binary.encode(), test.name.encode()))
-    for path, text in texts:
+    for path, text in ((it["path"], it["text"]) for it in sources if "text" in it):
         warnings += [line for line in configs.warning_answer(path, text).split("; ") if line != "-"]
     levels = profile.setting("status-level"), profile.setting("final-status-level")
-    return Plan(warnings, selected, skipped, listed, profile.setting("fail-fast"), levels)
+    return Plan(warnings, profile.script_order(scripts), selected, skipped, listed, profile.setting("fail-fast"), levels)
 
 
 def each(words, form="{}"):
     return "".join(f" {form.format(it)}" for it in words)
+
+
+def scripts_shown(plan):
+    """The planned scripts, where there are some."""
+    return f"; scripts{each(plan.scripts)}" if plan.scripts else ""
+
+
+def test_shown(test):
+    """A test with its settings, and its wrapper script where it has one."""
+    it = test.settings
+    words = [test.binary, test.name, f"x{it.tries}", it.flaky_result, it.success_output, it.failure_output]
+    return " ".join(words if test.run_wrapper is None else [*words, "wrapper", configs.wrapper_told(test.run_wrapper)])
 
 
 def shown_settings(inputs):
@@ -690,8 +727,8 @@ def shown_settings(inputs):
         plan = plan_of(inputs)
     except Refused as refusal:
         return str(refusal)
-    tests = [f"{it.binary} {it.name} x{it.settings.tries} {' '.join(it.settings[3:])}" for it in plan.tests]
-    return f"run{each(tests, '[{}]')}; limit {plan.limit}; levels {' '.join(plan.levels)}; warnings{each(plan.warnings, '[{}]')}"
+    tests = each(map(test_shown, plan.tests), "[{}]")
+    return f"run{tests}{scripts_shown(plan)}; limit {plan.limit}; levels {' '.join(plan.levels)}; warnings{each(plan.warnings, '[{}]')}"
 
 
 def shown_selection(inputs):
@@ -702,4 +739,5 @@ def shown_selection(inputs):
         return f"{refusal}; asked{each(refusal.asked)}"
     tests = [f"{it.binary} {it.name} x{it.settings.tries}" for it in plan.tests]
     skipped = [f"{it.binary} {it.name}" for it in plan.skipped]
-    return f"run{each(tests, '[{}]')}; skip{each(skipped, '[{}]')}; limit {plan.limit}; listed{each(plan.listed)}; asked{each(plan.listed)}"
+    tests = f"run{each(tests, '[{}]')}{scripts_shown(plan)}"
+    return f"{tests}; skip{each(skipped, '[{}]')}; limit {plan.limit}; listed{each(plan.listed)}; asked{each(plan.listed)}"

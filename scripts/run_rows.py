@@ -7,6 +7,8 @@
 It knows nothing of the program: each answer is reckoned here by the rules. What inputs come to is reckoned by scripts/plan_rules.py; rows that
 scripts/plan_rows.py draws stand at the end of `profiles_plans`. Then, by the rules:
 
+- Scripts end one by one, in the plan's order, while the run isn't stopped: another line of a script is refused, of one that isn't planned first,
+  then where the run is stopped. A script that ends without a success stops the run. No test starts before all scripts ended.
 - An attempt that ends finishes its test if it is a success, the last try, or the run is stopped; else the test is between two attempts. A
   finished test fails where its last attempt does, or where it passes late and the flaky rule is `fail`. As many of these as the limit stop
   a run that isn't stopped, and each stop finishes the tests between two attempts.
@@ -15,6 +17,9 @@ scripts/plan_rows.py draws stand at the end of `profiles_plans`. Then, by the ru
   not after an interrupt; in the final text where they are shown finally, but not after a signal where they stood at once. The final text has
   each test that isn't finished, without outputs; and of the others, but after an interrupt, those whose outputs are shown finally and those
   that the final level reaches. A test that the run itself ended has its line alone.
+- A script failed whose end is a failure, a leak that fails, an abort, a start that failed or any timeout, also one that passes. The status is 105
+  where one failed or didn't end; else 100 where a test failed or didn't finish; else 4 where there is no test. The final text tells of scripts
+  first, with the outputs of those that ended without a success.
 - The part of an output that tells of the error runs from the last panic message of standard error, or from a line before it that begins with
   `Error:`, else from its first line that begins so; or it is the note on standard output that a panic is missing.
 """
@@ -38,12 +43,25 @@ DATA, ROWS = versions.ROOT / "crates/worked_rows/data", versions.ROOT / "rows"
 
 STATUS_LEVELS = ["None", "Fail", "Retry", "Slow", "Leak", "Pass", "Skip", "All"]
 FINAL_LEVELS = ["None", "Fail", "Flaky", "Slow", "Skip", "Leak", "Pass", "All"]
-REASONS = ["test-failure", "report-error", "test-failure-immediate", "global-timeout", "signal", "interrupt", "second-signal"]
+REASONS = ["setup-script-failure", "test-failure", "report-error", "test-failure-immediate", "global-timeout", "signal", "interrupt", "second-signal"]
 COUNTERS = (
     "initial-run-count finished-count setup-scripts-initial-count setup-scripts-finished-count setup-scripts-passed setup-scripts-failed"
     " setup-scripts-exec-failed setup-scripts-timed-out passed passed-slow passed-timed-out flaky failed failed-slow failed-timed-out leaky"
     " leaky-failed exec-failed skipped"
 ).split()
+
+SUCCESSES = ("pass", "leak:pass", "timeout:pass")
+# Under which counter a script counts that ended, by the first word of its end; of leaks by the whole.
+COUNTED_SCRIPTS = {"pass": "passed", "leak:pass": "passed", "leak:fail": "failed", "fail": "failed", "abort": "failed", "exec-fail": "exec-failed", "timeout": "timed-out"}
+
+# The lines of a log, but for the bounds of numbers.
+RECORD = (
+    r"(?:(?:pass|(?:leak|timeout):(?:pass|fail)|(?:fail:-?|abort:)[1-9][0-9]*(?::leaked)?)\t(?:slow|-)\t(?:0|[1-9][0-9]*)(?:\t(?:-|(?:[0-9a-f]{2})*)){2}"
+    r"|exec-fail\t(?:slow|-)\t(?:0|[1-9][0-9]*)\t(?:[0-9a-f]{2})*\t-)"
+)
+LINE = re.compile(
+    rf"script\t[^\t]*\t{RECORD}|start\t[^\t]*\t[^\t]*|end\t[^\t]*\t[^\t]*\t{RECORD}|stop\t(?:report-error|global-timeout|signal|interrupt|second-signal)"
+)
 
 # ---- runs
 
@@ -69,6 +87,39 @@ def slice_of(out, err):
     return ("should-panic", note.start(), len(note[0])) if note else None
 
 
+def outputs_of(ended):
+    """The lines of the outputs of what ended so."""
+    result, _, _, out, err = ended
+    if result == "exec-fail":
+        return [f"error\t{out}"]
+    return [f"{name}\t{stream}" for name, stream in (("out", out), ("err", err)) if stream != "-"]
+
+
+class Script:
+    """A script of a run: the fields of its end, or None where it didn't end."""
+
+    def __init__(self, id):
+        self.id, self.ended = id, None
+
+    def is_success(self):
+        return self.ended[0] in SUCCESSES
+
+    def counter(self):
+        """The counter under which it counts, once it ended."""
+        result = self.ended[0]
+        return COUNTED_SCRIPTS[result if result.startswith("leak") else result.split(":")[0]]
+
+    def fails(self):
+        return self.ended is not None and self.counter() != "passed"
+
+    def part(self):
+        """Its lines in the final text."""
+        if self.ended is None:
+            return [f"script\t{self.id}\tnot-run"]
+        line = "\t".join(["script", self.id, *self.ended[:3]])
+        return [line] + ([] if self.is_success() else outputs_of(self.ended))
+
+
 class Test:
     """A test of a run: the fields of its ended attempts, its mark, and the reason under which it finished."""
 
@@ -80,7 +131,7 @@ class Test:
         return self.ended[-1][0]
 
     def is_success(self):
-        return self.result() in ("pass", "leak:pass", "timeout:pass")
+        return self.result() in SUCCESSES
 
     def is_late(self):
         return len(self.ended) > 1
@@ -121,12 +172,11 @@ class Test:
         return "\t".join([*self.name, self.fate(), f"{len(self.ended)}/{self.settings.tries}"])
 
     def outputs(self):
-        _, _, _, out, err = self.ended[-1]
-        if self.result() == "exec-fail":
-            return [f"error\t{out}"]
-        lines = [f"{name}\t{stream}" for name, stream in (("out", out), ("err", err)) if stream != "-"]
-        found = slice_of(*(b"" if stream == "-" else bytes.fromhex(stream) for stream in (out, err)))
-        return lines + (["slice\t{}\t{}\t{}".format(*found)] if found and not self.is_success() else [])
+        lines = outputs_of(self.ended[-1])
+        if self.is_success() or self.result() == "exec-fail":
+            return lines
+        found = slice_of(*(b"" if stream == "-" else bytes.fromhex(stream) for stream in self.ended[-1][3:]))
+        return lines + (["slice\t{}\t{}\t{}".format(*found)] if found else [])
 
     def done(self):
         line, outputs, _, _ = self.shows()
@@ -143,6 +193,7 @@ class Run:
 
     def __init__(self, plan):
         self.tests = {(it.binary, it.name): Test(it, plan.levels) for it in plan.tests}
+        self.scripts = [Script(id) for id in plan.scripts]
         self.skipped, self.reason = len(plan.skipped), None
         limit = re.fullmatch("All|Count { max_fail: ([0-9]+), terminate: (Wait|Immediate) }", plan.limit)
         self.limit = int(limit[1]) if limit[1] else None
@@ -162,19 +213,44 @@ class Run:
             test.mark, test.under = "finished", reason
         return between
 
+    def pending(self):
+        """The scripts that didn't end yet."""
+        return [script for script in self.scripts if script.ended is None]
+
+    def end_script(self, id, ended):
+        """The tests that the end of a script finishes."""
+        if id not in [script.id for script in self.scripts]:
+            raise Refused("UnknownScript")
+        if self.reason is not None:
+            raise Refused("Stopped")
+        if id not in [script.id for script in self.pending()[:1]]:
+            raise Refused("OutOfOrder")
+        script = self.pending()[0]
+        script.ended = ended
+        return [] if script.is_success() else self.stop("setup-script-failure")
+
+    def start(self, test):
+        if self.reason is not None:
+            raise Refused("Stopped")
+        if self.pending():
+            raise Refused("ScriptsPending")
+        if test.mark in ("running", "finished"):
+            raise Refused(test.mark.capitalize())
+        test.mark = "running"
+
     def take(self, fields):
         """The tests that a line finishes, in the order in which they are told."""
+        if not LINE.fullmatch("\t".join(fields)):
+            raise Refused("BadLine")
         if fields[0] == "stop":
             return self.stop(fields[1])
         if fields[0] == "script":
-            raise Refused("UnknownScript")
+            return self.end_script(fields[1], fields[2:])
         test = self.tests.get(tuple(fields[1:3]))
         if test is None:
             raise Refused("UnknownTest")
         if fields[0] == "start":
-            if self.reason is not None or test.mark in ("running", "finished"):
-                raise Refused("Stopped" if self.reason is not None else test.mark.capitalize())
-            test.mark = "running"
+            self.start(test)
             return []
         if test.mark != "running":
             raise Refused("NotRunning")
@@ -189,6 +265,10 @@ class Run:
     def counters(self):
         counts = dict.fromkeys(COUNTERS, 0) | {"initial-run-count": len(self.tests), "finished-count": len(self.finished())}
         counts["skipped"] = self.skipped
+        ended = [script for script in self.scripts if script.ended is not None]
+        counts |= {"setup-scripts-initial-count": len(self.scripts), "setup-scripts-finished-count": len(ended)}
+        for script in ended:
+            counts[f"setup-scripts-{script.counter()}"] += 1
         for test in self.finished():
             result, kind = test.result(), test.result().split(":")[0]
             if not test.fails():
@@ -203,20 +283,32 @@ class Run:
                 counts[name] += 1
         return counts
 
+    def summary(self, reason):
+        """The status and the outcome."""
+        initial, finished = len(self.tests), len(self.finished())
+        numbers = f"test {initial} {initial - finished}"
+        is_failed = reason in ("-", "setup-script-failure", "test-failure", "test-failure-immediate")
+        if any(script.fails() for script in self.scripts):
+            return 105, "failed setup-script" if is_failed else f"cancelled setup-script {reason}"
+        if self.pending():
+            return 105, f"cancelled setup-script {reason}"
+        if any(test.fails() for test in self.finished()):
+            return 100, f"failed {numbers}" if is_failed else f"cancelled {numbers} {reason}"
+        if finished < initial:
+            return 100, f"cancelled {numbers} {reason}"
+        return (0, "success") if initial else (4, "no-tests-run")
+
+    def parts(self):
+        """The lines of scripts and tests in the final text."""
+        return [line for it in [*self.scripts, *self.tests.values()] for line in it.part()]
+
     def final_text(self):
         """The final text and the status."""
-        initial, finished = len(self.tests), len(self.finished())
-        numbers, reason = f"test {initial} {initial - finished}", self.reason or "-"
-        if any(test.fails() for test in self.finished()):
-            is_failed = reason in ("-", "test-failure", "test-failure-immediate")
-            status, outcome = 100, f"failed {numbers}" if is_failed else f"cancelled {numbers} {reason}"
-        elif finished < initial:
-            status, outcome = 100, f"cancelled {numbers} {reason}"
-        else:
-            status, outcome = (0, "success") if initial else (4, "no-tests-run")
+        reason = self.reason or "-"
+        status, outcome = self.summary(reason)
         lines = ["== final ==", f"status\t{status}", f"outcome {outcome}"]
         lines += [f"{name}\t{count}" for name, count in self.counters().items()]
-        return [*lines, f"cancel-reason\t{reason}", *itertools.chain(*(test.part() for test in self.tests.values()))], status
+        return [*lines, f"cancel-reason\t{reason}", *self.parts()], status
 
 
 def run_answer(stream):
@@ -365,7 +457,7 @@ PLAN_TEXTS = [
     # keys that a plan shows nothing of
     "store = {}", "[profile.default]\nslow-timeout = '60s'\ntest-threads = 4\nleak-timeout = '1s'\nglobal-timeout = '1h'\nrun-extra-args = ['x']\narchive = 1\n",
     "[profile.default]\nretries = { backoff = 'fixed', count = 1 }\n", "[profile.default]\nfail-fast = { max-fail = 1 }\n", "[profile.ci]\n", "[profile.default.junit]\npath = 'j.xml'\n",
-    # overrides and groups; and scripts, which no plan has yet, with what is refused before and behind them
+    # overrides and groups; and scripts, with what is refused before and behind them
     "[[profile.default.overrides]]\nfilter = 'all()'\npriority = 1\n", "[profile.default]\ndefault-filter = 'all()'\n", "experimental = ['setup-scripts']\n[scripts.setup.s]\ncommand = 'x'\n[[profile.default.scripts]]\nfilter = 'all()'\nsetup = 's'\n",
     "[[profile.z.overrides]]\nfilter = 'all()'\nretries = 1\n", "[profile.z]\ndefault-filter = 'all()'\n", "[test-groups.g]\nmax-threads = 1\n", "experimental = ['setup-scripts']\n[script.s]\ncommand = 'x'\n",
     "experimental = ['setup-scripts']\n[scripts.setup.s]\ncommand = 'x'\n", "[profile.default]\ndefault-filter = 'all()'\nretries = -1\n",
@@ -515,8 +607,13 @@ def main():
         DATA,
         "profiles_plans",
         "Changes of plan.json => the tests, each with its most attempts, its flaky rule and when its output is shown where it passes and"
-        " where it fails; the limit, the levels of lines and of the final text, and the warnings; or the name under which it is refused.",
-        [*made, *plan_rows.drawn(plan_rows.SEED + 1, plans.shown_settings, plan)],
+        " where it fails, and behind `wrapper` what its wrapper script runs, where it has one; the scripts where there are some; the limit,"
+        " the levels of lines and of the final text, and the warnings; or the name under which it is refused.",
+        [
+            *made,
+            *plan_rows.drawn(plan_rows.SEED + 1, plans.shown_settings, plan),
+            *plan_rows.drawn_with_scripts(plan_rows.SCRIPTS_SEED + 1, plans.shown_settings, plan, plan_rows.WRONG_SCRIPTS),
+        ],
     )
     tell_numbers({"profiles_plans": number})
     write(

@@ -1,9 +1,9 @@
 #!/usr/bin/env python3
-"""Writes the table `test_settings` of the program `worked_rows`: what a test is run with, and where each setting comes from.
+"""Writes the table `test_settings` of the program `worked_rows`: what a test is run with, and where each setting comes from; and its scripts.
 
     python3 scripts/settings_rows.py
 
-All is drawn from one seed, so the table comes out the same each time. It knows nothing of the program. Filters and platform specs are those
+All is drawn from two seeds, so the table comes out the same each time. It knows nothing of the program. Filters and platform specs are those
 without a language: a filter is `all()`, `none()` or the name of a test, a spec the name of a platform; of a platform without names nothing is
 known. Values, the merge of files and the parents of profiles are reckoned by scripts/config_rows.py. Then, by the rules:
 
@@ -16,6 +16,10 @@ known. Values, the merge of files and the parents of profiles are reckoned by sc
   of 0 and the group `@global`. Of a benchmark `bench.slow-timeout` is the slow timeout, and that alone.
 - The default filter is that of the first override that has one and whose specs hold for the target, whatever the test; else that of the
   nearest profile.
+- Script rules are asked in the same order, and hold on a test by the same rule. Its wrapper script is the one that the first names which holds
+  and has `run-wrapper`. The one with which its binary is listed is the one that the first names which has `list-wrapper` and whose specs hold
+  for the binary, and whose filter, where it has one, is `all()`. Its setup scripts are those that rules which hold name, by the bytes of their
+  names, each once.
 """
 import random
 import re
@@ -28,15 +32,20 @@ import element_rows as elements
 from element_rows import CRATE, SIGNS, toml
 
 SEED, DRAWN = 35, 400
+SCRIPTS_SEED, WITH_SCRIPTS = 36, 150
 HEAD = (
     "# Made by scripts/settings_rows.py. PROFILE MODE BINARY HOST TARGET TEST KEYS | KIND PATH OUTCOME | .. => each setting and where it comes from:"
-    " of the default filter the key; HOST and TARGET are the names of a platform with commas between them, `-` where nothing is known of it, `none` where there is no target"
+    " of the default filter the key; and for `list-wrapper` and `setup-scripts` the scripts alone; HOST and TARGET are the names of a platform with commas between them, `-` where nothing is known of it, `none` where there is no target"
 )
 KEYS = (
     "priority threads-required run-extra-args retries flaky-result slow-timeout leak-timeout test-group success-output failure-output"
     " junit.store-success-output junit.store-failure-output junit.report-skipped junit.flaky-fail-status default-filter"
 ).split()
 ONLY_RULES = {"priority": "TestPriority { number: 0 }", "test-group": "Global"}
+SCRIPT_KEYS = ["run-wrapper", "list-wrapper", "setup-scripts"]
+FEATURES = ["setup-scripts", "wrapper-scripts"]
+DEFINED = """scripts.setup = { s.command = "x", t.command = "x", Z.command = "x" }
+scripts.wrapper = { v.command = "v 'a b'", w = { command = ["w"], target-runner = "within-wrapper" } }"""
 PLATFORMS = ["p", "q"]
 TESTS = ["a", "b", "c"]
 RIGHT = {
@@ -83,6 +92,28 @@ def file(draw, names, most):
     return profiles
 
 
+def script_rule(draw):
+    it = {}
+    if draw.random() < 0.7:
+        it["filter"] = draw.choice(["all()", "all()", "none()", *TESTS])
+    if "filter" not in it or draw.random() < 0.4:
+        spec = lambda: draw.choice([*PLATFORMS, "r"])
+        it["platform"] = draw.choice([spec(), {"host": spec()}, {"target": spec()}, {"host": spec(), "target": spec()}])
+    names = draw.sample(["s", "t", "Z"], draw.randrange(4))
+    if names or draw.random() < 0.3:
+        it["setup"] = names[0] if len(names) == 1 and draw.random() < 0.7 else names
+    if draw.random() < 0.5:
+        it["run-wrapper"] = draw.choice(["v", "w"])
+    if draw.random() < 0.5 and it.get("filter", "all()") in ("all()", "none()"):
+        it["list-wrapper"] = draw.choice(["v", "w"])
+    return it
+
+
+def script_file(draw, names):
+    """A file with some script rules of these profiles, and of another one."""
+    return {name: {"scripts": [script_rule(draw) for _ in range(draw.choice([0, 1, 1, 2, 3]))]} for name in [*names, "other"]}
+
+
 def holds_on(spec, names):
     return spec is None or names == [] or spec in names
 
@@ -94,12 +125,12 @@ def holds_for(rule, binary, host, target):
     return holds_on(platform.get("host"), host) and holds_on(platform.get("target"), built)
 
 
-def rules_of(chain, sources):
-    """The overrides in their order, each with where it stands."""
+def rules_of(chain, sources, kind="overrides", word="override"):
+    """The overrides in their order, each with where it stands; or the script rules."""
     for name in chain:
         for _, path, outcome in sources[::-1]:
-            for index, rule in enumerate(tomllib.loads(outcome.removeprefix("text ")).get("profile", {}).get(name, {}).get("overrides", [])):
-                yield name, f"override {path} {name} {index}", rule
+            for index, rule in enumerate(tomllib.loads(outcome.removeprefix("text ")).get("profile", {}).get(name, {}).get(kind, [])):
+                yield name, f"{word} {path} {name} {index}", rule
 
 
 def at(table, key, mode):
@@ -132,41 +163,75 @@ def answer(name, mode, binary, host, target, test, keys, sources):
     return "; ".join(told)
 
 
+def script_answer(name, mode, binary, host, target, test, keys, sources):
+    """What the scripts of a test are."""
+    config = configs.load(sources, FEATURES)
+    chain = configs.chain_of(config["profile"], name)
+    rules = [(where, configs.SCRIPT_RULE(rule, [])) for _, where, rule in rules_of(chain, configs.counted(sources), "scripts", "script rule")]
+    rules = [(where, rule) for where, rule in rules if holds_for(rule, binary, host, target)]
+    on_test = [(where, rule) for where, rule in rules if rule.get("filter", "all()") in ("all()", test)]
+    on_binary = [(where, rule) for where, rule in rules if rule.get("filter", "all()") == "all()"]
+    setups = {it for _, rule in on_test for it in rule.get("setup", [])}
+    told = {
+        "run-wrapper": "{} from {}".format(*wrapper(config, on_test, "run-wrapper")),
+        "list-wrapper": wrapper(config, on_binary, "list-wrapper")[0],
+        "setup-scripts": ",".join(configs.in_order(setups)) or "-",
+    }
+    return "; ".join(f"{key} = {told[key]}" for key in keys)
+
+
+def wrapper(config, rules, key):
+    """The wrapper script that the first of these rules names which names one under a key, and where the rule stands."""
+    found = [(configs.wrapper_told(dict(config["scripts"]["wrapper"])[rule[key]]), where) for where, rule in rules if key in rule]
+    return [*found, ("None", "default")][0]
+
+
 def rows():
     draw = random.Random(SEED)
-    for number in range(DRAWN):
-        names = draw.choice([["default"], ["x", "default"], ["x", "y", "default"], ["x", "y", "z", "default"]])
-        files = [file(draw, names, draw.choice([1, 2, 4])) for _ in range(draw.randrange(1, 4))]
-        for name, parent in zip(names[:-1], names[1:]):
-            if parent != "default":
-                files[0].setdefault(name, {})["inherits"] = parent
-            else:
-                files[0].setdefault(name, {})
+    for _ in range(DRAWN):
         groups = "test-groups.g.max-threads = 1\ntest-groups.h.max-threads = 2"
-        texts = ["\n".join(f"profile.{name} = {toml(it)}" for name, it in profiles.items()) for profiles in files]
-        sources = [("tool", f"t{place}.toml", "text " + text) for place, text in enumerate(texts[:-1])][::-1]
-        # the groups of a repository's file may be named in every file
-        sources.append(("explicit", "r.toml", "text " + "\n".join(it for it in (texts[-1], groups) if it)))
-        host = draw.choice([[], [], ["p"], ["q"], ["p", "q"]])
-        target = draw.choice([None, [], ["p"], ["q"]])
-        mode, binary, test = draw.choice(["test", "test", "benchmark"]), draw.choice(["host", "target", "target"]), draw.choice([*TESTS, "d"])
-        keys = draw.sample(KEYS, 5)
-        yield names[0], mode, binary, host, target, test, keys, sources
+        yield drawn_row(draw, groups, lambda names: file(draw, names, draw.choice([1, 2, 4])), lambda: draw.sample(KEYS, 5))
+
+
+def script_rows():
+    draw = random.Random(SCRIPTS_SEED)
+    for _ in range(WITH_SCRIPTS):
+        yield drawn_row(draw, DEFINED, lambda names: script_file(draw, names), lambda: SCRIPT_KEYS)
+
+
+def drawn_row(draw, defined, drawn_file, keys):
+    """What a row has: files, of which the repository's defines something that may be named in every file."""
+    names = draw.choice([["default"], ["x", "default"], ["x", "y", "default"], ["x", "y", "z", "default"]])
+    files = [drawn_file(names) for _ in range(draw.randrange(1, 4))]
+    for name, parent in zip(names[:-1], names[1:]):
+        if parent != "default":
+            files[0].setdefault(name, {})["inherits"] = parent
+        else:
+            files[0].setdefault(name, {})
+    texts = ["\n".join(f"profile.{name} = {toml(it)}" for name, it in profiles.items()) for profiles in files]
+    sources = [("tool", f"t{place}.toml", "text " + text) for place, text in enumerate(texts[:-1])][::-1]
+    sources.append(("explicit", "r.toml", "text " + "\n".join(it for it in (texts[-1], defined) if it)))
+    host = draw.choice([[], [], ["p"], ["q"], ["p", "q"]])
+    target = draw.choice([None, [], ["p"], ["q"]])
+    mode, binary, test = draw.choice(["test", "test", "benchmark"]), draw.choice(["host", "target", "target"]), draw.choice([*TESTS, "d"])
+    return names[0], mode, binary, host, target, test, keys(), sources
 
 
 def shown_names(names):
     return "none" if names is None else ",".join(names) or "-"
 
 
+def line(given, result):
+    name, mode, binary, host, target, test, keys, sources = given
+    told = " | ".join(" ".join(source) for source in sources)
+    return f"{name} {mode} {binary} {shown_names(host)} {shown_names(target)} {test} {','.join(keys)} | {told} => {result}".translate(SIGNS)
+
+
 def main():
-    lines, seen = [], set()
-    for name, mode, binary, host, target, test, keys, sources in rows():
-        told = " | ".join(" ".join(source) for source in sources)
-        result = answer(name, mode, binary, host, target, test, keys, sources)
-        seen.update(re.findall("from (override|profile|default)", result))
-        lines.append(f"{name} {mode} {binary} {shown_names(host)} {shown_names(target)} {test} {','.join(keys)} | {told} => {result}".translate(SIGNS))
-    assert seen == {"override", "profile", "default"}
-    lines = [HEAD, *dict.fromkeys(lines)]
+    told = [(given, answer(*given)) for given in rows()] + [(given, script_answer(*given)) for given in script_rows()]
+    assert {found for _, result in told for found in re.findall("from (override|script rule|profile|default)", result)} == {"override", "script rule", "profile", "default"}
+    assert all(any(text in result for _, result in told) for text in ("list-wrapper = v", "list-wrapper = w", "list-wrapper = None", "setup-scripts = Z,s,t", "setup-scripts = -"))
+    lines = [HEAD, *dict.fromkeys(line(given, result) for given, result in told)]
     (CRATE / "data/test_settings.txt").write_text("\n".join(lines) + "\n")
     numbers = {"test_settings": len(lines) - 1}
     elements.tell_numbers(numbers)

@@ -40,6 +40,9 @@ BYTES = re.compile(rb"\xe2\x9f\xaa([0-9A-F]+)(?:\xc3\x97([0-9]+))?\xe2\x9f\xab")
 FINAL = "== final ==\n"
 NO_REASON = "\ncancel-reason\t-\n"
 
+# The line of a counter that is 0.
+ZERO = re.compile("^(?!status)[a-z-]+\t0\n", re.M)
+
 # Why a line is refused for what it says, which hangs on the plan.
 OF_STEPS = "UnknownScript UnknownTest Stopped ScriptsPending OutOfOrder Running Finished NotRunning InnerReason".split()
 
@@ -178,6 +181,7 @@ def changed(file):
 FULL = changed(DATA / "inputs/full.in")
 PLAN = changed(DATA / "plan.json")
 STREAM = changed(ROWS / "profiles_runs.in")
+SCRIPTS = changed(ROWS / "script_runs.in")
 
 
 def runs(program, stream):
@@ -186,6 +190,13 @@ def runs(program, stream):
 
 def profiles_runs(program, changes):
     return program.run(STREAM(changes)).shown()
+
+
+def script_runs(program, row):
+    """The report without the lines of counters that are 0, and a line with the status."""
+    changes, log = row.split(BAR)
+    told = program.run(on_a_line(SCRIPTS(changes)) + with_tabs(log)).shown()
+    return re.sub(ZERO, "", told)
 
 
 def inputs(program, text):
@@ -294,6 +305,7 @@ def agreeing(program, row):
 TABLES = {
     "runs": runs,
     "profiles_runs": profiles_runs,
+    "script_runs": script_runs,
     "told_tests": told_tests,
     "pairs": pairs,
     "agreeing": agreeing,

@@ -21,7 +21,6 @@ two binaries have one id
 a binary is of no package
 a binary's id is empty or has a tab or a line end in it
 out of memory
-a configuration file sets a key that isn't read yet
 two facts of a platform have the same name and the same value
 out of memory
 gone
@@ -79,9 +78,11 @@ fn push_of_workspaces(alloc: Global, told: &mut String) -> Result<(), AllocError
         push(alloc, told, WorkspaceError::Refused(fault))?;
     }
     push(alloc, told, WorkspaceError::OutOfMemory)?;
-    for fault in [SettingsFault::NotYet, SettingsFault::RepeatedFact] {
-        push(alloc, told, SettingsError::Refused(fault))?;
-    }
+    push(
+        alloc,
+        told,
+        SettingsError::Refused(SettingsFault::RepeatedFact),
+    )?;
     push(alloc, told, SettingsError::OutOfMemory)
 }
 

@@ -1,7 +1,7 @@
-// A run with scripts, which no log of the program has, taken step by step: what each finishes, and which steps are refused, by
-// which name first.
+// A run with scripts, taken step by step, and on behind a refused step, as no log can be: what each finishes, and which steps are
+// refused, by which name first.
 use nextest_run_events_results::{CancelReason, ExecutionResultDescription, FailureDescription};
-use nextest_text::{Listing, Text};
+use nextest_text::Listing;
 use std::alloc::{AllocError, Global};
 use std::test::Fail;
 use test_runner_core::{
@@ -9,18 +9,15 @@ use test_runner_core::{
     StepRefusal, TableLister, TestInstanceId,
 };
 
-// The inputs of the tests p a and q a.
+// The inputs of the scripts s and t and of the tests p a and q a.
 const TWO: &str =
-    r#"{"workspace":{"packages":[{"id":"p","name":"p"}],"links":[],"binaries":[{"id":"p","name":"p","package":"p","kind":"lib","platform":"target","tests":["a"]},{"id":"q","name":"q","package":"p","kind":"lib","platform":"target","tests":["a"]}]},"sources":[],"current_version":"1.0.0"}"#;
+    r#"{"workspace":{"packages":[{"id":"p","name":"p"}],"links":[],"binaries":[{"id":"p","name":"p","package":"p","kind":"lib","platform":"target","tests":["a"]},{"id":"q","name":"q","package":"p","kind":"lib","platform":"target","tests":["a"]}]},"sources":[{"kind":"explicit","path":"n","text":"experimental = ['setup-scripts']\n[scripts.setup]\ns.command = 'x'\nt.command = 'x'\n[[profile.default.scripts]]\nfilter = 'all()'\nsetup = ['t', 's']\n"}],"current_version":"1.0.0"}"#;
 
-// A plan of the scripts s and t and of the tests p a and q a, with one try each, which the first failing one stops.
+// Their plan, in which tests have one try each, and the first failing one stops the run.
 fn plan_of_two(alloc: Global) -> Result<Plan, Fail> {
     let inputs = Inputs::from_json(alloc, TWO.as_bytes())?;
     let mut lister = TableLister::new(alloc, &inputs.workspace)?;
-    let mut plan = Plan::build(alloc, &inputs, &mut lister)?;
-    plan.scripts.push(Text::from_str(alloc, "s")?)?;
-    plan.scripts.push(Text::from_str(alloc, "t")?)?;
-    Ok(plan)
+    Ok(Plan::build(alloc, &inputs, &mut lister)?)
 }
 
 // The record of what passed, or failed, and wrote something.

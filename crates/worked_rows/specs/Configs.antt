@@ -13,7 +13,7 @@ use Rattle.nextest_config_resolution_profiles.specs.Held.{AreSettingsFor}
 use Rattle.nextest_config_resolution_profiles.specs.Platforms.{built_for, built_on}
 use Rattle.nextest_config_resolution_profiles.specs.Whole.{Whole}
 use Rattle.nextest_config_resolution_profiles.specs.declared.platforms.BuildPlatforms.{BuildPlatforms}
-use Rattle.nextest_config_resolution_settings.specs.Nearest.{Source, an_override, a_profile, no_layer, seen}
+use Rattle.nextest_config_resolution_settings.specs.Nearest.{Source, an_override, a_script_rule, a_profile, no_layer, seen}
 use Rattle.nextest_config_resolution_settings.specs.Tracking.{TellsAll}
 use Rattle.nextest_config_resolution_settings.specs.declared.source.SettingSource.{SettingSource}
 use Rattle.nextest_config_resolution_settings.specs.declared.test_settings.TestSettings.{TestSettings}
@@ -24,6 +24,7 @@ use Rattle.nextest_filtering_filters.specs.Query.{Test}
 abbrev pub place_of : Source → Option ℕ
 place_of (a_profile place) = Some place
 place_of (an_override id) = None
+place_of (a_script_rule id) = None
 place_of no_layer = None
 
 -- how a test is tried again by a profile on platforms, and which profile of its chain sets that, if one does. A text is a filter by

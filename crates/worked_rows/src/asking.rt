@@ -117,7 +117,7 @@ fn place_of(source: SettingSource<'_>) -> Option<usize>
 {
     match source {
         SettingSource::Profile(place) => Some(place),
-        SettingSource::Override(_) | SettingSource::Default => None,
+        SettingSource::Override(_) | SettingSource::Script(_) | SettingSource::Default => None,
     }
 }
 

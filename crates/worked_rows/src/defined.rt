@@ -55,12 +55,14 @@ fn setup_told(alloc: Global, script: &NamedScript<SetupScriptConfig>) -> Option<
 }
 
 fn wrapper_told(alloc: Global, script: &NamedScript<WrapperScriptConfig>) -> Option<String> {
-    let command = command_told(alloc, &script.config.command)?;
-    format!(in alloc;
-        "[wrapper {}: {command}, {:?}]",
-        script.id, script.config.target_runner
-    )
-    .ok()
+    let told = run_told(alloc, &script.config)?;
+    format!(in alloc; "[wrapper {}: {told}]", script.id).ok()
+}
+
+// What a wrapper script runs, and what becomes of the runner that the target has.
+pub(crate) fn run_told(alloc: Global, config: &WrapperScriptConfig) -> Option<String> {
+    let command = command_told(alloc, &config.command)?;
+    format!(in alloc; "{command}, {:?}", config.target_runner).ok()
 }
 
 // The program, its arguments, each in brackets, where the program is looked for, and the variables.

@@ -1,5 +1,6 @@
 // Inputs, and their plan.
 use crate::changes::Changed;
+use crate::defined::run_told;
 use crate::table::Table;
 use nextest_text::Text;
 use std::alloc::Global;
@@ -15,8 +16,9 @@ pub struct Plans<'a> {
     pub name: &'static str,
     /// The inputs of which a row changes parts; each row has whole inputs where there are none.
     pub base: Option<&'a Changed>,
-    /// What is shown of a plan: its tests with their tries and settings, the limit, the levels and the warnings. Else the tests
-    /// with their tries, those that are skipped, the limit, the listed binaries, and those that were asked for their tests.
+    /// What is shown of a plan: its tests with their tries and settings, its scripts, the limit, the levels and the warnings. Else
+    /// the tests with their tries, the scripts, the skipped tests, the limit, the listed binaries, and those that were asked for
+    /// their tests.
     pub has_settings: bool,
 }
 
@@ -71,8 +73,9 @@ fn with_asked(mut told: String, asked: &[Text]) -> Option<String> {
 fn shown(alloc: Global, plan: &Plan, has_settings: bool) -> Option<String> {
     let mut told = String::from_str(alloc, "run").ok()?;
     for test in plan.tests.as_slice() {
-        push_test(&mut told, test, has_settings)?;
+        push_test(alloc, &mut told, test, has_settings)?;
     }
+    push_scripts(&mut told, plan.scripts.as_slice())?;
     if has_settings {
         push_settings(&mut told, plan)
     } else {
@@ -81,7 +84,16 @@ fn shown(alloc: Global, plan: &Plan, has_settings: bool) -> Option<String> {
     Some(told)
 }
 
-fn push_test(told: &mut String, test: &PlanTest, has_settings: bool) -> Option<()> {
+// Adds the ids of the scripts, where there are some.
+fn push_scripts(told: &mut String, scripts: &[Text]) -> Option<()> {
+    if scripts.is_empty() {
+        return Some(());
+    }
+    told.push_str("; scripts").ok()?;
+    push_each(told, " ", scripts, "")
+}
+
+fn push_test(alloc: Global, told: &mut String, test: &PlanTest, has_settings: bool) -> Option<()> {
     let instance = &test.instance;
     write!(
         told,
@@ -90,20 +102,24 @@ fn push_test(told: &mut String, test: &PlanTest, has_settings: bool) -> Option<(
     )
     .ok()?;
     if has_settings {
-        push_settings_of(told, &test.settings)
-    } else {
-        told.push(']').ok()
+        push_settings_of(alloc, told, &test.settings)?;
     }
+    told.push(']').ok()
 }
 
-// Adds the settings of a test, and the closing bracket.
-fn push_settings_of(told: &mut String, settings: &PlanSettings) -> Option<()> {
+// Adds the settings of a test, and its wrapper script where it has one.
+fn push_settings_of(alloc: Global, told: &mut String, settings: &PlanSettings) -> Option<()> {
     write!(
         told,
-        " {:?} {:?} {:?}]",
+        " {:?} {:?} {:?}",
         settings.flaky_result, settings.success_output, settings.failure_output
     )
-    .ok()
+    .ok()?;
+    let Some(wrapper) = settings.run_wrapper.as_ref() else {
+        return Some(());
+    };
+    let run = run_told(alloc, wrapper)?;
+    write!(told, " wrapper {run}").ok()
 }
 
 fn push_settings(told: &mut String, plan: &Plan) -> Option<()> {

@@ -1,9 +1,12 @@
-// What a test is run with, and where each of its settings comes from.
+// What a test is run with, and where each of its settings comes from; and its scripts.
 use crate::configs::{BAR, PlainConfig, PlainProfile, sources_of};
+use crate::defined::run_told;
 use crate::parts::{push_part, texts_of, three, two};
 use crate::settings::{arguments, filter_text};
 use nextest_config_elements::{FeatureSet, NextestRunMode};
-use nextest_config_resolution::{BuildPlatforms, SettingSource, TestGroupRef, TestSettings};
+use nextest_config_resolution::{
+    BuildPlatforms, SettingSource, TestGroupRef, TestSettings, WrapperScriptConfig,
+};
 use nextest_filtering::{BinaryQuery, BuildPlatform, TestQuery};
 use nextest_text::{Listing, Text};
 use std::alloc::Global;
@@ -42,18 +45,16 @@ impl<'a> Asked<'a> {
 }
 
 // A profile, a mode, the platform of the test's binary, the names of host and target with commas between them, a test and the keys of
-// settings, with commas between them; and then sources: what each setting is, and where it comes from.
+// settings, with commas between them; and then sources: what each setting is, and where it comes from. Features of scripts are known.
 pub(crate) fn test_settings(alloc: Global, input: &str) -> Option<String> {
     let (head, sources) = two(input, BAR);
     let sources = sources_of(alloc, sources)?;
-    let config = PlainConfig::from_sources(
-        alloc,
-        "/work",
-        &(),
-        sources.as_slice(),
-        FeatureSet::default(),
-    )
-    .ok()?;
+    let features = FeatureSet {
+        setup_scripts: true,
+        wrapper_scripts: true,
+        benchmarks: false,
+    };
+    let config = PlainConfig::from_sources(alloc, "/work", &(), sources.as_slice(), features).ok()?;
     of_config(alloc, &config, &Asked::read(head))
 }
 
@@ -97,7 +98,7 @@ fn names_of(alloc: Global, names: &str) -> Option<Listing<Text>> {
 fn of_profile(alloc: Global, profile: &PlainProfile<'_>, asked: &Asked<'_>) -> Option<String> {
     let query = query_of(asked)?;
     match profile.settings_with_source_for(alloc, mode_of(asked.mode)?, &query) {
-        Ok(settings) => each_told(alloc, profile, &settings, asked.keys),
+        Ok(settings) => each_told(alloc, profile, &settings, &query, asked.keys),
         Err(_) => None,
     }
 }
@@ -133,12 +134,16 @@ fn each_told(
     alloc: Global,
     profile: &PlainProfile<'_>,
     settings: &Sourced<'_>,
+    query: &TestQuery<'_>,
     keys: &str,
 ) -> Option<String> {
     let mut answer = String::new(alloc);
     for key in keys.split(',') {
         let told = match key {
             "default-filter" => default_told(alloc, profile),
+            "run-wrapper" => run_wrapper(alloc, &settings.run_wrapper),
+            "list-wrapper" => list_wrapper(alloc, profile, &query.binary_query),
+            "setup-scripts" => setup_scripts(alloc, profile, query),
             _ => of_runs(alloc, settings, key),
         }?;
         push_part(&mut answer, "; ", format_args!("{key} = {told}"))?;
@@ -152,6 +157,41 @@ fn default_told(alloc: Global, profile: &PlainProfile<'_>) -> Option<String> {
     let text = filter_text(alloc, found.filter)?;
     let place = found.display_config(alloc).ok()?;
     format!(in alloc; "{text} from {place}").ok()
+}
+
+// The wrapper script with which the tests of a binary are listed.
+fn list_wrapper(
+    alloc: Global,
+    profile: &PlainProfile<'_>,
+    binary: &BinaryQuery<'_>,
+) -> Option<String> {
+    let settings = profile.list_settings_for(alloc, binary).ok()?;
+    wrapper(alloc, settings.list_wrapper())
+}
+
+fn wrapper(alloc: Global, found: Option<&WrapperScriptConfig>) -> Option<String> {
+    match found {
+        Some(config) => run_told(alloc, config),
+        None => String::from_str(alloc, "None").ok(),
+    }
+}
+
+// The names of the setup scripts that are enabled for a test, with commas between them; `-` where there is none.
+fn setup_scripts(
+    alloc: Global,
+    profile: &PlainProfile<'_>,
+    query: &TestQuery<'_>,
+) -> Option<String> {
+    let matching = [*query];
+    let scripts = profile.setup_scripts(alloc, &matching).ok()?;
+    let mut answer = String::new(alloc);
+    for script in scripts.as_slice() {
+        push_part(&mut answer, ",", format_args!("{}", script.id))?;
+    }
+    if answer.is_empty() {
+        return String::from_str(alloc, "-").ok();
+    }
+    Some(answer)
 }
 
 // A setting of how a test runs, and where it comes from.
@@ -195,6 +235,16 @@ fn extra_arguments(alloc: Global, setting: &(&[Text], SettingSource<'_>)) -> Opt
     format!(in alloc; "{given} from {place}").ok()
 }
 
+// The wrapper script that a test runs under, and where it comes from.
+fn run_wrapper(
+    alloc: Global,
+    setting: &(Option<&WrapperScriptConfig>, SettingSource<'_>),
+) -> Option<String> {
+    let told = wrapper(alloc, setting.0)?;
+    let place = source_told(alloc, setting.1)?;
+    format!(in alloc; "{told} from {place}").ok()
+}
+
 fn group(alloc: Global, setting: &(TestGroupRef<'_>, SettingSource<'_>)) -> Option<String> {
     let place = source_told(alloc, setting.1)?;
     match setting.0 {
@@ -209,6 +259,10 @@ fn source_told(alloc: Global, source: SettingSource<'_>) -> Option<String> {
     match source {
         SettingSource::Override(id) => format!(in alloc;
             "override {} {} {}",
+            id.file, id.profile, id.index
+        ).ok(),
+        SettingSource::Script(id) => format!(in alloc;
+            "script rule {} {} {}",
             id.file, id.profile, id.index
         ).ok(),
         SettingSource::Profile(place) => format!(in alloc; "profile {place}").ok(),
