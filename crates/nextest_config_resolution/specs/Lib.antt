@@ -15,6 +15,7 @@ pub use Rattle.nextest_config_resolution_load.specs.Telling as LoadTelling
 pub use Rattle.nextest_config_resolution_profiles.specs.Asking
 pub use Rattle.nextest_config_resolution_profiles.specs.Config
 pub use Rattle.nextest_config_resolution_profiles.specs.Early
+pub use Rattle.nextest_config_resolution_profiles.specs.Enabled
 pub use Rattle.nextest_config_resolution_profiles.specs.Evaluatable
 pub use Rattle.nextest_config_resolution_profiles.specs.Held
 pub use Rattle.nextest_config_resolution_profiles.specs.HeldRules
@@ -59,6 +60,7 @@ pub use Rattle.nextest_config_resolution_scripts.specs.Scripts
 pub use Rattle.nextest_config_resolution_settings.specs.Fallbacks
 pub use Rattle.nextest_config_resolution_settings.specs.Keys as SettingKeys
 pub use Rattle.nextest_config_resolution_settings.specs.Laws as SettingLaws
+pub use Rattle.nextest_config_resolution_settings.specs.Layers as SettingLayers
 pub use Rattle.nextest_config_resolution_settings.specs.Default as DefaultFilters
 pub use Rattle.nextest_config_resolution_settings.specs.Nearest
 pub use Rattle.nextest_config_resolution_settings.specs.Profile as ProfileSettings
@@ -68,6 +70,7 @@ pub use Rattle.nextest_config_resolution_settings.specs.Rules
 pub use Rattle.nextest_config_resolution_settings.specs.TestSettings
 pub use Rattle.nextest_config_resolution_settings.specs.Tracked
 pub use Rattle.nextest_config_resolution_settings.specs.Tracking
+pub use Rattle.nextest_config_resolution_settings.specs.Wrappers
 pub use Rattle.nextest_config_resolution_profiles.specs.BuiltIn
 pub use Rattle.nextest_config_resolution_profiles.specs.BuiltInLaws as BuiltInLaws
 -- warnings

@@ -1,5 +1,5 @@
 -- What calls of this crate give on their way to a configuration.
-use Rattle.std.specs.Prelude.{◌≡◌, ℕ, Bool, not, List, [], ◌∷◌, ◌++◌, codes, get_or, map, reverse, filter_map, Option, None, Some, option_map, Result, Ok, Err, ⊤}
+use Rattle.std.specs.Prelude.{◌≡◌, ℕ, Bool, not, List, [], ◌++◌, codes, get_or, map, reverse, filter_map, Option, None, Some, option_map, Result, Ok, Err, ⊤}
 use Rattle.std.specs.BTreeSet.{BTreeSet, contains_by}
 use Rattle.std.specs.Cmp.Lexicographic.{slice_cmp}
 use Rattle.std.specs.List.{AllZip, flat_map}

@@ -1,12 +1,12 @@
 -- What the rules of a profile name is defined.
-use Rattle.std.proofs.Common.{◌≡◌, ℕ, List, sym, subst}
+use Rattle.std.proofs.Common.{ℕ, List, sym, subst}
 use Rattle.std.specs.List.{AllByRecursion}
 use Rattle.nextest_config_resolution_load.specs.Laws.{HasGroup, HasScripts}
 use Rattle.nextest_config_resolution_load.specs.Load.{IsFilterBy, IsSpecBy, LoadedOverride, LoadedScriptRule}
 use Rattle.nextest_config_resolution_load.proofs.Defining.{groups_are_defined, scripts_are_defined}
 use Rattle.nextest_config_resolution_overrides.specs.declared.groups.NamedGroup.{NamedGroup}
 use Rattle.nextest_config_resolution_scripts.specs.declared.script_config.ScriptConfig.{ScriptConfig}
-use Rattle.nextest_config_resolution_settings.specs.Rules.{profile_of, rules_of, script_profile_of}
+use Rattle.nextest_config_resolution_settings.specs.Rules.{profile_of, script_profile_of}
 use Rattle.nextest_config_resolution_profiles.specs.BuiltIn.{built_in_members}
 use Rattle.nextest_config_resolution_profiles.specs.Early.{in_profile}
 use Rattle.nextest_config_resolution_profiles.specs.Laws.{NothingIsUndefined}

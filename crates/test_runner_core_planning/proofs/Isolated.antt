@@ -5,7 +5,7 @@ use Rattle.nextest_config_resolution_profiles.proofs.Enabling.{one_names, same_n
 use Rattle.nextest_filtering_filters.specs.Query.{Test}
 use Rattle.test_runner_core_inputs.specs.declared.inputs.Inputs.{Inputs}
 use Rattle.test_runner_core_listing.specs.Answers.{Answers}
-use Rattle.test_runner_core_listing.specs.Listing.{Found, listed_of, listing}
+use Rattle.test_runner_core_listing.specs.Listing.{listed_of, listing}
 use Rattle.test_runner_core_plan.specs.declared.plan.Plan.{Plan}
 use Rattle.test_runner_core_planning.specs.Filtering.{AreAnswersOf, AreOfFilterset, Choice, IsChosen, IsTakenAsDefault, context_of, unless_ignored}
 use Rattle.test_runner_core_planning.specs.Laws.{AsksForSome, DifferOutside, IsolatesPlans}

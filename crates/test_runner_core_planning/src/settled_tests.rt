@@ -29,19 +29,10 @@ use test_runner_core_settings::owned_settings;
 use test_runner_core_workspace::Binary;
 
 // The selected tests, each with its settings, and the names of the setup scripts that are enabled for them.
+#[derive(Drop)]
 pub(crate) struct SettledTests {
     pub(crate) tests: Vec<PlanTest>,
     pub(crate) scripts: Listing<Text>,
-}
-
-// One call drops it, whoever holds it.
-impl Drop for SettledTests {
-    fn drop(self) {
-        let Self {
-            tests: _,
-            scripts: _,
-        } = self;
-    }
 }
 
 // The settings of each test on which just the rules of a row hold.

@@ -1,5 +1,5 @@
 -- A rule of a profile holds on a test exactly if the override or script rule that it was read from does.
-use Rattle.std.proofs.Common.{◌≡◌, ◌↔◌, ℕ, Bool, true, false, ◌&&◌, List, [], ◌∷◌, map, Option, None, Some, refl, sym, ap, ◌∙◌, subst}
+use Rattle.std.proofs.Common.{◌≡◌, ◌↔◌, ℕ, Bool, true, false, ◌&&◌, List, [], ◌∷◌, map, Option, None, Some, refl, ap, ◌∙◌, subst}
 use Rattle.std.specs.List.{AllByRecursion}
 use Rattle.std.specs.Option.{IfSome, unwrap_or}
 use Rattle.std.proofs.lemmas.Bool.{false≢true}
@@ -24,7 +24,6 @@ use Rattle.nextest_filtering_trees.specs.declared.leaf.BuildPlatform.{BuildPlatf
 use Rattle.nextest_filtering_trees.specs.declared.leaf.BuildPlatform.TheVariants as built
 use Rattle.test_runner_core_platforms.proofs.Values.{has_value, one_value}
 use Rattle.test_runner_core_platforms.specs.Facts.{Facts}
-use Rattle.test_runner_core_platforms.specs.Grammar.{IsSpec}
 use Rattle.test_runner_core_platforms.specs.Meaning.{HasValue, value_of}
 use Rattle.test_runner_core_platforms.specs.Single.{one_spec}
 use Rattle.test_runner_core_platforms.specs.Spec.{Spec}

@@ -1,8 +1,8 @@
 -- What the chosen profile of a configuration sets for a run, and what it answers of tests.
-use Rattle.std.proofs.Common.{◌≡◌, ◌||◌, ℕ, Bool, true, false, List, Option, None, Some, map, Ok, Err, refl, sym, ap, ◌∙◌, subst}
+use Rattle.std.proofs.Common.{◌≡◌, ◌||◌, ℕ, Bool, true, false, List, Option, map, Ok, Err, refl, sym, ap, ◌∙◌, subst}
 use Rattle.std.specs.Prelude.{◌↔◌}
 use Rattle.std.specs.List.{AllByRecursion, Contains}
-use Rattle.std.specs.Option.{option_map, option_map_or, unwrap_or}
+use Rattle.std.specs.Option.{option_map_or}
 use Rattle.nextest_config_elements_identifiers.specs.declared.test_group.TestGroup.{TestGroup}
 use Rattle.nextest_config_resolution_load.specs.Rules.{conditions_of, script_conditions_of}
 use Rattle.nextest_config_resolution_overrides.specs.declared.groups.NamedGroup.{NamedGroup}
@@ -33,14 +33,11 @@ use Rattle.nextest_filtering_compiling.specs.FiltersetLaws.{filterset_laws}
 use Rattle.nextest_filtering_compiling.specs.Filtersets.{HasOnTest}
 use Rattle.nextest_filtering_compiling.specs.declared.filterset.Filterset.{Filterset}
 use Rattle.nextest_filtering_filters.specs.Query.{Test}
-use Rattle.nextest_filtering_filters.specs.declared.known_groups.KnownGroups.{KnownGroups}
 use Rattle.nextest_filtering_filters.specs.declared.known_groups.KnownGroups.TheVariants.{Known}
 use Rattle.nextest_filtering_syntax.specs.Parsed.{tree_of}
 use Rattle.nextest_filtering_trees.specs.Tree.{Tree}
 use Rattle.test_runner_core_inputs.specs.declared.inputs.Inputs.{Inputs}
 use Rattle.test_runner_core_inputs.specs.declared.platform.PlatformRecord.{PlatformRecord}
-use Rattle.test_runner_core_plan.specs.declared.plan_settings.PlanSettings.{PlanSettings}
-use Rattle.test_runner_core_platforms.specs.Facts.{Facts}
 use Rattle.test_runner_core_platforms.specs.declared.fact.PlatformFactsError.{PlatformFactsError}
 use Rattle.test_runner_core_platforms.specs.declared.fact.PlatformFactsError.TheVariants as facts_error
 use Rattle.test_runner_core_platforms.specs.declared.platform_spec.PlatformSpec.{PlatformSpec}
@@ -49,8 +46,8 @@ use Rattle.test_runner_core_settings.specs.Chosen.{Chosen}
 use Rattle.test_runner_core_settings.specs.Holding.{IsDefaultText, RuleHolds, ScriptRuleHolds}
 use Rattle.test_runner_core_settings.specs.Pass.{features_of}
 use Rattle.test_runner_core_settings.specs.Platforms.{has_repeated_fact, platforms_of, repeats}
-use Rattle.test_runner_core_settings.specs.Settings.{AreOfRun, IsOfChain, owned_of}
-use Rattle.test_runner_core_settings.specs.Sets.{IsAsked, IsChosen, IsDefault, IsEnabled, IsGroupOf, IsPlatformSpec, IsTooDeep, Reads, SetsTest, groups_in, rules_in, script_rules_in}
+use Rattle.test_runner_core_settings.specs.Settings.{IsOfChain, owned_of}
+use Rattle.test_runner_core_settings.specs.Sets.{IsAsked, IsChosen, IsDefault, IsEnabled, IsGroupOf, IsPlatformSpec, IsTooDeep, Reads, SetsTest, rules_in, script_rules_in}
 use Rattle.test_runner_core_settings.specs.declared.configured.ChosenRun.{ChosenRun}
 use Rattle.test_runner_core_settings.proofs.Alike.{put, rules_alike, value_on}
 use Rattle.test_runner_core_settings.proofs.Mapped.{Alike, contained_has, contains_mapped, held_mapped, mapped_contains}

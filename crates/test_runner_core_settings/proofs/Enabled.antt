@@ -1,12 +1,11 @@
 -- Setup scripts that are enabled: more tests enable no fewer, and each is a defined one.
-use Rattle.std.proofs.Common.{◌≡◌, ℕ, List, [], ◌∷◌, map, subst}
+use Rattle.std.proofs.Common.{List, [], ◌∷◌, map, subst}
 use Rattle.std.specs.List.{AllByRecursion, Contains}
 use Rattle.nextest_config_resolution_load.specs.Checks.{script_rules_downward}
 use Rattle.nextest_config_resolution_load.specs.Laws.{HasScripts, IsFound}
 use Rattle.nextest_config_resolution_load.specs.Load.{LoadedScriptRule}
 use Rattle.nextest_config_resolution_load.specs.Rules.{script_conditions_of}
 use Rattle.nextest_config_resolution_load.proofs.Defining.{scripts_are_defined}
-use Rattle.nextest_config_resolution_profiles.specs.Whole.{Whole}
 use Rattle.nextest_config_resolution_profiles.proofs.PutOn.{named_have}
 use Rattle.nextest_config_resolution_scripts.specs.declared.script_config.ScriptConfig.{ScriptConfig}
 use Rattle.nextest_config_resolution_scripts.specs.declared.script_rule.PlacedScriptRule.{PlacedScriptRule}

@@ -17,7 +17,6 @@ use Rattle.nextest_filtering_filters.specs.Query.{Test}
 use Rattle.nextest_filtering_trees.specs.Tree.{Tree}
 use Rattle.nextest_filtering_filters.specs.declared.known_groups.KnownGroups.TheVariants.{Known}
 use Rattle.test_runner_core_inputs.specs.declared.inputs.Inputs.{Inputs}
-use Rattle.test_runner_core_inputs.specs.declared.platform.PlatformRecord.{PlatformRecord}
 use Rattle.test_runner_core_platforms.specs.declared.platform_spec.PlatformSpec.{PlatformSpec}
 use Rattle.test_runner_core_settings.specs.Holding.{IsDefaultText, ScriptRuleHolds}
 use Rattle.test_runner_core_settings.specs.Chosen.{Chosen}

@@ -1,6 +1,6 @@
 -- The rules of a profile on platforms, and its default filter, as inputs have them.
-use Rattle.std.proofs.Common.{◌≡◌, ◌⊎◌, inl, inr, ℕ, Bool, true, false, cond, List, [], ◌∷◌, ◌++◌, map, Option, None, Some, Ok, refl, sym, ap, ◌∙◌, subst}
-use Rattle.std.specs.List.{AllByRecursion, AllZip, filter, flat_map}
+use Rattle.std.proofs.Common.{◌≡◌, inl, inr, ℕ, Bool, true, false, cond, List, [], ◌∷◌, ◌++◌, map, Option, None, Some, refl, sym, ap, ◌∙◌, subst}
+use Rattle.std.specs.List.{AllByRecursion, filter}
 use Rattle.std.proofs.lemmas.List.{map-append}
 use Rattle.std.proofs.lemmas.List.Elements.{recursion_from_All}
 use Rattle.std.proofs.lemmas.Option.{none-some, same_Some}
@@ -13,7 +13,6 @@ use Rattle.nextest_config_resolution_load.specs.declared.languages.FilterPurpose
 use Rattle.nextest_config_resolution_overrides.specs.declared.placed_override.PlacedOverride.{PlacedOverride}
 use Rattle.nextest_config_resolution_profiles.specs.Config.{IsEarly}
 use Rattle.nextest_config_resolution_profiles.specs.Early.{Early, in_profile}
-use Rattle.nextest_config_resolution_profiles.specs.Evaluatable.{Evaluatable, IsPutOn}
 use Rattle.nextest_config_resolution_profiles.specs.Held.{placed_of}
 use Rattle.nextest_config_resolution_profiles.specs.Platforms.{ForTarget, OverrideOn, ScriptRuleOn}
 use Rattle.nextest_config_resolution_profiles.specs.Platforms as on_platforms
@@ -25,7 +24,6 @@ use Rattle.nextest_config_resolution_settings.specs.Keys as key
 use Rattle.nextest_config_resolution_settings.specs.Profile.{IsSetTo}
 use Rattle.nextest_config_resolution_settings.specs.Rules as chain_rules
 use Rattle.nextest_config_resolution_settings.specs.declared.default_filter.CompiledDefaultFilter.{CompiledDefaultFilter}
-use Rattle.nextest_config_resolution_values.specs.declared.profile_config.ProfileConfig.{ProfileConfig}
 use Rattle.nextest_filtering_compiling.specs.Context.{Context}
 use Rattle.nextest_filtering_compiling.specs.declared.filterset.Filterset.{Filterset}
 use Rattle.test_runner_core_inputs.specs.declared.inputs.Inputs.{Inputs}
@@ -33,7 +31,7 @@ use Rattle.test_runner_core_platforms.specs.declared.platform_spec.PlatformSpec.
 use Rattle.test_runner_core_settings.specs.Holding.{HoldsForTarget, IsDefaultText, default_set}
 use Rattle.test_runner_core_settings.specs.Platforms.{Platforms, platforms_of}
 use Rattle.test_runner_core_settings.specs.Sets.{IsDefault, IsFilter, IsPlatformSpec, IsTooDeep, Reads, rules_in, script_rules_in}
-use Rattle.test_runner_core_settings.proofs.Alike.{IsRead, put, targets_alike, value_on}
+use Rattle.test_runner_core_settings.proofs.Alike.{IsRead, put, targets_alike}
 use Rattle.test_runner_core_settings.proofs.Mapped.{SetsToo, least_mapped, none_mapped}
 use Rattle.test_runner_core_settings.specs.Pass.{features_of}
 

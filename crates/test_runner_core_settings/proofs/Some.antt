@@ -1,14 +1,13 @@
 -- Inputs set something, or there is a reason why they set nothing; and where they do, they set something for each test.
-use Rattle.std.specs.List.{AllByRecursion, AllZip, Contains}
+use Rattle.std.specs.List.{AllZip, Contains}
 use Rattle.std.proofs.Common.{◌≡◌, ◌⊎◌, inl, inr, ℕ, Bool, true, false, cond, List, [], ◌∷◌, ◌++◌, map, Option, None, Some, Result, Ok, Err, find, refl, sym, ap, ◌∙◌, subst}
 use Rattle.std.specs.Option.{option_map}
 use Rattle.std.specs.Str.{bytes_eq}
 use Rattle.std.proofs.lemmas.Bool.{false≢true}
 use Rattle.std.proofs.lemmas.List.Elements.{All-cons, All-nil}
 use Rattle.std.proofs.lemmas.Option.{none-some, same_Some}
-use Rattle.nextest_config_elements_plain.specs.declared.run_mode.NextestRunMode.{NextestRunMode}
 use Rattle.nextest_config_resolution_inheritance.specs.Inheritance.{Name}
-use Rattle.nextest_config_resolution_load.specs.Load.{IsReadAs, seen}
+use Rattle.nextest_config_resolution_load.specs.Load.{IsReadAs}
 use Rattle.nextest_config_resolution_load.specs.Rules.{conditions_of, script_conditions_of}
 use Rattle.nextest_config_resolution_load.specs.declared.languages.FilterPurpose.TheVariants as purpose
 use Rattle.nextest_config_resolution_load.specs.declared.load_error.LoadError.TheVariants as load
@@ -27,7 +26,6 @@ use Rattle.nextest_config_resolution_scripts.specs.declared.script_rule.PlacedSc
 use Rattle.nextest_config_resolution_settings.specs.Fallbacks as fallback
 use Rattle.nextest_config_resolution_settings.specs.Keys as key
 use Rattle.nextest_config_resolution_settings.specs.Nearest.{SetsNone}
-use Rattle.nextest_config_resolution_settings.specs.Profile.{IsSetTo}
 use Rattle.nextest_config_resolution_settings.specs.Rules.{AreHeld, HoldsAndSets, IsLeast, NoneHoldsAndSets}
 use Rattle.nextest_config_resolution_settings.specs.Tracking.{TellsNothing, nothing_kept}
 use Rattle.nextest_config_resolution_settings.proofs.Some as settings
@@ -39,15 +37,14 @@ use Rattle.nextest_filtering_compiling.specs.Filtersets.{HasOnTest}
 use Rattle.nextest_filtering_compiling.specs.declared.filterset.Filterset.{Filterset}
 use Rattle.nextest_filtering_filters.specs.Query.{Test}
 use Rattle.nextest_filtering_syntax.specs.Parsed.{tree_of}
-use Rattle.nextest_filtering_trees.specs.Tree.{Tree}
 use Rattle.test_runner_core_inputs.specs.declared.inputs.Inputs.{Inputs}
 use Rattle.test_runner_core_plan.specs.declared.plan_settings.PlanSettings.{PlanSettings}
 use Rattle.test_runner_core_platforms.specs.declared.platform_spec.PlatformSpec.{PlatformSpec}
 use Rattle.test_runner_core_settings.specs.Chosen.{Chosen, layers_of}
-use Rattle.test_runner_core_settings.specs.Holding.{HoldsForTarget, IsDefaultText, RuleHolds, ScriptRuleHolds}
+use Rattle.test_runner_core_settings.specs.Holding.{IsDefaultText, RuleHolds, ScriptRuleHolds}
 use Rattle.test_runner_core_settings.specs.Laws.{SomeSettings, SomeTest}
 use Rattle.test_runner_core_settings.specs.Platforms.{has_repeated_fact, platforms_of}
-use Rattle.test_runner_core_settings.specs.Settings.{AreOfTest, IsOfChain, owned_of}
+use Rattle.test_runner_core_settings.specs.Settings.{owned_of}
 use Rattle.test_runner_core_settings.specs.Sets.{IsChosen, IsDefault, IsFilter, IsPlatformSpec, IsTooDeep, Loads, Reads, Sets, SetsTest, groups_in, rules_in, script_rules_in}
 use Rattle.test_runner_core_settings.specs.declared.configured.RunSettings.{RunSettings}
 use Rattle.test_runner_core_settings.specs.declared.settings_fault.SettingsFault.{SettingsFault}

@@ -1,4 +1,4 @@
-use Rattle.std.proofs.Common.{◌≡◌, List, inl, map, refl, sym, ap, ◌∙◌, subst}
+use Rattle.std.proofs.Common.{List, inl, map, refl, sym, ap, ◌∙◌, subst}
 use Rattle.std.specs.List.{AllByRecursion}
 use Rattle.toml.specs.Data.{Members, table}
 use Rattle.toml.specs.View.{table_view}

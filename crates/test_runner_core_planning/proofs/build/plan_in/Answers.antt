@@ -1,4 +1,4 @@
-use Rattle.std.proofs.Common.{◌≡◌, ap, sym, subst, ◌∙◌, List, Err, true, false, map}
+use Rattle.std.proofs.Common.{◌≡◌, ap, sym, subst, ◌∙◌, List, Err, true, false}
 use Rattle.std.specs.List.{list_any}
 use Rattle.std.specs.List.Sorted.{IsPermutation}
 use Rattle.std.proofs.lemmas.Result.{err_from_is_err_and}
@@ -9,7 +9,7 @@ use Rattle.test_runner_core_listing.specs.Selected.{tests_in}
 use Rattle.test_runner_core_listing.specs.declared.selection.Selection.{Selection}
 use Rattle.test_runner_core_plan.specs.declared.plan.PlanTest.{PlanTest}
 use Rattle.test_runner_core_planning.specs.Filtering.{context_of}
-use Rattle.test_runner_core_planning.specs.Plan.{has_too_many, lacks_memory, listed_in, overflows, plan_test, with_settings}
+use Rattle.test_runner_core_planning.specs.Plan.{has_too_many, lacks_memory, listed_in, overflows}
 use Rattle.test_runner_core_planning.proofs.Building.{any_overflows, asks_lacking, asks_nothing, asks_with, plans_found, refused_before, refused_listing, tries_fit, wants_settled}
 use Rattle.test_runner_core_planning.proofs.Choosing.{has_each, own, own_settles, wanted_chosen}
 use Rattle.test_runner_core_planning.proofs.build.plan_in.Goals as goal

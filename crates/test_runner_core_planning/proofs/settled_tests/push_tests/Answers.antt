@@ -1,4 +1,4 @@
-use Rattle.std.proofs.Common.{ℕ, ◌++◌, List, length, map, sym, ap, ◌∙◌, subst, rules}
+use Rattle.std.proofs.Common.{ℕ, ◌++◌, List, length, map, sym, ap, ◌∙◌, rules}
 use Rattle.std.proofs.lemmas.Iterator.Adapters.{YieldsList-from_vec}
 use Rattle.std.proofs.lemmas.Iterator.Consumers.{YieldsList-end, YieldsList-from_enumerate, YieldsList-turn}
 use Rattle.std.proofs.lemmas.List.{map-id}

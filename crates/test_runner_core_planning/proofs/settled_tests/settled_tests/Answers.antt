@@ -1,6 +1,5 @@
-use Rattle.std.proofs.Common.{refl, sym, subst, List}
+use Rattle.std.proofs.Common.{sym, subst, List}
 use Rattle.nextest_config_resolution_profiles.specs.Enabled.{HasEnabled}
-use Rattle.nextest_config_resolution_profiles.proofs.Enabling.{none_enabled, same_names}
 use Rattle.nextest_filtering_compiling.specs.Filtersets.{HasOnTest}
 use Rattle.nextest_filtering_filters.specs.Query.{Test}
 use Rattle.test_runner_core_listing.specs.Selected.{tests_in}
