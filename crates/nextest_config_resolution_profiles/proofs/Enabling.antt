@@ -1,23 +1,28 @@
 -- The setup scripts that are enabled: by the rules that hold on some tests, and by the columns of rules.
-use Rattle.std.proofs.Common.{◌≡◌, ◌↔◌, ℕ, zero, suc, ◌+◌, Bool, true, false, ◌||◌, List, [], ◌∷◌, ◌++◌, Some, length, map, refl, sym, ap, ◌∙◌, subst, ◌⊎◌, inl, inr, arith, IsTrue}
-use Rattle.std.specs.BTreeSet.{BTreeSet}
+use Rattle.std.proofs.Common.{◌≡◌, ◌↔◌, ℕ, zero, suc, ◌+◌, ◌<◌, ◌≤◌, Bool, true, false, ◌||◌, List, [], ◌∷◌, ◌++◌, Bor, Some, cond, get_or, length, map, take, refl, sym, ap, ◌∙◌, subst, ◌⊎◌, inl, inr, arith, IsTrue}
+use Rattle.std.specs.BTreeSet.{BTreeSet, Updates}
 use Rattle.std.specs.List.{Contains, list_any, slice_get}
 use Rattle.std.specs.List.Sorted.{IsStrictlySortedBy}
 use Rattle.std.specs.Ordering.{is_eq, nat_cmp}
 use Rattle.std.specs.declared.cmp.Ordering.TheVariants.{Equal}
-use Rattle.std.specs.Cmp.Lexicographic.{on_texts, slice_cmp}
+use Rattle.std.specs.Cmp.Lexicographic.{nat_list_eq_equiv, on_texts, slice_cmp}
 use Rattle.std.specs.Str.{bytes_eq}
 use Rattle.std.proofs.lemmas.Bool.{false≢true}
+use Rattle.std.proofs.lemmas.List.{take_all}
+use Rattle.std.proofs.lemmas.List.Folds.{list_any-append}
 use Rattle.std.proofs.lemmas.List.Elements.{Contains-append_cases, Contains-append_left, Contains-append_right, Contains-push_cases}
 use Rattle.std.proofs.lemmas.Map.Lookups.{btree_set_from_contains}
 use Rattle.std.proofs.lemmas.Map.Text.{is_eq-slice_cmp}
 use Rattle.std.proofs.lemmas.Slice.Eq.{bytes_eq-Decides}
+use Rattle.nextest_config_resolution_load.proofs.Passing.{taken_more}
 use Rattle.nextest_config_resolution_profiles.specs.Enabled.{AreNamesOf, HasEnabled, HoldsOnSome, IsEnabled, any_in, has_name, is_named, setup_of, test_in}
 use Rattle.nextest_config_resolution_profiles.specs.Evaluatable.{Evaluatable}
 use Rattle.nextest_config_resolution_profiles.specs.Held.{Holds, placed_of}
 use Rattle.nextest_config_resolution_profiles.specs.HeldRules.{AreColumns, AreToldBy, IsColumn, picked, value_at}
 use Rattle.nextest_config_resolution_profiles.specs.Platforms.{RuleOn, ScriptRuleOn}
 use Rattle.nextest_config_resolution_profiles.specs.RuleLaws.{MoreEnableNoFewer}
+use Rattle.nextest_config_resolution_scripts.specs.declared.script_rule.PlacedScriptRule.{PlacedScriptRule}
+use Rattle.nextest_config_resolution_settings.specs.Nearest.{lent}
 use Rattle.nextest_filtering_filters.specs.Meaning.{Tells}
 use Rattle.nextest_filtering_filters.specs.Query.{Binary, Test}
 
@@ -52,6 +57,46 @@ among_back id (other ∷ ids) has = by_side (Contains-append_cases (other ∷ []
     by_side (inl (zero, within, is)) = either_left (bytes_eq id other) (list_any (bytes_eq id) ids) ((bytes_eq-Decides id other).1 (sym is))
     by_side (inl (suc k, within, is)) = absurd (omega (arith, within))
     by_side (inr behind) = either_right (bytes_eq id other) (list_any (bytes_eq id) ids) (among_back id ids behind)
+
+-- ---- what a loop over names adds to a set
+
+or_false : (b : Bool) → (b || false) ≡ b
+or_false true = refl
+or_false false = refl
+
+or_assoc : (a b c : Bool) → ((a || b) || c) ≡ (a || (b || c))
+or_assoc true b c = refl
+or_assoc false b c = refl
+
+pub any_more : {X : Type 0} (test : X → Bool) (old so_far new : Bool) (all : List X) (place : ℕ) (x : X) → place < length all → x ≡ get_or all place x → so_far ≡ (old || list_any test (take place all))
+    → new ≡ (so_far || test x) → new ≡ (old || list_any test (take (place + 1) all))
+any_more test old so_far new all place x within is before adds =
+    let front = take place all in
+    adds
+    ∙ ap (λ (b : Bool). b || test x) before
+    ∙ or_assoc old (list_any test front) (test x)
+    ∙ ap (λ (b : Bool). old || (list_any test front || b)) (sym (or_false (test x)))
+    ∙ ap (λ (b : Bool). old || b) (sym (list_any-append test front (x ∷ [])) ∙ sym (ap (list_any test) (taken_more all place x within is)))
+
+pub any_all : {X : Type 0} (test : X → Bool) (old new : Bool) (all : List X) (place : ℕ) → length all ≤ place → new ≡ (old || list_any test (take place all)) → new ≡ (old || list_any test all)
+any_all test old new all place over is = is ∙ ap (λ (them : List _). old || list_any test them) (take_all place all over)
+
+taken : (c m : Bool) → cond c true m ≡ (m || c)
+taken true true = refl
+taken true false = refl
+taken false true = refl
+taken false false = refl
+
+-- one name more
+pub inserted : (old new : BTreeSet (List ℕ)) (key : List ℕ) → Updates (slice_cmp nat_cmp) old new key true → (id : List ℕ) → has_name new id ≡ (has_name old id || bytes_eq id key)
+inserted old new key update id =
+    let one : has_name new id ≡ cond (is_eq (slice_cmp nat_cmp key id)) true (has_name old id) = update.0 id in
+    one ∙ ap (λ (b : Bool). cond b true (has_name old id)) (is_eq-slice_cmp key id ∙ nat_list_eq_equiv.symm key id) ∙ taken (bytes_eq id key) (has_name old id)
+
+-- the names of rules
+pub named_in : (rules : List (Bor PlacedScriptRule)) (id : List ℕ) → list_any (λ rule. list_any (bytes_eq id) rule.now.config.setup) rules ≡ is_named (lent rules) id
+named_in [] id = refl
+named_in (rule ∷ rules) id = ap (λ (b : Bool). list_any (bytes_eq id) rule.now.config.setup || b) (named_in rules id)
 
 -- ---- what rules name
 
