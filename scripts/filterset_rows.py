@@ -22,7 +22,7 @@ import re
 from typing import Callable, NamedTuple, Optional
 
 DATA = pathlib.Path(__file__).resolve().parent.parent / "crates/worked_rows/data"
-SEED, COMPILED, PLAIN, ANSWERS, QUESTIONS = 23, 150, 5, 850, 10
+SEED, COMPILED, PLAIN, ANSWERS, QUESTIONS = 23, 153, 5, 858, 10
 
 COMMON = """# The workspaces (a binary: id, package's id, kind, name, platform):
 {workspaces}
@@ -147,10 +147,13 @@ chain test - test(a) => accepted
 chain test-archive - test(a) => BannedPredicate 0 7 TestNotAvailableInArchive
 chain override-filter - test(a) => accepted
 chain default-filter - test(a) => accepted
+chain default-filter - default() or group(x) => BannedPredicate 0 9 DefaultInfiniteRecursion; BannedPredicate 13 8 GroupNotAvailableInDefaultFilter
 chain default-filter - default() or group(a) | default() => BannedPredicate 0 9 DefaultInfiniteRecursion; BannedPredicate 13 8 GroupNotAvailableInDefaultFilter; BannedPredicate 24 9 DefaultInfiniteRecursion
 chain test-archive - test(a) and not group(b) => BannedPredicate 0 7 TestNotAvailableInArchive; BannedPredicate 16 8 GroupNotAvailableInArchive
 chain default-filter @global package(=zz) or default() => BannedPredicate 16 9 DefaultInfiniteRecursion
 chain override-filter @global group(=zz) and binary(zz) => BannedPredicate 0 10 GroupCircularDependency
+chain test @global package(zzz) => NoPackageMatch 0 12
+chain test @global binary(zzz) => NoBinaryNameMatch 0 11
 chain test @global package(=zz) or group(=zz) => NoPackageMatch 0 12; NoGroupMatch 16 10
 chain test @global deps(zz)-rdeps(zz) => NoPackageMatch 0 8; NoPackageMatch 9 9
 chain test @global none() and binary_id(zz)|!binary(zz) => NoBinaryIdMatch 11 13; NoBinaryNameMatch 26 10
@@ -207,6 +210,14 @@ line all() p31 a @global deps(p2*) => binary true, test true
 line all() p1 a @global deps(p2*) => binary false, test false
 line all() p63 a @global rdeps(/^p6[34]$/) => binary true, test true
 line all() p64 a @global deps(*) - rdeps(p6[0-3]) => binary true, test true
+chain all() a a @global deps(=a) => binary true, test true
+chain all() b a @global deps(=a) => binary true, test true
+chain all() c a @global deps(=a) => binary true, test true
+chain all() a a @global rdeps(=c) => binary true, test true
+chain all() b a @global rdeps(=c) => binary true, test true
+chain all() c a @global rdeps(=c) => binary true, test true
+chain all() a a @global deps(=b) => binary false, test false
+chain all() c a @global deps(=b) => binary true, test true
 chain all() a a @global deps(a) and not deps(b) => binary true, test true
 chain all() c a @global deps(a) and deps(b) and deps(c) => binary true, test true
 chain all() b a @global deps(c) or rdeps(a) => binary false, test false

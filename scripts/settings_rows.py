@@ -3,9 +3,10 @@
 
     python3 scripts/settings_rows.py
 
-All is drawn from two seeds, so the table comes out the same each time. It knows nothing of the program. Filters and platform specs are those
-without a language: a filter is `all()`, `none()` or the name of a test, a spec the name of a platform; of a platform without names nothing is
-known. Values, the merge of files and the parents of profiles are reckoned by scripts/config_rows.py. Then, by the rules:
+Two rows are made by hand, all others are drawn from two seeds, so the table comes out the same each time. It knows nothing of the program.
+Filters and platform specs are those without a language: a filter is `all()`, `none()` or the name of a test, a spec the name of a platform; of
+a platform without names nothing is known. Values, the merge of files and the parents of profiles are reckoned by scripts/config_rows.py. Then,
+by the rules:
 
 - The overrides are asked in one order: by the chain of the profile (itself, its parents one after another, `default`), then by file from the
   highest, then by their places in the profile's list.
@@ -186,6 +187,13 @@ def wrapper(config, rules, key):
     return [*found, ("None", "default")][0]
 
 
+def rows_by_hand():
+    """A rule that sets no retries leaves them to the next one that holds."""
+    text = """profile.default.overrides = [{ filter = "all()", priority = 5 }, { filter = "a", retries = 2 }]"""
+    for test in ("a", "b"):
+        yield "default", "test", "target", [], None, test, ["priority", "retries"], [("explicit", "nextest.toml", "text " + text)]
+
+
 def rows():
     draw = random.Random(SEED)
     for _ in range(DRAWN):
@@ -228,7 +236,7 @@ def line(given, result):
 
 
 def main():
-    told = [(given, answer(*given)) for given in rows()] + [(given, script_answer(*given)) for given in script_rows()]
+    told = [(given, answer(*given)) for given in [*rows_by_hand(), *rows()]] + [(given, script_answer(*given)) for given in script_rows()]
     assert {found for _, result in told for found in re.findall("from (override|script rule|profile|default)", result)} == {"override", "script rule", "profile", "default"}
     assert all(any(text in result for _, result in told) for text in ("list-wrapper = v", "list-wrapper = w", "list-wrapper = None", "setup-scripts = Z,s,t", "setup-scripts = -"))
     lines = [HEAD, *dict.fromkeys(line(given, result) for given, result in told)]
