@@ -134,23 +134,22 @@ drop_front : (front back : List Bool) (count : ℕ) → length front ≡ count �
 drop_front front back count same = ap (λ (n : ℕ). drop n (front ++ back)) (sym same) ∙ front_rest (front ++ back) front back refl
 
 -- the settings by the rules that are picked, of each test of which the row is told
-pub settings_picked : {F S T : Type 0} (OnTest : F → F → Test → Bool → Type 0) (Tells : T → Source → Type 0) (profile : Evaluatable F S) (mode : NextestRunMode) (row behind : List Bool)
+pub settings_picked : {F S T : Type 0} (OnTest : F → F → Test → Bool → Type 0) (Tracks : T → Source → Type 0) (profile : Evaluatable F S) (mode : NextestRunMode) (row behind : List Bool)
     (found : List PlacedOverride) (scripts : List PlacedScriptRule) (it : TestSettings T) → behind ≡ drop (length profile.rules) row → found ≡ map placed_of (picked row profile.rules)
-    → scripts ≡ map placed_of (picked behind profile.script_rules) → AreSettings Tells mode (layers_of profile found scripts) it
-    → (test : Test) → IsHeldRow OnTest profile test row → AreSettingsFor OnTest Tells profile mode test it
-settings_picked OnTest Tells profile mode row behind found scripts it cut picks also settings test told =
-    let Holding : {P : Type 0} → RuleOn P _ _ → Type 0 = Holds OnTest profile.default_filter.filter.now test in
-    let count = told_length Holding profile.rules told.front told.overrides in
+    → scripts ≡ map placed_of (picked behind profile.script_rules) → AreSettings Tracks mode (layers_of profile found scripts) it
+    → (test : Test) → IsHeldRow OnTest profile test row → AreSettingsFor OnTest Tracks profile mode test it
+settings_picked OnTest Tracks profile mode row behind found scripts it cut picks also settings test told =
+    let count = told_length (Holds OnTest profile.default_filter.filter.now test) profile.rules told.front told.overrides in
     let back : behind ≡ told.back = cut ∙ ap (drop (length profile.rules)) told.divided ∙ drop_front told.front told.back (length profile.rules) count in
-    settings_found OnTest Tells profile mode test it found scripts
+    settings_found OnTest Tracks profile mode test it found scripts
     (record {
       held = picked told.front profile.rules;
-      are = picked_hold Holding profile.rules told.front told.overrides;
+      are = picked_hold (Holds OnTest profile.default_filter.filter.now test) profile.rules told.front told.overrides;
       same = picks ∙ ap (λ (them : List Bool). map placed_of (picked them profile.rules)) told.divided ∙ ap (map placed_of) (picked_front profile.rules told.front told.back count);
     })
     (record {
       held = picked told.back profile.script_rules;
-      are = picked_hold Holding profile.script_rules told.back told.scripts;
+      are = picked_hold (Holds OnTest profile.default_filter.filter.now test) profile.script_rules told.back told.scripts;
       same = also ∙ ap (λ (them : List Bool). map placed_of (picked them profile.script_rules)) back;
     }) settings
 

@@ -78,7 +78,7 @@ placed_has P (y ∷ xs) (suc place) x each e = placed_has P xs place x each.1 e
 pub early_askable : {F S : Type 0} (serves_as_default asks_groups : F → Bool) (loaded : LoadedConfig F S) (name : Name) (it : Chained F S) → IsSound serves_as_default asks_groups loaded
     → IsChained loaded.profiles loaded.default_filters loaded.rules loaded.script_rules name it
     → AreAskable serves_as_default asks_groups it.default_filter.filter.now (rules_in it.rules.items) (rules_in it.script_rules.items)
-early_askable serves_as_default asks_groups loaded name it sound chained = record {
+early_askable {F} {S} serves_as_default asks_groups loaded name it sound chained = record {
   serves = placed_has (Serves serves_as_default) loaded.default_filters chained.filtered.at (Some it.default_filter.filter.now)
       (recursion_from_All (Serves serves_as_default) loaded.default_filters sound.serve) chained.filtered.read;
   each = subst (All (IsAskable serves_as_default asks_groups)) (sym chained.ruled)
@@ -87,7 +87,7 @@ early_askable serves_as_default asks_groups loaded name it sound chained = recor
       (named_askable (in_profile script_profile_of) loaded.script_rules sound.scripts_askable);
 }
   where
-    named_askable : {P : Type 0} (written : LoadedRule P _ _ → Name) (all : List (LoadedRule P _ _)) → All (IsAskable serves_as_default asks_groups) all
+    named_askable : {P : Type 0} (written : LoadedRule P F S → Name) (all : List (LoadedRule P F S)) → All (IsAskable serves_as_default asks_groups) all
         → All (IsAskable serves_as_default asks_groups) (rules_of written all chained.chained.names)
     named_askable written all each =
         All-from_recursion (IsAskable serves_as_default asks_groups) (rules_of written all chained.chained.names)

@@ -62,12 +62,15 @@ pub record AreNamesOf (Is : List ℕ → Type 0) (names : List (List ℕ)) : Typ
 abbrev pub defined_as : List (NamedScript SetupScriptConfig) → List ℕ → Option (List ℕ × SetupScriptConfig)
 defined_as scripts id = option_map (λ config. (id, config)) (script_named scripts id)
 
--- the enabled scripts, by the bytes of their names, each with what it is set to
-pub record AreEnabled {F S : Type 0} (OnTest : F → F → Test → Bool → Type 0) (profile : Evaluatable F S) (tests : List Test)
-    (it : List (List ℕ × SetupScriptConfig)) : Type 0 where
+-- these are the scripts of exactly the names of which this is so, by the bytes of their names, each with what it is set to
+pub record AreScriptsOf (Is : List ℕ → Type 0) (scripts : List (NamedScript SetupScriptConfig)) (it : List (List ℕ × SetupScriptConfig)) : Type 0 where
   pub names : List (List ℕ)
-  pub are : AreNamesOf (IsEnabled OnTest profile tests) names
-  pub each : it ≡ filter_map (defined_as profile.scripts.setup) names
+  pub are : AreNamesOf Is names
+  pub each : it ≡ filter_map (defined_as scripts) names
+
+-- these are the enabled scripts
+abbrev pub AreEnabled : {F S : Type 0} → (F → F → Test → Bool → Type 0) → Evaluatable F S → List Test → List (List ℕ × SetupScriptConfig) → Type 0
+AreEnabled OnTest profile tests it = AreScriptsOf (IsEnabled OnTest profile tests) profile.scripts.setup it
 
 -- an enabled script as it is handed out
 abbrev pub seen_script : EnabledScript → List ℕ × SetupScriptConfig

@@ -1,6 +1,6 @@
 // The setup scripts that tests need, and the wrapper script of what lists them.
 ghost use Rattle.std.specs.Bool.{OnFalse, OnTrue};
-ghost use Rattle.std.specs.Prelude.{◌≡◌, ◌≢◌, [], ◌∷◌, ◌++◌, ◌||◌, ℕ, List, IsTrue, true, false, All, IfOk, OnOk, filter_map, length, map};
+ghost use Rattle.std.specs.Prelude.{◌≡◌, ◌≢◌, [], ◌∷◌, ◌++◌, ◌||◌, ℕ, List, IsTrue, true, false, All, IfOk, OnOk, filter_map, length, map, take};
 ghost use Rattle.std.specs.List.{list_any};
 ghost use Rattle.std.specs.Option.{option_copied};
 ghost use Rattle.std.specs.Str.{bytes_eq};
@@ -132,8 +132,8 @@ impl EnabledNames {
         ensures { IfOk result (words.AreNamesOf (λ id. IsTrue (words.has_name self.now id))) }
     {
         let mut listed = Listing::new(alloc);
-        for id in &self.names {
-            listed.push(Text::from_str(alloc, id.as_str())?)?;
+        for name in &self.names {
+            listed.push(Text::from_str(alloc, name.as_str())?)?;
         }
         Ok(listed)
     }
@@ -155,7 +155,7 @@ impl EnabledNames {
         alloc: Global,
         scripts: &'c [NamedScript<SetupScriptConfig>],
     ) -> Result<SetupScripts<'c>, AllocError>
-        ensures { IfOk result (λ it. it ≡ filter_map (words.defined_as scripts.now) self.now.keys) }
+        ensures { IfOk result (words.AreScriptsOf (λ id. IsTrue (words.has_name self.now id)) scripts.now) }
     {
         let mut found = Vec::new(alloc);
         for id in &self.names {
@@ -293,7 +293,21 @@ fn any_of_each(alloc: Global, columns: &[Vec<bool>], count: usize) -> Result<Vec
 fn any_of(values: &[bool], count: usize) -> bool
     ensures { result ≡ words.any_in count values.now }
 {
-    values[..count.min(values.len())].iter().any(is_true)
+    has_one(front_of(values, count))
+}
+
+// The first values.
+fn front_of(values: &[bool], count: usize) -> &[bool]
+    ensures { result.now ≡ take count values.now }
+{
+    &values[..count.min(values.len())]
+}
+
+// Whether one of some values is true.
+fn has_one(values: &[bool]) -> bool
+    ensures { result ≡ list_any (λ value. value) values.now }
+{
+    values.iter().any(is_true)
 }
 
 // Whether this one is.

@@ -6,4 +6,4 @@ use Rattle.nextest_config_resolution_profiles.proofs.enabled.EnabledNames.add_al
 
 -- the names of the rules so far are added
 abbrev pub invariant-loop-rule : goal.invariant-loop-rule
-invariant-loop-rule l = (id : List ℕ) → has_name l.self.names id ≡ (has_name l.fn.self.names id || list_any (λ rule. list_any (bytes_eq id) rule.now.config.setup) (take l.rule-index l.rules))
+invariant-loop-rule l = (id : List ℕ) → has_name l.self-inside.names id ≡ (has_name l.fn.self id || list_any (λ rule. list_any (bytes_eq id) rule.now.config.setup) (take l.rule-index l.rules))

@@ -8,8 +8,8 @@ use Rattle.nextest_config_resolution_scripts.specs.declared.script_rule.PlacedSc
 use Rattle.nextest_config_resolution_settings.specs.Nearest.{lent}
 use Rattle.nextest_filtering_filters.specs.Query.{test_of}
 
-pub returns-in_ok-scripts : goal.returns-in_ok-scripts
-returns-in_ok-scripts g c =
+pub returns : goal.returns
+returns g c =
     let profile = c.args.self.now in
     let test = test_of c.args.query.now in
     let Holding = Holds g.F.Filters.on_test profile.default_filter.filter.now test in
