@@ -157,7 +157,7 @@ module _ (cx : Context) (inputs : Inputs) (config : Whole Filterset PlatformSpec
             let test = it.holds.0 in
             let of = subst (λ (rules : List (ScriptRuleOn Filterset PlatformSpec)). Contains rules it.rule) own_script_rules it.of_profile in (
               test,
-              it.holds.1.0,
+              it.holds.1,
               record {
                 profile = profile_of_early;
                 default = tree;
@@ -167,7 +167,7 @@ module _ (cx : Context) (inputs : Inputs) (config : Whole Filterset PlatformSpec
                     (contains_mapped placed_of (put_scripts cx inputs config reads is.chained.names) it.rule of);
                 names = it.names;
                 holds = (contained_has (Alike placed_of (Holds HasOnTest filter test) (ScriptRuleHolds cx (platforms_of inputs) tree test)) (put_scripts cx inputs config reads is.chained.names) it.rule (scripts_alike test) of).0
-                    it.holds.1.1;
+                    it.holds.2;
               },
             )
 

@@ -1,4 +1,4 @@
-use Rattle.std.proofs.Common.{Bool, List, ◌||◌, ◌∙◌, ap, map}
+use Rattle.std.proofs.Common.{◌≡◌, Bool, List, ◌||◌, ◌∙◌, ap, map}
 use Rattle.std.proofs.lemmas.Result.{on_ok_weaker}
 use Rattle.nextest_config_resolution_profiles.specs.ChainRules.{seen_rules}
 use Rattle.nextest_config_resolution_profiles.specs.Enabled.{any_in, has_name, is_named, test_in}
@@ -19,13 +19,16 @@ returns g c = λ binary them tests are same has.
     let columns = c.args.held.now.scripts in
     let row = map (any_in count) columns in
     let rules = seen_rules c.as_slice.result.now in
-    let row_is = c.as_slice-2.ensures.value ∙ c.in_ok-row.ensures ∙ columns_any (λ column. column.items) count c.scripts.result.now ∙ ap (map (any_in count)) c.scripts.ensures in
-    let rules_are = ap seen_rules c.as_slice.ensures.value ∙ ap (λ (p : Evaluatable g.row.F.Denot g.row.S.Denot). p.script_rules) c.self.view_is in
-    let found = ap lent c.as_slice-3.ensures.value ∙ c.in_ok-picked.ensures ∙ ap (λ (values : List Bool). map placed_of (picked values rules)) row_is
+    let row_is : c.as_slice-2.result.now ≡ row
+    = c.as_slice-2.ensures.value ∙ c.in_ok-row.ensures ∙ columns_any (λ column. column.items) count c.scripts.result.now ∙ ap (map (any_in count)) c.scripts.ensures in
+    let rules_are : rules ≡ profile.script_rules
+    = ap seen_rules c.as_slice.ensures.value ∙ ap (λ (p : Evaluatable g.row.F.Denot g.row.S.Denot). p.script_rules) c.self.view_is in
+    let found : lent c.as_slice-3.result.now ≡ map placed_of (picked row profile.script_rules)
+    = ap lent c.as_slice-3.ensures.value ∙ c.in_ok-picked.ensures ∙ ap (λ (values : List Bool). map placed_of (picked values rules)) row_is
     ∙ ap (λ (all : List (ScriptRuleOn g.row.F.Denot g.row.S.Denot)). map placed_of (picked row all)) rules_are in
     on_ok_weaker c.add_all.result
     (λ adds.
-        enabled_both OnTest profile tests (map (test_in binary) them) c.args.names.now c.add_all.new.self row has
-        (told_by_columns OnTest profile.default_filter.filter.now binary them profile.script_rules columns count same are.scripts)
-        (λ id. adds id ∙ ap (λ (all : List PlacedScriptRule). has_name c.args.names.now id || is_named all id) found))
+    enabled_both OnTest profile tests (map (test_in binary) them) c.args.names.now c.add_all.new.self row has
+    (told_by_columns OnTest profile.default_filter.filter.now binary them profile.script_rules columns count same are.scripts)
+    (λ id. adds id ∙ ap (λ (all : List PlacedScriptRule). has_name c.args.names.now id || is_named all id) found))
     c.add_all.ensures

@@ -6,6 +6,6 @@ use Rattle.nextest_config_resolution_settings.specs.Tracking.{TellsNothing}
 
 pub returns : goal.returns
 returns g c =
-    settings_picked g.F.Filters.on_test TellsNothing c.args.self.now c.args.mode c.args.row.now (drop (length c.args.self.now.rules) c.args.row.now) (lent c.as_slice-overrides.result.now)
-    (lent c.as_slice-scripts.result.now) c.settings_of.result refl (ap lent c.as_slice-overrides.ensures.value ∙ c.in_ok-overrides.ensures) (ap lent c.as_slice-scripts.ensures.value ∙ c.in_ok-scripts.ensures)
+    settings_picked g.F.Filters.on_test TellsNothing c.args.self.now c.args.mode c.args.row.now (drop (length c.args.self.now.rules) c.args.row.now) (lent c.as_slice.result.now)
+    (lent c.as_slice-2.result.now) c.settings_of.result refl (ap lent c.as_slice.ensures.value ∙ c.in_ok-overrides.ensures) (ap lent c.as_slice-2.ensures.value ∙ c.in_ok-scripts.ensures)
     c.settings_of.ensures
