@@ -1,8 +1,13 @@
-use Rattle.std.proofs.Common.{sym, subst, List}
-use Rattle.nextest_config_resolution_profiles.specs.Enabled.{HasEnabled}
+use Rattle.std.proofs.Common.{List, ◌∙◌, rules, sym, subst}
+use Rattle.std.proofs.lemmas.Iterator.Adapters.{YieldsList-from_vec}
+use Rattle.std.proofs.lemmas.Iterator.Consumers.{YieldsList-end}
+use Rattle.std.proofs.lemmas.List.{map-id}
+use Rattle.nextest_config_resolution_profiles.specs.Enabled.{AreNamesOf, HasEnabled, IsEnabled}
+use Rattle.nextest_config_resolution_profiles.proofs.Enabling.{same_names}
 use Rattle.nextest_filtering_compiling.specs.Filtersets.{HasOnTest}
 use Rattle.nextest_filtering_filters.specs.Query.{Test}
 use Rattle.test_runner_core_listing.specs.Selected.{tests_in}
+use Rattle.test_runner_core_listing.specs.declared.selection.SelectedTests.{SelectedTests}
 use Rattle.test_runner_core_planning.proofs.Settled.{settled_more, tests_more}
 use Rattle.test_runner_core_planning.proofs.settled_tests.settled_tests.Goals as goal
 
@@ -18,3 +23,12 @@ loop-of_binary-preserved c =
       scripts = subst (λ (tests : List Test). HasEnabled HasOnTest profile tests c.push_tests.new.scripts) (sym (tests_more so_far one))
           (c.in_ok-push_tests.ensures.scripts (tests_in so_far) c.loop-of_binary.invariant.scripts);
     }
+
+pub returns-clause-scripts : goal.returns-clause-scripts
+returns-clause-scripts c =
+    let profile = c.args.profile.now in
+    let scripts = c.in_ok-scripts.scripts in
+    let listed = YieldsList-from_vec {s = c.into_iter-of_binary-iterator.result} c.args.selected.items (search rules) (search rules) in
+    let end = YieldsList-end listed c.loop-of_binary.yielded c.loop-of_binary.of_binary-iterator c.loop-of_binary.yielded_by c.next.result c.next.new.self c.in-None.is c.next.ensures.steps in
+    subst (λ (them : List SelectedTests). AreNamesOf (IsEnabled HasOnTest profile (tests_in them)) scripts) (sym (map-id c.loop-of_binary.yielded) ∙ end.0)
+    (same_names scripts c.loop-of_binary.invariant.scripts c.in_ok-scripts.ensures)

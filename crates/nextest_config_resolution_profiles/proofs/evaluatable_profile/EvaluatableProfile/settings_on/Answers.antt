@@ -12,8 +12,9 @@ pub returns : goal.returns
 returns g c =
     let profile = c.args.self.now in
     let test = test_of c.args.query.now in
-    let Holding = Holds g.F.Filters.on_test profile.default_filter.filter.now test in
-    settings_found g.F.Filters.on_test g.T.TrackSource.tells profile c.args.mode test c.settings_of.result (lent c.as_slice.result.now) (lent c.as_slice-2.result.now)
-    (subst (λ (them : List PlacedOverride). FindsHeld Holding profile.rules them) (sym (ap lent c.as_slice.ensures.value)) c.in_ok-held.ensures)
-    (subst (λ (them : List PlacedScriptRule). FindsHeld Holding profile.script_rules them) (sym (ap lent c.as_slice-2.ensures.value)) c.in_ok-scripts.ensures)
+    let OnTest = g.F.Filters.on_test in
+    let default = profile.default_filter.filter.now in
+    settings_found OnTest g.T.TrackSource.tells profile c.args.mode test c.settings_of.result (lent c.as_slice.result.now) (lent c.as_slice-2.result.now)
+    (subst (λ (them : List PlacedOverride). FindsHeld (Holds OnTest default test) profile.rules them) (sym (ap lent c.as_slice.ensures.value)) c.in_ok-held.ensures)
+    (subst (λ (them : List PlacedScriptRule). FindsHeld (Holds OnTest default test) profile.script_rules them) (sym (ap lent c.as_slice-2.ensures.value)) c.in_ok-scripts.ensures)
     c.settings_of.ensures
