@@ -64,8 +64,12 @@ fn plan_in<L: Lister>(alloc: Global, inputs: &Inputs, lister: &mut L) -> Result<
         tests: selected,
         skipped,
     } = selection_by(alloc, inputs, &wanted, lister)?;
-    let SettledTests { tests, scripts } =
-        settled_tests(alloc, &wanted.run.profile, inputs.mode, selected)?;
+    let SettledTests { tests, scripts } = settled_tests(
+        alloc,
+        &wanted.run.profile,
+        inputs.mode,
+        selected,
+    )?;
     if has_too_many(tests.as_slice()) {
         return Err(PlanError::Refused(PlanFault::RetriesTooMany));
     }

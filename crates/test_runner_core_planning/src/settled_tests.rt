@@ -72,7 +72,15 @@ pub(crate) fn settled_tests(
     let mut tests = Vec::new(alloc);
     let mut names = EnabledNames::new(alloc);
     for of_binary in selected {
-        push_tests(alloc, profile, mode, of_binary, &mut shared, &mut tests, &mut names)?;
+        push_tests(
+            alloc,
+            profile,
+            mode,
+            of_binary,
+            &mut shared,
+            &mut tests,
+            &mut names,
+        )?;
     }
     let scripts = names.listed(alloc)?;
     Ok(SettledTests { tests, scripts })
