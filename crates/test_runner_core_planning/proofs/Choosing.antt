@@ -6,7 +6,7 @@ use Rattle.nextest_config_elements_identifiers.specs.Groups.{text_of}
 use Rattle.nextest_config_elements_identifiers.specs.declared.test_group.TestGroup.{TestGroup}
 use Rattle.nextest_config_resolution_profiles.specs.Evaluatable.{Evaluatable}
 use Rattle.nextest_config_resolution_profiles.specs.Held.{Holds, IsGroupBy, IsGroupFor, group_set}
-use Rattle.nextest_config_resolution_profiles.specs.Platforms.{RuleOn}
+use Rattle.nextest_config_resolution_profiles.specs.Platforms.{OverrideOn}
 use Rattle.nextest_config_resolution_settings.proofs.Least.{one_least}
 use Rattle.nextest_filtering_compiling.specs.FiltersetLaws.{default_has_no_groups, default_serves}
 use Rattle.nextest_filtering_compiling.specs.Filtersets.{HasOnTest}
@@ -38,7 +38,7 @@ use Rattle.test_runner_core_settings.proofs.Once.{never_least, one_test}
 -- ---- the group that a profile has for a test
 
 -- is one
-one_group : {F S : Type 0} (Holding : RuleOn F S → Type 0) (rules : List (RuleOn F S)) (one other : TestGroup) → IsGroupBy Holding rules one → IsGroupBy Holding rules other → one ≡ other
+one_group : {F S : Type 0} (Holding : OverrideOn F S → Type 0) (rules : List (OverrideOn F S)) (one other : TestGroup) → IsGroupBy Holding rules one → IsGroupBy Holding rules other → one ≡ other
 one_group Holding rules one other (inl (rule, a)) (inl (second, b)) = (one_least Holding group_set rules rule second one other a b).1
 one_group Holding rules one other (inl (rule, a)) (inr (none, b)) = absurd (never_least Holding group_set rules rule one none a)
 one_group Holding rules one other (inr (none, a)) (inl (rule, b)) = absurd (never_least Holding group_set rules rule other none b)
