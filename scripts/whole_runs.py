@@ -11,6 +11,7 @@ is `N passed, M failed`, and the exit status 1.
 import argparse
 import concurrent.futures
 import dataclasses
+import json
 import os
 import pathlib
 import re
@@ -277,6 +278,47 @@ def pairs(program, row):
     return f"{one.status} and {other.status}, {shared}"
 
 
+def without_warnings(report):
+    return re.sub(r"^warning\t.*\n", "", report, flags=re.M)
+
+
+def law_row(program, inputs, other, log):
+    """What the runs of two inputs by one log come to: the first one's status and number of tests, where both have one report."""
+    one, second, none = (program.run(json.dumps(it) + "\n" + with_tabs(log)) for it, log in ((inputs, log), (other, log), (inputs, "")))
+    if one.status != second.status or without_warnings(one.report) != without_warnings(second.report):
+        return f"{one.shown()}and {second.shown()}"
+    return f"status {one.status}, {counter('initial-run-count', none)} tests, one report"
+
+
+def counter(name, run):
+    """A counter of a final text."""
+    return re.search(rf"^{name}\t(\d+)$", run.report, re.M)[1]
+
+
+def default_twice(program, row):
+    """Inputs with a filterset, and with the default filter beside it."""
+    changes, log = row.rsplit(BAR, 1)
+    inputs = json.loads(PLAN(changes))
+    return law_row(program, inputs, {**inputs, "filterset": f"({inputs['filterset']}) and default()"}, log)
+
+
+def isolation(program, row):
+    """Two inputs whose files have other texts besides."""
+    changes, one, other, log = row.rsplit(BAR, 3)
+    inputs = json.loads(PLAN(changes))
+    both = ({**inputs, "sources": [{**it, "text": it["text"] + texts[it["path"]]} for it in inputs["sources"]]} for texts in map(json.loads, (one, other)))
+    return law_row(program, *both, log)
+
+
+def roads(program, changes):
+    """The planned tests, by the bytes of binary and name."""
+    run = program.run(on_a_line(PLAN(changes)))
+    if run.final_text() is None:
+        return run.shown()
+    tests = re.findall(r"^test\t(.*)\t(.*)\tnot-run\t0/\d+$", run.report, re.M)
+    return ", ".join(" ".join(it) for it in sorted(tests, key=lambda test: [part.encode() for part in test])) or "none"
+
+
 def agrees(kind, log, first):
     """Whether a log is as the first one wants it."""
     if kind != "whole":
@@ -309,6 +351,9 @@ TABLES = {
     "told_tests": told_tests,
     "pairs": pairs,
     "agreeing": agreeing,
+    "default_twice": default_twice,
+    "isolation": isolation,
+    "roads": roads,
     "versions": versions,
     "inputs_changed": inputs_changed,
     "inputs_other": inputs,

@@ -15,6 +15,7 @@ pub use Rattle.nextest_config_resolution_load.specs.Telling as LoadTelling
 pub use Rattle.nextest_config_resolution_profiles.specs.Asking
 pub use Rattle.nextest_config_resolution_profiles.specs.Config
 pub use Rattle.nextest_config_resolution_profiles.specs.Early
+pub use Rattle.nextest_config_resolution_profiles.specs.Agreeing
 pub use Rattle.nextest_config_resolution_profiles.specs.Enabled
 pub use Rattle.nextest_config_resolution_profiles.specs.Evaluatable
 pub use Rattle.nextest_config_resolution_profiles.specs.Held

@@ -94,7 +94,7 @@ moved_read file (profiles, store_dir, parts) = (
   },
 )
 
-moved_have : (files : List Members) → AllByRecursion IsRead files → AllByRecursion IsRead (map moved files)
+pub moved_have : (files : List Members) → AllByRecursion IsRead files → AllByRecursion IsRead (map moved files)
 moved_have [] read = tt
 moved_have (file ∷ files) read = (moved_read file read.0, moved_have files read.1)
 

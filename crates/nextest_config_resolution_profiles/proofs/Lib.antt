@@ -26,3 +26,6 @@ pub mod Sound
 pub mod Tables
 pub mod Undefined
 pub mod Values
+pub mod Agreeing
+pub mod AgreeingRules
+pub mod ProfileIsolation

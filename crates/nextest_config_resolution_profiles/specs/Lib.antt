@@ -1,3 +1,4 @@
+pub mod Agreeing
 pub mod Asking
 pub mod BuiltIn
 pub mod BuiltInLaws

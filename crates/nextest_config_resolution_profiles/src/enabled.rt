@@ -3,6 +3,7 @@ ghost use Rattle.std.specs.Bool.{OnFalse, OnTrue};
 ghost use Rattle.std.specs.Prelude.{◌≡◌, ◌≢◌, [], ◌∷◌, ◌++◌, ◌||◌, ℕ, List, IsTrue, true, false, All, IfOk, OnOk, filter_map, length, map, take};
 ghost use Rattle.std.specs.List.{list_any};
 ghost use Rattle.std.specs.Option.{option_copied};
+ghost use Rattle.std.specs.Slice.Iter.{iter_rest};
 ghost use Rattle.std.specs.Str.{bytes_eq};
 ghost use Rattle.nextest_config_resolution_profiles.specs.Asking.{IsAskable};
 ghost use Rattle.nextest_config_resolution_profiles.specs.ChainRules.{rule_in, rules_in, seen_rule, seen_rules};
@@ -90,7 +91,9 @@ impl<'c> SetupScripts<'c> {
     }
 
     /// Them, one after another, in the order in which they run.
-    pub fn iter(&self) -> slice::Iter<'_, EnabledScript<'c>> {
+    pub fn iter(&self) -> slice::Iter<'_, EnabledScript<'c>>
+        ensures { map words.seen_script (iter_rest result) ≡ self.now }
+    {
         self.scripts.iter()
     }
 }

@@ -1,4 +1,5 @@
 //! What holds of whole configurations. Each law is the contract of a function that does nothing.
+ghost use Rattle.nextest_config_resolution_profiles.specs.Agreeing.{ProfileIsolation};
 ghost use Rattle.nextest_config_resolution_profiles.specs.BuiltInLaws.{Accepted, NoFallback, ReadAs, WrittenAs};
 ghost use Rattle.nextest_config_resolution_profiles.specs.Kept.{KeptProfile};
 ghost use Rattle.nextest_config_resolution_profiles.specs.Languages.{IsFilterIn};
@@ -40,6 +41,13 @@ pub fn rules_are_read<F: Filters, S: Specs>()
 /// Each script that a script rule of a profile names is found, and each group that one of its overrides names is defined.
 pub fn nothing_is_undefined<F: Filters, S: Specs>()
     ensures { (cx : F.Cx) → NothingIsUndefined (IsFilterIn F.is_parsed F.has_runtime_leaves cx) S.is_parsed F.is_too_deep }
+{}
+
+/// Profiles of other names change nothing: two lists of sources whose files agree but in profiles of names other than these come to
+/// configurations with the same values, overrides and script rules in the profiles of these names, and with the same groups, scripts
+/// and store.
+pub fn profile_isolation<F: Filters, S: Specs>()
+    ensures { (cx : F.Cx) → ProfileIsolation (IsFilterIn F.is_parsed F.has_runtime_leaves cx) S.is_parsed F.is_too_deep }
 {}
 
 /// More tests enable no fewer setup scripts.

@@ -11,7 +11,8 @@ use Rattle.nextest_config_elements_plain.specs.declared.max_fail.MaxFail.{MaxFai
 use Rattle.nextest_config_elements_plain.specs.declared.max_fail.MaxFail.TheVariants as limits
 use Rattle.test_runner_core_inputs.specs.declared.inputs.Inputs.{Inputs}
 use Rattle.test_runner_core_planning.specs.Filtering.{context_of}
-use Rattle.test_runner_core_planning.specs.Plan.{IsPlanOf, Planned, Plans, plan_test}
+use Rattle.test_runner_core_planning.specs.Checks.{Planned}
+use Rattle.test_runner_core_planning.specs.Plan.{IsPlanOf, Plans, plan_test}
 use Rattle.test_runner_core_plan.specs.declared.plan.Plan.{Plan}
 use Rattle.test_runner_core_plan.specs.declared.plan.PlanTest.{PlanTest}
 use Rattle.test_runner_core_runs.specs.RunPlan.{IsLimit, IsPlan}
@@ -22,7 +23,6 @@ use Rattle.test_runner_core_plan.specs.declared.plan_settings.PlanSettings.{Plan
 use Rattle.test_runner_core_settings.proofs.Limits.{sets_limit}
 use Rattle.test_runner_core_workspace.specs.Lister.{Answer}
 use Rattle.test_runner_core_workspace.specs.declared.record.Binary.{Binary}
-use Rattle.test_runner_core_planning.proofs.Once.{parts_of, settled_sets}
 
 -- a number of failing tests that is one at least is a limit
 is_limit : (limit : MaxFail) → IsOneAtLeast limit → IsLimit limit
@@ -61,5 +61,5 @@ built_is_plan answer inputs it plan planned built =
       tries = each_has_a_try plan.tests (recursion_from_All HasTry plan.tests all);
       limit =
           subst (λ (limit : MaxFail). IsLimit limit) (sym built.limit)
-          (is_limit it.choice.run.max_fail (sets_limit (context_of inputs.workspace) inputs it.choice.run (settled_sets inputs it.choice (parts_of answer inputs it planned).asked).run));
+          (is_limit it.choice.run.max_fail (sets_limit (context_of inputs.workspace) inputs it.choice.run planned.found.answers.sets.run));
     }

@@ -1,10 +1,7 @@
 -- The exit status of a report is due, and no milder than what is due.
-use Rattle.std.proofs.Common.{◌≡◌, ◌↔◌, ℕ, List, [], ◌++◌, map, Option, Some, None, IfOk, IfSome, Result, Ok, Err, refl, sym, ◌∙◌, subst, inr, append-nil}
-use Rattle.test_runner_core_inputs.specs.Reading.{read_inputs}
+use Rattle.std.proofs.Common.{◌≡◌, ◌↔◌, ℕ, List, [], ◌++◌, map, None, Ok, refl, sym, ◌∙◌, subst, inr, append-nil}
 use Rattle.test_runner_core_inputs.specs.declared.inputs.Inputs.{Inputs}
-use Rattle.test_runner_core_inputs.specs.declared.inputs_error.InputsRefusal.{InputsRefusal}
-use Rattle.test_runner_core_log_reader.specs.Feeds.{before_feed, behind_feed}
-use Rattle.test_runner_core_log_reader.specs.Items.{Item, Line, items}
+use Rattle.test_runner_core_log_reader.specs.Items.{Item, Line}
 use Rattle.test_runner_core_runs.proofs.DueStatus as runs
 use Rattle.test_runner_core_runs.proofs.NoMilder as cut_runs
 use Rattle.test_runner_core_runs.specs.Assignment.{due_status}
@@ -20,9 +17,8 @@ use Rattle.test_runner_core_telling.specs.Steps.{progress}
 use Rattle.test_runner_core_workspace.specs.Lister.{Answer}
 use Rattle.test_runner_core_workspace.specs.declared.record.Binary.{Binary}
 use Rattle.test_runner_core.specs.Laws.{EndsNoMilder, EndsWithDueStatus}
-use Rattle.test_runner_core.specs.Outcome.{IsDue, IsNoMilderThanDue, IsRun, IsStreamDue, IsStreamNoMilder, LineComposed, StreamComposed, table_of}
-use Rattle.test_runner_core.specs.Report.{Composed, Judged, Reports}
-use Rattle.test_runner_core.specs.declared.judge_fault.JudgeFault.{JudgeFault}
+use Rattle.test_runner_core.specs.Outcome.{IsRun}
+use Rattle.test_runner_core.specs.Report.{Composed, Judged}
 use Rattle.test_runner_core.proofs.Built.{built_is_plan}
 use Rattle.test_runner_core.proofs.OneReport.{composed_once}
 
@@ -73,63 +69,3 @@ ends_no_milder answer inputs log parts code composed assigned run agrees =
       cut_runs.ends_no_milder (run_plan run.plan) assigned run.events run.last is_plan run.leads.run agrees,
       cut_runs.has_four_exactly_where_due (run_plan run.plan) assigned run.events run.last is_plan run.leads.run agrees,
     )
-
--- ---- what a call answers
-
--- what holds of the exit status of each report holds of one that is answered
-pub status_is : (IsReport : List Part → ℕ → Type 0) (IsGot IsBegun : List Part → Type 0) (P : ℕ → Type 0) (result : Result ℕ JudgeFault) (before after : Option (List ℕ))
-    → Reports result IsReport IsGot IsBegun before after → ((parts : List Part) (code : ℕ) → IsReport parts code → P code) → IfOk result P
-status_is IsReport IsGot IsBegun P (Ok code) before after (parts, is, written) holds = holds parts code is
-status_is IsReport IsGot IsBegun P (Err e) before after reports holds = tt
-
--- where the bytes of the log are known, the exit status of a report is due
-pub known_is_due : (answer : Binary → Answer) (inputs : Inputs) (left : Option (List ℕ)) (parts : List Part) (code : ℕ)
-    → IfSome left (λ bytes. Composed answer inputs (items 0 bytes) parts code) → IfSome left (λ bytes. IsDue answer inputs (items 0 bytes) code)
-known_is_due answer inputs None parts code composed = tt
-known_is_due answer inputs (Some bytes) parts code composed = ends_with_due_status answer inputs (items 0 bytes) parts code composed
-
--- and no milder than what is due
-pub known_is_no_milder : (answer : Binary → Answer) (inputs : Inputs) (left : Option (List ℕ)) (parts : List Part) (code : ℕ)
-    → IfSome left (λ bytes. Composed answer inputs (items 0 bytes) parts code) → IfSome left (λ bytes. IsNoMilderThanDue answer inputs (items 0 bytes) code)
-known_is_no_milder answer inputs None parts code composed = tt
-known_is_no_milder answer inputs (Some bytes) parts code composed = ends_no_milder answer inputs (items 0 bytes) parts code composed
-
--- so is one that is answered
-pub status_is_due : (answer : Binary → Answer) (inputs : Inputs) (left : Option (List ℕ)) (IsGot IsBegun : List Part → Type 0) (result : Result ℕ JudgeFault) (before after : Option (List ℕ))
-    → Reports result (λ parts code. IfSome left (λ bytes. Composed answer inputs (items 0 bytes) parts code)) IsGot IsBegun before after
-    → IfOk result (λ code. IfSome left (λ bytes. IsDue answer inputs (items 0 bytes) code))
-status_is_due answer inputs left IsGot IsBegun result before after reports =
-    status_is _ IsGot IsBegun _ result before after reports (known_is_due answer inputs left)
-
-pub status_is_no_milder : (answer : Binary → Answer) (inputs : Inputs) (left : Option (List ℕ)) (IsGot IsBegun : List Part → Type 0) (result : Result ℕ JudgeFault) (before after : Option (List ℕ))
-    → Reports result (λ parts code. IfSome left (λ bytes. Composed answer inputs (items 0 bytes) parts code)) IsGot IsBegun before after
-    → IfOk result (λ code. IfSome left (λ bytes. IsNoMilderThanDue answer inputs (items 0 bytes) code))
-status_is_no_milder answer inputs left IsGot IsBegun result before after reports =
-    status_is _ IsGot IsBegun _ result before after reports (known_is_no_milder answer inputs left)
-
--- ---- the same of a stream
-
--- the report of a stream whose first line is inputs is theirs
-pub stream_composes : (bytes : List ℕ) (inputs : Inputs) (parts : List Part) (code : ℕ) → read_inputs (before_feed bytes) ≡ Ok inputs → StreamComposed bytes parts code
-    → Composed (table_of inputs) inputs (items 0 (behind_feed bytes)) parts code
-stream_composes bytes inputs parts code read composed = subst (λ (r : Result Inputs InputsRefusal). LineComposed r (items 0 (behind_feed bytes)) parts code) read composed
-
-pub stream_is_due : (left : Option (List ℕ)) (parts : List Part) (code : ℕ) → IfSome left (λ bytes. StreamComposed bytes parts code) → IfSome left (λ bytes. IsStreamDue bytes code)
-stream_is_due None parts code composed = tt
-stream_is_due (Some bytes) parts code composed = λ inputs read.
-    ends_with_due_status (table_of inputs) inputs (items 0 (behind_feed bytes)) parts code (stream_composes bytes inputs parts code read composed)
-
-pub stream_is_no_milder : (left : Option (List ℕ)) (parts : List Part) (code : ℕ) → IfSome left (λ bytes. StreamComposed bytes parts code) → IfSome left (λ bytes. IsStreamNoMilder bytes code)
-stream_is_no_milder None parts code composed = tt
-stream_is_no_milder (Some bytes) parts code composed = λ inputs read.
-    ends_no_milder (table_of inputs) inputs (items 0 (behind_feed bytes)) parts code (stream_composes bytes inputs parts code read composed)
-
-pub stream_status_is_due : (left : Option (List ℕ)) (IsGot IsBegun : List Part → Type 0) (result : Result ℕ JudgeFault) (before after : Option (List ℕ))
-    → Reports result (λ parts code. IfSome left (λ bytes. StreamComposed bytes parts code)) IsGot IsBegun before after
-    → IfOk result (λ code. IfSome left (λ bytes. IsStreamDue bytes code))
-stream_status_is_due left IsGot IsBegun result before after reports = status_is _ IsGot IsBegun _ result before after reports (stream_is_due left)
-
-pub stream_status_is_no_milder : (left : Option (List ℕ)) (IsGot IsBegun : List Part → Type 0) (result : Result ℕ JudgeFault) (before after : Option (List ℕ))
-    → Reports result (λ parts code. IfSome left (λ bytes. StreamComposed bytes parts code)) IsGot IsBegun before after
-    → IfOk result (λ code. IfSome left (λ bytes. IsStreamNoMilder bytes code))
-stream_status_is_no_milder left IsGot IsBegun result before after reports = status_is _ IsGot IsBegun _ result before after reports (stream_is_no_milder left)

@@ -10,6 +10,7 @@ pub mod OneReport
 pub mod Built
 pub mod Due
 pub mod OneEnd
+mod Headline
 pub mod Written
 mod Whole
 mod Aside

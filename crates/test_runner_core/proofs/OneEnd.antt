@@ -1,9 +1,8 @@
 -- That the reports of one unstopped assignment end with one text, and what status 0 says.
-use Rattle.std.proofs.Common.{◌≡◌, ℕ, ◌+◌, List, [], ◌∷◌, ◌++◌, map, length, Option, Some, None, Ok, Err, IfOk, IfSome, Result, refl, sym, ap, ◌∙◌, subst, inl, inr, append-nil}
+use Rattle.std.proofs.Common.{◌≡◌, ℕ, ◌+◌, List, [], ◌∷◌, ◌++◌, map, length, Option, Some, None, refl, sym, ap, ◌∙◌, subst, inl, inr, append-nil}
 use Rattle.std.specs.Io.KnownBytes.{Appends}
 use Rattle.test_runner_core_inputs.specs.declared.inputs.Inputs.{Inputs}
-use Rattle.test_runner_core_log_reader.specs.Feeds.{behind_feed}
-use Rattle.test_runner_core_log_reader.specs.Items.{Item, Line, Refused, items}
+use Rattle.test_runner_core_log_reader.specs.Items.{Item, Line, Refused}
 use Rattle.test_runner_core_planning.specs.Texts.{status_of}
 use Rattle.test_runner_core_plan.specs.declared.plan.Plan.{Plan}
 use Rattle.test_runner_core_planning.specs.declared.plan_fault.PlanFault.{PlanFault}
@@ -21,11 +20,10 @@ use Rattle.test_runner_core_workspace.specs.Lister.{Answer}
 use Rattle.test_runner_core_workspace.specs.declared.record.Binary.{Binary}
 use Rattle.test_runner_core.specs.Judging.{Finds}
 use Rattle.test_runner_core.specs.Laws.{HasOneReport, StopsWhereDue, SucceedsWhole}
-use Rattle.test_runner_core.specs.Outcome.{EndsAsDue, IsRun, IsWholeRun, StreamComposed, StreamEndsAsDue, due_parts, table_of}
-use Rattle.test_runner_core.specs.Report.{Composed, IsWritten, Judged, Reports, exit_status}
-use Rattle.test_runner_core.specs.declared.judge_fault.JudgeFault.{JudgeFault}
+use Rattle.test_runner_core.specs.Outcome.{EndsAsDue, IsRun, IsWholeRun, due_parts}
+use Rattle.test_runner_core.specs.Report.{Composed, IsWritten, Judged, exit_status}
 use Rattle.test_runner_core.specs.declared.refused_line.RefusedLine.{RefusedLine}
-use Rattle.test_runner_core.proofs.Due.{ends_as_its_run, plan_of_run, stream_composes, told_of}
+use Rattle.test_runner_core.proofs.Due.{ends_as_its_run, plan_of_run, told_of}
 use Rattle.test_runner_core.proofs.OneReport.{one_text, parted}
 use Rattle.test_runner_core_planning.proofs.OnePlan.{one_plan}
 
@@ -71,45 +69,12 @@ stops_where_due answer inputs assigned log whole =
 
 -- ---- what a call wrote
 
--- what holds where a report is written holds where one is answered
-report_written : (IsReport : List Part → ℕ → Type 0) (IsGot IsBegun : List Part → Type 0) (P : Type 0) (result : Result ℕ JudgeFault) (before after : Option (List ℕ))
-    → Reports result IsReport IsGot IsBegun before after → ((parts : List Part) (code : ℕ) → IsReport parts code → IsWritten parts before after → P) → IfOk result (λ code. P)
-report_written IsReport IsGot IsBegun P (Ok code) before after (parts, is, written) holds = holds parts code is written
-report_written IsReport IsGot IsBegun P (Err e) before after reports holds = tt
-
 -- a report of a log that runs the inputs to their end is written with the final text that is due at its end
-ends_as_due : (answer : Binary → Answer) (inputs : Inputs) (log : List Item) (parts : List Part) (code : ℕ) (before after : Option (List ℕ))
+pub ends_as_due : (answer : Binary → Answer) (inputs : Inputs) (log : List Item) (parts : List Part) (code : ℕ) (before after : Option (List ℕ))
     → Composed answer inputs log parts code → IsWritten parts before after → EndsAsDue answer inputs log before after
 ends_as_due answer inputs log parts code before after composed (text, is, appends) assigned whole free =
     let last = due_text_last answer inputs log parts code text assigned whole free composed is in
     (last.told, (last.final, last.is, subst (Appends before after) last.whole appends))
-
--- so is one where the bytes of the log are known
-pub known_ends_as_due : (answer : Binary → Answer) (inputs : Inputs) (left : Option (List ℕ)) (parts : List Part) (code : ℕ) (before after : Option (List ℕ))
-    → IfSome left (λ bytes. Composed answer inputs (items 0 bytes) parts code) → IsWritten parts before after → IfSome left (λ bytes. EndsAsDue answer inputs (items 0 bytes) before after)
-known_ends_as_due answer inputs None parts code before after composed written = tt
-known_ends_as_due answer inputs (Some bytes) parts code before after composed written = ends_as_due answer inputs (items 0 bytes) parts code before after composed written
-
-pub report_ends_as_due : (answer : Binary → Answer) (inputs : Inputs) (left : Option (List ℕ)) (IsGot IsBegun : List Part → Type 0) (result : Result ℕ JudgeFault) (before after : Option (List ℕ))
-    → Reports result (λ parts code. IfSome left (λ bytes. Composed answer inputs (items 0 bytes) parts code)) IsGot IsBegun before after
-    → IfOk result (λ code. IfSome left (λ bytes. EndsAsDue answer inputs (items 0 bytes) before after))
-report_ends_as_due answer inputs left IsGot IsBegun result before after reports =
-    report_written _ IsGot IsBegun (IfSome left (λ bytes. EndsAsDue answer inputs (items 0 bytes) before after)) result before after reports
-    (λ parts code composed written. known_ends_as_due answer inputs left parts code before after composed written)
-
--- the same of a stream
-known_stream_ends_as_due : (left : Option (List ℕ)) (parts : List Part) (code : ℕ) (before after : Option (List ℕ))
-    → IfSome left (λ bytes. StreamComposed bytes parts code) → IsWritten parts before after → IfSome left (λ bytes. StreamEndsAsDue bytes before after)
-known_stream_ends_as_due None parts code before after composed written = tt
-known_stream_ends_as_due (Some bytes) parts code before after composed written = λ inputs read.
-    ends_as_due (table_of inputs) inputs (items 0 (behind_feed bytes)) parts code before after (stream_composes bytes inputs parts code read composed) written
-
-pub stream_report_ends_as_due : (left : Option (List ℕ)) (IsGot IsBegun : List Part → Type 0) (result : Result ℕ JudgeFault) (before after : Option (List ℕ))
-    → Reports result (λ parts code. IfSome left (λ bytes. StreamComposed bytes parts code)) IsGot IsBegun before after
-    → IfOk result (λ code. IfSome left (λ bytes. StreamEndsAsDue bytes before after))
-stream_report_ends_as_due left IsGot IsBegun result before after reports =
-    report_written _ IsGot IsBegun (IfSome left (λ bytes. StreamEndsAsDue bytes before after)) result before after reports
-    (λ parts code composed written. known_stream_ends_as_due left parts code before after composed written)
 
 -- ---- status 0
 

@@ -6,15 +6,15 @@ use Rattle.std.proofs.lemmas.Result.{err_from_is_err_and}
 use Rattle.test_runner_core_inputs.specs.declared.inputs.Inputs.{Inputs}
 use Rattle.test_runner_core_log_reader.specs.Cursor.{Cursor, items_ahead}
 use Rattle.test_runner_core_log_reader.specs.Items.{Item}
-use Rattle.test_runner_core_listing.specs.Listing.{AsksFor}
+use Rattle.test_runner_core_listing.specs.Listing.{AsksFor, asked_of}
 use Rattle.test_runner_core_planning.specs.Plan as building
-use Rattle.test_runner_core_planning.specs.Plan.{Asks, AsksBehind, AsksWith, Builds, Plans, asked_by}
+use Rattle.test_runner_core_planning.specs.Checks.{listed_in}
+use Rattle.test_runner_core_planning.specs.Plan.{Asks, AsksWith, Builds, Plans}
 use Rattle.test_runner_core_planning.specs.declared.plan_error.PlanError.{PlanError}
 use Rattle.test_runner_core_planning.specs.declared.plan_error.PlanError.TheVariants as build_error
 use Rattle.test_runner_core_planning.specs.Texts.{status_of}
 use Rattle.test_runner_core_plan.specs.declared.plan.Plan.{Plan}
 use Rattle.test_runner_core_planning.specs.declared.plan_fault.PlanFault.{PlanFault}
-use Rattle.test_runner_core_planning.specs.Filtering.{Choice}
 use Rattle.test_runner_core_telling.specs.Parts.{Part}
 use Rattle.test_runner_core_telling.specs.Telling.{TellsAll, TellsFront}
 use Rattle.test_runner_core_telling.specs.declared.fault.TellFault.{TellFault}
@@ -121,8 +121,7 @@ asked_in_part error old ids new is asks = subst (λ (e : PlanError). Asks {A = P
 -- what a call asks the lister for is what the plan's building asked for
 pub asks_with : (answer : Binary → Answer) (inputs : Inputs) (built : Result Plan PlanError) (lacks : Bool) (old new : List (List ℕ))
     → ((ids : List (List ℕ)) → Asks built old ids new → AsksFor lacks old ids new) → AsksWith answer inputs (building.lacks_memory built) old new → AsksWith answer inputs lacks old new
-asks_with answer inputs built lacks old new also asks = λ choice settles. by_choice choice (asks choice settles)
-  where
-    by_choice : (choice : Result Choice PlanFault) → AsksBehind answer inputs choice (building.lacks_memory built) old new → AsksBehind answer inputs choice lacks old new
-    by_choice (Ok choice) here = λ chosen is. also (asked_by answer inputs chosen) (here chosen is)
-    by_choice (Err refusal) here = here
+asks_with answer inputs built lacks old new also asks = record {
+  none = asks.none;
+  listed = λ choice answers kept is. also (asked_of answer (listed_in inputs answers)) (asks.listed choice answers kept is);
+}

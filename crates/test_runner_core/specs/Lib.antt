@@ -1,6 +1,7 @@
 -- What the contracts of this crate, and of what it hands on, speak of.
 pub mod Judging
 pub mod Texts
+pub mod Headline
 pub mod Outcome
 pub mod Report
 pub mod Faults
@@ -34,6 +35,7 @@ pub use Rattle.test_runner_core_progress.specs.Progress
 pub use Rattle.test_runner_core_progress.specs.Statuses
 -- plans, and which tests they select
 pub use Rattle.test_runner_core_plan.specs.Order
+pub use Rattle.test_runner_core_planning.specs.Checks
 pub use Rattle.test_runner_core_planning.specs.Plan
 pub use Rattle.test_runner_core_planning.specs.Laws as PlanLaws
 pub use Rattle.test_runner_core_planning.specs.Filtering

@@ -105,20 +105,3 @@ StreamTells got parts =
 
 abbrev pub StreamGotTo : List ℕ → List ℕ → List Part → Type 0
 StreamGotTo bytes rest parts = (got : List ℕ) × (bytes ≡ got ++ rest) × StreamTells got parts
-
--- the exit status of a stream is due, where its first line is inputs
-abbrev pub IsStreamDue : List ℕ → ℕ → Type 0
-IsStreamDue bytes code =
-    (inputs : Inputs) → read_inputs (before_feed bytes) ≡ Ok inputs → IsDue (table_of inputs) inputs (items 0 (behind_feed bytes)) code
-
--- and no milder than what is due
-abbrev pub IsStreamNoMilder : List ℕ → ℕ → Type 0
-IsStreamNoMilder bytes code =
-    (inputs : Inputs) → read_inputs (before_feed bytes) ≡ Ok inputs
-    → IsNoMilderThanDue (table_of inputs) inputs (items 0 (behind_feed bytes)) code
-
--- and what was written of it ends with the final text that is due
-abbrev pub StreamEndsAsDue : List ℕ → Option (List ℕ) → Option (List ℕ) → Type 0
-StreamEndsAsDue bytes before after =
-    (inputs : Inputs) → read_inputs (before_feed bytes) ≡ Ok inputs
-    → EndsAsDue (table_of inputs) inputs (items 0 (behind_feed bytes)) before after

@@ -5,7 +5,8 @@ ghost use Rattle.test_runner_core_inputs.specs.Reading.{read_inputs};
 ghost use Rattle.test_runner_core_log_reader.specs.Feeds.{before_feed};
 ghost use Rattle.test_runner_core_log_reader.specs.Items.{items};
 ghost use Rattle.test_runner_core.specs.Faults.{TellsRead, TellsWrite, lacks_memory};
-ghost use Rattle.test_runner_core.specs.Outcome.{EndsAsDue, HasNoPlan, IsDue, IsNoMilderThanDue, IsStreamDue, IsStreamNoMilder, StreamBegun, StreamComposed, StreamEndsAsDue, StreamGotTo, table_of};
+ghost use Rattle.test_runner_core.specs.Headline.{Headline, StreamHeadline};
+ghost use Rattle.test_runner_core.specs.Outcome.{HasNoPlan, StreamBegun, StreamComposed, StreamGotTo, table_of};
 ghost use Rattle.test_runner_core.specs.Inside.{IsGotOf};
 ghost use Rattle.test_runner_core.specs.Report.{Begun, Composed, GotTo, Reports, TellsSoFar};
 ghost use Rattle.test_runner_core_log_reader.specs.Cursor.{items_ahead};
@@ -48,9 +49,7 @@ pub fn judge<L: Lister, R: LogReader, W: ReportWriter>(
         (λ parts. IfSome (R.left log.old) (λ bytes. IfSome (R.left log.new) (λ rest. GotTo (L.answer lister.old) inputs.now bytes rest parts)))
         (λ parts. IfSome (R.left log.old) (λ bytes. Begun (L.answer lister.old) inputs.now (items 0 bytes) parts))
         (W.taken report.old) (W.taken report.new) }
-    ensures due { IfOk result (λ code. IfSome (R.left log.old) (λ bytes. IsDue (L.answer lister.old) inputs.now (items 0 bytes) code)) }
-    ensures no_milder { IfOk result (λ code. IfSome (R.left log.old) (λ bytes. IsNoMilderThanDue (L.answer lister.old) inputs.now (items 0 bytes) code)) }
-    ensures one_report { IfOk result (λ code. IfSome (R.left log.old) (λ bytes. EndsAsDue (L.answer lister.old) inputs.now (items 0 bytes) (W.taken report.old) (W.taken report.new))) }
+    ensures headline { IfOk result (λ code. IfSome (R.left log.old) (λ bytes. Headline (L.answer lister.old) inputs.now (items 0 bytes) code (W.taken report.old) (W.taken report.new))) }
     ensures stays { (other : Binary) → L.answer lister.new other ≡ L.answer lister.old other }
     ensures asks { AsksWith (L.answer lister.old) inputs.now (lacks_memory result) (L.asked lister.old) (L.asked lister.new) }
     ensures unread { (refusal : PlanFault) → Plans (L.answer lister.old) inputs.now (Err refusal) → R.calls log.new ≡ R.calls log.old }
@@ -107,9 +106,7 @@ pub fn judge_stream<R: LogReader, W: ReportWriter>(
         (λ parts. IfSome (R.left input.old) (λ bytes. IfSome (R.left input.new) (λ rest. StreamGotTo bytes rest parts)))
         (λ parts. IfSome (R.left input.old) (λ bytes. StreamBegun bytes parts))
         (W.taken report.old) (W.taken report.new) }
-    ensures due { IfOk result (λ code. IfSome (R.left input.old) (λ bytes. IsStreamDue bytes code)) }
-    ensures no_milder { IfOk result (λ code. IfSome (R.left input.old) (λ bytes. IsStreamNoMilder bytes code)) }
-    ensures one_report { IfOk result (λ code. IfSome (R.left input.old) (λ bytes. StreamEndsAsDue bytes (W.taken report.old) (W.taken report.new))) }
+    ensures headline { IfOk result (λ code. IfSome (R.left input.old) (λ bytes. StreamHeadline bytes code (W.taken report.old) (W.taken report.new))) }
     ensures unread { IfSome (R.left input.old) (λ bytes. HasNoPlan (read_inputs (before_feed bytes)) → R.calls input.new ≤ R.calls input.old + first_line_reads) }
     ensures reads { R.calls input.new ≤ R.calls input.old + first_line_reads + log_reads }
     ensures read_failures { TellsRead result (R.failures input.old) (R.failures input.new) (R.last_failed input.new) }

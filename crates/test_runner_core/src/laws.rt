@@ -4,7 +4,8 @@ ghost use Rattle.test_runner_core.specs.Laws.{BuiltIsPlan, EndsNoMilder, EndsWit
 ghost use Rattle.test_runner_core_planning.specs.Laws.{IsolatesPlans};
 
 pub use test_runner_core_planning::laws::{
-    listed, not_planned_and_refused, one_plan, selected, selected_once, settled, some_settings,
+    default_twice, listed, not_planned_and_refused, one_plan, roads, selected, selected_once, settled,
+    some_settings,
 };
 pub use test_runner_core_runs::laws::{after_a_reason, no_dead_end, reasons_first};
 
@@ -55,8 +56,8 @@ pub fn built_plan()
 {}
 
 /// Profiles outside of the chosen one's chain change nothing: where two inputs ask for the same tests of one workspace, choose one
-/// profile, for the same platforms and with the same groups, and say the same in it, in its parents and in `default`, and both have a
-/// plan, then it is one plan, and a log has one exit status and one report, warnings aside.
+/// profile, for the same platforms, and their files agree but in profiles other than the chosen one, its parents and `default`, and both
+/// have a plan, then it is one plan, and a log has one exit status and one report, warnings aside.
 pub fn isolated()
     ensures plan { IsolatesPlans }
     ensures report { IsolatesReports }

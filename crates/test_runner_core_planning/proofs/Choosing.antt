@@ -21,18 +21,16 @@ use Rattle.test_runner_core_inputs.specs.declared.inputs.Inputs.{Inputs}
 use Rattle.test_runner_core_listing.specs.Answers.{AnswerAs, Answers}
 use Rattle.test_runner_core_plan.specs.declared.plan_settings.PlanSettings.{PlanSettings}
 use Rattle.test_runner_core_platforms.specs.declared.platform_spec.PlatformSpec.{PlatformSpec}
-use Rattle.test_runner_core_planning.specs.Filtering.{Choice, IsChosen, IsOfGroup, context_of}
+use Rattle.test_runner_core_planning.specs.Filtering.{Choice, IsChosen, context_of}
 use Rattle.test_runner_core_planning.specs.Inside.{HasWanted, IsInGroup, in_force}
-use Rattle.test_runner_core_planning.specs.Plan.{Settles, SettlesBehind}
+use Rattle.test_runner_core_planning.specs.Checks.{AnswerFor, SetsAll}
 use Rattle.test_runner_core_planning.specs.Tests.{HasForEach}
-use Rattle.test_runner_core_planning.specs.declared.plan_fault.PlanFault.{PlanFault}
 use Rattle.test_runner_core_planning.specs.declared.wanted.Wanted.{Wanted}
 use Rattle.test_runner_core_planning.proofs.Answering.{AreAlike, answers_alike, force_of_read, some_chosen}
-use Rattle.test_runner_core_planning.proofs.Once.{answers_are, settled_once}
+use Rattle.test_runner_core_planning.proofs.Once.{answers_are, sets_once}
 use Rattle.test_runner_core_settings.specs.Calls.{ChoosesRun}
-use Rattle.test_runner_core_settings.specs.Sets.{IsGroupOf, SetsTest}
+use Rattle.test_runner_core_settings.specs.Sets.{SetsTest}
 use Rattle.test_runner_core_settings.specs.declared.configured.ChosenRun.{ChosenRun}
-use Rattle.test_runner_core_settings.specs.declared.pass.VersionPass.{VersionPass}
 use Rattle.test_runner_core_settings.proofs.Once.{never_least, one_test}
 
 -- ---- the group that a profile has for a test
@@ -67,10 +65,9 @@ module _ (inputs : Inputs) (run : ChosenRun) (chooses : ChoosesRun (context_of i
   abbrev pub choice_of : Choice
   choice_of = record { run = run.settings; of_test = λ test. (chooses.answers.some test).0 }
 
-  -- is what inputs ask for
-  pub choice_settles : (passed : Result VersionPass PlanFault) (of : VersionPass) → passed ≡ Ok of → SettlesBehind inputs passed (Ok choice_of)
-  choice_settles passed of e =
-      subst (λ (it : Result VersionPass PlanFault). SettlesBehind inputs it (Ok choice_of)) (sym e) (record { run = chooses.sets; tests = λ test. (chooses.answers.some test).1 })
+  -- is what inputs set
+  pub choice_sets : SetsAll inputs choice_of
+  choice_sets = record { run = chooses.sets; tests = λ test. (chooses.answers.some test).1 }
 
   -- what it has for tests is that
   pub has_each : HasForEach run.profile inputs.mode choice_of.of_test
@@ -98,26 +95,24 @@ module _ (inputs : Inputs) (wanted : Wanted) (has : HasWanted inputs wanted) whe
   abbrev pub own : Choice
   own = choice_of inputs wanted.run has.chooses
 
-  pub own_settles : Settles inputs (Ok own)
-  own_settles = choice_settles inputs wanted.run has.chooses _ has.passed has.passes
-
-  -- it answers something
-  pub wanted_chosen : (answers : Answers) × IsChosen inputs own (Ok answers)
-  wanted_chosen =
+  -- its filters in force answer something
+  pub wanted_answers : (answers : Answers) × AnswerFor inputs own answers
+  wanted_answers =
       let it = wanted.run.profile.default_filter.filter.now in
-      some_chosen inputs own wanted.filterset it.compiled (force_of_read inputs own.run wanted.filterset it has.filtered has.chooses.default)
+      let some = some_chosen inputs own wanted.filterset it.compiled (force_of_read inputs own.run wanted.filterset it has.filtered has.chooses.default) in
+      (some.0, record { sets = choice_sets inputs wanted.run has.chooses; chosen = some.1 })
 
-  -- whatever is chosen, it is what the filters in force answer as they are compiled
-  pub wanted_as : (choice : Choice) (answers : Answers) → Settles inputs (Ok choice) → IsChosen inputs choice (Ok answers)
+  -- whatever they answer, it is what they answer as they are compiled
+  pub wanted_as : (choice : Choice) (answers : Answers) → AnswerFor inputs choice answers
       → AnswerAs (in_force wanted.filterset inputs.ignore_default_filter wanted.run.profile.default_filter.filter.now.compiled) wanted.run.profile.default_filter.filter.now.compiled
       (IsInGroup wanted.run.profile) answers
-  wanted_as choice answers settles chosen =
+  wanted_as choice answers are =
       let it = wanted.run.profile.default_filter.filter.now in
       let force = force_of_read inputs own.run wanted.filterset it has.filtered has.chooses.default in
-      let same : choice ≡ own = settled_once inputs (Ok choice) (Ok own) settles own_settles in
+      let same : choice ≡ own = sets_once inputs choice own are.sets (choice_sets inputs wanted.run has.chooses) in
       (answers_alike inputs.workspace (IsInGroup wanted.run.profile) own.of_test (groups_alike inputs wanted.run has.chooses) force.force
       (in_force wanted.filterset inputs.ignore_default_filter it.compiled) it.compiled answers force.compiled).1
-      (answers_are inputs own force.force answers force.of_inputs (subst (λ (c : Choice). IsChosen inputs c (Ok answers)) same chosen))
+      (answers_are inputs own force.force answers force.of_inputs (subst (λ (c : Choice). IsChosen inputs c (Ok answers)) same are.chosen))
 
 first_not : (a b : Bool) → (not a && not b) ≡ true → a ≡ false
 first_not true b is = sym is

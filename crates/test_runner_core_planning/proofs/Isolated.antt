@@ -1,5 +1,5 @@
 -- Profiles outside of the chosen one's chain change nothing of a plan, its warnings aside; and inputs ask for something.
-use Rattle.std.proofs.Common.{◌≡◌, ℕ, Bool, List, ◌++◌, map, Option, Result, Ok, Err, refl, sym, ap, ◌∙◌, subst}
+use Rattle.std.proofs.Common.{◌≡◌, inl, inr, ℕ, Bool, List, ◌++◌, map, Option, None, Some, Result, Ok, Err, refl, sym, ap, ◌∙◌, subst}
 use Rattle.nextest_config_resolution_profiles.specs.Enabled.{AreNamesOf}
 use Rattle.nextest_config_resolution_profiles.proofs.Enabling.{one_names, same_names}
 use Rattle.nextest_filtering_filters.specs.Query.{Test}
@@ -9,20 +9,25 @@ use Rattle.test_runner_core_listing.specs.Listing.{listed_of, listing}
 use Rattle.test_runner_core_plan.specs.declared.plan.Plan.{Plan}
 use Rattle.test_runner_core_planning.specs.Filtering.{AreAnswersOf, AreOfFilterset, Choice, IsChosen, IsTakenAsDefault, context_of, unless_ignored}
 use Rattle.test_runner_core_planning.specs.Laws.{AsksForSome, DifferOutside, IsolatesPlans}
-use Rattle.test_runner_core_planning.specs.Plan.{IsPlanOf, Planned, Plans, SetsOrNot, Settles, SettlesBehind, listed_in, passed_of}
-use Rattle.test_runner_core_planning.specs.Refusals.{of_settings}
-use Rattle.test_runner_core_planning.specs.declared.plan_fault.PlanFault.{PlanFault}
-use Rattle.test_runner_core_planning.proofs.Once.{Parts, chosen_once, parts_of, settled_sets}
+use Rattle.test_runner_core_planning.specs.Checks.{IsFound, Planned, SetsAll, listed_in}
+use Rattle.test_runner_core_planning.specs.Plan.{IsPlanOf, Plans}
+use Rattle.test_runner_core_planning.specs.Refusals.{of_pass, of_settings, of_workspace}
+use Rattle.test_runner_core_planning.proofs.Once.{chosen_once, keeps_versions, keeps_workspace}
 use Rattle.test_runner_core_planning.proofs.OnePlan.{plans_same, tests_of_one, with_warnings}
+use Rattle.test_runner_core_settings.specs.Pass.{pass_of}
 use Rattle.test_runner_core_settings.specs.Sets.{IsEnabled, Sets, SetsTest}
 use Rattle.test_runner_core_settings.specs.declared.configured.RunSettings.{RunSettings}
 use Rattle.test_runner_core_settings.specs.declared.pass.VersionPass.{VersionPass}
+use Rattle.test_runner_core_settings.specs.declared.pass_error.VersionPassFault.{VersionPassFault}
 use Rattle.test_runner_core_settings.specs.declared.settings_fault.SettingsFault.{SettingsFault}
+use Rattle.test_runner_core_settings.proofs.Agreeing.{agrees_on_chain}
 use Rattle.test_runner_core_settings.proofs.Isolated.{isolated, isolates_scripts, isolates_tests}
 use Rattle.test_runner_core_settings.proofs.Some.{some_settings, some_test}
 use Rattle.test_runner_core_workspace.specs.Lister.{Answer}
+use Rattle.test_runner_core_workspace.specs.Workspace.{refusal_of}
 use Rattle.test_runner_core_workspace.specs.declared.record.Binary.{Binary}
 use Rattle.test_runner_core_workspace.specs.declared.record.WorkspaceRecord.{WorkspaceRecord}
+use Rattle.test_runner_core_workspace.specs.declared.workspace_fault.WorkspaceFault.{WorkspaceFault}
 
 -- filters in force of the one are those of the other
 chosen_alike : (inputs other : Inputs) (choice : Choice) (answers : Answers) → DifferOutside inputs other → IsChosen other choice (Ok answers) → IsChosen inputs choice (Ok answers)
@@ -39,42 +44,41 @@ chosen_alike inputs other choice answers differ (force, is, are) = (
 )
 
 -- the same is set in both
-choice_alike : (inputs other : Inputs) (one second : Choice) → DifferOutside inputs other → Settles inputs (Ok one) → Settles other (Ok second) → one ≡ second
-choice_alike inputs other one second differ first next =
+choice_alike : (inputs other : Inputs) (one second : Choice) → DifferOutside inputs other → SetsAll inputs one → SetsAll other second → one ≡ second
+choice_alike inputs other one second differ sets also =
     let cx = context_of inputs.workspace in
-    let sets = settled_sets inputs one first in
-    let also = settled_sets other second next in
+    let chain = agrees_on_chain cx inputs other differ.files in
     let run : one.run ≡ second.run =
-    isolated cx inputs other one.run second.run differ.chain sets.run (subst (λ (w : WorkspaceRecord). Sets (context_of w) other (Ok second.run)) differ.workspace also.run) in
+    isolated cx inputs other one.run second.run chain sets.run (subst (λ (w : WorkspaceRecord). Sets (context_of w) other (Ok second.run)) differ.workspace also.run) in
     λ i. record {
       run = run i;
       of_test = λ test.
-          isolates_tests cx inputs other test (one.of_test test) (second.of_test test) differ.chain (sets.tests test)
+          isolates_tests cx inputs other test (one.of_test test) (second.of_test test) chain (sets.tests test)
           (subst (λ (w : WorkspaceRecord). SetsTest (context_of w) other test (second.of_test test)) differ.workspace (also.tests test)) i;
     }
 
 -- inputs that differ outside of the chain alone ask for one thing, and the same tests are selected
-planned_alike : (answer : Binary → Answer) (inputs other : Inputs) (a b : Planned) → DifferOutside inputs other → Parts answer inputs a → Parts answer other b → a ≡ b
+planned_alike : (answer : Binary → Answer) (inputs other : Inputs) (a b : Planned) → DifferOutside inputs other → IsFound answer inputs a → IsFound answer other b → a ≡ b
 planned_alike answer inputs other a b differ first second =
-    let choice : a.choice ≡ b.choice = choice_alike inputs other a.choice b.choice differ first.asked second.asked in
+    let choice : a.choice ≡ b.choice = choice_alike inputs other a.choice b.choice differ first.answers.sets second.answers.sets in
     let chosen : IsChosen inputs a.choice (Ok b.answers) =
-    subst (λ (c : Choice). IsChosen inputs c (Ok b.answers)) (sym choice) (chosen_alike inputs other b.choice b.answers differ second.chosen) in
-    let answers : a.answers ≡ b.answers = (let e = chosen_once inputs a.choice (Ok a.answers) (Ok b.answers) first.chosen chosen in cc) in
+    subst (λ (c : Choice). IsChosen inputs c (Ok b.answers)) (sym choice) (chosen_alike inputs other b.choice b.answers differ second.answers.chosen) in
+    let answers : a.answers ≡ b.answers = (let e = chosen_once inputs a.choice (Ok a.answers) (Ok b.answers) first.answers.chosen chosen in cc) in
     let listed : listing answer a.answers (listed_in inputs a.answers) ≡ Ok b.found =
     ap (λ (c : Answers). listing answer c (listed_of c inputs.workspace.binaries)) answers
-    ∙ ap (λ (w : WorkspaceRecord). listing answer b.answers (listed_of b.answers w.binaries)) (sym differ.workspace) ∙ second.listed in
-    let found : a.found ≡ b.found = (let e = sym first.listed ∙ listed in cc) in
+    ∙ ap (λ (w : WorkspaceRecord). listing answer b.answers (listed_of b.answers w.binaries)) (sym differ.workspace) ∙ second.found in
+    let found : a.found ≡ b.found = (let e = sym first.found ∙ listed in cc) in
     λ i. record { choice = choice i; answers = answers i; found = found i }
 
 -- the same setup scripts are enabled
-scripts_alike : (inputs other : Inputs) (a b : Choice) (tests : List Test) (one second : List (List ℕ)) → DifferOutside inputs other → Settles inputs (Ok a) → Settles other (Ok b)
+scripts_alike : (inputs other : Inputs) (a b : Choice) (tests : List Test) (one second : List (List ℕ)) → DifferOutside inputs other → SetsAll inputs a → SetsAll other b
     → AreNamesOf (IsEnabled (context_of inputs.workspace) inputs tests) one → AreNamesOf (IsEnabled (context_of other.workspace) other tests) second → second ≡ one
-scripts_alike inputs other a b tests one second differ first next are also =
+scripts_alike inputs other a b tests one second differ sets next are also =
     let cx = context_of inputs.workspace in
-    let sets = settled_sets inputs a first in
-    let sets_other = subst (λ (w : WorkspaceRecord). Sets (context_of w) other (Ok b.run)) differ.workspace (settled_sets other b next).run in
+    let chain = agrees_on_chain cx inputs other differ.files in
+    let sets_other = subst (λ (w : WorkspaceRecord). Sets (context_of w) other (Ok b.run)) differ.workspace next.run in
     let there = subst (λ (w : WorkspaceRecord). AreNamesOf (IsEnabled (context_of w) other tests) second) differ.workspace also in
-    one_names second one (same_names second (λ id. isolates_scripts cx inputs other a.run b.run tests id differ.chain sets.run sets_other) there) are
+    one_names second one (same_names second (λ id. isolates_scripts cx inputs other a.run b.run tests id chain sets.run sets_other) there) are
 
 -- plans of one selection are the same but for their warnings
 plans_alike : (answer : Binary → Answer) (inputs other : Inputs) (it : Planned) (one second : Plan) → other.workspace ≡ inputs.workspace → second.scripts ≡ one.scripts → Plans answer inputs (Ok it)
@@ -87,25 +91,29 @@ plans_alike answer inputs other it one second workspace scripts planned first ne
 
 pub isolates_plans : IsolatesPlans
 isolates_plans answer inputs other one second differ (a, plans, is) (b, plans_other, is_other) =
-    let first = parts_of answer inputs a plans in
-    let next = parts_of answer other b plans_other in
-    let same : a ≡ b = planned_alike answer inputs other a b differ first next in
-    let scripts = scripts_alike inputs other a.choice b.choice b.found.tests one.scripts second.scripts differ first.asked next.asked
+    let same : a ≡ b = planned_alike answer inputs other a b differ plans.found plans_other.found in
+    let scripts = scripts_alike inputs other a.choice b.choice b.found.tests one.scripts second.scripts differ plans.found.answers.sets plans_other.found.answers.sets
     (subst (λ (it : Planned). AreNamesOf (IsEnabled (context_of inputs.workspace) inputs it.found.tests) one.scripts) same is.scripts) is_other.scripts in
     plans_alike answer inputs other b one second differ.workspace scripts (subst (λ (it : Planned). Plans answer inputs (Ok it)) same plans) (subst (λ (it : Planned). IsPlanOf inputs it one) same is) is_other
 
 -- ---- what inputs ask for
 
 -- where something is set for the run, it is for each test
-set_all : (inputs : Inputs) (set : Result RunSettings SettingsFault) → Sets (context_of inputs.workspace) inputs set → (given : Result Choice PlanFault) × SetsOrNot inputs given
-set_all inputs (Ok run) is =
+set_all : (inputs : Inputs) (run : RunSettings) → Sets (context_of inputs.workspace) inputs (Ok run) → (choice : Choice) × SetsAll inputs choice
+set_all inputs run is =
     let each = λ (test : Test). some_test (context_of inputs.workspace) inputs run test is in
-    (Ok (record { run = run; of_test = λ test. (each test).0 }), record { run = is; tests = λ test. (each test).1 })
-set_all inputs (Err set) is = (Err (of_settings set), (set, is, refl))
+    (record { run = run; of_test = λ test. (each test).0 }, record { run = is; tests = λ test. (each test).1 })
 
 pub asks_for_some : AsksForSome
-asks_for_some inputs never = by_passed (passed_of inputs) never
+asks_for_some answer inputs never = by_refusal (refusal_of inputs.workspace) refl (pass_of inputs) refl
   where
-    by_passed : (passed : Result VersionPass PlanFault) → ¬ ¬ ((given : Result Choice PlanFault) × SettlesBehind inputs passed given)
-    by_passed (Ok passed) none = some_settings (context_of inputs.workspace) inputs (λ set. none (set_all inputs set.0 set.1))
-    by_passed (Err refusal) none = none (Err refusal, refl)
+    by_set : (passed : VersionPass) → refusal_of inputs.workspace ≡ None → pass_of inputs ≡ Ok passed → (set : Result RunSettings SettingsFault)
+        → Sets (context_of inputs.workspace) inputs set → ⊥
+    by_set passed workspace versions (Ok run) is = never (inl (set_all inputs run is))
+    by_set passed workspace versions (Err fault) is =
+        never (inr (of_settings fault, inr (keeps_workspace answer inputs workspace, inr (keeps_versions answer inputs passed versions, inl (fault, is, refl)))))
+
+    by_refusal : (refused : Option WorkspaceFault) → refusal_of inputs.workspace ≡ refused → (passed : Result VersionPass VersionPassFault) → pass_of inputs ≡ passed → ⊥
+    by_refusal (Some fault) e passed f = never (inr (of_workspace fault, inl (fault, e, refl)))
+    by_refusal None e (Err fault) f = never (inr (of_pass fault, inr (keeps_workspace answer inputs e, inl (fault, f, refl))))
+    by_refusal None e (Ok passed) f = some_settings (context_of inputs.workspace) inputs (λ set. by_set passed e f set.0 set.1)

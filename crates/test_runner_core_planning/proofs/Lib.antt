@@ -11,3 +11,5 @@ pub mod Isolated
 pub mod Surely
 pub mod Choosing
 pub mod Settled
+pub mod Appended
+pub mod DefaultTwice

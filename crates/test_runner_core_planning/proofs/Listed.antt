@@ -3,7 +3,7 @@ use Rattle.std.proofs.Common.{◌≡◌, ℕ, List, Bool, true, false, sym, ap, 
 use Rattle.std.specs.List.{Contains, filter}
 use Rattle.test_runner_core_listing.specs.Listing.{ids_of}
 use Rattle.test_runner_core_planning.specs.Laws.{ListsExactly}
-use Rattle.test_runner_core_planning.specs.Plan.{listed_in}
+use Rattle.test_runner_core_planning.specs.Checks.{listed_in}
 use Rattle.test_runner_core_planning.proofs.Elements.{filter_has, has_of_filter, has_of_map, map_has, same_binary}
 use Rattle.test_runner_core_planning.proofs.NoneTwice.{planned_apart}
 use Rattle.test_runner_core_planning.proofs.Selected.{plan_answers}

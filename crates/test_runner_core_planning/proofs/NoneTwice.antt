@@ -20,7 +20,8 @@ use Rattle.test_runner_core_listing.specs.Answers.{Answers, seen_test}
 use Rattle.test_runner_core_listing.specs.Listing.{Found, accepted, accepted_names, refused_name, ids_of, listing, selected_in, skipped_in, tests_of, ◌>>=◌}
 use Rattle.test_runner_core_listing.specs.declared.listing_fault.ListingFault.{ListingFault}
 use Rattle.test_runner_core_listing.specs.declared.listing_fault.ListingFault.TheVariants as refused
-use Rattle.test_runner_core_planning.specs.Plan.{IsPlanOf, Planned, Plans, instance_of, listed_in, plan_test}
+use Rattle.test_runner_core_planning.specs.Checks.{Planned, listed_in}
+use Rattle.test_runner_core_planning.specs.Plan.{IsPlanOf, Plans, instance_of, plan_test}
 use Rattle.test_runner_core_plan.specs.declared.plan.Plan.{Plan}
 use Rattle.test_runner_core_plan.specs.declared.plan.PlanTest.{PlanTest}
 use Rattle.test_runner_core_workspace.specs.Lister.{Answer}
@@ -30,7 +31,7 @@ use Rattle.test_runner_core_workspace.specs.declared.record.WorkspaceRecord.{Wor
 use Rattle.test_runner_core_workspace.specs.declared.workspace_fault.WorkspaceFault.{WorkspaceFault}
 use Rattle.test_runner_core_workspace.specs.declared.workspace_fault.WorkspaceFault.TheVariants as bad
 use Rattle.test_runner_core_planning.specs.Laws.{HasNoneTwice}
-use Rattle.test_runner_core_planning.proofs.Once.{parts_of, settled_workspace}
+use Rattle.test_runner_core_planning.proofs.Once.{not_refused}
 
 -- ---- tests that are the same
 
@@ -190,7 +191,7 @@ ids_apart workspace e =
 
 pub planned_apart : (answer : Binary → Answer) (inputs : Inputs) (it : Planned) → Plans answer inputs (Ok it) → has_repeat (binary_ids inputs.workspace) ≡ false
 planned_apart answer inputs it planned =
-    ids_apart inputs.workspace (settled_workspace inputs it.choice (parts_of answer inputs it planned).asked)
+    ids_apart inputs.workspace (not_refused answer inputs planned.kept.0)
 
 -- an id that no binary has is that of none of them that pass
 none_passes : (passes : Binary → Bool) (id : List ℕ) (binaries : List Binary) → is_among (ids_of binaries) id ≡ false → is_among (ids_of (filter passes binaries)) id ≡ false
@@ -229,7 +230,7 @@ has_none_twice answer inputs plan (it, planned, built) =
     let apart = passing_apart it.answers.lists inputs.workspace.binaries (planned_apart answer inputs it planned) in
     let listed : AreOnce (listed_in inputs it.answers) (instances_in it.found) =
     subst (λ (given : Result Found ListingFault). IfOk given (λ (found : Found). AreOnce (listed_in inputs it.answers) (instances_in found)))
-    (parts_of answer inputs it planned).listed
+    planned.found.found
     (listed_once answer it.answers (listed_in inputs it.answers) apart) in
     let instances = map (λ (t : PlanTest). t.instance) plan.tests in
     AllPairs-from_IsDistinct same_test_decides instances

@@ -1,6 +1,5 @@
 -- What is planned of inputs is one.
-use Rattle.std.proofs.Common.{◌≡◌, ℕ, List, [], ◌∷◌, ◌++◌, Bool, true, false, Option, None, Some, Result, Ok, Err, refl, sym, ap, ◌∙◌, subst}
-use Rattle.std.specs.Prelude.{if◌then◌else◌}
+use Rattle.std.proofs.Common.{◌≡◌, inl, inr, ℕ, List, [], ◌∷◌, ◌++◌, true, false, Option, None, Some, Result, Ok, Err, refl, sym, ap, ◌∙◌, subst}
 use Rattle.nextest_filtering_filters.specs.Query.{Test}
 use Rattle.nextest_filtering_filters.specs.declared.known_groups.KnownGroups.{KnownGroups}
 use Rattle.nextest_filtering_filters.proofs.Parts.{tells_one}
@@ -13,22 +12,24 @@ use Rattle.test_runner_core_listing.specs.declared.listing_fault.ListingFault.{L
 use Rattle.test_runner_core_plan.specs.declared.plan_settings.PlanSettings.{PlanSettings}
 use Rattle.test_runner_core_settings.proofs.Once.{one_settings, one_test}
 use Rattle.test_runner_core_settings.specs.Laws.{HaveOneReason}
+use Rattle.test_runner_core_settings.specs.Pass.{pass_of}
+use Rattle.test_runner_core_settings.specs.Sets.{Sets}
 use Rattle.test_runner_core_settings.specs.declared.configured.RunSettings.{RunSettings}
+use Rattle.test_runner_core_settings.specs.declared.pass.VersionPass.{VersionPass}
 use Rattle.test_runner_core_settings.specs.declared.settings_fault.SettingsFault.{SettingsFault}
 use Rattle.test_runner_core_settings.specs.declared.settings_fault.SettingsFault.TheVariants as set
-use Rattle.test_runner_core_settings.specs.Pass.{pass_of}
-use Rattle.test_runner_core_settings.specs.declared.pass.VersionPass.{VersionPass}
-use Rattle.test_runner_core_workspace.specs.Workspace.{refusal_of}
-use Rattle.test_runner_core_workspace.specs.declared.workspace_fault.WorkspaceFault.{WorkspaceFault}
 use Rattle.test_runner_core_workspace.specs.Lister.{Answer}
+use Rattle.test_runner_core_workspace.specs.Workspace.{refusal_of}
 use Rattle.test_runner_core_workspace.specs.declared.record.Binary.{Binary}
 use Rattle.test_runner_core_workspace.specs.declared.record.WorkspaceRecord.{WorkspaceRecord}
+use Rattle.test_runner_core_workspace.specs.declared.workspace_fault.WorkspaceFault.{WorkspaceFault}
+use Rattle.test_runner_core_planning.specs.Checks as check
+use Rattle.test_runner_core_planning.specs.Checks.{AnswerFor, Breaks, BreaksFirst, Check, IsFound, Keeps, KeepsAll, Planned, SetsAll, all_checks, has_too_many, listed_in}
 use Rattle.test_runner_core_planning.specs.Filtering.{AllCanHold, AllHold, AreAnswersOf, AreInForce, AreOfFilterset, Choice, InForce, IsChosen, IsRefused, context_of, unless_ignored}
-use Rattle.test_runner_core_planning.specs.Plan.{◌>>=◌, Planned, Plans, PlansWith, SetsAll, SetsOrNot, Settles, SettlesBehind, found_by, has_too_many, listed_in, passed_by, passed_of, planned_by, workspace_of}
-use Rattle.test_runner_core_planning.specs.Refusals.{of_settings}
+use Rattle.test_runner_core_planning.specs.Plan.{Plans}
+use Rattle.test_runner_core_planning.specs.Refusals.{of_listing, of_pass, of_settings, of_workspace}
 use Rattle.test_runner_core_planning.specs.Texts.{name_of, name_of_load, status_of}
 use Rattle.test_runner_core_planning.specs.declared.plan_fault.PlanFault.{PlanFault}
-use Rattle.test_runner_core_planning.specs.declared.plan_fault.PlanFault.TheVariants as refused
 
 -- ---- the filters in force
 
@@ -76,109 +77,148 @@ chosen_once inputs choice (Ok a) (Err b) (force, is, are) second = absurd (never
 chosen_once inputs choice (Err a) (Ok b) first (force, is, are) = absurd (never_both inputs.workspace choice.run.known_groups inputs.filterset is.chosen is.filterset first.1)
 chosen_once inputs choice (Err a) (Err b) first second = ap (λ (refusal : PlanFault). Err refusal) (first.0 ∙ sym second.0)
 
--- ---- what is asked for
+-- ---- what is set
 
--- two answers are the same, but for the words of a refusal
-abbrev pub Same : {A : Type 0} → Result A PlanFault → Result A PlanFault → Type 0
-Same (Ok one) (Ok other) = one ≡ other
-Same (Err one) (Err other) = (name_of one ≡ name_of other) × (status_of one ≡ status_of other)
-Same one other = ⊥
+-- inputs set one thing
+pub sets_once : (inputs : Inputs) (one other : Choice) → SetsAll inputs one → SetsAll inputs other → one ≡ other
+sets_once inputs one other a b =
+    let cx = context_of inputs.workspace in
+    let run : one.run ≡ other.run = one_settings cx inputs (Ok one.run) (Ok other.run) a.run b.run in
+    λ i. record { run = run i; of_test = λ test. one_test cx inputs test (one.of_test test) (other.of_test test) (a.tests test) (b.tests test) i }
 
-same_as : {A : Type 0} (answer : Result A PlanFault) → Same answer answer
-same_as (Ok x) = refl
-same_as (Err refusal) = (refl, refl)
+-- what is chosen beside it
+chosen_beside : (inputs : Inputs) (one other : Choice) (answers : Result Answers PlanFault) → SetsAll inputs one → SetsAll inputs other → IsChosen inputs other answers → IsChosen inputs one answers
+chosen_beside inputs one other answers a b is = subst (λ (c : Choice). IsChosen inputs c answers) (sets_once inputs other one b a) is
 
-same_by : {A : Type 0} (one other : Result A PlanFault) → one ≡ other → Same one other
-same_by one other e = subst (λ (x : Result _ PlanFault). Same one x) e (same_as one)
+-- and their filters in force answer one thing
+pub answered_once : (inputs : Inputs) (one other : Choice) (a b : Answers) → AnswerFor inputs one a → AnswerFor inputs other b → a ≡ b
+answered_once inputs one other a b first second =
+    let e = chosen_once inputs one (Ok a) (Ok b) first.chosen (chosen_beside inputs one other (Ok b) first.sets second.sets second.chosen) in cc
 
-same_reason : (one other : SettingsFault) → HaveOneReason one other → (name_of (of_settings one) ≡ name_of (of_settings other)) × (status_of (of_settings one) ≡ status_of (of_settings other))
+-- so one listing is made of them
+listed_once : (answer : Binary → Answer) (inputs : Inputs) (one other : Choice) (a b : Answers) (given also : Result Found ListingFault) → AnswerFor inputs one a → AnswerFor inputs other b
+    → listing answer a (listed_in inputs a) ≡ given → listing answer b (listed_in inputs b) ≡ also → given ≡ also
+listed_once answer inputs one other a b given also first second is is_also =
+    sym is ∙ ap (λ (answers : Answers). listing answer answers (listed_in inputs answers)) (answered_once inputs one other a b first second) ∙ is_also
+
+pub found_once : (answer : Binary → Answer) (inputs : Inputs) (one other : Planned) → IsFound answer inputs one → IsFound answer inputs other → one ≡ other
+found_once answer inputs one other a b =
+    let choice = sets_once inputs one.choice other.choice a.answers.sets b.answers.sets in
+    let answers = answered_once inputs one.choice other.choice one.answers other.answers a.answers b.answers in
+    let found : one.found ≡ other.found =
+    (let e = listed_once answer inputs one.choice other.choice one.answers other.answers (Ok one.found) (Ok other.found) a.answers b.answers a.found b.found in cc) in
+    λ i. record { choice = choice i; answers = answers i; found = found i }
+
+-- ---- refusals
+
+-- two refusals have one name and one status
+abbrev pub SameRefusal : PlanFault → PlanFault → Type 0
+SameRefusal one other = (name_of one ≡ name_of other) × (status_of one ≡ status_of other)
+
+same_refusal : (one other : PlanFault) → one ≡ other → SameRefusal one other
+same_refusal one other e = (ap name_of e, ap status_of e)
+
+-- those of the configuration, but for the words of the load's
+same_reason : (one other : SettingsFault) → HaveOneReason one other → SameRefusal (of_settings one) (of_settings other)
 same_reason (set.Load told) (set.Load other) same = (ap name_of_load same, refl)
 same_reason (set.Load told) (set.ProfileNotFound other) same = absurd (let h = same in cc)
 same_reason (set.Load told) set.RepeatedFact same = absurd (let h = same in cc)
 same_reason (set.ProfileNotFound told) other same = (ap (λ (f : SettingsFault). name_of (of_settings f)) same, ap (λ (f : SettingsFault). status_of (of_settings f)) same)
 same_reason set.RepeatedFact other same = (ap (λ (f : SettingsFault). name_of (of_settings f)) same, ap (λ (f : SettingsFault). status_of (of_settings f)) same)
 
--- inputs whose versions pass set one thing, or nothing for one reason
-set_once : (inputs : Inputs) (a b : Result Choice PlanFault) → SetsOrNot inputs a → SetsOrNot inputs b → Same a b
-set_once inputs (Ok one) (Ok other) a b =
-    let cx = context_of inputs.workspace in
-    let run : one.run ≡ other.run = one_settings cx inputs (Ok one.run) (Ok other.run) a.run b.run in
-    λ i. record { run = run i; of_test = λ test. one_test cx inputs test (one.of_test test) (other.of_test test) (a.tests test) (b.tests test) i }
-set_once inputs (Ok one) (Err other) a (set, is, e) = one_settings (context_of inputs.workspace) inputs (Ok one.run) (Err set) a.run is
-set_once inputs (Err one) (Ok other) (set, is, e) b = one_settings (context_of inputs.workspace) inputs (Err set) (Ok other.run) is b.run
-set_once inputs (Err one) (Err other) (set, is, e) (second, also, f) =
-    let same = same_reason set second (one_settings (context_of inputs.workspace) inputs (Err set) (Err second) is also) in
-    (ap name_of e ∙ same.0 ∙ sym (ap name_of f), ap status_of e ∙ same.1 ∙ sym (ap status_of f))
+-- a refusal that stands for another
+same_through : (one other first second : PlanFault) → one ≡ first → other ≡ second → SameRefusal first second → SameRefusal one other
+same_through one other first second e f same = (ap name_of e ∙ same.0 ∙ sym (ap name_of f), ap status_of e ∙ same.1 ∙ sym (ap status_of f))
 
-behind_once : (inputs : Inputs) (passed : Result VersionPass PlanFault) (a b : Result Choice PlanFault) → SettlesBehind inputs passed a → SettlesBehind inputs passed b → Same a b
-behind_once inputs (Ok passed) a b one other = set_once inputs a b one other
-behind_once inputs (Err refusal) a b e f = same_by a b (e ∙ sym f)
+-- a check is broken for one reason
+breaks_once : (answer : Binary → Answer) (inputs : Inputs) (it : Check) (one other : PlanFault) → Breaks answer inputs it one → Breaks answer inputs it other → SameRefusal one other
+breaks_once answer inputs check.workspace one other (fault, is, e) (second, also, f) =
+    let same : fault ≡ second = (let h = sym is ∙ also in cc) in
+    same_refusal one other (e ∙ ap of_workspace same ∙ sym f)
+breaks_once answer inputs check.versions one other (fault, is, e) (second, also, f) =
+    let same : fault ≡ second = (let h = sym is ∙ also in cc) in
+    same_refusal one other (e ∙ ap of_pass same ∙ sym f)
+breaks_once answer inputs check.configuration one other (fault, is, e) (second, also, f) =
+    same_through one other (of_settings fault) (of_settings second) e f (same_reason fault second (one_settings (context_of inputs.workspace) inputs (Err fault) (Err second) is also))
+breaks_once answer inputs check.filterset one other (choice, sets, is) (second, also, is_also) = same_refusal one other (is.0 ∙ sym is_also.0)
+breaks_once answer inputs check.names one other a b =
+    let same : a.fault ≡ b.fault =
+    (let e = listed_once answer inputs a.choice b.choice a.answers b.answers (Err a.fault) (Err b.fault) a.answered b.answered a.listed b.listed in cc) in
+    same_refusal one other (a.told ∙ ap of_listing same ∙ sym b.told)
+breaks_once answer inputs check.tries one other (a, e) (b, f) = same_refusal one other (e ∙ sym f)
 
--- inputs ask for one thing, or are refused for one reason
-pub settled_once : (inputs : Inputs) (a b : Result Choice PlanFault) → Settles inputs a → Settles inputs b → Same a b
-settled_once inputs = behind_once inputs (passed_of inputs)
+-- where none is broken, none is the first that is
+pub none_breaks : (answer : Binary → Answer) (inputs : Inputs) (checks : List Check) (refusal : PlanFault) → KeepsAll answer inputs checks → BreaksFirst answer inputs checks refusal → ⊥
+none_breaks answer inputs [] refusal kept broken = broken
+none_breaks answer inputs (it ∷ checks) refusal kept (inl here) = kept.0 refusal here
+none_breaks answer inputs (it ∷ checks) refusal kept (inr behind) = none_breaks answer inputs checks refusal kept.1 behind.1
 
--- what is asked for is set by the configuration
-pub settled_sets : (inputs : Inputs) (choice : Choice) → Settles inputs (Ok choice) → SetsAll inputs choice
-settled_sets inputs choice settled = by_passed (passed_of inputs) settled
+-- the first that is broken is one
+first_once : (answer : Binary → Answer) (inputs : Inputs) (checks : List Check) (one other : PlanFault) → BreaksFirst answer inputs checks one → BreaksFirst answer inputs checks other → SameRefusal one other
+first_once answer inputs [] one other a b = absurd a
+first_once answer inputs (it ∷ checks) one other (inl a) (inl b) = breaks_once answer inputs it one other a b
+first_once answer inputs (it ∷ checks) one other (inl a) (inr (kept, b)) = absurd (kept one a)
+first_once answer inputs (it ∷ checks) one other (inr (kept, a)) (inl b) = absurd (kept other b)
+first_once answer inputs (it ∷ checks) one other (inr (kept, a)) (inr (also, b)) = first_once answer inputs checks one other a b
+
+-- the first of some checks is the first of more
+pub breaks_more : (answer : Binary → Answer) (inputs : Inputs) (checks more : List Check) (refusal : PlanFault) → BreaksFirst answer inputs checks refusal → BreaksFirst answer inputs (checks ++ more) refusal
+breaks_more answer inputs [] more refusal broken = absurd broken
+breaks_more answer inputs (it ∷ checks) more refusal (inl here) = inl here
+breaks_more answer inputs (it ∷ checks) more refusal (inr (kept, behind)) = inr (kept, breaks_more answer inputs checks more refusal behind)
+
+-- and where they are kept, it may be one behind them
+pub breaks_behind : (answer : Binary → Answer) (inputs : Inputs) (checks more : List Check) (refusal : PlanFault) → KeepsAll answer inputs checks → BreaksFirst answer inputs more refusal
+    → BreaksFirst answer inputs (checks ++ more) refusal
+breaks_behind answer inputs [] more refusal kept broken = broken
+breaks_behind answer inputs (it ∷ checks) more refusal kept broken = inr (kept.0, breaks_behind answer inputs checks more refusal kept.1 broken)
+
+pub keeps_both : (answer : Binary → Answer) (inputs : Inputs) (checks more : List Check) → KeepsAll answer inputs checks → KeepsAll answer inputs more → KeepsAll answer inputs (checks ++ more)
+keeps_both answer inputs [] more kept also = also
+keeps_both answer inputs (it ∷ checks) more kept also = (kept.0, keeps_both answer inputs checks more kept.1 also)
+
+-- ---- checks that are kept
+
+-- that of the workspace, where nothing refuses it, and the other way
+pub keeps_workspace : (answer : Binary → Answer) (inputs : Inputs) → refusal_of inputs.workspace ≡ None → Keeps answer inputs check.workspace
+keeps_workspace answer inputs e refusal (fault, is, told) = absurd (let h = sym e ∙ is in cc)
+
+pub not_refused : (answer : Binary → Answer) (inputs : Inputs) → Keeps answer inputs check.workspace → refusal_of inputs.workspace ≡ None
+not_refused answer inputs kept = by_refusal (refusal_of inputs.workspace) refl
   where
-    by_passed : (passed : Result VersionPass PlanFault) → SettlesBehind inputs passed (Ok choice) → SetsAll inputs choice
-    by_passed (Ok passed) sets = sets
-    by_passed (Err refusal) e = absurd (let h = e in cc)
+    by_refusal : (found : Option WorkspaceFault) → refusal_of inputs.workspace ≡ found → found ≡ None
+    by_refusal None e = refl
+    by_refusal (Some fault) e = absurd (kept (of_workspace fault) (fault, e, refl))
 
--- and by inputs whose workspace isn't refused
-pub settled_workspace : (inputs : Inputs) (choice : Choice) → Settles inputs (Ok choice) → refusal_of inputs.workspace ≡ None
-settled_workspace inputs choice settled = by_refusal (refusal_of inputs.workspace) refl settled
-  where
-    by_refusal : (refusal : Option WorkspaceFault) → refusal_of inputs.workspace ≡ refusal
-        → SettlesBehind inputs (workspace_of inputs.workspace refusal >>= (λ workspace. passed_by (pass_of inputs))) (Ok choice) → refusal ≡ None
-    by_refusal None e is = refl
-    by_refusal (Some refusal) e is = absurd (let h = is in cc)
+pub keeps_versions : (answer : Binary → Answer) (inputs : Inputs) (passed : VersionPass) → pass_of inputs ≡ Ok passed → Keeps answer inputs check.versions
+keeps_versions answer inputs passed e refusal (fault, is, told) = absurd (let h = sym e ∙ is in cc)
+
+pub keeps_configuration : (answer : Binary → Answer) (inputs : Inputs) (run : RunSettings) → Sets (context_of inputs.workspace) inputs (Ok run) → Keeps answer inputs check.configuration
+keeps_configuration answer inputs run sets refusal (fault, is, told) = one_settings (context_of inputs.workspace) inputs (Ok run) (Err fault) sets is
+
+pub keeps_filterset : (answer : Binary → Answer) (inputs : Inputs) (choice : Choice) (answers : Answers) → AnswerFor inputs choice answers → Keeps answer inputs check.filterset
+keeps_filterset answer inputs choice answers it refusal (other, sets, is) =
+    absurd (let e = chosen_once inputs choice (Ok answers) (Err refusal) it.chosen (chosen_beside inputs choice other (Err refusal) it.sets sets is) in cc)
+
+pub keeps_names : (answer : Binary → Answer) (inputs : Inputs) (it : Planned) → IsFound answer inputs it → Keeps answer inputs check.names
+keeps_names answer inputs it found refusal bad =
+    absurd (let e = listed_once answer inputs it.choice bad.choice it.answers bad.answers (Ok it.found) (Err bad.fault) found.answers bad.answered found.found bad.listed in cc)
+
+pub keeps_tries : (answer : Binary → Answer) (inputs : Inputs) (it : Planned) → IsFound answer inputs it → has_too_many it.choice.of_test it.found.tests ≡ false → Keeps answer inputs check.tries
+keeps_tries answer inputs it found few refusal (many, told) =
+    let same : many.it ≡ it = found_once answer inputs many.it it many.found found in
+    absurd (let e : true ≡ false = sym many.many ∙ ap (λ (p : Planned). has_too_many p.choice.of_test p.found.tests) same ∙ few in cc)
 
 -- ---- what is planned
 
-plans_with_once : (answer : Binary → Answer) (inputs : Inputs) (choice : Choice) (a b : Result Planned PlanFault) → PlansWith answer inputs (Ok choice) a → PlansWith answer inputs (Ok choice) b → a ≡ b
-plans_with_once answer inputs choice a b (chosen, is, planned) (other, also, planned_also) =
-    sym planned ∙ ap (planned_by answer inputs choice) (chosen_once inputs choice chosen other is also) ∙ planned_also
+-- two answers are the same, but for the words of a refusal
+abbrev pub Same : Result Planned PlanFault → Result Planned PlanFault → Type 0
+Same (Ok one) (Ok other) = one ≡ other
+Same (Err one) (Err other) = SameRefusal one other
+Same one other = ⊥
 
 pub plans_once : (answer : Binary → Answer) (inputs : Inputs) (a b : Result Planned PlanFault) → Plans answer inputs a → Plans answer inputs b → Same a b
-plans_once answer inputs a b (one, known, planned) (other, known_also, planned_also) = by_choice one other (settled_once inputs one other known known_also) planned planned_also
-  where
-    by_choice : (one other : Result Choice PlanFault) → Same one other → PlansWith answer inputs one a → PlansWith answer inputs other b → Same a b
-    by_choice (Ok one) (Ok other) same planned planned_also =
-        same_by a b (plans_with_once answer inputs other a b (subst (λ (s : Choice). PlansWith answer inputs (Ok s) a) same planned) planned_also)
-    by_choice (Err one) (Err other) same e f =
-        subst (λ (x : Result Planned PlanFault). Same x b) (sym e) (subst (λ (x : Result Planned PlanFault). Same {A = Planned} (Err one) x) (sym f) same)
-    by_choice (Ok one) (Err other) same planned planned_also = absurd same
-    by_choice (Err one) (Ok other) same planned planned_also = absurd same
-
--- the parts of what is planned
-pub record Parts (answer : Binary → Answer) (inputs : Inputs) (it : Planned) : Type 0 where
-  pub asked : Settles inputs (Ok it.choice)
-  pub chosen : IsChosen inputs it.choice (Ok it.answers)
-  pub listed : listing answer it.answers (listed_in inputs it.answers) ≡ Ok it.found
-
-planned_parts : (answer : Binary → Answer) (inputs : Inputs) (choice : Choice) (chosen : Result Answers PlanFault) (it : Planned) → Settles inputs (Ok choice)
-    → IsChosen inputs choice chosen → planned_by answer inputs choice chosen ≡ Ok it → Parts answer inputs it
-planned_parts answer inputs choice (Err refusal) it known is e = absurd (let f = e in cc)
-planned_parts answer inputs choice (Ok answers) it known is e = by_listing (listing answer answers (listed_in inputs answers)) refl e
-  where
-    by_few : (found : Found) → listing answer answers (listed_in inputs answers) ≡ Ok found → (many : Bool)
-        → (if many then Err refused.RetriesTooMany else Ok (record { choice = choice; answers = answers; found = found })) ≡ Ok it → Parts answer inputs it
-    by_few found l true h = absurd (let f = h in cc)
-    by_few found l false h =
-        let made : record { choice = choice; answers = answers; found = found } ≡ it = cc in
-        subst (Parts answer inputs) made (record { asked = known; chosen = is; listed = l })
-
-    by_listing : (given : Result Found ListingFault) → listing answer answers (listed_in inputs answers) ≡ given
-        → (found_by given >>= (λ found. if has_too_many choice.of_test found.tests then Err refused.RetriesTooMany else Ok (record { choice = choice; answers = answers; found = found }))) ≡ Ok it
-        → Parts answer inputs it
-    by_listing (Ok found) l h = by_few found l (has_too_many choice.of_test found.tests) h
-    by_listing (Err refusal) l h = absurd (let f = h in cc)
-
-pub parts_of : (answer : Binary → Answer) (inputs : Inputs) (it : Planned) → Plans answer inputs (Ok it) → Parts answer inputs it
-parts_of answer inputs it (choice, known, plans) = by_choice choice known plans
-  where
-    by_choice : (choice : Result Choice PlanFault) → Settles inputs choice → PlansWith answer inputs choice (Ok it) → Parts answer inputs it
-    by_choice (Ok choice) known (chosen, is, planned) = planned_parts answer inputs choice chosen it known is planned
-    by_choice (Err refusal) known e = absurd (let f = e in cc)
+plans_once answer inputs (Ok one) (Ok other) a b = found_once answer inputs one other a.found b.found
+plans_once answer inputs (Ok one) (Err refusal) a b = none_breaks answer inputs all_checks refusal a.kept b
+plans_once answer inputs (Err refusal) (Ok other) a b = none_breaks answer inputs all_checks refusal b.kept a
+plans_once answer inputs (Err one) (Err other) a b = first_once answer inputs all_checks one other a b

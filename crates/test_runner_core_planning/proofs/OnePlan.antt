@@ -11,7 +11,8 @@ use Rattle.test_runner_core_plan.specs.Order.{plan_cmp}
 use Rattle.test_runner_core_plan.specs.declared.plan.Plan.{Plan}
 use Rattle.test_runner_core_plan.specs.declared.plan.PlanTest.{PlanTest}
 use Rattle.test_runner_core_planning.specs.Laws.{NotPlannedAndRefused, OnePlan}
-use Rattle.test_runner_core_planning.specs.Plan.{IsPlanOf, Planned, Plans, plan_test}
+use Rattle.test_runner_core_planning.specs.Plan.{IsPlanOf, Plans, plan_test}
+use Rattle.test_runner_core_planning.specs.Checks.{Planned}
 use Rattle.test_runner_core_planning.proofs.Once.{plans_once}
 use Rattle.test_runner_core_planning.proofs.Selected.{by_instance}
 use Rattle.test_runner_core_workspace.specs.Lister.{Answer}

@@ -1,5 +1,5 @@
 -- A plan has exactly the tests that are wanted.
-use Rattle.std.proofs.Common.{◌≡◌, ◌⊎◌, inl, inr, ℕ, suc, zero, ◌+◌, List, [], ◌∷◌, ◌++◌, get_or, map, Bool, true, false, cond, Option, None, Some, Result, Ok, Err, refl, sym, ap, ◌∙◌, subst, arith}
+use Rattle.std.proofs.Common.{◌≡◌, inl, inr, ℕ, ◌+◌, List, [], ◌∷◌, ◌++◌, get_or, map, true, Option, None, Some, Result, Ok, Err, refl, sym, ap, ◌∙◌, subst}
 use Rattle.std.specs.List.{Contains, filter}
 use Rattle.std.proofs.lemmas.List.Elements.{Contains-append_left, Contains-append_right, Contains-append_cases}
 use Rattle.std.proofs.lemmas.List.Sorted.{Contains-permutation, IsPermutation-sym}
@@ -13,11 +13,12 @@ use Rattle.test_runner_core_listing.specs.declared.listing_fault.ListingFault.{L
 use Rattle.test_runner_core_plan.specs.declared.plan.PlanTest.{PlanTest}
 use Rattle.test_runner_core_plan.specs.declared.plan_settings.PlanSettings.{PlanSettings}
 use Rattle.test_runner_core_planning.specs.Filtering.{AllCanHold, AllHold, AreAnswersOf, AreInForce, Choice, InForce, IsChosen, IsOfGroup, graph_of}
-use Rattle.test_runner_core_planning.specs.Laws.{HasExactlyTheWanted, HaveTheirSettings, IsWanted}
-use Rattle.test_runner_core_planning.specs.Plan.{Planned, Plans, Settles, instance_of, listed_in, plan_test}
+use Rattle.test_runner_core_planning.specs.Laws.{HasExactlyTheWanted, HaveTheirSettings, IsWanted, Roads}
+use Rattle.test_runner_core_planning.specs.Checks.{Planned, SetsAll, listed_in}
+use Rattle.test_runner_core_planning.specs.Plan.{Plans, instance_of, plan_test}
 use Rattle.test_runner_core_planning.proofs.Elements.{filter_has, first_has, has_cases, has_of_filter, has_of_map, map_has, none_has, rest_has, same_binary}
 use Rattle.test_runner_core_planning.proofs.NoneTwice.{instances_in, instances_joined, instances_of, planned_apart}
-use Rattle.test_runner_core_planning.proofs.Once.{answers_are, parts_of, settled_once}
+use Rattle.test_runner_core_planning.proofs.Once.{answers_are, sets_once}
 use Rattle.test_runner_core_planning.proofs.Surely.{tree_can_be}
 use Rattle.test_runner_core_workspace.specs.Lister.{Answer}
 use Rattle.test_runner_core_workspace.specs.declared.record.Binary.{Binary}
@@ -147,12 +148,11 @@ of_binaries answer chosen (binary ∷ binaries) found e test has =
 pub by_instance : (answer : Binary → Answer) (inputs : Inputs) (it : Planned) → Plans answer inputs (Ok it) → (a b : PlanTest) → Contains (map (plan_test it.choice.of_test) it.found.tests) a
     → Contains (map (plan_test it.choice.of_test) it.found.tests) b → a.instance ≡ b.instance → a ≡ b
 by_instance answer inputs it planned a b has also same =
-    let parts = parts_of answer inputs it planned in
     let listed = listed_in inputs it.answers in
     let one = has_of_map (plan_test it.choice.of_test) it.found.tests a has in
     let other = has_of_map (plan_test it.choice.of_test) it.found.tests b also in
-    let from = of_binaries answer it.answers listed it.found parts.listed one.of one.among in
-    let from_other = of_binaries answer it.answers listed it.found parts.listed other.of other.among in
+    let from = of_binaries answer it.answers listed it.found planned.found.found one.of one.among in
+    let from_other = of_binaries answer it.answers listed it.found planned.found.found other.of other.among in
     let instances : instance_of one.of ≡ instance_of other.of = ap (λ (t : PlanTest). t.instance) one.made ∙ same ∙ sym (ap (λ (t : PlanTest). t.instance) other.made) in
     let ids : from.0.id ≡ from_other.0.id =
     sym (ap (λ (t : Test). t.binary.id) from.2) ∙ ap (λ (i : OwnedTestInstanceId). i.binary_id) instances ∙ ap (λ (t : Test). t.binary.id) from_other.2 in
@@ -196,37 +196,65 @@ of_wanted answer inputs choice force answers test are it = record {
 }
 
 -- what a plan's inputs ask for
-pub plan_choice : (answer : Binary → Answer) (inputs : Inputs) (it : Planned) (choice : Choice) → Plans answer inputs (Ok it) → Settles inputs (Ok choice) → it.choice ≡ choice
-plan_choice answer inputs it choice planned settles = settled_once inputs (Ok it.choice) (Ok choice) (parts_of answer inputs it planned).asked settles
+pub plan_choice : (answer : Binary → Answer) (inputs : Inputs) (it : Planned) (choice : Choice) → Plans answer inputs (Ok it) → SetsAll inputs choice → it.choice ≡ choice
+plan_choice answer inputs it choice planned sets = sets_once inputs it.choice choice planned.found.answers.sets sets
 
 -- and what the filters in force answer
-pub plan_answers : (answer : Binary → Answer) (inputs : Inputs) (it : Planned) (choice : Choice) (force : InForce) → Plans answer inputs (Ok it) → Settles inputs (Ok choice)
+pub plan_answers : (answer : Binary → Answer) (inputs : Inputs) (it : Planned) (choice : Choice) (force : InForce) → Plans answer inputs (Ok it) → SetsAll inputs choice
     → AreInForce inputs choice.run force → AreAnswersOf inputs.workspace choice.of_test force it.answers
 plan_answers answer inputs it choice force planned settles is =
     answers_are inputs choice force it.answers is
-    (subst (λ (c : Choice). IsChosen inputs c (Ok it.answers)) (plan_choice answer inputs it choice planned settles) (parts_of answer inputs it planned).chosen)
+    (subst (λ (c : Choice). IsChosen inputs c (Ok it.answers)) (plan_choice answer inputs it choice planned settles) planned.found.answers.chosen)
 
 pub exactly_the_wanted : HasExactlyTheWanted
 exactly_the_wanted answer inputs plan choice force (it, planned, built) settles is test =
-    let parts = parts_of answer inputs it planned in
     let are = plan_answers answer inputs it choice force planned settles is in
     let listed = listed_in inputs it.answers in
     let tests = map (λ (t : PlanTest). t.instance) plan.tests in
     let same = instances_of inputs it plan built in (
       λ has.
           wanted_of answer inputs choice force it.answers test are
-          (to_listed answer it.answers listed it.found parts.listed test (Contains-permutation tests (instances_in it.found) test (IsPermutation-sym (instances_in it.found) tests same) has)),
+          (to_listed answer it.answers listed it.found planned.found.found test (Contains-permutation tests (instances_in it.found) test (IsPermutation-sym (instances_in it.found) tests same) has)),
       λ wanted.
-          Contains-permutation (instances_in it.found) tests test same (from_listed answer it.answers listed it.found parts.listed test (of_wanted answer inputs choice force it.answers test are wanted)),
+          Contains-permutation (instances_in it.found) tests test same (from_listed answer it.answers listed it.found planned.found.found test (of_wanted answer inputs choice force it.answers test are wanted)),
+    )
+
+-- names that are accepted are those that were answered
+same_names : (answered : Answer) (names found : List (List ℕ)) → accepted answered ≡ Ok names → answered ≡ Ok found → found ≡ names
+same_names answered names found e f = let g : ◌≡◌ {A = Answer} (Ok found) (Ok names) = sym f ∙ accepted_is answered names e in cc
+
+-- where all binaries answer, the wanted tests are theirs
+pub roads : Roads
+roads answer inputs names plan choice force all built sets is test =
+    let same = exactly_the_wanted answer inputs plan choice force built sets is test in (
+      λ has.
+          let it = same.0 has in
+          record {
+            binary = it.binary;
+            among = it.among;
+            id = it.id;
+            named = subst (λ (given : List (List ℕ)). Contains given test.test_name) (same_names (answer it.binary) (names it.binary) it.names (all it.binary it.among) it.answered) it.named;
+            holds = it.holds;
+          },
+      λ it.
+          same.1
+          (record {
+            binary = it.binary;
+            among = it.among;
+            id = it.id;
+            names = names it.binary;
+            answered = accepted_is (answer it.binary) (names it.binary) (all it.binary it.among);
+            named = it.named;
+            holds = it.holds;
+          }),
     )
 
 -- each test of a plan has the settings that are set for it
 pub have_their_settings : HaveTheirSettings
 have_their_settings answer inputs plan choice (it, planned, built) settles test has =
-    let parts = parts_of answer inputs it planned in
     let all = map (plan_test it.choice.of_test) it.found.tests in
     let made = has_of_map (plan_test it.choice.of_test) it.found.tests test (Contains-permutation plan.tests all test (IsPermutation-sym all plan.tests built.tests) has) in
-    let from = of_binaries answer it.answers (listed_in inputs it.answers) it.found parts.listed made.of made.among in
+    let from = of_binaries answer it.answers (listed_in inputs it.answers) it.found planned.found.found made.of made.among in
     let same = plan_choice answer inputs it choice planned settles in
     let name : made.of.name ≡ test.instance.test_name = ap (λ (t : PlanTest). t.instance.test_name) made.made in
     record {

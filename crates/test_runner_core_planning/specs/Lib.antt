@@ -1,5 +1,6 @@
 pub mod Refusals
 pub mod Filtering
+pub mod Checks
 pub mod Plan
 pub mod Tests
 pub mod Inside

@@ -6,7 +6,8 @@ ghost use Rattle.nextest_filtering_filters.specs.Filter.{is_default, is_group};
 ghost use Rattle.test_runner_core_listing.specs.Answers.{AnswerAs, Answers};
 ghost use Rattle.test_runner_core_listing.specs.Listing.{asked_of, listing};
 ghost use Rattle.test_runner_core_plan.specs.Order.{plan_cmp};
-ghost use Rattle.test_runner_core_planning.specs.Filtering.{Choice, IsChosen};
+ghost use Rattle.test_runner_core_planning.specs.Checks.{AnswerFor, listed_in, overflows};
+ghost use Rattle.test_runner_core_planning.specs.Filtering.{Choice};
 ghost use Rattle.test_runner_core_planning.specs.Inside.{HasWanted, IsInGroup, in_force};
 ghost use Rattle.test_runner_core_planning.specs.Plan as words;
 ghost use Rattle.test_runner_core_workspace.specs.declared.record.Binary.{Binary};
@@ -91,16 +92,14 @@ fn selection_by<'w, L: Lister>(
     lister: &mut L,
 ) -> Result<Selection<'w>, PlanError>
     requires { HasWanted inputs.now wanted.now }
-    ensures selects { (choice : Choice) (chosen : Answers)
-        → words.Settles inputs.now (Ok choice) → IsChosen inputs.now choice (Ok chosen)
+    ensures selects { (choice : Choice) (chosen : Answers) → AnswerFor inputs.now choice chosen
         → words.Selected result
-        (listing (L.answer lister.old) chosen (words.listed_in inputs.now chosen))
-        (words.listed_in inputs.now chosen) }
+        (listing (L.answer lister.old) chosen (listed_in inputs.now chosen))
+        (listed_in inputs.now chosen) }
     ensures stays { (other : Binary) → L.answer lister.new other ≡ L.answer lister.old other }
-    ensures asks { (choice : Choice) (chosen : Answers)
-        → words.Settles inputs.now (Ok choice) → IsChosen inputs.now choice (Ok chosen)
+    ensures asks { (choice : Choice) (chosen : Answers) → AnswerFor inputs.now choice chosen
         → words.Asks result (L.asked lister.old)
-        (asked_of (L.answer lister.old) (words.listed_in inputs.now chosen)) (L.asked lister.new) }
+        (asked_of (L.answer lister.old) (listed_in inputs.now chosen)) (L.asked lister.new) }
 {
     let default = &wanted.run.profile.default_filter().filter.compiled;
     select_beside(alloc, inputs, wanted, default, lister)
@@ -120,14 +119,14 @@ fn select_beside<'w, L: Lister>(
         → AnswerAs (in_force wanted.now.filterset inputs.now.ignore_default_filter default.now)
         default.now (IsInGroup wanted.now.run.profile) chosen
         → words.Selected result
-        (listing (L.answer lister.old) chosen (words.listed_in inputs.now chosen))
-        (words.listed_in inputs.now chosen) }
+        (listing (L.answer lister.old) chosen (listed_in inputs.now chosen))
+        (listed_in inputs.now chosen) }
     ensures stays { (other : Binary) → L.answer lister.new other ≡ L.answer lister.old other }
     ensures asks { (chosen : Answers)
         → AnswerAs (in_force wanted.now.filterset inputs.now.ignore_default_filter default.now)
         default.now (IsInGroup wanted.now.run.profile) chosen
         → words.Asks result (L.asked lister.old)
-        (asked_of (L.answer lister.old) (words.listed_in inputs.now chosen)) (L.asked lister.new) }
+        (asked_of (L.answer lister.old) (listed_in inputs.now chosen)) (L.asked lister.new) }
 {
     let filterset = wanted.filterset.as_ref();
     let filters = filters_in_force(alloc, filterset, default, inputs.ignore_default_filter)?;
@@ -142,14 +141,14 @@ fn select_beside<'w, L: Lister>(
 
 // Whether the tries of a test, one more than its retries, can't be counted in 32 bits.
 fn has_too_many(tests: &[PlanTest]) -> bool
-    ensures { result ≡ list_any (λ test. words.overflows test.settings) tests.now }
+    ensures { result ≡ list_any (λ test. overflows test.settings) tests.now }
 {
     tests.iter().any(overflows)
 }
 
 // Whether those of this one can't.
 fn overflows(test: &PlanTest) -> bool
-    ensures { result ≡ words.overflows test.now.settings }
+    ensures { result ≡ overflows test.now.settings }
 {
     test.settings.retries.count().checked_add(1).is_none()
 }

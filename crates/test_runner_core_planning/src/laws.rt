@@ -1,5 +1,5 @@
 //! What holds of every plan that is built. Each function does nothing, and its contract is the law.
-ghost use Rattle.test_runner_core_planning.specs.Laws.{AsksForSome, HasExactlyTheWanted, HasNoneTwice, HaveTheirSettings, IsolatesPlans, ListsExactly, NotPlannedAndRefused, OnePlan};
+ghost use Rattle.test_runner_core_planning.specs.Laws.{AsksForSome, DefaultTwice, HasExactlyTheWanted, HasNoneTwice, HaveTheirSettings, IsolatesPlans, ListsExactly, NotPlannedAndRefused, OnePlan, Roads};
 
 /// Inputs have at most one plan.
 pub fn one_plan()
@@ -14,6 +14,18 @@ pub fn not_planned_and_refused()
 /// A test is selected exactly if a binary of the workspace answers its name and all filters in force hold on it.
 pub fn selected()
     ensures { HasExactlyTheWanted }
+{}
+
+/// Two roads lead to the selected tests: where the lister answers every binary with names that are accepted, the tests of a plan are
+/// those of all binaries, whether listed or not, on which the filters in force hold.
+pub fn roads()
+    ensures { Roads }
+{}
+
+/// Where the default filter is in force, a filterset may ask for it too: inputs with a filterset F and inputs with `(F) and default()`
+/// have the same plan.
+pub fn default_twice()
+    ensures { DefaultTwice }
 {}
 
 /// Each test of a plan has the settings that are set for it in its binary.
@@ -32,14 +44,13 @@ pub fn selected_once()
 {}
 
 /// Profiles outside of the chosen one's chain change nothing: where two inputs ask for the same tests of one workspace, choose one
-/// profile, for the same platforms and with the same groups, and say the same in it, in its parents and in `default`, and both have a
-/// plan, then it is one plan, warnings aside.
+/// profile, for the same platforms, and their files agree but in profiles other than the chosen one, its parents and `default`, and both
+/// have a plan, then it is one plan, warnings aside.
 pub fn isolated()
     ensures plan { IsolatesPlans }
 {}
 
-/// It can't be that inputs neither ask for something nor have a first reason, before their filterset is looked at, why they have no
-/// plan.
+/// It can't be that inputs neither set something for their run and their tests nor are refused before their filterset is looked at.
 pub fn some_settings()
     ensures { AsksForSome }
 {}

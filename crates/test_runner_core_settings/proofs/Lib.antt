@@ -9,3 +9,4 @@ pub mod Isolated
 pub mod Limits
 pub mod Once
 pub mod Some
+pub mod Agreeing

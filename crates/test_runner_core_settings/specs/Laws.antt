@@ -5,6 +5,7 @@ use Rattle.nextest_config_elements_plain.specs.declared.max_fail.MaxFail.TheVari
 use Rattle.nextest_config_resolution_inheritance.specs.Inheritance.{IsChain, Name}
 use Rattle.nextest_config_resolution_load.specs.Kinds.{kind_of}
 use Rattle.nextest_config_resolution_load.specs.Checks.{parents_of}
+use Rattle.nextest_config_resolution_profiles.specs.Agreeing.{SourcesAgree}
 use Rattle.nextest_config_resolution_profiles.specs.Config.{profiles_of, values_of}
 use Rattle.nextest_config_resolution_profiles.specs.Whole.{Whole}
 use Rattle.nextest_config_resolution_scripts.specs.Defined.{script_named}
@@ -65,6 +66,25 @@ pub record AgreeOnChain (cx : Context) (inputs other : Inputs) : Type 0 where
   pub script_rules : script_rules_in other names ≡ script_rules_in inputs names
   pub groups : groups_in second ≡ groups_in config
   pub wrappers : second.loaded.scripts.wrapper ≡ config.loaded.scripts.wrapper
+
+-- Two inputs choose one profile, for one mode and the same platforms, and each of their sources has a like: one of the same kind and path
+-- whose file says the same everywhere but in profiles outside of the chosen one's chain. Both have a configuration.
+pub record AgreeInFiles (cx : Context) (inputs other : Inputs) : Type 0 where
+  pub profile : other.profile ≡ inputs.profile
+  pub mode : other.mode ≡ inputs.mode
+  pub host : other.host ≡ inputs.host
+  pub target : other.target ≡ inputs.target
+  pub config : Whole Filterset PlatformSpec
+  pub reads : Reads cx inputs config
+  pub second : Whole Filterset PlatformSpec
+  pub reads_second : Reads cx other second
+  pub names : List Name
+  pub chain : IsChain (parents_of (profiles_of config)) inputs.profile names
+  pub sources : SourcesAgree names inputs.sources other.sources
+
+-- then the configurations agree on the chain
+abbrev pub AgreesOnChain : Type 0
+AgreesOnChain = (cx : Context) (inputs other : Inputs) → AgreeInFiles cx inputs other → AgreeOnChain cx inputs other
 
 -- profiles outside of the chosen one's chain, and their overrides, change nothing of what is set for a run
 abbrev pub Isolated : Type 0

@@ -1,5 +1,5 @@
 //! What holds of what inputs set. Each law is the contract of a function that does nothing.
-ghost use Rattle.test_runner_core_settings.specs.Laws.{EnabledIsDefined, Isolated, IsolatesScripts, IsolatesTests, MoreEnableNoFewer, OneSettings, OneTest, SetsLimit, SomeSettings, SomeTest};
+ghost use Rattle.test_runner_core_settings.specs.Laws.{AgreesOnChain, EnabledIsDefined, Isolated, IsolatesScripts, IsolatesTests, MoreEnableNoFewer, OneSettings, OneTest, SetsLimit, SomeSettings, SomeTest};
 
 /// Inputs set one thing, or are refused for one reason; and it can't be that neither is so.
 pub fn one_settings()
@@ -19,6 +19,11 @@ pub fn isolated()
     ensures run { Isolated }
     ensures tests { IsolatesTests }
     ensures scripts { IsolatesScripts }
+{}
+
+/// Inputs whose files agree but in profiles outside of the chosen one's chain agree on the chain.
+pub fn agrees_on_chain()
+    ensures { AgreesOnChain }
 {}
 
 /// More tests enable no fewer setup scripts, and an enabled one is defined.

@@ -17,15 +17,15 @@ select_beside-requires-clause-no_group g c =
     subst (λ (it : CompiledDefaultFilter Filterset). list_any is_group it.filter.now.compiled.leaves ≡ false) (sym c.default_filter.ensures) (wanted_serves c.args.inputs.now c.args.wanted.now c.requires).1
 
 pub returns-clause-selects : goal.returns-clause-selects
-returns-clause-selects g c = λ choice chosen settles is.
+returns-clause-selects g c = λ choice chosen are.
     let wanted = c.args.wanted.now in
     c.select_beside.ensures.selects chosen
     (subst (λ (it : CompiledDefaultFilter Filterset). AnswerAs (in_force wanted.filterset c.args.inputs.now.ignore_default_filter it.filter.now.compiled) it.filter.now.compiled (IsInGroup wanted.run.profile) chosen)
-    (sym c.default_filter.ensures) (wanted_as c.args.inputs.now wanted c.requires choice chosen settles is))
+    (sym c.default_filter.ensures) (wanted_as c.args.inputs.now wanted c.requires choice chosen are))
 
 pub returns-clause-asks : goal.returns-clause-asks
-returns-clause-asks g c = λ choice chosen settles is.
+returns-clause-asks g c = λ choice chosen are.
     let wanted = c.args.wanted.now in
     c.select_beside.ensures.asks chosen
     (subst (λ (it : CompiledDefaultFilter Filterset). AnswerAs (in_force wanted.filterset c.args.inputs.now.ignore_default_filter it.filter.now.compiled) it.filter.now.compiled (IsInGroup wanted.run.profile) chosen)
-    (sym c.default_filter.ensures) (wanted_as c.args.inputs.now wanted c.requires choice chosen settles is))
+    (sym c.default_filter.ensures) (wanted_as c.args.inputs.now wanted c.requires choice chosen are))
