@@ -1,6 +1,6 @@
 -- Sources that agree but in profiles of other names: their files, and what these come to.
-use Rattle.std.proofs.Common.{◌≡◌, ◌≢◌, ℕ, Bool, true, false, ◌||◌, cond, List, [], ◌∷◌, ◌++◌, codes, map, Option, None, Some, Ok, Err, refl, sym, ap, ◌∙◌, subst, inl, inr, Ordering, Less, Equal, Greater, reverse, option_map}
-use Rattle.std.specs.List.{AllByRecursion, AllZip, cons_option, filter, filter_map, find, flat_map, list_any}
+use Rattle.std.proofs.Common.{◌≡◌, ◌≢◌, ℕ, Bool, true, false, cond, List, [], ◌∷◌, ◌++◌, codes, map, Option, None, Some, Ok, Err, refl, sym, ap, ◌∙◌, subst, inl, inr, Ordering, Less, Equal, Greater, reverse, option_map}
+use Rattle.std.specs.List.{AllByRecursion, AllZip, cons_option, filter, filter_map, find, flat_map}
 use Rattle.std.specs.Option.{option_and_then, option_or}
 use Rattle.std.specs.Ordering.{match_ordering, is_eq}
 use Rattle.std.specs.Str.{bytes_eq}
@@ -25,11 +25,11 @@ use Rattle.nextest_config_resolution_sources.specs.declared.source.ConfigSource.
 use Rattle.nextest_config_resolution_sources.specs.declared.source.ConfigSourceOutcome.{ConfigSourceOutcome}
 use Rattle.nextest_config_resolution_sources.specs.declared.source.ConfigSourceOutcome.TheVariants as outcome
 use Rattle.nextest_config_resolution_tree.specs.Nesting.{inside}
-use Rattle.nextest_config_resolution_tree.specs.Tree.{merge, over}
+use Rattle.nextest_config_resolution_tree.specs.Tree.{merge}
 use Rattle.nextest_config_resolution_tree.proofs.Joined.{over_none}
 use Rattle.nextest_config_resolution_tree.proofs.Keys.{equal_keys, key_cmp}
 use Rattle.nextest_config_resolution_tree.proofs.Standings.{get_merge, joint}
-use Rattle.nextest_config_resolution_values.specs.File.{Named, profiles_in, profiles_of}
+use Rattle.nextest_config_resolution_values.specs.File.{Named, profiles_in}
 use Rattle.nextest_config_resolution_values.specs.Profile.{profile_of}
 use Rattle.nextest_config_resolution_values.specs.declared.profile_config.ProfileConfig.{ProfileConfig}
 use Rattle.nextest_config_resolution_profiles.specs.Agreeing.{AgreeBut, FilesAgree, SourceAgrees, SourcesAgree, is_one_of, named_members, profiles_below}

@@ -1,5 +1,5 @@
 -- The rules of profiles of some names depend on what files have of these profiles alone.
-use Rattle.std.proofs.Common.{◌≡◌, ℕ, Bool, true, false, ◌||◌, cond, List, [], ◌∷◌, ◌++◌, codes, map, Option, None, Some, Ok, Err, refl, sym, ap, ◌∙◌, subst, reverse}
+use Rattle.std.proofs.Common.{◌≡◌, ℕ, Bool, true, false, cond, List, [], ◌∷◌, ◌++◌, codes, map, Option, None, Some, Ok, Err, refl, sym, ap, ◌∙◌}
 use Rattle.std.specs.List.{AllByRecursion, AllZip, Contains, enumerate_from, filter, flat_map}
 use Rattle.std.specs.Str.{bytes_eq}
 use Rattle.std.proofs.lemmas.Bool.{false≢true}
@@ -12,24 +12,21 @@ use Rattle.nextest_config_elements_versions.specs.Demand.{experimental_in, nexte
 use Rattle.nextest_config_resolution_inheritance.specs.Inheritance.{Name}
 use Rattle.nextest_config_resolution_load.specs.Checks.{FileRules, file_of, rules_in, rules_in_file, rules_of_source}
 use Rattle.nextest_config_resolution_load.specs.File.{checked, file_in, profiles_at_file, profiles_in_file, profiles_of_file, rules_in_profile, rules_of_profile}
-use Rattle.nextest_config_resolution_load.specs.Rules.{placed_at, placed_in, rules_at, script_placed_at, script_placed_in, script_rules_at}
 use Rattle.nextest_config_resolution_load.specs.declared.file_config.FileConfig.{FileConfig}
 use Rattle.nextest_config_resolution_load.specs.declared.file_config.ProfileRules.{ProfileRules}
 use Rattle.nextest_config_resolution_overrides.specs.Groups.{groups_at}
 use Rattle.nextest_config_resolution_overrides.specs.declared.groups.NamedGroup.{NamedGroup}
 use Rattle.nextest_config_resolution_overrides.specs.declared.override_config.OverrideConfig.{OverrideConfig}
-use Rattle.nextest_config_resolution_overrides.specs.declared.placed_override.PlacedOverride.{PlacedOverride}
 use Rattle.nextest_config_resolution_scripts.specs.Scripts.{old_scripts_at, scripts_at}
 use Rattle.nextest_config_resolution_scripts.specs.declared.script_config.NamedScript.{NamedScript}
 use Rattle.nextest_config_resolution_scripts.specs.declared.script_config.ScriptConfig.{ScriptConfig}
-use Rattle.nextest_config_resolution_scripts.specs.declared.script_rule.PlacedScriptRule.{PlacedScriptRule}
 use Rattle.nextest_config_resolution_scripts.specs.declared.script_rule.ScriptRuleConfig.{ScriptRuleConfig}
 use Rattle.nextest_config_resolution_scripts.specs.declared.setup_script.SetupScriptConfig.{SetupScriptConfig}
 use Rattle.nextest_config_resolution_settings.specs.Rules.{is_of_profile, rules_of}
 use Rattle.nextest_config_resolution_sources.specs.declared.source.ConfigSource.{ConfigSource}
 use Rattle.nextest_config_resolution_tree.specs.Nesting.{inside}
 use Rattle.nextest_config_resolution_values.specs.File.{store_dir_at}
-use Rattle.nextest_config_resolution_profiles.specs.Agreeing.{AgreeBut, FilesAgree, SourceAgrees, SourcesAgree, is_one_of, named_members, profiles_below}
+use Rattle.nextest_config_resolution_profiles.specs.Agreeing.{FilesAgree, SourceAgrees, is_one_of, named_members, profiles_below}
 use Rattle.nextest_config_resolution_profiles.proofs.Agreeing.{FileIsRead}
 use Rattle.nextest_config_resolution_profiles.proofs.Enabling.{among_back}
 use Rattle.nextest_config_resolution_profiles.proofs.Tables.{read_table, under_read}

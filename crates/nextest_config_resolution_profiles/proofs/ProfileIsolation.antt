@@ -1,16 +1,14 @@
 -- Sources that agree but in profiles of other names come to configurations that are the same in those of these names.
-use Rattle.std.proofs.Common.{◌≡◌, ◌≢◌, ℕ, Bool, true, false, List, [], ◌∷◌, codes, map, Option, Some, Ok, Err, refl, sym, ap, ◌∙◌, subst, inr, reverse}
-use Rattle.std.specs.List.{All, AllByRecursion, AllZip, filter_map, flat_map}
-use Rattle.std.specs.Str.{bytes_eq}
+use Rattle.std.proofs.Common.{◌≡◌, ℕ, true, List, [], ◌∷◌, codes, map, Option, Ok, Err, refl, sym, ap, ◌∙◌, inr, reverse}
+use Rattle.std.specs.List.{AllByRecursion, AllZip, filter_map}
 use Rattle.std.proofs.lemmas.List.Elements.{All-from_recursion}
 use Rattle.toml.specs.Data.{Data, Members, get_member}
 use Rattle.nextest_config_elements_reading.specs.Reading.{Reading, ◌>>=◌, under}
 use Rattle.nextest_config_elements_versions.specs.declared.feature.FeatureSet.{FeatureSet}
 use Rattle.nextest_config_resolution_inheritance.specs.Inheritance.{Name}
-use Rattle.nextest_config_resolution_load.specs.Checks.{FileRules, MergedConfig, config_in, file_of, merged_in, moved}
+use Rattle.nextest_config_resolution_load.specs.Checks.{MergedConfig, config_in, file_of, merged_in, moved}
 use Rattle.nextest_config_resolution_load.specs.Load.{IsFilterBy, IsLoadedAs, IsSpecBy, seen}
 use Rattle.nextest_config_resolution_load.specs.Rules.{placed_at, script_placed_at}
-use Rattle.nextest_config_resolution_load.specs.declared.file_config.ProfileRules.{ProfileRules}
 use Rattle.nextest_config_resolution_load.specs.declared.loaded_config.LoadedConfig.{LoadedConfig}
 use Rattle.nextest_config_resolution_load.proofs.Kept.{kept_sources}
 use Rattle.nextest_config_resolution_overrides.specs.Groups.{groups_at, groups_of}
@@ -20,9 +18,8 @@ use Rattle.nextest_config_resolution_scripts.specs.declared.script_config.Script
 use Rattle.nextest_config_resolution_settings.specs.Rules.{profile_of, script_profile_of}
 use Rattle.nextest_config_resolution_sources.specs.Counting.{counted}
 use Rattle.nextest_config_resolution_sources.specs.declared.source.ConfigSource.{ConfigSource}
-use Rattle.nextest_config_resolution_tree.specs.Nesting.{inside}
-use Rattle.nextest_config_resolution_values.specs.File.{Named, profiles_at, profiles_in, profiles_of, store_dir_at, store_dir_of}
-use Rattle.nextest_config_resolution_profiles.specs.Agreeing.{ProfileIsolation, SameOnProfiles, SourceAgrees, SourcesAgree, is_one_of, profiles_below}
+use Rattle.nextest_config_resolution_values.specs.File.{Named, profiles_at, profiles_of, store_dir_at, store_dir_of}
+use Rattle.nextest_config_resolution_profiles.specs.Agreeing.{ProfileIsolation, SourceAgrees, is_one_of, profiles_below}
 use Rattle.nextest_config_resolution_profiles.specs.BuiltIn.{built_in_members}
 use Rattle.nextest_config_resolution_profiles.specs.Config.{values_of}
 use Rattle.nextest_config_resolution_profiles.proofs.Agreeing.{AreLike, FileIsRead, apart, all_moved_agree, counted_agree, files_agree, files_read, raised_alike, read_value, sources_read, value_named, zip_reverse}
