@@ -5,6 +5,7 @@ use Rattle.nextest_filtering_texts.specs.Text.{is_blank}
 use Rattle.nextest_filtering_trees.specs.Grammar.{Behind, Conjunction, Expression, IsFilterset, ReadsArgument, ReadsBare, ReadsJoint, ReadsLeaf, ReadsMatcher, ReadsNot, ReadsOr, ReadsSigned, Unary, a_group, a_negation, a_predicate, ends_word, first_conjunction, first_operand, leaf_word, next_conjunction, next_operand, unblanked}
 use Rattle.nextest_filtering_trees.specs.Tree.{Comparison, Leaf, Matcher, Subject, Tree, binary_id, binary_name, built_for, contains, default_filter, dependencies, dependents, equal, everything, glob, group, intersection, kind, matching, nothing, package_name, parens, regex, set, test_name}
 use Rattle.nextest_filtering_trees.specs.declared.operators.AndOperator.TheVariants as and_as
+use Rattle.nextest_filtering_trees.specs.declared.operators.DifferenceOperator.TheVariants as difference_as
 use Rattle.nextest_filtering_trees.specs.declared.operators.Joint.{Joint}
 use Rattle.nextest_filtering_trees.specs.declared.operators.Joint.TheVariants as joint
 use Rattle.nextest_filtering_trees.specs.declared.operators.NotOperator.{NotOperator}
@@ -62,16 +63,16 @@ or_more more or_as.Plus text rest reads = behind_more more (codes "+") text rest
 joint_more : (more : List ℕ) (op : Joint) (text rest : List ℕ) → ReadsJoint op text rest → ReadsJoint op (text ++ more) (rest ++ more)
 joint_more more (joint.And and_as.LiteralAnd) text rest (reads, ends) = (behind_more more (codes "and") text rest (never_empty 97 (codes "nd")) reads, word_more more rest ends)
 joint_more more (joint.And and_as.Ampersand) text rest reads = behind_more more (codes "&") text rest (never_empty 38 []) reads
-joint_more more (joint.Minus op) text rest reads = behind_more more (codes "-") text rest (never_empty 45 []) reads
+joint_more more (joint.Minus difference_as.Minus) text rest reads = behind_more more (codes "-") text rest (never_empty 45 []) reads
 
 signed_more : (more : List ℕ) (comparison : Comparison) (text argument rest : List ℕ) → ReadsSigned comparison text argument rest → ReadsSigned comparison text (argument ++ more) (rest ++ more)
-signed_more more equal text argument rest (raw, (behind, (sign, reads, spells))) =
-    (raw, (behind ++ more, (behind_more more (codes "=") argument behind (never_empty 61 []) sign, behind_more more raw behind rest spells.some reads, spells)))
-signed_more more contains text argument rest (raw, (behind, (sign, reads, spells))) =
-    (raw, (behind ++ more, (behind_more more (codes "~") argument behind (never_empty 126 []) sign, behind_more more raw behind rest spells.some reads, spells)))
-signed_more more glob text argument rest (raw, (behind, (sign, reads, spells))) =
-    (raw, (behind ++ more, (behind_more more (codes "#") argument behind (never_empty 35 []) sign, behind_more more raw behind rest spells.some reads, spells)))
-signed_more more regex text argument rest (raw, (reads, is)) = (raw, (behind_more more (47 ∷ raw ++ 47 ∷ []) argument rest (never_empty 47 (raw ++ 47 ∷ [])) reads, is))
+signed_more more equal text argument rest (raw, behind, sign, reads, spells) =
+    (raw, behind ++ more, behind_more more (codes "=") argument behind (never_empty 61 []) sign, behind_more more raw behind rest spells.some reads, spells)
+signed_more more contains text argument rest (raw, behind, sign, reads, spells) =
+    (raw, behind ++ more, behind_more more (codes "~") argument behind (never_empty 126 []) sign, behind_more more raw behind rest spells.some reads, spells)
+signed_more more glob text argument rest (raw, behind, sign, reads, spells) =
+    (raw, behind ++ more, behind_more more (codes "#") argument behind (never_empty 35 []) sign, behind_more more raw behind rest spells.some reads, spells)
+signed_more more regex text argument rest (raw, reads, is) = (raw, behind_more more (47 ∷ raw ++ 47 ∷ []) argument rest (never_empty 47 (raw ++ 47 ∷ [])) reads, is)
 
 bare_more : (more text argument rest : List ℕ) → ReadsBare text argument rest → ReadsBare text (argument ++ more) (rest ++ more)
 bare_more more text argument rest it = record { raw = it.raw; place = behind_more more it.raw argument rest it.spelled.some it.place; spelled = it.spelled; unsigned = it.unsigned }
@@ -82,7 +83,7 @@ matcher_more more subject m argument rest (compares, inr (implicit, is, reads)) 
 
 argument_more : (more : List ℕ) (it : Leaf) (argument rest : List ℕ) → ReadsArgument it argument rest → ReadsArgument it (argument ++ more) (rest ++ more)
 argument_more more (matching subject m) argument rest reads = matcher_more more subject m argument rest reads
-argument_more more (built_for platform) argument rest (raw, (reads, spells)) = (raw, (behind_more more raw argument rest spells.some reads, spells))
+argument_more more (built_for platform) argument rest (raw, reads, spells) = (raw, behind_more more raw argument rest spells.some reads, spells)
 argument_more more default_filter argument rest e = ap (λ (t : List ℕ). t ++ more) e
 argument_more more everything argument rest e = ap (λ (t : List ℕ). t ++ more) e
 argument_more more nothing argument rest e = ap (λ (t : List ℕ). t ++ more) e

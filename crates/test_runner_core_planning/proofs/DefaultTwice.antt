@@ -2,7 +2,6 @@
 use Rattle.std.proofs.Common.{◌≡◌, ◌↔◌, ℕ, Bool, true, false, ◌&&◌, List, [], ◌∷◌, ◌++◌, Option, None, Some, Result, Ok, Err, refl, sym, ap, ◌∙◌, subst}
 use Rattle.std.specs.List.{All}
 use Rattle.std.proofs.lemmas.List.Elements.{All-cons, All-head, All-tail}
-use Rattle.nextest_config_elements_versions.specs.declared.feature.FeatureSet.{FeatureSet}
 use Rattle.nextest_config_resolution_profiles.specs.Config.{IsConfig}
 use Rattle.nextest_config_resolution_profiles.specs.Whole.{Whole}
 use Rattle.nextest_config_resolution_profiles.proofs.Enabling.{same_names}
@@ -161,7 +160,7 @@ module _ (filterset : Option (List ℕ)) (inputs : Inputs) where
 
   reads_same : (config : Whole Filterset PlatformSpec) → Reads own_context inputs config → Reads own_context other config
   reads_same config reads =
-      subst (λ (features : FeatureSet). IsConfig (IsFilter own_context) IsPlatformSpec IsTooDeep features inputs.root inputs.sources (Ok config)) (sym (ap features_by same_pass)) reads
+      subst (λ (passed : Result VersionPass VersionPassFault). IsConfig (IsFilter own_context) IsPlatformSpec IsTooDeep (features_by passed) inputs.root inputs.sources (Ok config)) (sym same_pass) reads
 
   chosen_same : (profile : Chosen) → settings.IsChosen own_context inputs profile → settings.IsChosen own_context other profile
   chosen_same profile it = record { config = it.config; reads = reads_same it.config it.reads; chained = it.chained; ruled = it.ruled; scripted = it.scripted; defined = it.defined }
@@ -170,6 +169,7 @@ module _ (filterset : Option (List ℕ)) (inputs : Inputs) where
   asked_same profile default it = record { chosen = chosen_same profile it.chosen; text = it.text; set = it.set; read = it.read }
 
   run_same : (run : RunSettings) → Sets own_context inputs (Ok run) → Sets own_context other (Ok run)
+  unfolding chosen_same
   run_same run it = record { profile = it.profile; chosen = chosen_same it.profile it.chosen; known = it.known; settings = it.settings; groups = it.groups }
 
   test_same : (test : query.Test) (it : PlanSettings) → SetsTest own_context inputs test it → SetsTest own_context other test it
@@ -270,10 +270,10 @@ module _ (answer : Binary → Answer) (inputs : Inputs) (text : List ℕ) (given
 
   planned_twice : (it : Planned) → IsPlanned answer inputs it → IsPlanned answer twice it
   planned_twice it planned =
-      let passed = passed_of answer inputs planned.kept.1 in
+      let passed = passed_of answer inputs planned.kept.1.0 in
       plans_found answer twice it
       (passed_same (Some (and_default text)) inputs (record { workspace = not_refused answer inputs planned.kept.0; passed = passed.0; passes = passed.1 }))
-      (found_twice it planned.found) (few_tries answer inputs it planned.kept.5 planned.found)
+      (found_twice it planned.found) (few_tries answer inputs it planned.kept.1.1.1.1.1.0 planned.found)
 
 pub default_twice : DefaultTwice
 default_twice answer inputs text plan given kept (it, planned, is) = (it, planned_twice answer inputs text given kept it planned, plan_twice answer inputs text given kept it plan is)

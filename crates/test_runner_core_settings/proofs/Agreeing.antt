@@ -1,5 +1,5 @@
 -- Inputs whose files agree but in profiles outside of the chosen one's chain agree on the chain.
-use Rattle.std.proofs.Common.{ℕ, List, map, ap}
+use Rattle.std.proofs.Common.{List, map, ap}
 use Rattle.nextest_config_resolution_overrides.specs.declared.groups.NamedGroup.{NamedGroup}
 use Rattle.nextest_config_resolution_profiles.proofs.ProfileIsolation.{profile_isolation}
 use Rattle.nextest_config_resolution_scripts.specs.declared.script_config.ScriptConfig.{ScriptConfig}

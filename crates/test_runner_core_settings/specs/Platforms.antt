@@ -1,5 +1,5 @@
 -- The platforms of inputs, and for which of them rules hold.
-use Rattle.std.specs.Prelude.{◌≡◌, ℕ, Bool, false, ◌||◌, List, Option, None, Some, map, option_map, unwrap_or, ⊤}
+use Rattle.std.specs.Prelude.{ℕ, Bool, false, ◌||◌, List, Option, None, Some, map, option_map, unwrap_or, ⊤}
 use Rattle.std.specs.Option.{option_map_or}
 use Rattle.nextest_config_resolution_load.specs.Rules.{Conditions}
 use Rattle.nextest_filtering_trees.specs.declared.leaf.BuildPlatform.{BuildPlatform}

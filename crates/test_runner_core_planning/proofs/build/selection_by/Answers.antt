@@ -1,4 +1,4 @@
-use Rattle.std.proofs.Common.{◌≡◌, sym, ap, subst, false}
+use Rattle.std.proofs.Common.{◌≡◌, sym, subst, false}
 use Rattle.std.specs.List.{list_any}
 use Rattle.nextest_config_resolution_settings.specs.declared.default_filter.CompiledDefaultFilter.{CompiledDefaultFilter}
 use Rattle.nextest_filtering_compiling.specs.declared.filterset.Filterset.{Filterset}

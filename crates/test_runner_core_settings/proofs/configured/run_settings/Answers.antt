@@ -1,4 +1,4 @@
-use Rattle.std.proofs.Common.{ℕ, List, Option, refl, ap, sym, ◌∙◌, subst}
+use Rattle.std.proofs.Common.{ℕ, List, Option, refl, ap, ◌∙◌, subst}
 use Rattle.std.specs.Option.{option_map, unwrap_or}
 use Rattle.std.proofs.lemmas.Result.{err_from_is_err_and}
 use Rattle.nextest_config_resolution_profiles.specs.Config.{IsEarly}
