@@ -64,8 +64,10 @@ wants_error inputs settings_errors.OutOfMemory of is = tt
 pub refuses_filterset : (inputs : Inputs) (choice : Choice) (error : PlanError) → IsPassed inputs → SetsAll inputs choice
     → GivesFilterset inputs.workspace choice.run.known_groups inputs.filterset (Err error) → IsWanted inputs (Err error)
 refuses_filterset inputs choice (errors.Refused refusal) of sets is = λ answer.
-    inr (keeps_workspace answer inputs of.workspace,
-    inr (keeps_versions answer inputs of.passed of.passes, inr (keeps_configuration answer inputs choice.run sets.run, inl (choice, sets, is))))
+    inr (
+      keeps_workspace answer inputs of.workspace,
+      inr (keeps_versions answer inputs of.passed of.passes, inr (keeps_configuration answer inputs choice.run sets.run, inl (choice, sets, is))),
+    )
 refuses_filterset inputs choice errors.OutOfMemory of sets is = tt
 
 -- a configuration that is refused is such a refusal
