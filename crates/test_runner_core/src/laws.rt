@@ -4,8 +4,8 @@ ghost use Rattle.test_runner_core.specs.Laws.{BuiltIsPlan, EndsNoMilder, EndsWit
 ghost use Rattle.test_runner_core_planning.specs.Laws.{IsolatesPlans};
 
 pub use test_runner_core_planning::laws::{
-    default_twice, listed, not_planned_and_refused, one_plan, roads, selected, selected_once,
-    settled, some_settings,
+    decided, default_twice, listed, not_planned_and_refused, one_plan, roads, selected,
+    selected_once, settled,
 };
 pub use test_runner_core_runs::laws::{after_a_reason, no_dead_end, reasons_first};
 

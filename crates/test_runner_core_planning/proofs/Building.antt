@@ -49,7 +49,7 @@ settles_versions inputs (pass_errors.Refused fault) e is = λ answer. inr (keeps
 settles_versions inputs pass_errors.OutOfMemory e is = tt
 
 -- by their configuration, the chosen profile or the platforms
-refuses_configuration : (inputs : Inputs) (fault : SettingsFault) → IsPassed inputs → Sets (context_of inputs.workspace) inputs (Err fault) → IsRefusedEarly inputs (of_settings fault)
+pub refuses_configuration : (inputs : Inputs) (fault : SettingsFault) → IsPassed inputs → Sets (context_of inputs.workspace) inputs (Err fault) → IsRefusedEarly inputs (of_settings fault)
 refuses_configuration inputs fault of is = λ answer. inr (keeps_workspace answer inputs of.workspace, inr (keeps_versions answer inputs of.passed of.passes, inl (fault, is, refl)))
 
 pub settles_configuration : (inputs : Inputs) (error : SettingsError) → IsPassed inputs → Configures (context_of inputs.workspace) inputs (Err error) → AreSettled inputs (Err (error_of_settings error))

@@ -1,5 +1,5 @@
 -- Profiles outside of the chosen one's chain change nothing of a plan, its warnings aside; and inputs ask for something.
-use Rattle.std.proofs.Common.{◌≡◌, inl, inr, ℕ, Bool, List, ◌++◌, map, Option, None, Some, Result, Ok, Err, refl, sym, ap, ◌∙◌, subst}
+use Rattle.std.proofs.Common.{◌≡◌, ℕ, Bool, List, ◌++◌, map, Option, Ok, refl, sym, ap, ◌∙◌, subst}
 use Rattle.nextest_config_resolution_profiles.specs.Enabled.{AreNamesOf}
 use Rattle.nextest_config_resolution_profiles.proofs.Enabling.{one_names, same_names}
 use Rattle.nextest_filtering_filters.specs.Query.{Test}
@@ -8,26 +8,17 @@ use Rattle.test_runner_core_listing.specs.Answers.{Answers}
 use Rattle.test_runner_core_listing.specs.Listing.{listed_of, listing}
 use Rattle.test_runner_core_plan.specs.declared.plan.Plan.{Plan}
 use Rattle.test_runner_core_planning.specs.Filtering.{AreAnswersOf, AreOfFilterset, Choice, IsChosen, IsTakenAsDefault, context_of, unless_ignored}
-use Rattle.test_runner_core_planning.specs.Laws.{AsksForSome, DifferOutside, IsolatesPlans}
+use Rattle.test_runner_core_planning.specs.Laws.{DifferOutside, IsolatesPlans}
 use Rattle.test_runner_core_planning.specs.Checks.{IsFound, Planned, SetsAll, listed_in}
 use Rattle.test_runner_core_planning.specs.Plan.{IsPlanOf, Plans}
-use Rattle.test_runner_core_planning.specs.Refusals.{of_pass, of_settings, of_workspace}
-use Rattle.test_runner_core_planning.proofs.Once.{chosen_once, keeps_versions, keeps_workspace}
+use Rattle.test_runner_core_planning.proofs.Once.{chosen_once}
 use Rattle.test_runner_core_planning.proofs.OnePlan.{plans_same, tests_of_one, with_warnings}
-use Rattle.test_runner_core_settings.specs.Pass.{pass_of}
 use Rattle.test_runner_core_settings.specs.Sets.{IsEnabled, Sets, SetsTest}
-use Rattle.test_runner_core_settings.specs.declared.configured.RunSettings.{RunSettings}
-use Rattle.test_runner_core_settings.specs.declared.pass.VersionPass.{VersionPass}
-use Rattle.test_runner_core_settings.specs.declared.pass_error.VersionPassFault.{VersionPassFault}
-use Rattle.test_runner_core_settings.specs.declared.settings_fault.SettingsFault.{SettingsFault}
 use Rattle.test_runner_core_settings.proofs.Agreeing.{agrees_on_chain}
 use Rattle.test_runner_core_settings.proofs.Isolated.{isolated, isolates_scripts, isolates_tests}
-use Rattle.test_runner_core_settings.proofs.Some.{some_settings, some_test}
 use Rattle.test_runner_core_workspace.specs.Lister.{Answer}
-use Rattle.test_runner_core_workspace.specs.Workspace.{refusal_of}
 use Rattle.test_runner_core_workspace.specs.declared.record.Binary.{Binary}
 use Rattle.test_runner_core_workspace.specs.declared.record.WorkspaceRecord.{WorkspaceRecord}
-use Rattle.test_runner_core_workspace.specs.declared.workspace_fault.WorkspaceFault.{WorkspaceFault}
 
 -- filters in force of the one are those of the other
 chosen_alike : (inputs other : Inputs) (choice : Choice) (answers : Answers) → DifferOutside inputs other → IsChosen other choice (Ok answers) → IsChosen inputs choice (Ok answers)
@@ -95,25 +86,3 @@ isolates_plans answer inputs other one second differ (a, plans, is) (b, plans_ot
     let scripts = scripts_alike inputs other a.choice b.choice b.found.tests one.scripts second.scripts differ plans.found.answers.sets plans_other.found.answers.sets
     (subst (λ (it : Planned). AreNamesOf (IsEnabled (context_of inputs.workspace) inputs it.found.tests) one.scripts) same is.scripts) is_other.scripts in
     plans_alike answer inputs other b one second differ.workspace scripts (subst (λ (it : Planned). Plans answer inputs (Ok it)) same plans) (subst (λ (it : Planned). IsPlanOf inputs it one) same is) is_other
-
--- ---- what inputs ask for
-
--- where something is set for the run, it is for each test
-set_all : (inputs : Inputs) (run : RunSettings) → Sets (context_of inputs.workspace) inputs (Ok run) → (choice : Choice) × SetsAll inputs choice
-set_all inputs run is =
-    let each = λ (test : Test). some_test (context_of inputs.workspace) inputs run test is in
-    (record { run = run; of_test = λ test. (each test).0 }, record { run = is; tests = λ test. (each test).1 })
-
-pub asks_for_some : AsksForSome
-asks_for_some answer inputs never = by_refusal (refusal_of inputs.workspace) refl (pass_of inputs) refl
-  where
-    by_set : (passed : VersionPass) → refusal_of inputs.workspace ≡ None → pass_of inputs ≡ Ok passed → (set : Result RunSettings SettingsFault)
-        → Sets (context_of inputs.workspace) inputs set → ⊥
-    by_set passed workspace versions (Ok run) is = never (inl (set_all inputs run is))
-    by_set passed workspace versions (Err fault) is =
-        never (inr (of_settings fault, inr (keeps_workspace answer inputs workspace, inr (keeps_versions answer inputs passed versions, inl (fault, is, refl)))))
-
-    by_refusal : (refused : Option WorkspaceFault) → refusal_of inputs.workspace ≡ refused → (passed : Result VersionPass VersionPassFault) → pass_of inputs ≡ passed → ⊥
-    by_refusal (Some fault) e passed f = never (inr (of_workspace fault, inl (fault, e, refl)))
-    by_refusal None e (Err fault) f = never (inr (of_pass fault, inr (keeps_workspace answer inputs e, inl (fault, f, refl))))
-    by_refusal None e (Ok passed) f = some_settings (context_of inputs.workspace) inputs (λ set. by_set passed e f set.0 set.1)

@@ -13,3 +13,6 @@ pub mod Choosing
 pub mod Settled
 pub mod Appended
 pub mod DefaultTwice
+pub mod Finite
+pub mod TreesDecided
+pub mod Decided

@@ -1,5 +1,5 @@
 -- What holds of every plan.
-use Rattle.std.specs.Prelude.{◌≡◌, ◌≢◌, ◌↔◌, ◌⊎◌, ◌+◌, ℕ, false, List, [], ◌∷◌, ◌++◌, codes, map, Option, Some, Ok, Err}
+use Rattle.std.specs.Prelude.{◌≡◌, ◌≢◌, ◌↔◌, ◌⊎◌, ◌+◌, ℕ, false, List, ◌++◌, codes, map, Option, Some, Ok, Err}
 use Rattle.std.specs.List.{AllPairs, Contains}
 use Rattle.nextest_config_elements_counts.specs.Retries.{count_of}
 use Rattle.nextest_run_events_results.specs.declared.instance.OwnedTestInstanceId.{OwnedTestInstanceId}
@@ -11,8 +11,7 @@ use Rattle.test_runner_core_plan.specs.declared.plan.PlanTest.{PlanTest}
 use Rattle.test_runner_core_settings.specs.Laws.{AgreeInFiles}
 use Rattle.test_runner_core_workspace.specs.Lister.{Answer}
 use Rattle.test_runner_core_workspace.specs.declared.record.Binary.{Binary}
-use Rattle.test_runner_core_planning.specs.Checks as check
-use Rattle.test_runner_core_planning.specs.Checks.{BreaksFirst, SetsAll}
+use Rattle.test_runner_core_planning.specs.Checks.{SetsAll}
 use Rattle.test_runner_core_planning.specs.Filtering.{AllCanHold, AllHold, AreInForce, Choice, InForce, context_of}
 use Rattle.test_runner_core_planning.specs.Plan.{Builds}
 use Rattle.test_runner_core_planning.specs.declared.plan_error.PlanError.TheVariants.{Refused}
@@ -110,11 +109,10 @@ IsolatesPlans =
     (answer : Binary → Answer) (inputs other : Inputs) (one second : Plan) → DifferOutside inputs other
     → Builds answer inputs (Ok one) → Builds answer other (Ok second) → second ≡ record one { warnings = second.warnings }
 
--- It can't be that inputs neither set something for their run and their tests nor are refused before their filterset is looked at. No law
--- decides whether a text is a filterset, so it is said in this form.
-abbrev pub AsksForSome : Type 0
-AsksForSome = (answer : Binary → Answer) (inputs : Inputs)
-    → ¬ ¬ (((choice : Choice) × SetsAll inputs choice) ⊎ ((refusal : PlanFault) × BreaksFirst answer inputs (check.workspace ∷ check.versions ∷ check.configuration ∷ []) refusal))
+-- It can't be that inputs have neither a plan nor a refusal. No law decides whether a text is a filterset, so it is said in this form.
+abbrev pub Decided : Type 0
+Decided = (answer : Binary → Answer) (inputs : Inputs)
+    → ¬ ¬ (((plan : Plan) × Builds answer inputs (Ok plan)) ⊎ ((refusal : PlanFault) × Builds answer inputs (Err (Refused refusal))))
 
 -- inputs have at most one plan
 abbrev pub OnePlan : Type 0

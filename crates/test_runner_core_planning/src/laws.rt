@@ -1,5 +1,5 @@
 //! What holds of every plan that is built. Each function does nothing, and its contract is the law.
-ghost use Rattle.test_runner_core_planning.specs.Laws.{AsksForSome, DefaultTwice, HasExactlyTheWanted, HasNoneTwice, HaveTheirSettings, IsolatesPlans, ListsExactly, NotPlannedAndRefused, OnePlan, Roads};
+ghost use Rattle.test_runner_core_planning.specs.Laws.{Decided, DefaultTwice, HasExactlyTheWanted, HasNoneTwice, HaveTheirSettings, IsolatesPlans, ListsExactly, NotPlannedAndRefused, OnePlan, Roads};
 
 /// Inputs have at most one plan.
 pub fn one_plan()
@@ -50,7 +50,7 @@ pub fn isolated()
     ensures plan { IsolatesPlans }
 {}
 
-/// It can't be that inputs neither set something for their run and their tests nor are refused before their filterset is looked at.
-pub fn some_settings()
-    ensures { AsksForSome }
+/// It can't be that inputs have neither a plan nor a refusal, whatever the lister answers.
+pub fn decided()
+    ensures { Decided }
 {}
