@@ -15,3 +15,5 @@ pub mod Written
 mod Whole
 mod Aside
 mod Isolated
+pub mod SomeSlice
+pub mod SomeReport

@@ -25,6 +25,18 @@ EndsWithOneText =
     → Composed answer inputs log parts code → Composed answer inputs log other_parts other_code → IsText parts text → IsText other_parts other_text
     → (text ≡ other_text) × (code ≡ other_code)
 
+-- a report of inputs and a log, with its text and its exit status
+pub record Reported (answer : Binary → Answer) (inputs : Inputs) (log : List Item) : Type 0 where
+  pub parts : List Part
+  pub code : ℕ
+  pub text : List ℕ
+  pub composed : Composed answer inputs log parts code
+  pub told : IsText parts text
+
+-- It can't be that they have none. No law decides whether a text is a filterset, so it is said in this form.
+abbrev pub EndsWithSomeText : Type 0
+EndsWithSomeText = (answer : Binary → Answer) (inputs : Inputs) (log : List Item) → ¬ ¬ Reported answer inputs log
+
 -- what was told of a report that was begun is a front of the whole report
 abbrev pub ToldFirst : Type 0
 ToldFirst =

@@ -1,6 +1,6 @@
 //! What holds of every run that a log tells. Each function does nothing, and its contract is the law. The laws over runs
 //! hold of the run of each plan that is built (`built_plan`).
-ghost use Rattle.test_runner_core.specs.Laws.{BuiltIsPlan, EndsNoMilder, EndsWithDueStatus, EndsWithOneText, HasOneReport, IsolatesReports, StopsWhereDue, SucceedsWhole, ToldFirst, WrittenFirst};
+ghost use Rattle.test_runner_core.specs.Laws.{BuiltIsPlan, EndsNoMilder, EndsWithDueStatus, EndsWithOneText, EndsWithSomeText, HasOneReport, IsolatesReports, StopsWhereDue, SucceedsWhole, ToldFirst, WrittenFirst};
 ghost use Rattle.test_runner_core_planning.specs.Laws.{IsolatesPlans};
 
 pub use test_runner_core_planning::laws::{
@@ -12,6 +12,11 @@ pub use test_runner_core_runs::laws::{after_a_reason, no_dead_end, reasons_first
 /// Whatever the lister answers, inputs and a log have one report at most: one text and one exit status.
 pub fn one_text()
     ensures { EndsWithOneText }
+{}
+
+/// It can't be that inputs and a log have no report, whatever the lister answers.
+pub fn some_report()
+    ensures { EndsWithSomeText }
 {}
 
 /// What is told of a report that was begun, wherever it breaks off, is a front of the whole report of the same inputs and
