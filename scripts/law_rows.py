@@ -1,5 +1,5 @@
 #!/usr/bin/env python3
-"""Writes three tables of rows/, each of 200 drawn rows of a law about inputs, with answers by the rules in scripts/plan_rules.py and scripts/run_rows.py.
+"""Writes three tables of rows/, each of 200 drawn rows of a law about inputs, behind a few that were written by hand, with answers by the rules in scripts/plan_rules.py and scripts/run_rows.py.
 
     python3 scripts/law_rows.py
 
@@ -86,11 +86,18 @@ def default_twice(draw, text):
         return None
     if "filterset" not in inputs:
         filterset = drawn_filterset(draw)
-        changes, inputs = [*changes, '"current_version":', f'"filterset":{shown(filterset)},"current_version":'], {**inputs, "filterset": filterset}
+        changes, inputs = with_filterset(changes, filterset), {**inputs, "filterset": filterset}
     plan = planned(inputs)
     if not is_kept(draw, plan):
         return None
-    log = scripts.drawn_log(draw, plan)
+    return default_twice_row(changes, inputs, plan, scripts.drawn_log(draw, plan))
+
+
+def with_filterset(changes, filterset):
+    return [*changes, '"current_version":', f'"filterset":{shown(filterset)},"current_version":']
+
+
+def default_twice_row(changes, inputs, plan, log):
     report, other = reported(inputs, log), reported(with_default(inputs), log)
     assert report == other, changes
     return f"{' => '.join(changes)} | {'; '.join(log)}", answer(plan, report)
@@ -132,7 +139,10 @@ def isolation(draw, text):
     plan = planned(first)
     if one == other or not is_kept(draw, plan) or planned(second) is None:
         return None
-    log = scripts.drawn_log(draw, plan)
+    return isolation_row(changes, one, other, first, second, plan, scripts.drawn_log(draw, plan))
+
+
+def isolation_row(changes, one, other, first, second, plan, log):
     report, also = reported(first, log), reported(second, log)
     assert without_warnings(report) == without_warnings(also), changes
     return f"{' => '.join(changes)} | {shown(one)} | {shown(other)} | {'; '.join(log)}", answer(plan, report)
@@ -175,12 +185,47 @@ def roads(draw, text):
     return " => ".join(changes), ", ".join(f"{binary} {name}" for binary, name in tests) or "none"
 
 
+# ---- worked rows, which stand first
+
+LOG = ["start p a", "end p a fail:1 - 5 - -", "start p a", "end p a pass - 7 - -", "start p b", "end p b pass - 9 - -"]
+OTHER = "[profile.other]\ndefault-filter = 'none()'\n[[profile.other.overrides]]\nfilter = 'all()'\ntest-group = 'g'\nretries = 9\n[[profile.other.scripts]]\nfilter = 'all()'\nsetup = 's'\n"
+DEFINED = 'experimental = ["setup-scripts"]\n[scripts.setup.s]\ncommand = "x"\n[test-groups.g]\nmax-threads = 1\n'
+
+
+def in_files(*texts):
+    """The change that gives inputs these files of their own, by path."""
+    return ['"sources":[]', f'"sources":{shown([{"kind": kind, "path": path, "text": text, **({"tool": "t"} if kind == "tool" else {})} for kind, path, text in texts])}']
+
+
+def worked_default_twice(text):
+    changes = with_filterset(in_files(("explicit", "nextest.toml", "[profile.default]\ndefault-filter = 'test(a)'\n")), "all()")
+    inputs = json.loads(changed(text, changes))
+    yield default_twice_row(changes, inputs, planned(inputs), ["start p a", "end p a pass - 1 - -"])
+
+
+def worked_isolation(text):
+    retried = "[profile.default]\nretries = 1\nfail-fast = false\n"
+    files = [("tool", "t.toml", ""), ("explicit", "nextest.toml", DEFINED + retried)]
+    for changes, one, other in (
+        (in_files(("explicit", "nextest.toml", retried)), {"nextest.toml": ""}, {"nextest.toml": "[profile.other]\nretries = 9\n"}),
+        (in_files(*files), {"t.toml": "", "nextest.toml": ""}, {"t.toml": "", "nextest.toml": OTHER}),
+        (in_files(*files), {"t.toml": "[profile.other]\nretries = 9\n", "nextest.toml": OTHER}, {"t.toml": OTHER, "nextest.toml": "[profile.other]\nretries = 9\n"}),
+    ):
+        base = json.loads(changed(text, changes))
+        first, second = with_others(base, one), with_others(base, other)
+        yield isolation_row(changes, one, other, first, second, planned(first), LOG)
+
+
+WORKED = {"default_twice": worked_default_twice, "isolation": worked_isolation, "roads": lambda text: ()}
+
+
 def main():
     text = (runs.DATA / "plan.json").read_text(encoding="utf-8").rstrip("\n")
     for number, make in enumerate((default_twice, isolation, roads)):
-        draw, found = random.Random(SEED + number), {}
+        draw, found, worked = random.Random(SEED + number), {}, dict(WORKED[make.__name__](text))
         while len(found) < DRAWN:
             found.update(filter(None, [make(draw, text)]))
+        found = {**worked, **found}
         lines = [f"{given} => {answer}".translate(SIGNS) for given, answer in found.items()]
         (ROWS / f"{make.__name__}.txt").write_text("\n".join([f"# Made by scripts/law_rows.py. {HEADS[make.__name__]}", "", *lines]) + "\n", encoding="utf-8")
         print(f"{make.__name__}: {len(lines)} rows")
