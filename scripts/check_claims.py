@@ -1,5 +1,5 @@
 #!/usr/bin/env python3
-"""Looks up each call and clause that README.md and docs/CLAIMS.md name, and prints those that don't exist.
+"""Looks up each call and clause that README.md and docs/CLAIMS.md name, and prints those that don't exist; and compares what they print of sources.
 
     python3 scripts/check_claims.py
 
@@ -97,8 +97,24 @@ def rows():
         yield "README.md", crate, calls
 
 
+# What documents print of the sources, without regard to how it is laid out: the document, the first words of the block, and the source.
+PRINTED = (
+    ("docs/CLAIMS.md", "record Headline", "crates/test_runner_core/specs/Headline.antt"),
+    ("README.md", "pub fn replay", "crates/faces_tests/src/runs.rt"),
+)
+
+
+def differing():
+    """The blocks of documents that don't stand so in the source that they are of."""
+    for document, begins, source in PRINTED:
+        text = (ROOT / document).read_text()
+        block = re.search(rf"^    {begins}.*?(?=^\S|\Z)", text, re.M | re.S)
+        if not block or "".join(block.group(0).split()) not in "".join((ROOT / source).read_text().split()):
+            yield f"{document}: `{begins}` isn't as in {source}"
+
+
 def main():
-    crates, wrong, count = {}, [], 0
+    crates, wrong, count = {}, list(differing()), 0
     for file, name, calls in rows():
         crate = crates.setdefault(name, None) or Crate(name)
         crates[name] = crate
