@@ -7,7 +7,9 @@ mod filters;
 mod listers;
 mod logs;
 mod outcomes;
+mod plans;
 mod runs;
+mod sessions;
 mod shows;
 
 pub use errors::error_of;
@@ -15,5 +17,7 @@ pub use filters::read_filterset;
 pub use listers::Suite;
 pub use logs::interrupted;
 pub use outcomes::worse;
+pub use plans::planned;
 pub use runs::replay;
+pub use sessions::ended;
 pub use shows::keeps_failure;

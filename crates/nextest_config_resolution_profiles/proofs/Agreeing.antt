@@ -39,7 +39,7 @@ use Rattle.nextest_config_resolution_profiles.proofs.Tables.{IsRead, MayBeTable,
 -- ---- lists side by side
 
 module _ {A B : Type 0} (R : A → B → Type 0) where
-  zip_append : (xs : List A) (ys : List B) (more : List A) (others : List B) → AllZip R xs ys → AllZip R more others → AllZip R (xs ++ more) (ys ++ others)
+  pub zip_append : (xs : List A) (ys : List B) (more : List A) (others : List B) → AllZip R xs ys → AllZip R more others → AllZip R (xs ++ more) (ys ++ others)
   zip_append [] [] more others all rest = rest
   zip_append [] (y ∷ ys) more others all rest = absurd all
   zip_append (x ∷ xs) [] more others all rest = absurd all
@@ -53,7 +53,7 @@ module _ {A B : Type 0} (R : A → B → Type 0) where
       subst (λ (zs : List A). AllZip R zs (reverse (y ∷ ys))) (sym (reverse-cons x xs))
       (subst (λ (zs : List B). AllZip R (reverse xs ++ x ∷ []) zs) (sym (reverse-cons y ys)) (zip_append (reverse xs) (reverse ys) (x ∷ []) (y ∷ []) (zip_reverse xs ys all.1) (all.0, tt)))
 
-  zip_filter : (p : A → Bool) (q : B → Bool) → ((x : A) (y : B) → R x y → q y ≡ p x) → (xs : List A) (ys : List B) → AllZip R xs ys → AllZip R (filter p xs) (filter q ys)
+  pub zip_filter : (p : A → Bool) (q : B → Bool) → ((x : A) (y : B) → R x y → q y ≡ p x) → (xs : List A) (ys : List B) → AllZip R xs ys → AllZip R (filter p xs) (filter q ys)
   zip_filter p q same [] [] all = tt
   zip_filter p q same [] (y ∷ ys) all = absurd all
   zip_filter p q same (x ∷ xs) [] all = absurd all

@@ -13,6 +13,7 @@ use Rattle.nextest_config_resolution_profiles.specs.Evaluatable.{Evaluatable}
 use Rattle.nextest_config_resolution_profiles.specs.Finding.{AddsHeld, FindsHeld}
 use Rattle.nextest_config_resolution_profiles.specs.Held.{AreSettingsFor, Holds, IsGroupBy, group_set, layers_of, placed_of}
 use Rattle.nextest_config_resolution_profiles.specs.Platforms.{ForTarget, OverrideOn, RuleOn, default_set}
+use Rattle.nextest_config_resolution_profiles.proofs.PutOn.{division_has}
 use Rattle.nextest_config_resolution_profiles.specs.RuleLaws.{EarlyDefault, GroupOfSettings, NoRules, OneHeld, OneScriptsHeld, SameSettingsFor, SameSourcesFor}
 use Rattle.nextest_config_resolution_profiles.specs.declared.chain_rule.ChainRule.{ChainRule}
 use Rattle.nextest_config_resolution_scripts.specs.declared.script_rule.PlacedScriptRule.{PlacedScriptRule}
@@ -102,15 +103,10 @@ settings_found OnTest Tells profile mode test it found scripts finds also settin
 -- ---- laws
 
 -- where none holds and sets a value, none is the least that does
-none_in : {R V : Type 0} (Holding : R → Type 0) (set_by : R → Option V) (front : List R) (rule : R) (back : List R)
-    → AllByRecursion (λ it. ¬ HoldsAndSets Holding set_by it) (front ++ rule ∷ back) → HoldsAndSets Holding set_by rule → ⊥
-none_in Holding set_by [] rule back none sets = none.0 sets
-none_in Holding set_by (other ∷ front) rule back none sets = none_in Holding set_by front rule back none.1 sets
-
-no_least : {R V : Type 0} (Holding : R → Type 0) (set_by : R → Option V) (rules : List R) (rule : R) (value : V)
+pub no_least : {R V : Type 0} (Holding : R → Type 0) (set_by : R → Option V) (rules : List R) (rule : R) (value : V)
     → NoneHoldsAndSets Holding set_by rules → IsLeast Holding set_by rules rule value → ⊥
 no_least Holding set_by rules rule value none least =
-    none_in Holding set_by least.front rule least.back
+    division_has (λ it. ¬ HoldsAndSets Holding set_by it) least.front rule least.back
     (subst (AllByRecursion (λ it. ¬ HoldsAndSets Holding set_by it)) least.divided (recursion_from_All (λ it. ¬ HoldsAndSets Holding set_by it) rules none))
     (least.holds, (value, least.sets))
 

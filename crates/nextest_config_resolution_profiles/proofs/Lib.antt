@@ -29,3 +29,5 @@ pub mod Values
 pub mod Agreeing
 pub mod AgreeingRules
 pub mod ProfileIsolation
+pub mod Beside
+pub mod AnswerAlike

@@ -1,4 +1,5 @@
 pub mod Agreeing
+pub mod AnswerAlike
 pub mod Asking
 pub mod BuiltIn
 pub mod BuiltInLaws

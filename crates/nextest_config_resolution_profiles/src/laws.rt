@@ -1,5 +1,6 @@
 //! What holds of whole configurations. Each law is the contract of a function that does nothing.
 ghost use Rattle.nextest_config_resolution_profiles.specs.Agreeing.{ProfileIsolation};
+ghost use Rattle.nextest_config_resolution_profiles.specs.AnswerAlike.{IsolatesProfiles};
 ghost use Rattle.nextest_config_resolution_profiles.specs.BuiltInLaws.{Accepted, NoFallback, ReadAs, WrittenAs};
 ghost use Rattle.nextest_config_resolution_profiles.specs.Kept.{KeptProfile};
 ghost use Rattle.nextest_config_resolution_profiles.specs.Languages.{IsFilterIn};
@@ -45,9 +46,13 @@ pub fn nothing_is_undefined<F: Filters, S: Specs>()
 
 /// Profiles of other names change nothing: two lists of sources whose files agree but in profiles of names other than these come to
 /// configurations with the same values, overrides and script rules in the profiles of these names, and with the same groups, scripts
-/// and store.
-pub fn profile_isolation<F: Filters, S: Specs>()
-    ensures { (cx : F.Cx) → ProfileIsolation (IsFilterIn F.is_parsed F.has_runtime_leaves cx) S.is_parsed F.is_too_deep }
+/// and store. So a profile answers the same in both, where these are the names of its chain: it has the same name, directory, chain,
+/// groups and scripts, default filters that no question tells apart, and for each test the same settings, for tests the same groups and
+/// setup scripts, and for each binary the same wrapper script.
+pub fn profile_isolation<'p, F: Filters, S: Specs, T: TrackSource<'p>>()
+    ensures values { (cx : F.Cx) → ProfileIsolation (IsFilterIn F.is_parsed F.has_runtime_leaves cx) S.is_parsed F.is_too_deep }
+    ensures answers { (cx : F.Cx) → IsolatesProfiles F.on_binary F.on_test F.asks_groups F.has_runtime_leaves F.serves_as_default
+        T.tells S.value_on (IsFilterIn F.is_parsed F.has_runtime_leaves cx) S.is_parsed F.is_too_deep }
 {}
 
 /// More tests enable no fewer setup scripts.

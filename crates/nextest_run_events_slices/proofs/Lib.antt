@@ -8,3 +8,4 @@ pub mod ErrorLines
 pub mod NoteLines
 pub mod Parts
 pub mod OneSlice
+pub mod SomeSlice

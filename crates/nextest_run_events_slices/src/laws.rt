@@ -1,5 +1,5 @@
 //! That an output has one answer. Each law is the contract of a function without parameters.
-ghost use Rattle.nextest_run_events_slices.specs.Laws.{HasOneStop, HasOneTaken, HasOneSlice};
+ghost use Rattle.nextest_run_events_slices.specs.Laws.{HasOneStop, HasOneTaken, HasOneSlice, HasSomeSlice};
 
 /// Panic messages that start at one place end at one place.
 pub fn one_stop()
@@ -11,7 +11,8 @@ pub fn one_taken()
     ensures { HasOneTaken }
 {}
 
-/// The outputs of a test have one answer: of one kind, from one place on, with the same bytes.
+/// The outputs of a test have one answer: of one kind, from one place on, with the same bytes; and it can't be that they have none.
 pub fn one_slice()
-    ensures { HasOneSlice }
+    ensures one { HasOneSlice }
+    ensures some { HasSomeSlice }
 {}

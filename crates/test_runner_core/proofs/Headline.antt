@@ -32,13 +32,11 @@ filters_of answer inputs plan (it, planned, is) =
 
 selects_exactly : (answer : Binary → Answer) (inputs : Inputs) (plan : Plan) → Builds answer inputs (Ok plan) → SelectsExactly answer inputs plan
 selects_exactly answer inputs plan built =
-    let by = filters_of answer inputs plan built in
-    record { by = by; exactly = exactly_the_wanted answer inputs plan by.choice by.force built by.sets by.in_force }
+    record { some = filters_of answer inputs plan built; exactly = λ by. exactly_the_wanted answer inputs plan by.choice by.force built by.sets by.in_force }
 
 lists_exactly_by : (answer : Binary → Answer) (inputs : Inputs) (plan : Plan) → Builds answer inputs (Ok plan) → ListsExactly inputs plan
 lists_exactly_by answer inputs plan built =
-    let by = filters_of answer inputs plan built in
-    record { by = by; exactly = lists_exactly answer inputs plan by.choice by.force built by.sets by.in_force }
+    record { some = filters_of answer inputs plan built; exactly = λ by. lists_exactly answer inputs plan by.choice by.force built by.sets by.in_force }
 
 refuses_so : (answer : Binary → Answer) (inputs : Inputs) (log : List Item) (parts : List Part) (code : ℕ) (before after : Option (List ℕ)) (refusal : PlanFault)
     → Composed answer inputs log parts code → IsWritten parts before after → Plans answer inputs (Err refusal) → IsWritten (refused_plan refusal) before after × (code ≡ status_of refusal)

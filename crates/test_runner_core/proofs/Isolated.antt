@@ -11,7 +11,8 @@ use Rattle.test_runner_core_workspace.specs.declared.record.Binary.{Binary}
 use Rattle.test_runner_core.specs.Laws.{IsolatesReports}
 use Rattle.test_runner_core.specs.Report.{Composed, Judged}
 use Rattle.test_runner_core.proofs.Aside.{judged_aside}
-use Rattle.test_runner_core.proofs.OneReport.{judged_once, never_planned, one_text, parted}
+use Rattle.test_runner_core.proofs.OneReport.{judged_once, never_planned, parted}
+use Rattle.test_runner_core_telling.proofs.Texts.{one_text}
 use Rattle.test_runner_core_planning.proofs.Isolated.{isolates_plans}
 use Rattle.test_runner_core_planning.proofs.OnePlan.{one_plan, with_warnings}
 

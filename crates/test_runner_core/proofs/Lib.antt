@@ -15,5 +15,4 @@ pub mod Written
 mod Whole
 mod Aside
 mod Isolated
-pub mod SomeSlice
 pub mod SomeReport

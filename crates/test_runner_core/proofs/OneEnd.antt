@@ -24,7 +24,8 @@ use Rattle.test_runner_core.specs.Outcome.{EndsAsDue, IsRun, IsWholeRun, due_par
 use Rattle.test_runner_core.specs.Report.{Composed, IsWritten, Judged, exit_status}
 use Rattle.test_runner_core.specs.declared.refused_line.RefusedLine.{RefusedLine}
 use Rattle.test_runner_core.proofs.Due.{ends_as_its_run, plan_of_run, told_of}
-use Rattle.test_runner_core.proofs.OneReport.{one_text, parted}
+use Rattle.test_runner_core.proofs.OneReport.{parted}
+use Rattle.test_runner_core_telling.proofs.Texts.{one_text}
 use Rattle.test_runner_core_planning.proofs.OnePlan.{one_plan}
 
 -- ---- the final text that is due

@@ -5,10 +5,10 @@ use Rattle.test_runner_core_log_reader.specs.Items.{Item, Line}
 use Rattle.test_runner_core_planning.specs.Plan.{Builds, Plans}
 use Rattle.test_runner_core_plan.specs.declared.plan.Plan.{Plan}
 use Rattle.test_runner_core_planning.specs.declared.plan_fault.PlanFault.{PlanFault}
-use Rattle.test_runner_core_report.proofs.OneText.{one_done, one_shown}
+use Rattle.test_runner_core_telling.proofs.Texts.{one_text}
 use Rattle.test_runner_core_runs.specs.State.{State, initial}
 use Rattle.test_runner_core_session.specs.Session.{run_plan}
-use Rattle.test_runner_core_telling.specs.Parts.{Done, IsPart, IsText, Part, Said, Shown}
+use Rattle.test_runner_core_telling.specs.Parts.{IsText, Part, Said}
 use Rattle.test_runner_core_telling.specs.RunEnd.{LF, TAB}
 use Rattle.test_runner_core_workspace.specs.Lister.{Answer}
 use Rattle.test_runner_core_workspace.specs.declared.record.Binary.{Binary}
@@ -21,18 +21,6 @@ use Rattle.test_runner_core.proofs.OneRun.{early_parts, finds_once, fronts_same,
 use Rattle.test_runner_core_planning.proofs.OnePlan.{one_plan}
 
 -- ---- texts
-
--- a part has one text
-one_part : (part : Part) (one other : List ℕ) → IsPart part one → IsPart part other → one ≡ other
-one_part (Done shows test) one other first second = one_done shows test one other first second
-one_part (Shown shows test) one other first second = one_shown shows test one other first second
-one_part (Said words) one other first second = first ∙ sym second
-
-pub one_text : (parts : List Part) (one other : List ℕ) → IsText parts one → IsText parts other → one ≡ other
-one_text [] one other first second = first ∙ sym second
-one_text (part ∷ parts) one other (head, (tail, (is, behind, whole))) (same, (rest, (is_same, behind_same, whole_same))) =
-    whole ∙ ap (λ (t : List ℕ). t ++ tail) (one_part part head same is is_same)
-    ∙ ap (λ (t : List ℕ). same ++ t) (one_text parts tail rest behind behind_same) ∙ sym whole_same
 
 -- the text of some parts and others behind them, parted
 pub record Parted (parts others : List Part) (text : List ℕ) : Type 0 where

@@ -1,15 +1,7 @@
 -- It can't be that inputs and a log have no report with a text.
-use Rattle.std.proofs.Common.{◌≡◌, ◌⊎◌, inl, inr, ℕ, ◌+◌, Bool, true, false, ◌||◌, List, [], ◌∷◌, ◌++◌, codes, map, length, Option, None, Some, Result, Ok, Err, refl, ap, subst, arith}
-use Rattle.std.specs.Prelude.{if◌then◌else◌}
+use Rattle.std.proofs.Common.{◌≡◌, ◌⊎◌, inl, inr, ℕ, ◌+◌, List, [], ◌∷◌, ◌++◌, map, length, Option, None, Some, Result, Ok, Err, refl, ap, subst, arith}
 use Rattle.std.specs.Str.{IsUtf8}
-use Rattle.nextest_run_events_results.specs.Result.{is_success}
-use Rattle.nextest_run_events_results.specs.declared.record.Record.{Record}
-use Rattle.nextest_run_events_results.specs.declared.record.RecordOutput.{RecordOutput}
-use Rattle.nextest_run_events_slices.specs.Slices.{captured}
-use Rattle.nextest_run_events_slices.specs.declared.slices.TestOutputErrorSlice.{TestOutputErrorSlice}
-use Rattle.nextest_run_events_visibility.specs.declared.visibility.OutputOnTestFinished.{OutputOnTestFinished}
-use Rattle.nextest_run_events_visibility.specs.declared.visibility.OutputStoreFinal.{OutputStoreFinal}
-use Rattle.nextest_run_events_visibility.specs.declared.visibility.OutputStoreFinal.TheVariants as kept
+use Rattle.nextest_run_events_slices.proofs.SomeSlice.{either_way}
 use Rattle.test_runner_core_inputs.specs.declared.inputs.Inputs.{Inputs}
 use Rattle.test_runner_core_line_syntax.specs.Spelling.{Spells}
 use Rattle.test_runner_core_line_syntax.specs.declared.log_line.LogLine.{LogLine}
@@ -20,18 +12,16 @@ use Rattle.test_runner_core_planning.specs.Plan.{Builds}
 use Rattle.test_runner_core_planning.specs.Texts.{status_of}
 use Rattle.test_runner_core_planning.specs.declared.plan_error.PlanError.TheVariants as errors
 use Rattle.test_runner_core_planning.specs.declared.plan_fault.PlanFault.{PlanFault}
-use Rattle.test_runner_core_report.specs.Due.{due_of}
-use Rattle.test_runner_core_report.specs.Report.{IsDoneBy, IsShownBy, IsShownOutputs, kept_of}
-use Rattle.test_runner_core_report.specs.Texts.{IsToldSlice, NamedTest, err_of, out_of, slice_line, test_line, try_lines, written_text}
 use Rattle.test_runner_core_runs.specs.Runs.{Run}
-use Rattle.test_runner_core_runs.specs.State.{State, initial, last_record}
+use Rattle.test_runner_core_runs.specs.State.{State, initial}
 use Rattle.test_runner_core_runs.specs.Step.{step}
 use Rattle.test_runner_core_runs.specs.declared.event.Event.{Event}
 use Rattle.test_runner_core_runs.specs.declared.step_refusal.StepRefusal.{StepRefusal}
 use Rattle.test_runner_core_session.specs.Session.{run_plan}
 use Rattle.test_runner_core_telling.specs.Opening.{opening}
-use Rattle.test_runner_core_telling.specs.Parts.{Done, IsPart, IsText, Part, Said, Shown}
+use Rattle.test_runner_core_telling.specs.Parts.{Part}
 use Rattle.test_runner_core_telling.specs.Steps.{progress}
+use Rattle.test_runner_core_telling.proofs.Texts.{some_text}
 use Rattle.test_runner_core_workspace.specs.Lister.{Answer}
 use Rattle.test_runner_core_workspace.specs.declared.record.Binary.{Binary}
 use Rattle.test_runner_core.specs.Judging.{Finds, Refuses, TellsEvents, event_of, refusal_of}
@@ -40,40 +30,6 @@ use Rattle.test_runner_core.specs.Report.{Composed, Judged, ending, exit_status,
 use Rattle.test_runner_core.specs.declared.refused_line.LineRefusal.{LineRefusal}
 use Rattle.test_runner_core.specs.declared.refused_line.LineRefusal.TheVariants as refused
 use Rattle.test_runner_core.specs.declared.refused_line.RefusedLine.{RefusedLine}
-use Rattle.test_runner_core.proofs.SomeSlice.{either_way, some_slice}
-
--- ---- texts
-
-some_told_slice : (ok : Bool) (output : RecordOutput) → ¬ ¬ ((slice : Option TestOutputErrorSlice) × IsToldSlice ok output slice)
-some_told_slice true output never = never (None, refl)
-some_told_slice false output never = some_slice (captured (out_of output)) (captured (err_of output)) never
-
-some_outputs : (shown : Bool) (told : Option Record) → ¬ ¬ ((text : List ℕ) × IsShownOutputs shown told text)
-some_outputs true (Some told) never =
-    some_told_slice (is_success told.result) told.output (λ (slice, is). never (written_text told.output ++ slice_line slice, (slice, is, refl)))
-some_outputs true None never = never ([], refl)
-some_outputs false None never = never ([], refl)
-some_outputs false (Some told) never = never ([], refl)
-
-some_done : (due : Option OutputOnTestFinished) (test : NamedTest) → ¬ ¬ ((text : List ℕ) × IsDoneBy due test text)
-some_done None test never = never ([], refl)
-some_done (Some due) test never =
-    some_outputs due.show_immediate (last_record test.state.records) (λ (outputs, are).
-    never ((if due.write_status_line || due.show_immediate then test_line (codes "done") test else []) ++ outputs, (outputs, are, refl)))
-
-some_shown : (stored : OutputStoreFinal) (test : NamedTest) → ¬ ¬ ((text : List ℕ) × IsShownBy stored test text)
-some_shown kept.No test never = never ([], refl)
-some_shown (kept.Yes display_output) test never =
-    some_outputs display_output (last_record test.state.records) (λ (outputs, are). never (test_line (codes "test") test ++ (try_lines 1 test.state.records ++ outputs), (outputs, are, refl)))
-
-some_part : (part : Part) → ¬ ¬ ((text : List ℕ) × IsPart part text)
-some_part (Done shows test) never = some_done (due_of shows test.state) test never
-some_part (Shown shows test) never = some_shown (kept_of (due_of shows test.state)) test never
-some_part (Said words) never = never (words, refl)
-
-some_text : (parts : List Part) → ¬ ¬ ((text : List ℕ) × IsText parts text)
-some_text [] never = never ([], refl)
-some_text (part ∷ parts) never = some_part part (λ (first, is). some_text parts (λ (rest, are). never (first ++ rest, (first, (rest, (is, are, refl))))))
 
 -- ---- the lines of a log, up to the first that is refused
 

@@ -21,22 +21,24 @@ use Rattle.test_runner_core_workspace.specs.declared.record.Binary.{Binary}
 use Rattle.test_runner_core.specs.Outcome.{EndsAsDue, IsDue, IsNoMilderThanDue, table_of}
 use Rattle.test_runner_core.specs.Report.{Composed, IsWritten, refused_inputs, refused_plan}
 
--- the filters in force of inputs, beside what is set for their run and their tests
+-- filters in force of inputs, beside what is set for their run and their tests
 pub record Filters (inputs : Inputs) : Type 0 where
   pub choice : Choice
   pub sets : SetsAll inputs choice
   pub force : InForce
   pub in_force : AreInForce inputs choice.run force
 
--- a plan selects exactly the tests on which the filters in force hold
+-- there are filters in force, and whichever are, a plan selects exactly the tests on which they hold
 pub record SelectsExactly (answer : Binary → Answer) (inputs : Inputs) (plan : Plan) : Type 0 where
-  pub by : Filters inputs
-  pub exactly : (test : OwnedTestInstanceId) → Contains (map (λ (t : PlanTest). t.instance) plan.tests) test ↔ IsWanted answer inputs by.choice by.force test
+  pub some : Filters inputs
+  pub exactly : (by : Filters inputs) (test : OwnedTestInstanceId)
+      → Contains (map (λ (t : PlanTest). t.instance) plan.tests) test ↔ IsWanted answer inputs by.choice by.force test
 
 -- it lists exactly the binaries that some answers select: those on which each filter in force can hold
 pub record ListsExactly (inputs : Inputs) (plan : Plan) : Type 0 where
-  pub by : Filters inputs
-  pub exactly : (binary : Binary) → Contains inputs.workspace.binaries binary → Contains plan.listed binary.id ↔ AllCanHold inputs.workspace by.force binary
+  pub some : Filters inputs
+  pub exactly : (by : Filters inputs) (binary : Binary)
+      → Contains inputs.workspace.binaries binary → Contains plan.listed binary.id ↔ AllCanHold inputs.workspace by.force binary
 
 -- The promises, in the order of the headline. Inputs are refused exactly for the first check that they break, by one line and by its status;
 -- all others have a plan. The plan selects and lists exactly what it is to. What is written is the report of the plan's run by the log, up to

@@ -4,3 +4,4 @@ pub mod Tries
 pub mod Levels
 pub mod Spelled
 pub mod OneText
+pub mod SomeText

@@ -42,3 +42,10 @@ HasOneDone = (shows : Shows) (test : NamedTest) (one other : List ℕ) → IsDon
 -- so is its part in the final text
 abbrev pub HasOneShown : Type 0
 HasOneShown = (shows : Shows) (test : NamedTest) (one other : List ℕ) → IsShown shows test one → IsShown shows test other → one ≡ other
+
+-- it can't be that either has no text
+abbrev pub HasSomeDone : Type 0
+HasSomeDone = (shows : Shows) (test : NamedTest) → ¬ ¬ ((text : List ℕ) × IsDone shows test text)
+
+abbrev pub HasSomeShown : Type 0
+HasSomeShown = (shows : Shows) (test : NamedTest) → ¬ ¬ ((text : List ℕ) × IsShown shows test text)

@@ -1,5 +1,5 @@
 //! What holds of every report of a test. Each function does nothing, and its contract is the law.
-ghost use Rattle.test_runner_core_report.specs.Laws.{EndIsSpelled, HasLevels, HasOneDone, HasOneShown, ResultIsSpelled};
+ghost use Rattle.test_runner_core_report.specs.Laws.{EndIsSpelled, HasLevels, HasOneDone, HasOneShown, HasSomeDone, HasSomeShown, ResultIsSpelled};
 
 /// A result that a log line spells is told by a text that spells it.
 pub fn result_is_spelled()
@@ -18,10 +18,12 @@ pub fn levels_are_described()
 
 /// What is written as a test finishes is one text: the test, and what is set, determine it.
 pub fn one_done()
-    ensures { HasOneDone }
+    ensures one { HasOneDone }
+    ensures some { HasSomeDone }
 {}
 
 /// The part of a test in the final text is one text.
 pub fn one_shown()
-    ensures { HasOneShown }
+    ensures one { HasOneShown }
+    ensures some { HasSomeShown }
 {}

@@ -1,8 +1,7 @@
 -- Inputs set one thing, or are refused for one reason.
-use Rattle.std.proofs.Common.{◌≡◌, inl, inr, ℕ, suc, Bool, true, false, List, [], ◌∷◌, map, Option, Some, Ok, Err, refl, sym, ap, ◌∙◌, subst, cond, arith, find}
+use Rattle.std.proofs.Common.{◌≡◌, inl, inr, ℕ, suc, Bool, true, false, List, [], ◌∷◌, map, Some, Ok, Err, refl, sym, ap, ◌∙◌, subst, cond, arith, find}
 use Rattle.std.specs.Prelude.{is_some}
-use Rattle.std.specs.List.{AllByRecursion, Contains}
-use Rattle.std.proofs.lemmas.List.Elements.{recursion_from_All}
+use Rattle.std.specs.List.{Contains}
 use Rattle.std.specs.Option.{option_map}
 use Rattle.std.specs.Str.{bytes_eq}
 use Rattle.std.proofs.lemmas.Bool.{false≢true}
@@ -26,8 +25,7 @@ use Rattle.nextest_config_resolution_profiles.specs.Config.{IsChainOf, names_of,
 use Rattle.nextest_config_resolution_profiles.specs.Whole.{Whole}
 use Rattle.nextest_config_resolution_profiles.specs.declared.profile_error.ProfileNotFound.{ProfileNotFound}
 use Rattle.nextest_config_resolution_profiles.proofs.OneProfile.{one_chain_of, one_order}
-use Rattle.nextest_config_resolution_profiles.proofs.Holding.{held_once}
-use Rattle.nextest_config_resolution_profiles.proofs.PutOn.{division_has}
+use Rattle.nextest_config_resolution_profiles.proofs.Holding.{held_once, no_least}
 use Rattle.nextest_config_resolution_settings.specs.Fallbacks as fallback
 use Rattle.nextest_config_resolution_scripts.specs.declared.script_rule.PlacedScriptRule.{PlacedScriptRule}
 use Rattle.nextest_config_resolution_settings.specs.Keys as key
@@ -35,7 +33,6 @@ use Rattle.nextest_config_resolution_settings.specs.Layers.{Layers}
 use Rattle.nextest_config_resolution_settings.specs.TestSettings.{AreSettings}
 use Rattle.nextest_config_resolution_settings.specs.Tracking.{TellsNothing}
 use Rattle.nextest_config_resolution_settings.specs.declared.test_settings.TestSettings.{TestSettings}
-use Rattle.nextest_config_resolution_settings.specs.Rules.{HoldsAndSets, IsLeast, NoneHoldsAndSets}
 use Rattle.nextest_config_resolution_settings.proofs.Least.{one_least}
 use Rattle.nextest_config_resolution_settings.proofs.Sourced.{one_value, same_settings}
 use Rattle.nextest_config_resolution_settings.proofs.Unique.{one_nearest}
@@ -99,20 +96,12 @@ one_of_test cx platforms mode profile default test one other a b =
 
 -- ---- the settings of a run
 
--- no rule is the first that holds and sets a value where none does
-pub never_least : {R V : Type 0} (Holding : R → Type 0) (set_by : R → Option V) (rules : List R) (rule : R) (value : V) → NoneHoldsAndSets Holding set_by rules
-    → IsLeast Holding set_by rules rule value → ⊥
-never_least Holding set_by rules rule value none least =
-    division_has (λ it. ¬ HoldsAndSets Holding set_by it) least.front rule least.back
-    (subst (AllByRecursion (λ it. ¬ HoldsAndSets Holding set_by it)) least.divided (recursion_from_All (λ it. ¬ HoldsAndSets Holding set_by it) rules none))
-    (least.holds, (value, least.sets))
-
 -- the text of the default filter is one
 pub one_default : (platforms : Platforms) (rules : List PlacedOverride) (chain : List ProfileConfig) (one other : List ℕ) → IsDefaultText platforms rules chain one
     → IsDefaultText platforms rules chain other → one ≡ other
 one_default platforms rules chain one other (inl (rule, a)) (inl (second, b)) = (one_least (HoldsForTarget platforms) default_set rules rule second one other a b).1
-one_default platforms rules chain one other (inl (rule, a)) (inr (none, b)) = absurd (never_least (HoldsForTarget platforms) default_set rules rule one none a)
-one_default platforms rules chain one other (inr (none, a)) (inl (rule, b)) = absurd (never_least (HoldsForTarget platforms) default_set rules rule other none b)
+one_default platforms rules chain one other (inl (rule, a)) (inr (none, b)) = absurd (no_least (HoldsForTarget platforms) default_set rules rule one none a)
+one_default platforms rules chain one other (inr (none, a)) (inl (rule, b)) = absurd (no_least (HoldsForTarget platforms) default_set rules rule other none b)
 one_default platforms rules chain one other (inr (none, a)) (inr (also, b)) = (one_nearest a.1 b.1).0
 
 -- a profile is its parts

@@ -3,3 +3,4 @@ pub mod Named
 pub mod Done
 pub mod Each
 pub mod Scripts
+pub mod Texts

@@ -4,3 +4,4 @@ pub mod Telling
 pub mod Final
 pub mod Steps
 pub mod Opening
+pub mod Laws

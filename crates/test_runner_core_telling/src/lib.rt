@@ -3,6 +3,7 @@
 
 mod fault;
 mod final_text;
+pub mod laws;
 mod opening;
 mod run_end;
 mod steps;

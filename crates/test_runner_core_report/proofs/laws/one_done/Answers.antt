@@ -1,5 +1,6 @@
 use Rattle.test_runner_core_report.proofs.OneText.{one_done}
+use Rattle.test_runner_core_report.proofs.SomeText.{some_done}
 use Rattle.test_runner_core_report.proofs.laws.one_done.Goals as goal
 
 pub returns : goal.returns
-returns c = one_done
+returns c = record { one = one_done; some = some_done }

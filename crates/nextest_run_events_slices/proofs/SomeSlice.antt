@@ -8,6 +8,7 @@ use Rattle.bstr.specs.Trim.{trim_end_by}
 use Rattle.nextest_run_events_slices.proofs.LineStarts.{line_byte}
 use Rattle.nextest_run_events_slices.proofs.Parts.{none_taken}
 use Rattle.nextest_run_events_slices.proofs.Taken.{IsWalked, some_bytes, walk_end, walk_over, walk_past, walked_none}
+use Rattle.nextest_run_events_slices.specs.Laws.{HasSomeSlice}
 use Rattle.nextest_run_events_slices.specs.Notes.{HasNote, line_at}
 use Rattle.nextest_run_events_slices.specs.Places.{IsErrorLineAbove, IsErrorPlace, IsLastPanic, IsLineStart, IsPanic, IsPanicStart, Span}
 use Rattle.nextest_run_events_slices.specs.Slices.{HasNoError, HasNoPanic, IsPartFrom, IsSlice}
@@ -110,7 +111,7 @@ error_slice stdout stderr no_panic never = either_way ((at : ℕ) × IsErrorPlac
     by_place (inl (at, is)) = some_first (IsErrorPlace stderr) at is by_first
     by_place (inr none) = note_slice stdout stderr no_panic (λ at is. none (at, is)) never
 
-pub some_slice : (stdout stderr : List ℕ) → ¬ ¬ ((slice : Option TestOutputErrorSlice) × IsSlice stdout stderr slice)
+pub some_slice : HasSomeSlice
 some_slice stdout stderr never = last_panic stderr by_last
   where
     by_last : (found : Option ℕ) × IsLastPanic stderr found → ⊥
