@@ -31,15 +31,16 @@ use Rattle.test_runner_core_planning.proofs.Once.{answers_are, sets_once}
 use Rattle.test_runner_core_settings.specs.Calls.{ChoosesRun}
 use Rattle.test_runner_core_settings.specs.Sets.{SetsTest}
 use Rattle.test_runner_core_settings.specs.declared.configured.ChosenRun.{ChosenRun}
-use Rattle.test_runner_core_settings.proofs.Once.{never_least, one_test}
+use Rattle.nextest_config_resolution_profiles.proofs.Holding.{no_least}
+use Rattle.test_runner_core_settings.proofs.Once.{one_test}
 
 -- ---- the group that a profile has for a test
 
 -- is one
 one_group : {F S : Type 0} (Holding : OverrideOn F S → Type 0) (rules : List (OverrideOn F S)) (one other : TestGroup) → IsGroupBy Holding rules one → IsGroupBy Holding rules other → one ≡ other
 one_group Holding rules one other (inl (rule, a)) (inl (second, b)) = (one_least Holding group_set rules rule second one other a b).1
-one_group Holding rules one other (inl (rule, a)) (inr (none, b)) = absurd (never_least Holding group_set rules rule one none a)
-one_group Holding rules one other (inr (none, a)) (inl (rule, b)) = absurd (never_least Holding group_set rules rule other none b)
+one_group Holding rules one other (inl (rule, a)) (inr (none, b)) = absurd (no_least Holding group_set rules rule one none a)
+one_group Holding rules one other (inr (none, a)) (inl (rule, b)) = absurd (no_least Holding group_set rules rule other none b)
 one_group Holding rules one other (inr (none, a)) (inr (also, b)) = a ∙ sym b
 
 -- so whether its name is matched says whether the test is in a group with a name that is
