@@ -7,6 +7,7 @@ pub mod laws;
 
 pub use nextest_config_elements_identifiers::ConfigSourceKind;
 pub use nextest_config_elements_identifiers::ToolName;
+pub use nextest_config_elements_plain::NextestRunMode;
 pub use nextest_config_elements_reading::BadValue;
 pub use nextest_config_elements_reading::KeyPath;
 pub use nextest_config_elements_reading::ValueError;
@@ -129,5 +130,9 @@ pub use nextest_config_resolution_warnings::Shown;
 pub use nextest_config_resolution_warnings::tell_file;
 pub use nextest_config_resolution_warnings::unknown_keys;
 pub use nextest_config_resolution_warnings::unknown_reserved_profiles;
+pub use nextest_filtering_arguments::FiltersetKind;
+pub use nextest_filtering_filters::BinaryQuery;
+pub use nextest_filtering_filters::KnownGroups;
+pub use nextest_filtering_filters::TestQuery;
 pub use nextest_text::Listing;
 pub use nextest_text::Text;

@@ -11,8 +11,8 @@ pub use nextest_filtering_compiling::{
     Filterset, FiltersetError, FiltersetParseErrors, ParseContext,
 };
 pub use nextest_filtering_filters::{
-    BinaryEvaluator, BinaryQuery, CompiledExpr, EvalContext, FiltersetLeaf, GroupLookup,
-    KnownGroups, TestQuery,
+    BinaryEvaluator, BinaryQuery, CompiledExpr, EvalContext, FiltersetLeaf, Formula,
+    FormulaBuilder, GroupLookup, KnownGroups, TestQuery, Values,
 };
 pub use nextest_filtering_globs::{
     ClassRange, GenericGlob, GlobConstructError, GlobMatcher, GlobToken,
@@ -21,8 +21,9 @@ pub use nextest_filtering_graph::{GraphError, GraphFault, PackageGraph};
 pub use nextest_filtering_syntax::{ParseError, ParsedExpr, Reading, needs_deps, read};
 pub use nextest_filtering_trees::{
     AndOperator, BuildPlatform, DifferenceOperator, NameMatcher, NameMatching, NotOperator,
-    OrOperator, ParsedLeaf, Pattern, PatternError, SourceSpan,
+    OrOperator, ParsedLeaf, Pattern, PatternError, PatternMatcher, SourceSpan,
 };
+pub use nextest_text::{Listing, Text};
 
 /// The laws of the language over its definitions.
 pub mod laws {

@@ -16,6 +16,7 @@ pub use nextest_config_elements_plain::{
     StatusLevel, TestOutputDisplay,
 };
 pub use nextest_config_resolution_commands::ScriptId;
+pub use nextest_json::Form;
 pub use nextest_run_events_counters::{
     EmptyStatuses, ExecutionDescription, ExecutionStatuses, FinalRunStats, RunFailureStep,
     RunStats, RunStatsFailureKind,
@@ -23,7 +24,7 @@ pub use nextest_run_events_counters::{
 pub use nextest_run_events_errors::{
     DescribedError, DescribedErrorList, DescribedErrors, UnitAbortDescription, UnitErrorDescription,
 };
-pub use nextest_run_events_json::{JsonError, JsonForm};
+pub use nextest_run_events_json::{JsonError, JsonForm, RunEvents};
 pub use nextest_run_events_outcomes::{
     NonZeroDuration, RunFinishedStats, RunOutcome, StressCondition, StressCount,
     StressFinalRunStats, StressIndex, StressProgress, StressRemaining, StressRunStats,

@@ -133,6 +133,7 @@ pub use Rattle.test_runner_core_plan.specs.declared.plan.PlanTest
 pub use Rattle.test_runner_core_progress.specs.declared.start_fault.StartFault
 pub use Rattle.test_runner_core_runs.specs.declared.finished.Finished
 pub use Rattle.test_runner_core_runs.specs.declared.mark.Mark
+pub use Rattle.test_runner_core_runs.specs.declared.run_test.RunTest
 pub use Rattle.test_runner_core_runs.specs.declared.step_refusal.StepRefusal
 pub use Rattle.test_runner_core_session.specs.declared.session.Fate
 pub use Rattle.test_runner_core_streams.specs.declared.memory_writer.WriteFailure

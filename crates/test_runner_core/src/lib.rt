@@ -51,7 +51,7 @@ pub use test_runner_core_platforms::{
     Fact, PlatformFacts, PlatformFactsError, PlatformSpec, PlatformSpecError,
 };
 pub use test_runner_core_progress::StartFault;
-pub use test_runner_core_runs::{Finished, Mark, StepRefusal, exit_status};
+pub use test_runner_core_runs::{Finished, Mark, RunTest, StepRefusal, exit_status};
 pub use test_runner_core_session::{Fate, Session};
 pub use test_runner_core_settings::owned_settings;
 pub use test_runner_core_streams::{
