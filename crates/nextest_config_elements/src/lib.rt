@@ -5,20 +5,11 @@
 
 pub mod laws;
 
-pub use nextest_config_elements_counts::{
-    BadDuration, ConfigDuration, GlobalTimeout, JunitConfig, JunitFlakyFailStatus, LeakTimeout,
-    MismatchReason, ReportSkipPolicy, RetryPolicy, SlowTimeout, TestGroupConfig, TestPriority,
-    TestPriorityOutOfRange, TestThreads, ThreadsRequired, parse_duration,
-};
-pub use nextest_config_elements_identifiers::{
-    BadToolConfig, ConfigIdentifier, ConfigSourceKind, CustomTestGroup, InvalidIdentifier,
-    TestGroup, ToolConfigFile, ToolConfigFileError, ToolName,
-};
-pub use nextest_config_elements_plain::{
+pub use nextest_config_elements_choices::{
     BadText, FinalStatusLevel, FlakyResult, LeakTimeoutResult, MaxFail, NextestRunMode,
     SlowTimeoutResult, StatusLevel, TerminateMode, TestOutputDisplay,
 };
-pub use nextest_config_elements_readers::{
+pub use nextest_config_elements_deserialize::{
     Any, ConfigValue, Positive, defaulted, deserialize_config_identifier, deserialize_fail_fast,
     deserialize_final_status_level, deserialize_flaky_result, deserialize_global_timeout,
     deserialize_junit_flaky_fail_status, deserialize_leak_timeout, deserialize_report_skip_policy,
@@ -27,7 +18,16 @@ pub use nextest_config_elements_readers::{
     deserialize_test_priority, deserialize_test_threads, deserialize_threads_required,
     deserialize_tool_name, optional, required, whole,
 };
-pub use nextest_config_elements_reading::{BadValue, KeyPath, ValueError, refused, refused_below};
+pub use nextest_config_elements_identifiers::{
+    BadToolConfig, ConfigIdentifier, ConfigSourceKind, CustomTestGroup, InvalidIdentifier,
+    TestGroup, ToolConfigFile, ToolConfigFileError, ToolName,
+};
+pub use nextest_config_elements_toml::{BadValue, KeyPath, ValueError, refused, refused_below};
+pub use nextest_config_elements_values::{
+    BadDuration, ConfigDuration, GlobalTimeout, JunitConfig, JunitFlakyFailStatus, LeakTimeout,
+    MismatchReason, ReportSkipPolicy, RetryPolicy, SlowTimeout, TestGroupConfig, TestPriority,
+    TestPriorityOutOfRange, TestThreads, ThreadsRequired, parse_duration,
+};
 pub use nextest_config_elements_versions::{
     AskedVersions, ConfigExperimental, ExperimentalConfig, FeatureSet, NextestVersionConfig,
     NextestVersionEval, NextestVersionReq, UnknownFeature, UnknownFeatures, VersionDemand,

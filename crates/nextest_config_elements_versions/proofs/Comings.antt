@@ -4,11 +4,11 @@ use Rattle.std.proofs.lemmas.Grind.{flat_map-append}
 use Rattle.std.proofs.lemmas.List.{append_assoc, drop_more, map-append, take_more, take-append-drop}
 use Rattle.std.proofs.lemmas.List.Folds.{list_any-append}
 use Rattle.std.specs.List.{flat_map}
-use Rattle.nextest_config_elements_reading.specs.Paths.{Gives}
-use Rattle.nextest_config_elements_reading.specs.Reading.{Path, Reading}
-use Rattle.nextest_config_elements_reading.specs.declared.bad_value.BadValue.{BadValue}
-use Rattle.nextest_config_elements_reading.specs.declared.value_error.ValueError.{ValueError}
-use Rattle.nextest_config_elements_reading.specs.declared.value_error.ValueError.TheVariants as value_error
+use Rattle.nextest_config_elements_toml.specs.Paths.{Gives}
+use Rattle.nextest_config_elements_toml.specs.Reading.{Path, Reading}
+use Rattle.nextest_config_elements_toml.specs.declared.bad_value.BadValue.{BadValue}
+use Rattle.nextest_config_elements_toml.specs.declared.value_error.ValueError.{ValueError}
+use Rattle.nextest_config_elements_toml.specs.declared.value_error.ValueError.TheVariants as value_error
 use Rattle.nextest_config_elements_versions.specs.Features.{known_in, union}
 use Rattle.nextest_config_elements_versions.specs.Laws.{OneConfig, EachComes, Partition, Associative, Neutral}
 use Rattle.nextest_config_elements_versions.specs.Sources.{Asking, Comes, GivesConfig, GivesDemand, IsRefusal, Reason, bad_value, ask_of, Refusal, TellsReason, read_for, add, askings, config_in, config_of, demand_in, features_in, merged, origin_of, recommended_in, required_in, told, unknown_of, Source, seen}

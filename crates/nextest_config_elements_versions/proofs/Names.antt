@@ -6,7 +6,7 @@ use Rattle.std.specs.Prelude.{is_none}
 use Rattle.toml.specs.Data.{Data, Items, item, Members, member, string, boolean, as_bool, as_str}
 use Rattle.toml.specs.View.{items_view, members_view, view}
 use Rattle.toml.specs.declared.value.Value.{Value}
-use Rattle.nextest_config_elements_reading.specs.Reading.{Reading}
+use Rattle.nextest_config_elements_toml.specs.Reading.{Reading}
 use Rattle.nextest_config_elements_versions.specs.Demand.{keys_in, names_in}
 use Rattle.nextest_config_elements_versions.specs.Features.{feature_of, unknown_in}
 

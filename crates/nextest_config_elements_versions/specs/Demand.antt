@@ -4,7 +4,7 @@ use Rattle.std.specs.Option.{option_map_or, option_or}
 use Rattle.toml.specs.Data.{Data, string, array, table, Items, no_items, item, Members, no_members, member, as_bool, as_str, get_member}
 use Rattle.semver.specs.Parse.{Parts}
 use Rattle.nextest_version.specs.Reading.{version_of}
-use Rattle.nextest_config_elements_reading.specs.Reading.{Reading, ◌>>=◌, leaf, optional, under}
+use Rattle.nextest_config_elements_toml.specs.Reading.{Reading, ◌>>=◌, leaf, optional, under}
 use Rattle.nextest_config_elements_versions.specs.declared.asked_versions.AskedVersions.{AskedVersions}
 use Rattle.nextest_config_elements_versions.specs.declared.demand.VersionDemand.{VersionDemand}
 

@@ -6,7 +6,7 @@ use Rattle.toml.specs.Parse.{parse_document}
 use Rattle.semver.specs.Parse.{Parts}
 use Rattle.nextest_config_elements_identifiers.specs.declared.source_kind.ConfigSourceKind.{ConfigSourceKind}
 use Rattle.nextest_config_elements_identifiers.specs.declared.source_kind.ConfigSourceKind.TheVariants as kinds
-use Rattle.nextest_config_elements_reading.specs.Reading.{Path, Reading}
+use Rattle.nextest_config_elements_toml.specs.Reading.{Path, Reading}
 use Rattle.nextest_config_elements_versions.specs.Demand.{demand_of, no_demand}
 use Rattle.nextest_config_elements_versions.specs.Features.{known_in, union, unknown_in}
 use Rattle.nextest_config_elements_versions.specs.Verdict.{Ask, IsReq, asked_in, merged_versions, none_asked}

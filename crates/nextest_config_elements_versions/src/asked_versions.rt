@@ -2,12 +2,12 @@
 ghost use Rattle.std.specs.Prelude.{◌≡◌, IfOk, option_map, codes};
 ghost use Rattle.toml.specs.View.{view, table_view};
 ghost use Rattle.toml.specs.Data.{get_member};
-ghost use Rattle.nextest_config_elements_reading.specs.Paths.{Gives};
-ghost use Rattle.nextest_config_elements_reading.specs.Reading.{optional};
+ghost use Rattle.nextest_config_elements_toml.specs.Paths.{Gives};
+ghost use Rattle.nextest_config_elements_toml.specs.Reading.{optional};
 ghost use Rattle.nextest_config_elements_versions.specs.Demand.{asked_version, both, version, versions};
 ghost use Rattle.nextest_version.specs.Reading.{version_of};
 
-use nextest_config_elements_reading::{ValueError, refused, refused_below};
+use nextest_config_elements_toml::{ValueError, refused, refused_below};
 use nextest_version::{PlainVersion, VersionError};
 use std::alloc::{AllocError, Global};
 use toml::{Table, Value};

@@ -1,7 +1,7 @@
 // What a source asks for.
 ghost use Rattle.std.specs.Prelude.{[], codes, option_map, Ok, ◌≡◌};
 ghost use Rattle.toml.specs.View.{table_view};
-ghost use Rattle.nextest_config_elements_reading.specs.Paths.{Gives};
+ghost use Rattle.nextest_config_elements_toml.specs.Paths.{Gives};
 ghost use Rattle.nextest_config_elements_versions.specs.Demand.{demand_of, experimental_in, nextest_version_in};
 ghost use Rattle.nextest_config_elements_versions.specs.Sources.{GivesDemand, IsRefusal, demand_in, read_for, seen, unless_tool};
 
@@ -10,7 +10,7 @@ use crate::features::deserialize_experimental;
 use crate::origin::VersionSource;
 use crate::source_fault::{VersionOnlyError, VersionSourceFault, VersionSourceReason};
 use nextest_config_elements_identifiers::ConfigSourceKind;
-use nextest_config_elements_reading::ValueError;
+use nextest_config_elements_toml::ValueError;
 use nextest_text::{Listing, Text};
 use std::alloc::{AllocError, Global};
 use toml::Table;

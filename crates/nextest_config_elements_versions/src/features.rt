@@ -1,10 +1,10 @@
 // How the names of features are read.
 ghost use Rattle.std.specs.Prelude.{◌≡◌, ◌++◌, [], ◌∷◌, IfOk, decimal, if◌then◌else◌};
 ghost use Rattle.toml.specs.View.{view, items_view, table_view};
-ghost use Rattle.nextest_config_elements_reading.specs.Paths.{Gives, IsRefusedAt, texts};
+ghost use Rattle.nextest_config_elements_toml.specs.Paths.{Gives, IsRefusedAt, texts};
 ghost use Rattle.nextest_config_elements_versions.specs.Demand.{features, keys_in, names_in};
 
-use nextest_config_elements_reading::{ValueError, refused, refused_below};
+use nextest_config_elements_toml::{ValueError, refused, refused_below};
 use nextest_text::{Listing, Text};
 use std::alloc::{AllocError, Global};
 use toml::{Table, Value};

@@ -1,5 +1,5 @@
 // Why a source is refused.
-use nextest_config_elements_reading::BadValue;
+use nextest_config_elements_toml::BadValue;
 use nextest_text::Text;
 use std::alloc::{AllocError, AllocFailed};
 use thiserror::Error;

@@ -31,10 +31,10 @@ pub use Rattle.nextest_config_resolution_profiles.specs.Laws as ProfileLaws
 pub use Rattle.nextest_config_resolution_profiles.specs.Selection
 pub use Rattle.nextest_config_resolution_profiles.specs.Whole as WholeConfig
 -- the merged tree
-pub use Rattle.nextest_config_resolution_tree.specs.Laws as TreeLaws
-pub use Rattle.nextest_config_resolution_tree.specs.Merged
-pub use Rattle.nextest_config_resolution_tree.specs.Tree
-pub use Rattle.nextest_config_resolution_tree.specs.Whole
+pub use Rattle.nextest_config_resolution_merge.specs.Laws as TreeLaws
+pub use Rattle.nextest_config_resolution_merge.specs.Merged
+pub use Rattle.nextest_config_resolution_merge.specs.Tree
+pub use Rattle.nextest_config_resolution_merge.specs.Whole
 -- what files and profiles say, and how profiles inherit
 pub use Rattle.nextest_config_resolution_values.specs.Accepted as AcceptedProfiles
 pub use Rattle.nextest_config_resolution_values.specs.File
@@ -89,9 +89,9 @@ pub use Rattle.nextest_config_resolution_filters.specs.Specs
 pub use Rattle.nextest_filtering_filters.specs.Query
 -- types
 pub use Rattle.nextest_config_elements_identifiers.specs.declared.source_kind.ConfigSourceKind
-pub use Rattle.nextest_config_elements_reading.specs.declared.bad_value.BadValue
-pub use Rattle.nextest_config_elements_reading.specs.declared.key_path.KeyPath
-pub use Rattle.nextest_config_elements_reading.specs.declared.value_error.ValueError
+pub use Rattle.nextest_config_elements_toml.specs.declared.bad_value.BadValue
+pub use Rattle.nextest_config_elements_toml.specs.declared.key_path.KeyPath
+pub use Rattle.nextest_config_elements_toml.specs.declared.value_error.ValueError
 pub use Rattle.nextest_config_resolution_commands.specs.declared.script_command.ScriptCommand
 pub use Rattle.nextest_config_resolution_commands.specs.declared.script_command.ScriptCommandEnvMap
 pub use Rattle.nextest_config_resolution_commands.specs.declared.script_command.ScriptCommandRelativeTo
@@ -145,7 +145,7 @@ pub use Rattle.nextest_config_resolution_settings.specs.declared.test_settings.T
 pub use Rattle.nextest_config_resolution_sources.specs.declared.paths.ConfigPaths
 pub use Rattle.nextest_config_resolution_sources.specs.declared.source.ConfigSource
 pub use Rattle.nextest_config_resolution_sources.specs.declared.source.ConfigSourceOutcome
-pub use Rattle.nextest_config_resolution_tree.specs.declared.merged_tree.MergedTree
+pub use Rattle.nextest_config_resolution_merge.specs.declared.merged_tree.MergedTree
 pub use Rattle.nextest_config_resolution_values.specs.declared.bench.ProfileBench
 pub use Rattle.nextest_config_resolution_values.specs.declared.profile_config.ProfileConfig
 pub use Rattle.nextest_config_resolution_values.specs.declared.junit.ProfileJunit
@@ -155,6 +155,6 @@ pub use Rattle.nextest_config_resolution_values.specs.declared.settings.ProfileT
 pub use Rattle.nextest_config_resolution_warnings.specs.declared.config_warning.ConfigWarning
 pub use Rattle.nextest_config_resolution_warnings.specs.declared.place.Place
 pub use Rattle.nextest_config_resolution_warnings.specs.declared.shown.Shown
-pub use Rattle.nextest_config_elements_plain.specs.declared.run_mode.NextestRunMode
+pub use Rattle.nextest_config_elements_choices.specs.declared.run_mode.NextestRunMode
 pub use Rattle.nextest_filtering_arguments.specs.declared.ban.FiltersetKind
 pub use Rattle.nextest_filtering_filters.specs.declared.known_groups.KnownGroups

@@ -5,12 +5,12 @@
 
 pub mod laws;
 
+pub use nextest_config_elements_choices::NextestRunMode;
 pub use nextest_config_elements_identifiers::ConfigSourceKind;
 pub use nextest_config_elements_identifiers::ToolName;
-pub use nextest_config_elements_plain::NextestRunMode;
-pub use nextest_config_elements_reading::BadValue;
-pub use nextest_config_elements_reading::KeyPath;
-pub use nextest_config_elements_reading::ValueError;
+pub use nextest_config_elements_toml::BadValue;
+pub use nextest_config_elements_toml::KeyPath;
+pub use nextest_config_elements_toml::ValueError;
 pub use nextest_config_resolution_commands::ScriptCommand;
 pub use nextest_config_resolution_commands::ScriptCommandEnvMap;
 pub use nextest_config_resolution_commands::ScriptCommandRelativeTo;
@@ -44,6 +44,7 @@ pub use nextest_config_resolution_load::ProfileRules;
 pub use nextest_config_resolution_load::RuleId;
 pub use nextest_config_resolution_load::load;
 pub use nextest_config_resolution_load::load_with_warnings;
+pub use nextest_config_resolution_merge::MergedTree;
 pub use nextest_config_resolution_overrides::NamedGroup;
 pub use nextest_config_resolution_overrides::OverrideConfig;
 pub use nextest_config_resolution_overrides::OverrideId;
@@ -112,7 +113,6 @@ pub use nextest_config_resolution_sources::DEFAULT_PROFILE;
 pub use nextest_config_resolution_sources::DEFAULT_PROFILES;
 pub use nextest_config_resolution_sources::ENVIRONMENT_PREFIX;
 pub use nextest_config_resolution_sources::counted;
-pub use nextest_config_resolution_tree::MergedTree;
 pub use nextest_config_resolution_values::ProfileBench;
 pub use nextest_config_resolution_values::ProfileConfig;
 pub use nextest_config_resolution_values::ProfileJunit;

@@ -4,11 +4,11 @@ use Rattle.std.specs.Prelude.{codes, if◌then◌else◌}
 use Rattle.std.specs.Option.{option_map_or}
 use Rattle.std.specs.List.{starts_with}
 use Rattle.toml.specs.Data.{Data, string, integer, float, boolean, datetime, array, table, Members, no_members, member, as_str}
-use Rattle.nextest_config_elements_reading.specs.Reading.{Reading, ◌>>=◌, defaulted, under}
-use Rattle.nextest_config_elements_readers.proofs.Keys.{taken, step, defaulted_has, has_defaulted}
-use Rattle.nextest_config_elements_readers.proofs.Parts.{table_is, is_table}
-use Rattle.nextest_config_elements_readers.specs.Keys.{texts_of}
-use Rattle.nextest_config_elements_readers.specs.Tables.{IsTable}
+use Rattle.nextest_config_elements_toml.specs.Reading.{Reading, ◌>>=◌, defaulted, under}
+use Rattle.nextest_config_elements_deserialize.proofs.Keys.{taken, step, defaulted_has, has_defaulted}
+use Rattle.nextest_config_elements_deserialize.proofs.Parts.{table_is, is_table}
+use Rattle.nextest_config_elements_deserialize.specs.Keys.{texts_of}
+use Rattle.nextest_config_elements_deserialize.specs.Tables.{IsTable}
 use Rattle.nextest_config_resolution_commands.specs.Accepted.{AreVariables, HasVariables, HasWords, IsCommand, IsCommandTable, IsPlainCommand, IsVariable}
 use Rattle.nextest_config_resolution_commands.specs.Below.{defaulted_by, required_by}
 use Rattle.nextest_config_resolution_commands.specs.Commands.{accepted_line, command_in, command_table, env_in, env_of, line_in, no_variables, plain_command, relative_to, variable_in, variables_in}

@@ -2,10 +2,10 @@
 use Rattle.std.proofs.Common.{◌≡◌, ℕ, List, [], ◌∷◌, ◌++◌, Ok, Err, sym, ap, ◌∙◌}
 use Rattle.std.proofs.lemmas.List.{append_assoc}
 use denote.Ref.{Bor}
-use Rattle.nextest_config_elements_reading.specs.Paths.{Gives, at, texts}
-use Rattle.nextest_config_elements_reading.specs.Reading.{Path, Reading, under}
-use Rattle.nextest_config_elements_reading.specs.declared.value_error.ValueError.{ValueError}
-use Rattle.nextest_config_elements_reading.specs.declared.value_error.ValueError.TheVariants as error
+use Rattle.nextest_config_elements_toml.specs.Paths.{Gives, at, texts}
+use Rattle.nextest_config_elements_toml.specs.Reading.{Path, Reading, under}
+use Rattle.nextest_config_elements_toml.specs.declared.value_error.ValueError.{ValueError}
+use Rattle.nextest_config_elements_toml.specs.declared.value_error.ValueError.TheVariants as error
 use Rattle.nextest_config_resolution_commands.specs.Below.{IsBelow}
 
 -- a path and a key in front of where a reading refuses

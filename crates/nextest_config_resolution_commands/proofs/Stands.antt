@@ -2,7 +2,7 @@
 use Rattle.std.proofs.Common.{◌≡◌, ℕ, List, [], Option, None, Some, Ok, Err, refl, sym, ap, ◌∙◌, inl, inr}
 use Rattle.std.specs.Option.{option_map_or}
 use Rattle.toml.specs.Data.{Data, Members, get_member}
-use Rattle.nextest_config_elements_reading.specs.Reading.{Reading, under}
+use Rattle.nextest_config_elements_toml.specs.Reading.{Reading, under}
 use Rattle.nextest_config_resolution_commands.specs.Accepted.{MayBeOr, MustBe}
 use Rattle.nextest_config_resolution_commands.specs.Below.{defaulted_by, required_by}
 

@@ -2,9 +2,9 @@
 use Rattle.std.specs.Prelude.{◌≡◌, ◌⊎◌, ℕ, false, List, [], ◌∷◌, Some, codes, nat_eq, ⊤}
 use Rattle.std.specs.List.{starts_with}
 use Rattle.toml.specs.Data.{Data, string, table, Members, no_members, member, get_member}
-use Rattle.nextest_config_elements_readers.specs.Accepted.{HasOr, IsLeftOut}
-use Rattle.nextest_config_elements_readers.specs.Keys.{texts_of}
-use Rattle.nextest_config_elements_readers.specs.Tables.{IsTable, Reads}
+use Rattle.nextest_config_elements_deserialize.specs.Accepted.{HasOr, IsLeftOut}
+use Rattle.nextest_config_elements_deserialize.specs.Keys.{texts_of}
+use Rattle.nextest_config_elements_deserialize.specs.Tables.{IsTable, Reads}
 use Rattle.nextest_config_resolution_commands.specs.Commands.{no_variables, relative_to}
 use Rattle.nextest_config_resolution_commands.specs.Words.{AreWords}
 use Rattle.nextest_config_resolution_commands.specs.declared.script_command.ScriptCommand.{ScriptCommand}

@@ -2,10 +2,10 @@
 use Rattle.std.specs.Prelude.{◌≡◌, ℕ, List, [], ◌++◌, Ok, Err, ⊤}
 use Rattle.std.specs.Option.{option_map_or}
 use Rattle.toml.specs.Data.{Data, Members, get_member}
-use Rattle.nextest_config_elements_reading.specs.Reading.{Path, Reading, under}
-use Rattle.nextest_config_elements_reading.specs.declared.bad_value.BadValue.{BadValue}
-use Rattle.nextest_config_elements_reading.specs.declared.value_error.ValueError.{ValueError}
-use Rattle.nextest_config_elements_reading.specs.declared.value_error.ValueError.TheVariants as error
+use Rattle.nextest_config_elements_toml.specs.Reading.{Path, Reading, under}
+use Rattle.nextest_config_elements_toml.specs.declared.bad_value.BadValue.{BadValue}
+use Rattle.nextest_config_elements_toml.specs.declared.value_error.ValueError.{ValueError}
+use Rattle.nextest_config_elements_toml.specs.declared.value_error.ValueError.TheVariants as error
 
 -- the value of a key that must stand
 abbrev pub required_by : {A : Type 0} → List ℕ → (Data → Reading A) → Members → Reading A

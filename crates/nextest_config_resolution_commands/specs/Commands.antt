@@ -3,9 +3,9 @@ use Rattle.std.specs.Prelude.{ℕ, List, [], ◌∷◌, Option, None, Some, Ok, 
 use Rattle.std.specs.Option.{option_map_or}
 use Rattle.std.specs.List.{starts_with}
 use Rattle.toml.specs.Data.{Data, string, table, Members, no_members, member, as_str}
-use Rattle.nextest_config_elements_reading.specs.Reading.{Reading, ◌>>=◌, defaulted, under}
-use Rattle.nextest_config_elements_readers.specs.Keys.{table_by, texts_of}
-use Rattle.nextest_config_elements_readers.specs.Words.{one_of}
+use Rattle.nextest_config_elements_toml.specs.Reading.{Reading, ◌>>=◌, defaulted, under}
+use Rattle.nextest_config_elements_deserialize.specs.Keys.{table_by, texts_of}
+use Rattle.nextest_config_elements_deserialize.specs.Words.{one_of}
 use Rattle.nextest_config_resolution_commands.specs.Below.{defaulted_by, required_by}
 use Rattle.nextest_config_resolution_commands.specs.Splitting.{words_of}
 use Rattle.nextest_config_resolution_commands.specs.declared.command_line.CommandLine.{CommandLine}

@@ -1,12 +1,12 @@
 // What a command runs.
 ghost use Rattle.std.specs.Prelude.{◌≡◌};
 ghost use Rattle.toml.specs.View.{view};
-ghost use Rattle.nextest_config_elements_reading.specs.Paths.{Gives};
+ghost use Rattle.nextest_config_elements_toml.specs.Paths.{Gives};
 ghost use Rattle.nextest_config_resolution_commands.specs.Commands as read;
 
 use crate::words::split_words;
-use nextest_config_elements_readers::{DeserializeValue, deserialize_texts};
-use nextest_config_elements_reading::{ValueError, refused};
+use nextest_config_elements_deserialize::{DeserializeValue, deserialize_texts};
+use nextest_config_elements_toml::{ValueError, refused};
 use nextest_text::{Listing, Text};
 use std::alloc::Global;
 use toml::Value;

@@ -1,14 +1,14 @@
 // How a command is read.
 ghost use Rattle.std.specs.Prelude.{◌≡◌};
 ghost use Rattle.toml.specs.View.{table_view, view};
-ghost use Rattle.nextest_config_elements_reading.specs.Paths.{Gives};
+ghost use Rattle.nextest_config_elements_toml.specs.Paths.{Gives};
 ghost use Rattle.nextest_config_resolution_commands.specs.Commands as read;
 
 use crate::command_line::{CommandLine, line_in};
 use crate::script_command::{ScriptCommand, ScriptCommandEnvMap, ScriptCommandRelativeTo};
 use crate::values_below::{defaulted_value, required_value};
-use nextest_config_elements_readers::{Any, ConfigValue, DeserializeValue, defaulted};
-use nextest_config_elements_reading::ValueError;
+use nextest_config_elements_deserialize::{Any, ConfigValue, DeserializeValue, defaulted};
+use nextest_config_elements_toml::ValueError;
 use nextest_text::Listing;
 use std::alloc::Global;
 use toml::{Table, Value};

@@ -7,9 +7,9 @@ ghost use Rattle.std.specs.Ordering.{nat_cmp};
 ghost use Rattle.nextest_config_elements_identifiers.specs.Config.{Answers, IsIdentifier, identifier};
 ghost use Rattle.nextest_config_resolution_commands.specs.Programs.{run_of_script};
 
+use nextest_config_elements_deserialize::{DeserializeValue, deserialize_config_identifier};
 use nextest_config_elements_identifiers::{ConfigIdentifier, InvalidIdentifier};
-use nextest_config_elements_readers::{DeserializeValue, deserialize_config_identifier};
-use nextest_config_elements_reading::ValueError;
+use nextest_config_elements_toml::ValueError;
 use nextest_text::Text;
 use std::alloc::{AllocError, Global};
 use std::cmp::Ordering;
@@ -81,7 +81,7 @@ impl ScriptId {
 }
 
 impl DeserializeValue for ScriptId {
-    ghost use Rattle.nextest_config_elements_readers.specs.Names.{config_identifier_in};
+    ghost use Rattle.nextest_config_elements_deserialize.specs.Names.{config_identifier_in};
 
     ghost reading = { config_identifier_in };
 

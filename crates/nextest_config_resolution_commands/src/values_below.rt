@@ -2,13 +2,13 @@
 ghost use Rattle.std.specs.Prelude.{◌≡◌, [], ◌∷◌, ◌++◌, None, IfOk, IfErr};
 ghost use Rattle.toml.specs.Data.{get_member};
 ghost use Rattle.toml.specs.View.{table_view, view};
-ghost use Rattle.nextest_config_elements_reading.specs.Paths.{Gives, IsExpected, texts};
-ghost use Rattle.nextest_config_elements_reading.specs.Reading.{under};
-ghost use Rattle.nextest_config_elements_readers.specs.Keys.{optional_by};
+ghost use Rattle.nextest_config_elements_toml.specs.Paths.{Gives, IsExpected, texts};
+ghost use Rattle.nextest_config_elements_toml.specs.Reading.{under};
+ghost use Rattle.nextest_config_elements_deserialize.specs.Keys.{optional_by};
 ghost use Rattle.nextest_config_resolution_commands.specs.Below.{IsBelow, defaulted_by, required_by};
 
-use nextest_config_elements_readers::{DeserializeValue, member};
-use nextest_config_elements_reading::{KeyPath, ValueError, refused_below};
+use nextest_config_elements_deserialize::{DeserializeValue, member};
+use nextest_config_elements_toml::{KeyPath, ValueError, refused_below};
 use std::alloc::{AllocError, Global};
 use toml::{Table, Value};
 

@@ -1,13 +1,13 @@
 // The environment variables of a command.
 ghost use Rattle.std.specs.Prelude.{◌≡◌, [], ◌∷◌, ◌++◌, IfOk};
 ghost use Rattle.toml.specs.View.{table_view, view};
-ghost use Rattle.nextest_config_elements_reading.specs.Paths.{Gives, texts};
-ghost use Rattle.nextest_config_elements_reading.specs.Reading.{leaf, under};
+ghost use Rattle.nextest_config_elements_toml.specs.Paths.{Gives, texts};
+ghost use Rattle.nextest_config_elements_toml.specs.Reading.{leaf, under};
 ghost use Rattle.nextest_config_resolution_commands.specs.Commands as read;
 
 use crate::script_command::ScriptCommandEnvMap;
-use nextest_config_elements_readers::DeserializeValue;
-use nextest_config_elements_reading::{BadValue, KeyPath, ValueError, refused, refused_below};
+use nextest_config_elements_deserialize::DeserializeValue;
+use nextest_config_elements_toml::{BadValue, KeyPath, ValueError, refused, refused_below};
 use nextest_text::{Listing, Text};
 use std::alloc::{AllocError, Global};
 use toml::{Table, Value};

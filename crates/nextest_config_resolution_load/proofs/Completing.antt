@@ -4,7 +4,7 @@ use Rattle.std.proofs.lemmas.Result.{err_from_is_err_and}
 use Rattle.std.specs.List.{AllByRecursion, flat_map}
 use Rattle.std.specs.Result.{IsErrAnd}
 use Rattle.toml.specs.Data.{Members}
-use Rattle.nextest_config_elements_reading.specs.Reading.{Reading}
+use Rattle.nextest_config_elements_toml.specs.Reading.{Reading}
 use Rattle.nextest_config_resolution_load.specs.Checks.{Check, bad_merged, checks_of, config_in, default_checks, inheritance, MergedConfig, merged_checks, merged_in, named_checks, parents_of, rules_downward, rules_upward, script_rules_downward, script_rules_upward, source_checks, value_checks}
 use Rattle.nextest_config_resolution_load.specs.Load.{AreReadRules, AreReadScriptRules, IsFilterBy, IsKept, IsLoaded, IsSpecBy}
 use Rattle.nextest_config_resolution_load.specs.Reading.{AreReadSources, IsCompleted, all_placed, early_checks, overrides_of, read_as, scripts_of}

@@ -5,10 +5,10 @@ use Rattle.std.specs.Cmp.Lexicographic.{slice_cmp}
 use Rattle.std.specs.List.Sorted.{IsStrictlySortedBy}
 use Rattle.std.specs.Result.{is_ok}
 use Rattle.toml.specs.Data.{table, Members, get_member}
-use Rattle.nextest_config_elements_reading.specs.Reading.{Reading, ◌>>=◌}
-use Rattle.nextest_config_elements_reading.specs.declared.bad_value.BadValue.{BadValue}
-use Rattle.nextest_config_elements_reading.specs.declared.value_error.ValueError.{ValueError}
-use Rattle.nextest_config_elements_reading.specs.declared.value_error.ValueError.TheVariants as value_error
+use Rattle.nextest_config_elements_toml.specs.Reading.{Reading, ◌>>=◌}
+use Rattle.nextest_config_elements_toml.specs.declared.bad_value.BadValue.{BadValue}
+use Rattle.nextest_config_elements_toml.specs.declared.value_error.ValueError.{ValueError}
+use Rattle.nextest_config_elements_toml.specs.declared.value_error.ValueError.TheVariants as value_error
 use Rattle.nextest_config_resolution_inheritance.specs.Inheritance.{Parents, Rise, names}
 use Rattle.nextest_config_resolution_inheritance.specs.Refusals.{IsFirstFault, IsRefusedFor}
 use Rattle.nextest_config_resolution_inheritance.specs.declared.inheritance_error.InheritanceError.{InheritanceError}
@@ -18,9 +18,9 @@ use Rattle.nextest_config_resolution_load.specs.Checks.{MergedConfig, config_in,
 use Rattle.nextest_config_resolution_load.specs.Load.{named}
 use Rattle.nextest_config_resolution_load.specs.Reading.{GivesSeen, values_of}
 use Rattle.nextest_config_resolution_load.specs.declared.loaded_config.NamedProfile.{NamedProfile}
-use Rattle.nextest_config_resolution_tree.specs.Nesting.{OfSorted}
-use Rattle.nextest_config_resolution_tree.specs.Tree.{merge, AreSorted}
-use Rattle.nextest_config_resolution_tree.proofs.Looked.{sorted_path}
+use Rattle.nextest_config_resolution_merge.specs.Nesting.{OfSorted}
+use Rattle.nextest_config_resolution_merge.specs.Tree.{merge, AreSorted}
+use Rattle.nextest_config_resolution_merge.proofs.Looked.{sorted_path}
 use Rattle.nextest_config_resolution_overrides.specs.Groups.{groups_at}
 use Rattle.nextest_config_resolution_overrides.specs.declared.groups.NamedGroup.{NamedGroup}
 use Rattle.nextest_config_resolution_scripts.specs.Scripts.{scripts_at}

@@ -8,7 +8,7 @@ use Rattle.std.proofs.lemmas.List.{reverse-append}
 use Rattle.toml.specs.Data.{Members}
 use Rattle.nextest_config_elements_identifiers.specs.declared.test_group.TestGroup.{TestGroup}
 use Rattle.nextest_config_elements_identifiers.specs.declared.test_group.TestGroup.TheVariants as group
-use Rattle.nextest_config_elements_reading.specs.Reading.{Reading}
+use Rattle.nextest_config_elements_toml.specs.Reading.{Reading}
 use Rattle.nextest_config_elements_versions.specs.declared.feature.FeatureSet.{FeatureSet}
 use Rattle.nextest_config_resolution_load.specs.Checks.{Check, MergedConfig, Refusal, default_checks, inheritance, merged_checks, must_hold, named_checks, parents_of, rules_of_source, rules_upward, script_rules_upward, unknown_group, unknown_script, unknown_wrapper}
 use Rattle.nextest_config_resolution_load.specs.Laws.{GroupsAreDefined, HasGroup, HasScripts, IsFound, ScriptsAreDefined}

@@ -7,10 +7,10 @@ use Rattle.std.specs.declared.cmp.Ordering.{Ordering}
 use Rattle.std.specs.declared.cmp.Ordering.TheVariants.{Less, Equal, Greater}
 use Rattle.toml.specs.View.{members_view, view}
 use Rattle.toml.specs.declared.value.Value.{Value}
-use Rattle.nextest_config_elements_reading.specs.Paths.{at}
-use Rattle.nextest_config_elements_reading.specs.Reading.{Path, Reading, ◌>>=◌, under}
-use Rattle.nextest_config_elements_reading.specs.declared.bad_value.BadValue.{BadValue}
-use Rattle.nextest_config_elements_readers.specs.Paths.{profile_path}
+use Rattle.nextest_config_elements_toml.specs.Paths.{at}
+use Rattle.nextest_config_elements_toml.specs.Reading.{Path, Reading, ◌>>=◌, under}
+use Rattle.nextest_config_elements_toml.specs.declared.bad_value.BadValue.{BadValue}
+use Rattle.nextest_config_elements_deserialize.specs.Paths.{profile_path}
 use Rattle.nextest_config_resolution_load.specs.File.{by_keys, first_key, first_path, rules_of_profile, profiles_in_file}
 use Rattle.nextest_config_resolution_load.specs.Reading.{refused_values, third}
 use Rattle.nextest_config_resolution_load.specs.declared.file_config.ProfileRules.{ProfileRules}

@@ -3,9 +3,9 @@ use Rattle.std.proofs.Common.{◌≡◌, ℕ, List, [], ◌∷◌, ◌++◌, map
 use Rattle.std.specs.Prelude.{reverse}
 use Rattle.std.proofs.lemmas.List.{reverse-append}
 use Rattle.toml.specs.Data.{Data, table, Members}
-use Rattle.nextest_config_elements_reading.specs.Reading.{Reading}
-use Rattle.nextest_config_resolution_tree.proofs.Standings.{merged_by_over}
-use Rattle.nextest_config_resolution_tree.specs.Merged.{IsMerged, merged}
+use Rattle.nextest_config_elements_toml.specs.Reading.{Reading}
+use Rattle.nextest_config_resolution_merge.proofs.Standings.{merged_by_over}
+use Rattle.nextest_config_resolution_merge.specs.Merged.{IsMerged, merged}
 use Rattle.nextest_config_resolution_load.specs.Checks.{MergedConfig, checks_of, raised}
 use Rattle.nextest_config_resolution_load.specs.Laws.{MergedFiles, NoFault, OneLoad, OneReason}
 use Rattle.nextest_config_resolution_load.specs.Load.{IsFilterBy, IsSpecBy, reason_of, seen}

@@ -9,19 +9,19 @@ use Rattle.std.specs.List.{AllByRecursion}
 use Rattle.std.specs.List.Sorted.{IsStrictlySortedBy}
 use Rattle.std.specs.Result.{is_ok}
 use Rattle.toml.specs.Data.{Data, string, integer, float, boolean, datetime, array, table, Members, no_members, member, get_member}
-use Rattle.nextest_config_elements_reading.specs.Reading.{Path, Reading, under}
-use Rattle.nextest_config_elements_reading.specs.Paths.{texts}
-use Rattle.nextest_config_elements_reading.specs.declared.value_error.ValueError.{ValueError}
-use Rattle.nextest_config_elements_reading.specs.declared.value_error.ValueError.TheVariants as value_error
+use Rattle.nextest_config_elements_toml.specs.Reading.{Path, Reading, under}
+use Rattle.nextest_config_elements_toml.specs.Paths.{texts}
+use Rattle.nextest_config_elements_toml.specs.declared.value_error.ValueError.{ValueError}
+use Rattle.nextest_config_elements_toml.specs.declared.value_error.ValueError.TheVariants as value_error
 use Rattle.nextest_config_resolution_load.specs.Load.{named}
 use Rattle.nextest_config_resolution_load.specs.Reading.{GivesSeen, profile_at}
 use Rattle.nextest_config_resolution_load.specs.declared.loaded_config.NamedProfile.{NamedProfile}
-use Rattle.nextest_config_resolution_tree.specs.Nesting.{OfSorted}
-use Rattle.nextest_config_resolution_tree.specs.Tree.{get_path, keys, keys_in, IsBefore, AreSorted}
-use Rattle.nextest_config_resolution_tree.proofs.Keys.{same_key, turned}
-use Rattle.nextest_config_resolution_tree.proofs.Nested.{no_texts}
+use Rattle.nextest_config_resolution_merge.specs.Nesting.{OfSorted}
+use Rattle.nextest_config_resolution_merge.specs.Tree.{get_path, keys, keys_in, IsBefore, AreSorted}
+use Rattle.nextest_config_resolution_merge.proofs.Keys.{same_key, turned}
+use Rattle.nextest_config_resolution_merge.proofs.Nested.{no_texts}
 use Rattle.nextest_config_resolution_values.specs.File.{Named, profiles_at, profiles_in, profiles_of}
-use Rattle.nextest_config_elements_readers.specs.Paths.{profile_path}
+use Rattle.nextest_config_elements_deserialize.specs.Paths.{profile_path}
 use Rattle.nextest_config_resolution_values.specs.Profile.{profile_of}
 use Rattle.nextest_config_resolution_values.specs.declared.profile_config.ProfileConfig.{ProfileConfig}
 use Rattle.nextest_config_resolution_load.proofs.Tops.{only_some}

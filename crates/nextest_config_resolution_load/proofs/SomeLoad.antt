@@ -4,8 +4,8 @@ use Rattle.std.specs.List.{AllByRecursion, flat_map}
 use Rattle.toml.specs.Data.{Members}
 use Rattle.toml.specs.Parse.{parse_document}
 use Rattle.nextest_config_elements_identifiers.specs.declared.source_kind.ConfigSourceKind.{ConfigSourceKind}
-use Rattle.nextest_config_elements_reading.specs.Reading.{Path, Reading}
-use Rattle.nextest_config_elements_reading.specs.declared.bad_value.BadValue.{BadValue}
+use Rattle.nextest_config_elements_toml.specs.Reading.{Path, Reading}
+use Rattle.nextest_config_elements_toml.specs.declared.bad_value.BadValue.{BadValue}
 use Rattle.nextest_config_resolution_inheritance.proofs.Verdict.{one_verdict}
 use Rattle.nextest_config_resolution_load.specs.Checks.{Check, broken, is_filter, is_spec, inheritance, Refusal, unread, no_toml, bad_value, both_script_tables, feature_not_enabled, bad_name, repeated_script, no_constraint, filter_and_default_filter, bad_spec, bad_rule_filter, bad_merged, unknown_group, unknown_script, unknown_wrapper, inherits_badly, bad_filter, MergedConfig, checks_of, config_in, default_check, default_checks, defined_checks, file_checks, merged_checks, document_checks, document_of, merged_in, no_rules, outcome_checks, rules_in, rules_in_file, rules_of_source, rules_upward, script_rules_upward, source_checks}
 use Rattle.nextest_config_resolution_load.specs.File.{file_in}

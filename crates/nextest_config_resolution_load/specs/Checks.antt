@@ -8,7 +8,7 @@ use Rattle.nextest_config_elements_identifiers.specs.Config.{is_tool}
 use Rattle.nextest_config_elements_identifiers.specs.Parts.{tool_parts}
 use Rattle.nextest_config_elements_identifiers.specs.declared.source_kind.ConfigSourceKind.{ConfigSourceKind}
 use Rattle.nextest_config_elements_identifiers.specs.declared.source_kind.ConfigSourceKind.TheVariants as kinds
-use Rattle.nextest_config_elements_reading.specs.Reading.{Path, Reading, ◌>>=◌}
+use Rattle.nextest_config_elements_toml.specs.Reading.{Path, Reading, ◌>>=◌}
 use Rattle.nextest_config_elements_versions.specs.declared.feature.ConfigExperimental.TheVariants as feature
 use Rattle.nextest_config_elements_versions.specs.declared.feature.FeatureSet.{FeatureSet}
 use Rattle.nextest_config_resolution_inheritance.specs.Inheritance.{Parents}
@@ -16,7 +16,7 @@ use Rattle.nextest_config_resolution_sources.specs.Counting.{counted}
 use Rattle.nextest_config_resolution_sources.specs.declared.source.ConfigSource.{ConfigSource}
 use Rattle.nextest_config_resolution_sources.specs.declared.source.ConfigSourceOutcome.{ConfigSourceOutcome}
 use Rattle.nextest_config_resolution_sources.specs.declared.source.ConfigSourceOutcome.TheVariants as outcome
-use Rattle.nextest_config_resolution_tree.specs.Tree.{over}
+use Rattle.nextest_config_resolution_merge.specs.Tree.{over}
 use Rattle.nextest_config_resolution_overrides.specs.Groups.{groups_at}
 use Rattle.nextest_config_resolution_overrides.specs.declared.groups.NamedGroup.{NamedGroup}
 use Rattle.nextest_config_resolution_overrides.specs.declared.placed_override.PlacedOverride.{PlacedOverride}

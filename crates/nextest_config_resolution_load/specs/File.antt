@@ -3,8 +3,8 @@ use Rattle.std.specs.Prelude.{ℕ, List, [], ◌∷◌, Option, None, Some, Ok, 
 use Rattle.std.specs.Cmp.Lexicographic.{slice_cmp}
 use Rattle.std.specs.Ordering.{match_ordering, nat_cmp}
 use Rattle.toml.specs.Data.{Data, Members, no_members, member, get_member}
-use Rattle.nextest_config_elements_reading.specs.Reading.{Path, Reading, ◌>>=◌, under}
-use Rattle.nextest_config_elements_readers.specs.Keys.{table_by}
+use Rattle.nextest_config_elements_toml.specs.Reading.{Path, Reading, ◌>>=◌, under}
+use Rattle.nextest_config_elements_deserialize.specs.Keys.{table_by}
 use Rattle.nextest_config_elements_versions.specs.Demand.{experimental_in, nextest_version_in}
 use Rattle.nextest_config_resolution_load.specs.declared.file_config.FileConfig.{FileConfig}
 use Rattle.nextest_config_resolution_load.specs.declared.file_config.ProfileRules.{ProfileRules}

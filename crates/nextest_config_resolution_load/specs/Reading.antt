@@ -7,9 +7,9 @@ use Rattle.std.specs.Ordering.{nat_cmp}
 use denote.Ref.{Bor}
 use Rattle.toml.specs.Data.{Data, Members}
 use Rattle.toml.specs.View.{table_view}
-use Rattle.nextest_config_elements_reading.specs.Reading.{Path, Reading, ◌>>=◌, under}
-use Rattle.nextest_config_elements_reading.specs.declared.value_error.ValueError.{ValueError}
-use Rattle.nextest_config_elements_reading.specs.declared.value_error.ValueError.TheVariants as error
+use Rattle.nextest_config_elements_toml.specs.Reading.{Path, Reading, ◌>>=◌, under}
+use Rattle.nextest_config_elements_toml.specs.declared.value_error.ValueError.{ValueError}
+use Rattle.nextest_config_elements_toml.specs.declared.value_error.ValueError.TheVariants as error
 use Rattle.nextest_config_resolution_inheritance.specs.Inheritance.{Rise}
 use Rattle.nextest_config_resolution_load.specs.Checks.{Check, FileRules, must_hold, repeated_script, MergedConfig, bad_merged, config_in, file_of, merged_in, no_toml, parents_of, rules_in, rules_of_source, source_checks, value_checks}
 use Rattle.nextest_config_resolution_load.specs.Files.{members_in, told_in}

@@ -1,6 +1,6 @@
 -- Why sources are refused, and what can be checked of them.
 use Rattle.std.specs.Prelude.{ℕ, Bool, true, false, List, [], ◌∷◌}
-use Rattle.nextest_config_elements_reading.specs.Reading.{Path}
+use Rattle.nextest_config_elements_toml.specs.Reading.{Path}
 use Rattle.nextest_config_resolution_inheritance.specs.Inheritance.{Parents}
 use Rattle.nextest_config_resolution_inheritance.specs.declared.inheritance_fault.InheritanceFault.{InheritanceFault}
 use Rattle.nextest_config_resolution_load.specs.declared.languages.FilterPurpose.{FilterPurpose}

@@ -3,11 +3,11 @@ ghost use Rattle.std.specs.Prelude.{◌≡◌, ◌++◌, [], ◌∷◌, codes};
 ghost use Rattle.std.specs.Cmp.Lexicographic.{slice_cmp};
 ghost use Rattle.std.specs.Ordering.{match_ordering, nat_cmp};
 ghost use Rattle.toml.specs.View.{table_view, view};
-ghost use Rattle.nextest_config_elements_reading.specs.Paths.{Gives};
-ghost use Rattle.nextest_config_elements_reading.specs.Reading.{Path};
+ghost use Rattle.nextest_config_elements_toml.specs.Paths.{Gives};
+ghost use Rattle.nextest_config_elements_toml.specs.Reading.{Path};
 ghost use Rattle.nextest_config_resolution_load.specs.Reading.{refused_values, third};
-ghost use Rattle.nextest_config_elements_readers.specs.Keys.{table_by};
-ghost use Rattle.nextest_config_elements_readers.specs.Paths.{GivesAt, profile_path};
+ghost use Rattle.nextest_config_elements_deserialize.specs.Keys.{table_by};
+ghost use Rattle.nextest_config_elements_deserialize.specs.Paths.{GivesAt, profile_path};
 ghost use Rattle.nextest_config_elements_versions.specs.Demand as demand;
 ghost use Rattle.nextest_config_resolution_load.specs.File.{by_keys, checked, file_in, profiles_at_file, profiles_in_file, rules_in_profile, rules_in_table, rules_of_profile};
 ghost use Rattle.nextest_config_resolution_overrides.specs.Groups.{groups_at};
@@ -15,8 +15,8 @@ ghost use Rattle.nextest_config_resolution_scripts.specs.Scripts.{old_scripts_at
 ghost use Rattle.nextest_config_resolution_values.specs.File.{store_dir_at};
 
 use crate::file_config::{FileConfig, ProfileRules};
-use nextest_config_elements_readers::member;
-use nextest_config_elements_reading::{BadValue, ValueError, refused};
+use nextest_config_elements_deserialize::member;
+use nextest_config_elements_toml::{BadValue, ValueError, refused};
 use nextest_config_elements_versions::{deserialize_experimental, deserialize_nextest_version};
 use nextest_config_resolution_overrides::{
     NamedGroup, OverrideConfig, deserialize_overrides, deserialize_test_groups,

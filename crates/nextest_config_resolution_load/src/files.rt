@@ -19,7 +19,7 @@ use crate::placed_file::{PlacedFile, ReadFile, ReadFiles, SourceRules};
 use crate::profile_rules::load_profiles;
 use crate::refusing::{bad_value, no_toml, unread};
 use nextest_config_elements_identifiers::ConfigSourceKind;
-use nextest_config_elements_reading::ValueError;
+use nextest_config_elements_toml::ValueError;
 use nextest_config_elements_versions::FeatureSet;
 use nextest_config_resolution_sources::{ConfigSource, ConfigSourceOutcome};
 use nextest_text::{Listing, Text};

@@ -4,7 +4,7 @@ ghost use Rattle.nextest_config_resolution_load.specs.Kinds.{kind_of};
 
 use crate::languages::FilterPurpose;
 use crate::rule_id::RuleId;
-use nextest_config_elements_reading::BadValue;
+use nextest_config_elements_toml::BadValue;
 use nextest_config_elements_versions::ConfigExperimental;
 use nextest_config_resolution_inheritance::InheritanceFault;
 use nextest_config_resolution_overrides::OverrideId;

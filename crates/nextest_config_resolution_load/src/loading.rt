@@ -22,7 +22,7 @@ use crate::named_scripts::check_scripts;
 use crate::placed_file::{PlacedFile, ReadSources, SourceRules};
 use crate::reading::read_config;
 use crate::telling::tell_files;
-use nextest_config_elements_reading::ValueError;
+use nextest_config_elements_toml::ValueError;
 use nextest_config_elements_versions::FeatureSet;
 use nextest_config_resolution_inheritance::{InheritanceError, check_inheritance};
 use nextest_config_resolution_scripts::ScriptType;

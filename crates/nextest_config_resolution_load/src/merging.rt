@@ -2,13 +2,13 @@
 ghost use Rattle.std.specs.Prelude.{◌≡◌, codes, map, IfOk, option_map};
 ghost use Rattle.toml.specs.Data.{get_member, member, no_members, table};
 ghost use Rattle.toml.specs.View.{table_view, view};
-ghost use Rattle.nextest_config_resolution_tree.specs.Whole.{IsTree};
+ghost use Rattle.nextest_config_resolution_merge.specs.Whole.{IsTree};
 ghost use Rattle.nextest_config_resolution_load.specs.Checks.{as_setup, moved, raised};
 ghost use Rattle.nextest_config_resolution_load.specs.Files.{layered_in, members_in};
 
 use crate::placed_file::PlacedFile;
-use nextest_config_elements_readers::member;
-use nextest_config_resolution_tree::MergedTree;
+use nextest_config_elements_deserialize::member;
+use nextest_config_resolution_merge::MergedTree;
 use std::alloc::{AllocError, Global};
 use toml::{Table, Value};
 

@@ -2,22 +2,22 @@
 ghost use Rattle.std.specs.Prelude.{◌≡◌, [], ◌∷◌, codes, map, option_map, Some};
 ghost use Rattle.toml.specs.Data.{Data, table, Members};
 ghost use Rattle.toml.specs.View.{table_view, view};
-ghost use Rattle.nextest_config_elements_reading.specs.Reading.{under};
+ghost use Rattle.nextest_config_elements_toml.specs.Reading.{under};
 ghost use Rattle.nextest_config_resolution_overrides.specs.Groups.{groups_at};
 ghost use Rattle.nextest_config_resolution_scripts.specs.Scripts.{scripts_at};
-ghost use Rattle.nextest_config_resolution_tree.specs.Tree.{get_path, keys, keys_in};
-ghost use Rattle.nextest_config_resolution_tree.specs.Whole.{IsTree};
+ghost use Rattle.nextest_config_resolution_merge.specs.Tree.{get_path, keys, keys_in};
+ghost use Rattle.nextest_config_resolution_merge.specs.Whole.{IsTree};
 ghost use Rattle.nextest_config_resolution_values.specs.File.{profiles_at, profiles_in, profiles_of, store_dir_at};
-ghost use Rattle.nextest_config_elements_readers.specs.Paths.{profile_path};
+ghost use Rattle.nextest_config_elements_deserialize.specs.Paths.{profile_path};
 ghost use Rattle.nextest_config_resolution_load.specs.Checks.{config_in};
 ghost use Rattle.nextest_config_resolution_load.specs.Load.{named};
 ghost use Rattle.nextest_config_resolution_load.specs.Reading.{GivesSeen, profile_at, values_of};
 
 use crate::loaded_config::{NamedProfile, ReadConfig};
-use nextest_config_elements_reading::{ValueError, refused};
+use nextest_config_elements_toml::{ValueError, refused};
+use nextest_config_resolution_merge::MergedTree;
 use nextest_config_resolution_overrides::{NamedGroup, deserialize_test_groups};
 use nextest_config_resolution_scripts::{ScriptConfig, deserialize_scripts};
-use nextest_config_resolution_tree::MergedTree;
 use nextest_config_resolution_values::{deserialize_profile_value, deserialize_store_dir};
 use nextest_text::{Listing, Text};
 use std::alloc::Global;

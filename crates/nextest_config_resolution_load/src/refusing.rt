@@ -8,7 +8,7 @@ use crate::languages::FilterPurpose;
 use crate::load_error::LoadError;
 use crate::load_fault::{LoadFault, PlatformSide};
 use crate::rule_id::RuleRef;
-use nextest_config_elements_reading::BadValue;
+use nextest_config_elements_toml::BadValue;
 use nextest_config_elements_versions::ConfigExperimental;
 use nextest_config_resolution_overrides::OverrideId;
 use nextest_config_resolution_scripts::ScriptRuleId;

@@ -1,8 +1,8 @@
 -- Which tables are overrides.
 use Rattle.std.proofs.Common.{◌≡◌, Ok, ◌∙◌, subst}
 use Rattle.toml.specs.Data.{Members}
-use Rattle.nextest_config_elements_reading.specs.Reading.{Reading, ◌>>=◌}
-use Rattle.nextest_config_elements_readers.proofs.Keys.{taken, step}
+use Rattle.nextest_config_elements_toml.specs.Reading.{Reading, ◌>>=◌}
+use Rattle.nextest_config_elements_deserialize.proofs.Keys.{taken, step}
 use Rattle.nextest_config_resolution_overrides.proofs.KeyLaws.{IsFirst, IsSecond, IsLast, read_first, first_read, read_second, second_read, read_last, last_read}
 use Rattle.nextest_config_resolution_overrides.specs.Accepted.{IsOverride}
 use Rattle.nextest_config_resolution_overrides.specs.Laws.{AcceptedOverride}

@@ -2,27 +2,27 @@
 use Rattle.std.proofs.Common.{◌≡◌, ℕ, ℤ, List, Option, Ok, ◌∙◌, subst}
 use Rattle.std.specs.Prelude.{codes}
 use Rattle.toml.specs.Data.{Data, Members, as_str}
-use Rattle.nextest_config_elements_counts.specs.declared.retries.RetryPolicy.{RetryPolicy}
-use Rattle.nextest_config_elements_counts.specs.declared.threads.ThreadsRequired.{ThreadsRequired}
-use Rattle.nextest_config_elements_counts.specs.declared.timeouts.LeakTimeout.{LeakTimeout}
-use Rattle.nextest_config_elements_counts.specs.declared.timeouts.SlowTimeout.{SlowTimeout}
+use Rattle.nextest_config_elements_values.specs.declared.retries.RetryPolicy.{RetryPolicy}
+use Rattle.nextest_config_elements_values.specs.declared.threads.ThreadsRequired.{ThreadsRequired}
+use Rattle.nextest_config_elements_values.specs.declared.timeouts.LeakTimeout.{LeakTimeout}
+use Rattle.nextest_config_elements_values.specs.declared.timeouts.SlowTimeout.{SlowTimeout}
 use Rattle.nextest_config_elements_identifiers.specs.declared.test_group.TestGroup.{TestGroup}
-use Rattle.nextest_config_elements_plain.specs.declared.output_display.TestOutputDisplay.{TestOutputDisplay}
-use Rattle.nextest_config_elements_plain.specs.declared.timeouts.FlakyResult.{FlakyResult}
-use Rattle.nextest_config_elements_reading.specs.Reading.{Reading, ◌>>=◌, optional}
-use Rattle.nextest_config_elements_readers.proofs.Keys.{taken, step, optional_has, has_optional}
-use Rattle.nextest_config_elements_readers.proofs.Policies.{accepted_policy}
-use Rattle.nextest_config_elements_readers.proofs.Slow.{accepted_slow_timeout}
-use Rattle.nextest_config_elements_readers.specs.Accepted.{MayHave, IsRetryPolicy, IsSlowTimeout}
-use Rattle.nextest_config_elements_readers.specs.Names.{group, test_group_in}
-use Rattle.nextest_config_elements_readers.specs.Priority.{priority}
-use Rattle.nextest_config_elements_readers.specs.Retries.{retry_policy_in}
-use Rattle.nextest_config_elements_readers.specs.Threads.{threads_required}
-use Rattle.nextest_config_elements_readers.specs.Timeouts.{leak_timeout_in, slow_timeout_in}
-use Rattle.nextest_config_elements_readers.specs.Words.{flaky_result, output_display}
-use Rattle.nextest_config_elements_readers.proofs.Parts.{by_has, has_by, read_so, so_read, table_is, is_table}
-use Rattle.nextest_config_elements_readers.specs.Tables.{MayBe, Reads, IsTable}
-use Rattle.nextest_config_elements_readers.specs.Keys.{optional_by, table_by, texts_of}
+use Rattle.nextest_config_elements_choices.specs.declared.output_display.TestOutputDisplay.{TestOutputDisplay}
+use Rattle.nextest_config_elements_choices.specs.declared.timeouts.FlakyResult.{FlakyResult}
+use Rattle.nextest_config_elements_toml.specs.Reading.{Reading, ◌>>=◌, optional}
+use Rattle.nextest_config_elements_deserialize.proofs.Keys.{taken, step, optional_has, has_optional}
+use Rattle.nextest_config_elements_deserialize.proofs.Policies.{accepted_policy}
+use Rattle.nextest_config_elements_deserialize.proofs.Slow.{accepted_slow_timeout}
+use Rattle.nextest_config_elements_deserialize.specs.Accepted.{MayHave, IsRetryPolicy, IsSlowTimeout}
+use Rattle.nextest_config_elements_deserialize.specs.Names.{group, test_group_in}
+use Rattle.nextest_config_elements_deserialize.specs.Priority.{priority}
+use Rattle.nextest_config_elements_deserialize.specs.Retries.{retry_policy_in}
+use Rattle.nextest_config_elements_deserialize.specs.Threads.{threads_required}
+use Rattle.nextest_config_elements_deserialize.specs.Timeouts.{leak_timeout_in, slow_timeout_in}
+use Rattle.nextest_config_elements_deserialize.specs.Words.{flaky_result, output_display}
+use Rattle.nextest_config_elements_deserialize.proofs.Parts.{by_has, has_by, read_so, so_read, table_is, is_table}
+use Rattle.nextest_config_elements_deserialize.specs.Tables.{MayBe, Reads, IsTable}
+use Rattle.nextest_config_elements_deserialize.specs.Keys.{optional_by, table_by, texts_of}
 use Rattle.nextest_config_resolution_overrides.proofs.TableLaws.{bench_has, has_bench, platforms_is, is_platforms, read_junit, junit_read}
 use Rattle.nextest_config_resolution_overrides.specs.Accepted.{IsJunit, IsPlatforms, MayHaveBench}
 use Rattle.nextest_config_resolution_overrides.specs.Overrides.{args_to_threads, bench_at, bench_to_flaky, junit_in, junit_to_retries, platforms_of}

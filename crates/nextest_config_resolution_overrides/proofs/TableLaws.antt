@@ -2,17 +2,17 @@
 use Rattle.std.proofs.Common.{◌≡◌, ℕ, Bool, List, Option, None, Some, Ok, Err, refl, sym, ap, ◌∙◌, subst, inl, inr}
 use Rattle.std.specs.Prelude.{codes}
 use Rattle.toml.specs.Data.{Data, string, integer, float, boolean, datetime, array, table, Members, as_str, get_member}
-use Rattle.nextest_config_elements_counts.specs.declared.junit.JunitFlakyFailStatus.{JunitFlakyFailStatus}
-use Rattle.nextest_config_elements_counts.specs.declared.junit.ReportSkipPolicy.{ReportSkipPolicy}
-use Rattle.nextest_config_elements_counts.specs.declared.timeouts.SlowTimeout.{SlowTimeout}
-use Rattle.nextest_config_elements_reading.specs.Reading.{Reading, ◌>>=◌, optional, under}
-use Rattle.nextest_config_elements_readers.proofs.Keys.{taken, step, optional_has, has_optional}
-use Rattle.nextest_config_elements_readers.proofs.Slow.{accepted_slow_timeout}
-use Rattle.nextest_config_elements_readers.specs.Accepted.{IsSlowTimeout}
-use Rattle.nextest_config_elements_readers.specs.Junit.{report_skip_policy, flaky_fail_status}
-use Rattle.nextest_config_elements_readers.specs.Timeouts.{slow_timeout_in}
-use Rattle.nextest_config_elements_readers.specs.Values.{truth}
-use Rattle.nextest_config_elements_readers.proofs.Parts.{by_has, has_by}
+use Rattle.nextest_config_elements_values.specs.declared.junit.JunitFlakyFailStatus.{JunitFlakyFailStatus}
+use Rattle.nextest_config_elements_values.specs.declared.junit.ReportSkipPolicy.{ReportSkipPolicy}
+use Rattle.nextest_config_elements_values.specs.declared.timeouts.SlowTimeout.{SlowTimeout}
+use Rattle.nextest_config_elements_toml.specs.Reading.{Reading, ◌>>=◌, optional, under}
+use Rattle.nextest_config_elements_deserialize.proofs.Keys.{taken, step, optional_has, has_optional}
+use Rattle.nextest_config_elements_deserialize.proofs.Slow.{accepted_slow_timeout}
+use Rattle.nextest_config_elements_deserialize.specs.Accepted.{IsSlowTimeout}
+use Rattle.nextest_config_elements_deserialize.specs.Junit.{report_skip_policy, flaky_fail_status}
+use Rattle.nextest_config_elements_deserialize.specs.Timeouts.{slow_timeout_in}
+use Rattle.nextest_config_elements_deserialize.specs.Values.{truth}
+use Rattle.nextest_config_elements_deserialize.proofs.Parts.{by_has, has_by}
 use Rattle.nextest_config_resolution_overrides.specs.Accepted.{IsJunit, IsPlatforms, IsPlatformTable, MayHaveBench, only_target}
 use Rattle.nextest_config_resolution_overrides.specs.Overrides.{bench_at, bench_in, bench_of, junit_in, platforms_in, platforms_of}
 use Rattle.nextest_config_resolution_overrides.specs.declared.junit.OverrideJunit.{OverrideJunit}

@@ -1,17 +1,17 @@
 -- Which tables are overrides, key by key and in no order.
 use Rattle.std.specs.Prelude.{◌≡◌, ◌⊎◌, ℕ, List, codes, Option, None, Some}
 use Rattle.toml.specs.Data.{Data, string, table, Members, as_str, get_member}
-use Rattle.nextest_config_elements_counts.specs.declared.timeouts.SlowTimeout.{SlowTimeout}
-use Rattle.nextest_config_elements_readers.specs.Accepted.{IsLeftOut, MayHave, IsRetryPolicy, IsSlowTimeout}
-use Rattle.nextest_config_elements_readers.specs.Junit.{report_skip_policy, flaky_fail_status}
-use Rattle.nextest_config_elements_readers.specs.Names.{group}
-use Rattle.nextest_config_elements_readers.specs.Priority.{priority}
-use Rattle.nextest_config_elements_readers.specs.Threads.{threads_required}
-use Rattle.nextest_config_elements_readers.specs.Timeouts.{leak_timeout_in}
-use Rattle.nextest_config_elements_readers.specs.Values.{truth}
-use Rattle.nextest_config_elements_readers.specs.Words.{flaky_result, output_display}
-use Rattle.nextest_config_elements_readers.specs.Tables.{IsTable, MayBe, Reads}
-use Rattle.nextest_config_elements_readers.specs.Keys.{texts_of}
+use Rattle.nextest_config_elements_values.specs.declared.timeouts.SlowTimeout.{SlowTimeout}
+use Rattle.nextest_config_elements_deserialize.specs.Accepted.{IsLeftOut, MayHave, IsRetryPolicy, IsSlowTimeout}
+use Rattle.nextest_config_elements_deserialize.specs.Junit.{report_skip_policy, flaky_fail_status}
+use Rattle.nextest_config_elements_deserialize.specs.Names.{group}
+use Rattle.nextest_config_elements_deserialize.specs.Priority.{priority}
+use Rattle.nextest_config_elements_deserialize.specs.Threads.{threads_required}
+use Rattle.nextest_config_elements_deserialize.specs.Timeouts.{leak_timeout_in}
+use Rattle.nextest_config_elements_deserialize.specs.Values.{truth}
+use Rattle.nextest_config_elements_deserialize.specs.Words.{flaky_result, output_display}
+use Rattle.nextest_config_elements_deserialize.specs.Tables.{IsTable, MayBe, Reads}
+use Rattle.nextest_config_elements_deserialize.specs.Keys.{texts_of}
 use Rattle.nextest_config_resolution_overrides.specs.declared.junit.OverrideJunit.{OverrideJunit}
 use Rattle.nextest_config_resolution_overrides.specs.declared.override_config.OverrideConfig.{OverrideConfig}
 use Rattle.nextest_config_resolution_overrides.specs.declared.platforms.OverridePlatforms.{OverridePlatforms}

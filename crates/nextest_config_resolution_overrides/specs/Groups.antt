@@ -3,10 +3,10 @@ use Rattle.std.specs.Prelude.{ℕ, List, [], ◌∷◌, Option, None, Some, Resu
 use Rattle.toml.specs.Data.{Data, Members, no_members, member, get_member}
 use Rattle.nextest_config_elements_identifiers.specs.Config.{identifier}
 use Rattle.nextest_config_elements_identifiers.specs.declared.invalid_identifier.InvalidIdentifier.{InvalidIdentifier}
-use Rattle.nextest_config_elements_reading.specs.Reading.{Path, Reading, ◌>>=◌, under}
-use Rattle.nextest_config_elements_readers.specs.Threads.{test_group_config_in}
+use Rattle.nextest_config_elements_toml.specs.Reading.{Path, Reading, ◌>>=◌, under}
+use Rattle.nextest_config_elements_deserialize.specs.Threads.{test_group_config_in}
 use Rattle.nextest_config_resolution_overrides.specs.declared.groups.NamedGroup.{NamedGroup}
-use Rattle.nextest_config_elements_readers.specs.Keys.{table_by}
+use Rattle.nextest_config_elements_deserialize.specs.Keys.{table_by}
 
 -- where the groups stand
 abbrev pub groups_path : Path

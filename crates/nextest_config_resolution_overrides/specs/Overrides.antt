@@ -1,23 +1,23 @@
 -- The overrides of a profile, as a file says them. Each key may be left out; other keys are read past.
 use Rattle.std.specs.Prelude.{ℕ, ◌+◌, List, [], ◌∷◌, Option, None, Some, Ok, Err, codes, decimal}
 use Rattle.toml.specs.Data.{Data, string, array, table, Items, no_items, item, Members, as_str, get_member}
-use Rattle.nextest_config_elements_counts.specs.declared.timeouts.SlowTimeout.{SlowTimeout}
-use Rattle.nextest_config_elements_reading.specs.Reading.{Reading, ◌>>=◌, optional, under}
-use Rattle.nextest_config_elements_readers.specs.Junit.{report_skip_policy, flaky_fail_status}
-use Rattle.nextest_config_elements_readers.specs.Names.{test_group_in}
-use Rattle.nextest_config_elements_readers.specs.Priority.{priority}
-use Rattle.nextest_config_elements_readers.specs.Retries.{retry_policy_in}
-use Rattle.nextest_config_elements_readers.specs.Threads.{threads_required}
-use Rattle.nextest_config_elements_readers.specs.Timeouts.{leak_timeout_in, slow_timeout_in}
-use Rattle.nextest_config_elements_readers.specs.Values.{truth}
-use Rattle.nextest_config_elements_readers.specs.Words.{flaky_result, output_display}
+use Rattle.nextest_config_elements_values.specs.declared.timeouts.SlowTimeout.{SlowTimeout}
+use Rattle.nextest_config_elements_toml.specs.Reading.{Reading, ◌>>=◌, optional, under}
+use Rattle.nextest_config_elements_deserialize.specs.Junit.{report_skip_policy, flaky_fail_status}
+use Rattle.nextest_config_elements_deserialize.specs.Names.{test_group_in}
+use Rattle.nextest_config_elements_deserialize.specs.Priority.{priority}
+use Rattle.nextest_config_elements_deserialize.specs.Retries.{retry_policy_in}
+use Rattle.nextest_config_elements_deserialize.specs.Threads.{threads_required}
+use Rattle.nextest_config_elements_deserialize.specs.Timeouts.{leak_timeout_in, slow_timeout_in}
+use Rattle.nextest_config_elements_deserialize.specs.Values.{truth}
+use Rattle.nextest_config_elements_deserialize.specs.Words.{flaky_result, output_display}
 use Rattle.nextest_config_resolution_overrides.specs.declared.junit.OverrideJunit.{OverrideJunit}
 use Rattle.nextest_config_resolution_overrides.specs.declared.override_config.OverrideConfig.{OverrideConfig}
 use Rattle.nextest_config_resolution_overrides.specs.declared.platforms.OverridePlatforms.{OverridePlatforms}
 use Rattle.nextest_config_resolution_overrides.specs.declared.spans.ArgsToThreads.{ArgsToThreads}
 use Rattle.nextest_config_resolution_overrides.specs.declared.spans.BenchToFlaky.{BenchToFlaky}
 use Rattle.nextest_config_resolution_overrides.specs.declared.spans.JunitToRetries.{JunitToRetries}
-use Rattle.nextest_config_elements_readers.specs.Keys.{optional_by, table_by, texts_of}
+use Rattle.nextest_config_elements_deserialize.specs.Keys.{optional_by, table_by, texts_of}
 
 -- `bench`: when a benchmark is slow
 abbrev pub bench_in : Members → Reading (Option SlowTimeout)

@@ -1,6 +1,6 @@
 -- Where the overrides of a profile stand.
 use Rattle.std.specs.Prelude.{ℕ, List, [], ◌∷◌, codes}
-use Rattle.nextest_config_elements_reading.specs.Reading.{Path}
+use Rattle.nextest_config_elements_toml.specs.Reading.{Path}
 
 -- where the list stands
 abbrev pub overrides_path : List ℕ → Path

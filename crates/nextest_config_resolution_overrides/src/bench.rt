@@ -3,11 +3,11 @@ ghost use Rattle.std.specs.Prelude.{option_map};
 ghost use Rattle.toml.specs.View.{table_view, view};
 ghost use Rattle.nextest_config_resolution_overrides.specs.Overrides.{bench_at, bench_in, bench_of};
 ghost use Rattle.nextest_config_resolution_overrides.specs.Paths.{bench_path, override_path};
-ghost use Rattle.nextest_config_elements_readers.specs.Paths.{GivesAt};
+ghost use Rattle.nextest_config_elements_deserialize.specs.Paths.{GivesAt};
 
-use nextest_config_elements_counts::SlowTimeout;
-use nextest_config_elements_readers::{deserialize_slow_timeout, member};
-use nextest_config_elements_reading::{ValueError, refused};
+use nextest_config_elements_deserialize::{deserialize_slow_timeout, member};
+use nextest_config_elements_toml::{ValueError, refused};
+use nextest_config_elements_values::SlowTimeout;
 use std::alloc::Global;
 use toml::{Table, Value};
 

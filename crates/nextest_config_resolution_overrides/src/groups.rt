@@ -3,12 +3,12 @@ ghost use Rattle.std.specs.Prelude.{◌≡◌, IfOk, option_map};
 ghost use Rattle.toml.specs.View.{table_view, view};
 ghost use Rattle.nextest_config_elements_identifiers.specs.Config.{identifier};
 ghost use Rattle.nextest_config_resolution_overrides.specs.Groups.{group_of, group_path, groups_in, groups_of, groups_path, named};
-ghost use Rattle.nextest_config_elements_readers.specs.Paths.{GivesAt};
+ghost use Rattle.nextest_config_elements_deserialize.specs.Paths.{GivesAt};
 
-use nextest_config_elements_counts::TestGroupConfig;
+use nextest_config_elements_deserialize::deserialize_test_group_config;
 use nextest_config_elements_identifiers::{CustomTestGroup, InvalidIdentifier};
-use nextest_config_elements_readers::deserialize_test_group_config;
-use nextest_config_elements_reading::{BadValue, KeyPath, ValueError, refused};
+use nextest_config_elements_toml::{BadValue, KeyPath, ValueError, refused};
+use nextest_config_elements_values::TestGroupConfig;
 use nextest_text::{Listing, Text};
 use std::alloc::{AllocError, Global};
 use toml::{Table, Value};

@@ -1,11 +1,11 @@
 // What the report in JUnit's form says of a test.
 ghost use Rattle.toml.specs.View.{table_view};
-ghost use Rattle.nextest_config_elements_reading.specs.Paths.{Gives};
+ghost use Rattle.nextest_config_elements_toml.specs.Paths.{Gives};
 ghost use Rattle.nextest_config_resolution_overrides.specs.Overrides.{junit_in};
 
-use nextest_config_elements_counts::{JunitFlakyFailStatus, ReportSkipPolicy};
-use nextest_config_elements_readers::{Any, optional};
-use nextest_config_elements_reading::ValueError;
+use nextest_config_elements_deserialize::{Any, optional};
+use nextest_config_elements_toml::ValueError;
+use nextest_config_elements_values::{JunitFlakyFailStatus, ReportSkipPolicy};
 use std::alloc::Global;
 use toml::Table;
 

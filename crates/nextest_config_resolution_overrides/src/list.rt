@@ -1,18 +1,18 @@
 // The overrides of a profile.
 ghost use Rattle.std.specs.Prelude.{◌≡◌, decimal, option_map};
 ghost use Rattle.toml.specs.View.{items_view, table_view, view};
-ghost use Rattle.nextest_config_elements_reading.specs.Reading.{under};
+ghost use Rattle.nextest_config_elements_toml.specs.Reading.{under};
 ghost use Rattle.nextest_config_resolution_overrides.specs.Overrides.{config_of, override_in, overrides_at, overrides_in, overrides_of};
 ghost use Rattle.nextest_config_resolution_overrides.specs.Paths.{override_path, overrides_path};
-ghost use Rattle.nextest_config_elements_readers.specs.Keys.{table_by};
-ghost use Rattle.nextest_config_elements_readers.specs.Paths.{GivesAt, profile_path};
+ghost use Rattle.nextest_config_elements_deserialize.specs.Keys.{table_by};
+ghost use Rattle.nextest_config_elements_deserialize.specs.Paths.{GivesAt, profile_path};
 
 use crate::override_config::OverrideConfig;
 use crate::spans::{
     ArgsToThreads, BenchToFlaky, JunitToRetries, args_to_threads, bench_to_flaky, junit_to_retries,
 };
-use nextest_config_elements_readers::member;
-use nextest_config_elements_reading::{ValueError, refused};
+use nextest_config_elements_deserialize::member;
+use nextest_config_elements_toml::{ValueError, refused};
 use nextest_text::Listing;
 use std::alloc::Global;
 use toml::{Table, Value};

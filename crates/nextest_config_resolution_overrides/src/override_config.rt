@@ -1,11 +1,11 @@
 // The values of an override.
 use crate::junit::OverrideJunit;
 use crate::platforms::OverridePlatforms;
-use nextest_config_elements_counts::{
+use nextest_config_elements_choices::{FlakyResult, TestOutputDisplay};
+use nextest_config_elements_identifiers::TestGroup;
+use nextest_config_elements_values::{
     LeakTimeout, RetryPolicy, SlowTimeout, TestPriority, ThreadsRequired,
 };
-use nextest_config_elements_identifiers::TestGroup;
-use nextest_config_elements_plain::{FlakyResult, TestOutputDisplay};
 use nextest_text::{Listing, Text};
 
 /// The values of an override, as its table has them: on which tests it holds, and what is set for these. Each is `None`

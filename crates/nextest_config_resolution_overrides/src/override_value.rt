@@ -2,13 +2,13 @@
 ghost use Rattle.toml.specs.View.{table_view, view};
 ghost use Rattle.nextest_config_resolution_overrides.specs.Overrides.{junit_in, platforms_of};
 ghost use Rattle.nextest_config_resolution_overrides.specs.Paths.{override_path};
-ghost use Rattle.nextest_config_elements_readers.specs.Keys.{optional_by, table_by};
-ghost use Rattle.nextest_config_elements_readers.specs.Paths.{GivesAt};
+ghost use Rattle.nextest_config_elements_deserialize.specs.Keys.{optional_by, table_by};
+ghost use Rattle.nextest_config_elements_deserialize.specs.Paths.{GivesAt};
 
 use crate::junit::{OverrideJunit, junit_in};
 use crate::platforms::{OverridePlatforms, platforms_of};
-use nextest_config_elements_readers::{DeserializeValue, member};
-use nextest_config_elements_reading::{ValueError, refused};
+use nextest_config_elements_deserialize::{DeserializeValue, member};
+use nextest_config_elements_toml::{ValueError, refused};
 use std::alloc::Global;
 use toml::{Table, Value};
 

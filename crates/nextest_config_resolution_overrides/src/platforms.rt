@@ -1,10 +1,10 @@
 // The platforms on which an override holds.
 ghost use Rattle.toml.specs.View.{table_view, view};
-ghost use Rattle.nextest_config_elements_reading.specs.Paths.{Gives};
+ghost use Rattle.nextest_config_elements_toml.specs.Paths.{Gives};
 ghost use Rattle.nextest_config_resolution_overrides.specs.Overrides.{platforms_in, platforms_of};
 
-use nextest_config_elements_readers::optional_text;
-use nextest_config_elements_reading::{ValueError, refused};
+use nextest_config_elements_deserialize::optional_text;
+use nextest_config_elements_toml::{ValueError, refused};
 use nextest_text::Text;
 use std::alloc::Global;
 use toml::{Table, Value};

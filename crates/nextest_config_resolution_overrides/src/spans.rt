@@ -2,19 +2,19 @@
 ghost use Rattle.toml.specs.View.{table_view};
 ghost use Rattle.nextest_config_resolution_overrides.specs.Overrides as read;
 ghost use Rattle.nextest_config_resolution_overrides.specs.Paths.{override_path};
-ghost use Rattle.nextest_config_elements_readers.specs.Paths.{GivesAt};
+ghost use Rattle.nextest_config_elements_deserialize.specs.Paths.{GivesAt};
 
 use crate::bench::bench_at;
 use crate::junit::OverrideJunit;
 use crate::override_value::optional_value;
 use crate::platforms::OverridePlatforms;
-use nextest_config_elements_counts::{
+use nextest_config_elements_choices::{FlakyResult, TestOutputDisplay};
+use nextest_config_elements_deserialize::{Any, optional, optional_text};
+use nextest_config_elements_identifiers::TestGroup;
+use nextest_config_elements_toml::ValueError;
+use nextest_config_elements_values::{
     LeakTimeout, RetryPolicy, SlowTimeout, TestPriority, ThreadsRequired,
 };
-use nextest_config_elements_identifiers::TestGroup;
-use nextest_config_elements_plain::{FlakyResult, TestOutputDisplay};
-use nextest_config_elements_readers::{Any, optional, optional_text};
-use nextest_config_elements_reading::ValueError;
 use nextest_text::{Listing, Text};
 use std::alloc::Global;
 use toml::Table;

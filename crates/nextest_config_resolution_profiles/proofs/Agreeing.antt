@@ -12,7 +12,7 @@ use Rattle.toml.specs.Data.{Data, table, Members, no_members, member, get_member
 use Rattle.toml.specs.Parse.{parse_document}
 use Rattle.nextest_config_elements_identifiers.specs.declared.source_kind.ConfigSourceKind.{ConfigSourceKind}
 use Rattle.nextest_config_elements_identifiers.specs.declared.source_kind.ConfigSourceKind.TheVariants as kinds
-use Rattle.nextest_config_elements_reading.specs.Reading.{Reading, ◌>>=◌, under}
+use Rattle.nextest_config_elements_toml.specs.Reading.{Reading, ◌>>=◌, under}
 use Rattle.nextest_config_elements_versions.specs.declared.feature.FeatureSet.{FeatureSet}
 use Rattle.nextest_config_resolution_inheritance.specs.Inheritance.{Name}
 use Rattle.nextest_config_resolution_load.specs.Checks.{as_setup, document_checks, document_of, file_checks, file_of, layered, members_of, moved, outcome_checks, raised, source_checks}
@@ -24,11 +24,11 @@ use Rattle.nextest_config_resolution_sources.specs.Counting.{class_of, counted, 
 use Rattle.nextest_config_resolution_sources.specs.declared.source.ConfigSource.{ConfigSource}
 use Rattle.nextest_config_resolution_sources.specs.declared.source.ConfigSourceOutcome.{ConfigSourceOutcome}
 use Rattle.nextest_config_resolution_sources.specs.declared.source.ConfigSourceOutcome.TheVariants as outcome
-use Rattle.nextest_config_resolution_tree.specs.Nesting.{inside}
-use Rattle.nextest_config_resolution_tree.specs.Tree.{merge}
-use Rattle.nextest_config_resolution_tree.proofs.Joined.{over_none}
-use Rattle.nextest_config_resolution_tree.proofs.Keys.{equal_keys, key_cmp}
-use Rattle.nextest_config_resolution_tree.proofs.Standings.{get_merge, joint}
+use Rattle.nextest_config_resolution_merge.specs.Nesting.{inside}
+use Rattle.nextest_config_resolution_merge.specs.Tree.{merge}
+use Rattle.nextest_config_resolution_merge.proofs.Joined.{over_none}
+use Rattle.nextest_config_resolution_merge.proofs.Keys.{equal_keys, key_cmp}
+use Rattle.nextest_config_resolution_merge.proofs.Standings.{get_merge, joint}
 use Rattle.nextest_config_resolution_values.specs.File.{Named, profiles_in}
 use Rattle.nextest_config_resolution_values.specs.Profile.{profile_of}
 use Rattle.nextest_config_resolution_values.specs.declared.profile_config.ProfileConfig.{ProfileConfig}

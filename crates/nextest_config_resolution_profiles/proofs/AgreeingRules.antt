@@ -6,8 +6,8 @@ use Rattle.std.proofs.lemmas.Bool.{false≢true}
 use Rattle.std.proofs.lemmas.List.Elements.{All-contains_itself, filter-append, recursion_from_All}
 use Rattle.std.proofs.lemmas.Slice.Eq.{bytes_eq-Decides}
 use Rattle.toml.specs.Data.{Data, Members, no_members, member, get_member}
-use Rattle.nextest_config_elements_readers.specs.Keys.{table_by}
-use Rattle.nextest_config_elements_reading.specs.Reading.{Reading, ◌>>=◌, under}
+use Rattle.nextest_config_elements_deserialize.specs.Keys.{table_by}
+use Rattle.nextest_config_elements_toml.specs.Reading.{Reading, ◌>>=◌, under}
 use Rattle.nextest_config_elements_versions.specs.Demand.{experimental_in, nextest_version_in}
 use Rattle.nextest_config_resolution_inheritance.specs.Inheritance.{Name}
 use Rattle.nextest_config_resolution_load.specs.Checks.{FileRules, file_of, rules_in, rules_in_file, rules_of_source}
@@ -24,7 +24,7 @@ use Rattle.nextest_config_resolution_scripts.specs.declared.script_rule.ScriptRu
 use Rattle.nextest_config_resolution_scripts.specs.declared.setup_script.SetupScriptConfig.{SetupScriptConfig}
 use Rattle.nextest_config_resolution_settings.specs.Rules.{is_of_profile, rules_of}
 use Rattle.nextest_config_resolution_sources.specs.declared.source.ConfigSource.{ConfigSource}
-use Rattle.nextest_config_resolution_tree.specs.Nesting.{inside}
+use Rattle.nextest_config_resolution_merge.specs.Nesting.{inside}
 use Rattle.nextest_config_resolution_values.specs.File.{store_dir_at}
 use Rattle.nextest_config_resolution_profiles.specs.Agreeing.{FilesAgree, SourceAgrees, is_one_of, named_members, profiles_below}
 use Rattle.nextest_config_resolution_profiles.proofs.Agreeing.{FileIsRead}

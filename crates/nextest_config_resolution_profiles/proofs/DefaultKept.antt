@@ -4,7 +4,7 @@ use Rattle.std.proofs.lemmas.Option.{none-some, same_Some}
 use Rattle.std.proofs.lemmas.Map.Text.{is_eq-slice_cmp}
 use Rattle.std.specs.Ordering.{is_eq, match_ordering}
 use Rattle.toml.specs.Data.{Data, table, Members, no_members, member, get_member}
-use Rattle.nextest_config_elements_reading.specs.Reading.{Reading, ◌>>=◌, under}
+use Rattle.nextest_config_elements_toml.specs.Reading.{Reading, ◌>>=◌, under}
 use Rattle.nextest_config_resolution_inheritance.specs.Inheritance.{default}
 use Rattle.nextest_config_resolution_load.specs.Checks.{MergedConfig, config_in, merged_in}
 use Rattle.nextest_config_resolution_load.specs.Load.{IsFilterBy, IsLoadedAs, IsSpecBy}
@@ -15,10 +15,10 @@ use Rattle.nextest_config_resolution_profiles.proofs.Found.{found_by}
 use Rattle.nextest_config_resolution_profiles.proofs.Kept.{kept_in}
 use Rattle.nextest_config_resolution_profiles.proofs.Tables.{IsRead, MayBeTable, below, config_parts, file_parts, key_kept, profiles_table, read_table, store_table, table_kept, tabled}
 use Rattle.nextest_config_resolution_sources.specs.declared.source.ConfigSource.{ConfigSource}
-use Rattle.nextest_config_resolution_tree.specs.Nesting.{inside}
-use Rattle.nextest_config_resolution_tree.specs.Tree.{merge}
-use Rattle.nextest_config_resolution_tree.proofs.Keys.{key_cmp}
-use Rattle.nextest_config_elements_readers.specs.Tables.{IsTable, MayBe}
+use Rattle.nextest_config_resolution_merge.specs.Nesting.{inside}
+use Rattle.nextest_config_resolution_merge.specs.Tree.{merge}
+use Rattle.nextest_config_resolution_merge.proofs.Keys.{key_cmp}
+use Rattle.nextest_config_elements_deserialize.specs.Tables.{IsTable, MayBe}
 use Rattle.nextest_config_resolution_values.specs.Accepted.{IsBench, IsJunit, IsProfile}
 use Rattle.nextest_config_resolution_values.specs.File.{Named, profiles_in, profiles_of, store_dir_in, store_dir_of}
 use Rattle.nextest_config_resolution_values.specs.Profile.{profile_in, profile_of}

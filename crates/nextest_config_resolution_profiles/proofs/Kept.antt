@@ -6,7 +6,7 @@ use Rattle.std.specs.Ordering.{match_ordering}
 use Rattle.toml.specs.Data.{Data, table, Members, no_members, member, get_member}
 use Rattle.toml.specs.Parse.{parse_document}
 use Rattle.nextest_config_elements_identifiers.specs.declared.source_kind.ConfigSourceKind.{ConfigSourceKind}
-use Rattle.nextest_config_elements_reading.specs.Reading.{Reading}
+use Rattle.nextest_config_elements_toml.specs.Reading.{Reading}
 use Rattle.nextest_config_resolution_inheritance.specs.Inheritance.{names}
 use Rattle.nextest_config_resolution_load.specs.Checks.{MergedConfig, as_setup, config_in, document_checks, document_of, file_checks, file_of, layered, members_of, merged_in, moved, outcome_checks, parents_of, raised, source_checks}
 use Rattle.nextest_config_resolution_load.specs.File.{file_in}
@@ -22,9 +22,9 @@ use Rattle.nextest_config_resolution_sources.specs.Counting.{counted}
 use Rattle.nextest_config_resolution_sources.specs.declared.source.ConfigSource.{ConfigSource}
 use Rattle.nextest_config_resolution_sources.specs.declared.source.ConfigSourceOutcome.{ConfigSourceOutcome}
 use Rattle.nextest_config_resolution_sources.specs.declared.source.ConfigSourceOutcome.TheVariants as outcome
-use Rattle.nextest_config_resolution_tree.specs.Tree.{keys, over, merge}
-use Rattle.nextest_config_resolution_tree.proofs.Keys.{key_cmp, equal_keys}
-use Rattle.nextest_config_resolution_tree.proofs.Standings.{get_merge, joint}
+use Rattle.nextest_config_resolution_merge.specs.Tree.{keys, over, merge}
+use Rattle.nextest_config_resolution_merge.proofs.Keys.{key_cmp, equal_keys}
+use Rattle.nextest_config_resolution_merge.proofs.Standings.{get_merge, joint}
 use Rattle.nextest_config_resolution_values.specs.File.{profiles_in, profiles_of, store_dir_of}
 use Rattle.nextest_config_elements_versions.specs.declared.feature.FeatureSet.{FeatureSet}
 

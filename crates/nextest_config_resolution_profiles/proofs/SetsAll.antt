@@ -3,14 +3,14 @@ use Rattle.std.proofs.Common.{◌≡◌, ℕ, true, List, [], ◌∷◌, ◌++�
 use Rattle.std.proofs.lemmas.Bool.{false≢true}
 use Rattle.std.proofs.lemmas.Option.{none-some, same_Some}
 use Rattle.toml.specs.Data.{Data, table, Members, as_str, get_member}
-use Rattle.nextest_config_elements_readers.proofs.Keys.{optional_has}
-use Rattle.nextest_config_elements_readers.specs.Accepted.{MayHave, IsRetryPolicy, IsSlowTimeout}
-use Rattle.nextest_config_elements_readers.specs.Junit.{report_skip_policy, flaky_fail_status}
-use Rattle.nextest_config_elements_readers.specs.Limits.{fail_fast_in}
-use Rattle.nextest_config_elements_readers.specs.Threads.{test_threads, threads_required}
-use Rattle.nextest_config_elements_readers.specs.Timeouts.{global_timeout_in, leak_timeout_in}
-use Rattle.nextest_config_elements_readers.specs.Values.{truth}
-use Rattle.nextest_config_elements_readers.specs.Words.{flaky_result, final_status_level, output_display, status_level}
+use Rattle.nextest_config_elements_deserialize.proofs.Keys.{optional_has}
+use Rattle.nextest_config_elements_deserialize.specs.Accepted.{MayHave, IsRetryPolicy, IsSlowTimeout}
+use Rattle.nextest_config_elements_deserialize.specs.Junit.{report_skip_policy, flaky_fail_status}
+use Rattle.nextest_config_elements_deserialize.specs.Limits.{fail_fast_in}
+use Rattle.nextest_config_elements_deserialize.specs.Threads.{test_threads, threads_required}
+use Rattle.nextest_config_elements_deserialize.specs.Timeouts.{global_timeout_in, leak_timeout_in}
+use Rattle.nextest_config_elements_deserialize.specs.Values.{truth}
+use Rattle.nextest_config_elements_deserialize.specs.Words.{flaky_result, final_status_level, output_display, status_level}
 use Rattle.nextest_config_resolution_inheritance.specs.Inheritance.{Name, IsChain, default}
 use Rattle.nextest_config_resolution_inheritance.specs.Inheritance.IsChain.{ends, goes_on}
 use Rattle.nextest_config_resolution_load.specs.Checks.{merged_in, parents_of}
@@ -26,10 +26,10 @@ use Rattle.nextest_config_resolution_profiles.proofs.OneProfile.{given, given_al
 use Rattle.nextest_config_resolution_settings.specs.Keys as key
 use Rattle.nextest_config_resolution_settings.specs.Nearest.{SetsNone}
 use Rattle.nextest_config_resolution_sources.specs.declared.source.ConfigSource.{ConfigSource}
-use Rattle.nextest_config_elements_readers.specs.Tables.{IsTable, MayBe, Reads}
+use Rattle.nextest_config_elements_deserialize.specs.Tables.{IsTable, MayBe, Reads}
 use Rattle.nextest_config_resolution_values.specs.Accepted.{IsBench, IsJunit, IsProfile}
 use Rattle.nextest_config_resolution_values.specs.File.{Named}
-use Rattle.nextest_config_elements_readers.specs.Keys.{texts_of}
+use Rattle.nextest_config_elements_deserialize.specs.Keys.{texts_of}
 use Rattle.nextest_config_resolution_values.specs.declared.bench.ProfileBench.{ProfileBench}
 use Rattle.nextest_config_resolution_values.specs.declared.junit.ProfileJunit.{ProfileJunit}
 use Rattle.nextest_config_resolution_values.specs.declared.profile_config.ProfileConfig.{ProfileConfig}

@@ -1,7 +1,7 @@
 -- Tables over others, and what is read of a file and of a merged tree.
 use Rattle.std.proofs.Common.{◌≡◌, ℕ, true, List, [], ◌∷◌, codes, Option, None, Some, Ok, Err, is_some, refl, ap, ◌∙◌, ◌⊎◌, inl, inr}
 use Rattle.toml.specs.Data.{Data, string, integer, float, boolean, datetime, array, table, Members, no_members, member, get_member}
-use Rattle.nextest_config_elements_reading.specs.Reading.{Reading, ◌>>=◌, under}
+use Rattle.nextest_config_elements_toml.specs.Reading.{Reading, ◌>>=◌, under}
 use Rattle.nextest_config_elements_versions.specs.Demand.{experimental_in, nextest_version_in}
 use Rattle.nextest_config_resolution_load.specs.Checks.{MergedConfig, config_in}
 use Rattle.nextest_config_resolution_load.specs.File.{by_keys, checked, file_in, profiles_at_file, profiles_in_file, profiles_of_file, rules_in_profile, rules_in_table, rules_of_profile}
@@ -13,15 +13,15 @@ use Rattle.nextest_config_resolution_scripts.specs.declared.script_config.Script
 use Rattle.nextest_config_resolution_scripts.specs.declared.script_rule.ScriptRuleConfig.{ScriptRuleConfig}
 use Rattle.nextest_config_resolution_overrides.specs.declared.groups.NamedGroup.{NamedGroup}
 use Rattle.nextest_config_resolution_overrides.specs.declared.override_config.OverrideConfig.{OverrideConfig}
-use Rattle.nextest_config_resolution_tree.specs.Nesting.{inside}
-use Rattle.nextest_config_resolution_tree.specs.Tree.{merge}
-use Rattle.nextest_config_resolution_tree.proofs.Standings.{joint, get_merge}
-use Rattle.nextest_config_elements_readers.specs.Tables.{IsTable}
+use Rattle.nextest_config_resolution_merge.specs.Nesting.{inside}
+use Rattle.nextest_config_resolution_merge.specs.Tree.{merge}
+use Rattle.nextest_config_resolution_merge.proofs.Standings.{joint, get_merge}
+use Rattle.nextest_config_elements_deserialize.specs.Tables.{IsTable}
 use Rattle.nextest_config_resolution_values.specs.File.{Named, profiles_at, profiles_in, profiles_of, store_dir_at, store_dir_in, store_dir_of}
 use Rattle.nextest_config_resolution_values.specs.Profile.{profile_in, profile_of}
 use Rattle.nextest_config_resolution_values.specs.declared.profile_config.ProfileConfig.{ProfileConfig}
-use Rattle.nextest_config_elements_readers.specs.Keys.{table_by}
-use Rattle.nextest_config_elements_readers.proofs.Parts.{table_is}
+use Rattle.nextest_config_elements_deserialize.specs.Keys.{table_by}
+use Rattle.nextest_config_elements_deserialize.proofs.Parts.{table_is}
 
 -- ---- a table over another
 

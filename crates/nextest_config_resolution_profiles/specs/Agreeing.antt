@@ -11,7 +11,7 @@ use Rattle.nextest_config_resolution_profiles.specs.Config.{IsConfig, profiles_o
 use Rattle.nextest_config_resolution_profiles.specs.Whole.{Whole}
 use Rattle.nextest_config_resolution_settings.specs.Rules.{profile_of, rules_of, script_profile_of}
 use Rattle.nextest_config_resolution_sources.specs.declared.source.ConfigSource.{ConfigSource}
-use Rattle.nextest_config_resolution_tree.specs.Nesting.{inside}
+use Rattle.nextest_config_resolution_merge.specs.Nesting.{inside}
 
 -- a key is one of some names
 abbrev pub is_one_of : List Name → List ℕ → Bool

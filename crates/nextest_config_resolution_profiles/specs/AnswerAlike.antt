@@ -1,7 +1,7 @@
 -- Profiles on platforms that no call tells apart, and which are such.
 use Rattle.std.specs.Prelude.{◌≡◌, ◌↔◌, ℕ, Bool, List, Option, Ok}
 use Rattle.nextest_config_elements_identifiers.specs.declared.test_group.TestGroup.{TestGroup}
-use Rattle.nextest_config_elements_plain.specs.declared.run_mode.NextestRunMode.{NextestRunMode}
+use Rattle.nextest_config_elements_choices.specs.declared.run_mode.NextestRunMode.{NextestRunMode}
 use Rattle.nextest_config_elements_versions.specs.declared.feature.FeatureSet.{FeatureSet}
 use Rattle.nextest_config_resolution_filters.specs.Filters.{AreAlike}
 use Rattle.nextest_config_resolution_inheritance.specs.Inheritance.{Name}

@@ -1,6 +1,6 @@
 -- A profile on platforms, as clauses see it, and its report in JUnit's form.
 use Rattle.std.specs.Prelude.{◌≡◌, ℕ, Bool, List, [], ◌∷◌, Option, Some, None, map}
-use Rattle.nextest_config_elements_counts.specs.declared.junit.JunitConfig.{JunitConfig}
+use Rattle.nextest_config_elements_values.specs.declared.junit.JunitConfig.{JunitConfig}
 use Rattle.nextest_config_resolution_overrides.specs.declared.groups.NamedGroup.{NamedGroup}
 use Rattle.nextest_config_resolution_profiles.specs.Early.{Early}
 use Rattle.nextest_config_resolution_profiles.specs.Platforms.{IsChosenDefault, OverrideOn, ScriptRuleOn, on_platforms}

@@ -2,7 +2,7 @@
 use Rattle.std.specs.Prelude.{◌≡◌, ◌⊎◌, Bool, true, List, Option, IfSome, map}
 use Rattle.nextest_config_elements_identifiers.specs.declared.test_group.TestGroup.{TestGroup}
 use Rattle.nextest_config_elements_identifiers.specs.declared.test_group.TestGroup.TheVariants as group
-use Rattle.nextest_config_elements_plain.specs.declared.run_mode.NextestRunMode.{NextestRunMode}
+use Rattle.nextest_config_elements_choices.specs.declared.run_mode.NextestRunMode.{NextestRunMode}
 use Rattle.nextest_config_resolution_overrides.specs.declared.placed_override.PlacedOverride.{PlacedOverride}
 use Rattle.nextest_config_resolution_profiles.specs.Evaluatable.{Evaluatable}
 use Rattle.nextest_config_resolution_profiles.specs.Platforms.{OverrideOn, RuleOn, ScriptRuleOn}
@@ -13,8 +13,8 @@ use Rattle.nextest_config_resolution_settings.specs.Rules.{AreHeld, IsLeast, Non
 use Rattle.nextest_config_resolution_settings.specs.TestSettings.{AreSettings}
 use Rattle.nextest_config_resolution_settings.specs.declared.test_settings.TestSettings.{TestSettings}
 use Rattle.nextest_filtering_filters.specs.Query.{Test}
-use Rattle.nextest_filtering_trees.specs.declared.leaf.BuildPlatform.{BuildPlatform}
-use Rattle.nextest_filtering_trees.specs.declared.leaf.BuildPlatform.TheVariants as built
+use Rattle.nextest_filtering_ast.specs.declared.leaf.BuildPlatform.{BuildPlatform}
+use Rattle.nextest_filtering_ast.specs.declared.leaf.BuildPlatform.TheVariants as built
 
 -- whether a rule holds for what is built for a platform
 abbrev pub holds_for : {P F S : Type 0} → BuildPlatform → RuleOn P F S → Bool

@@ -1,6 +1,6 @@
 -- What the built-in configuration is read as.
 use Rattle.std.specs.Prelude.{[], ◌∷◌, codes, None, Some}
-use Rattle.nextest_config_elements_plain.specs.declared.run_mode.NextestRunMode.TheVariants as mode
+use Rattle.nextest_config_elements_choices.specs.declared.run_mode.NextestRunMode.TheVariants as mode
 use Rattle.nextest_config_resolution_load.specs.Checks.{MergedConfig}
 use Rattle.nextest_config_resolution_load.specs.declared.file_config.FileConfig.{FileConfig}
 use Rattle.nextest_config_resolution_settings.specs.Fallbacks as fallback

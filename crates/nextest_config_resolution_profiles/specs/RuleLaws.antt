@@ -1,7 +1,7 @@
 -- What the laws say of rules.
 use Rattle.std.specs.Prelude.{◌≡◌, ℕ, Bool, List, [], Option, Ok, Contains}
 use Rattle.nextest_config_elements_identifiers.specs.declared.test_group.TestGroup.{TestGroup}
-use Rattle.nextest_config_elements_plain.specs.declared.run_mode.NextestRunMode.{NextestRunMode}
+use Rattle.nextest_config_elements_choices.specs.declared.run_mode.NextestRunMode.{NextestRunMode}
 use Rattle.nextest_config_resolution_load.specs.Load.{IsFilterBy, IsSpecBy}
 use Rattle.nextest_config_resolution_profiles.specs.Config.{IsConfig, IsEarly}
 use Rattle.nextest_config_resolution_profiles.specs.Early.{Early}

@@ -7,7 +7,7 @@ ghost use Rattle.nextest_config_resolution_profiles.specs.Platforms.{built_on, b
 use crate::platforms::{BuildPlatforms, spec_holds};
 use nextest_config_resolution_filters::Specs;
 use nextest_config_resolution_load::LoadedRule;
-use nextest_filtering_trees::BuildPlatform;
+use nextest_filtering_ast::BuildPlatform;
 
 // A rule of a chain. Until it is put on platforms it holds on all of them.
 #[derive(Drop)]

@@ -14,12 +14,12 @@ ghost use Rattle.nextest_filtering_filters.specs.Query.{test_of};
 
 use crate::chain_rule::ChainRule;
 use crate::held::{group_on, held_on};
-use nextest_config_elements_counts::{
+use nextest_config_elements_choices::{
+    FinalStatusLevel, FlakyResult, MaxFail, NextestRunMode, StatusLevel, TestOutputDisplay,
+};
+use nextest_config_elements_values::{
     GlobalTimeout, JunitConfig, JunitFlakyFailStatus, LeakTimeout, ReportSkipPolicy, RetryPolicy,
     SlowTimeout, TestThreads, ThreadsRequired,
-};
-use nextest_config_elements_plain::{
-    FinalStatusLevel, FlakyResult, MaxFail, NextestRunMode, StatusLevel, TestOutputDisplay,
 };
 use nextest_config_resolution_filters::{Filters, Specs};
 use nextest_config_resolution_overrides::{NamedGroup, PlacedOverride};

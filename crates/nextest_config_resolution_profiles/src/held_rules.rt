@@ -10,7 +10,7 @@ ghost use Rattle.nextest_filtering_filters.specs.Query.{Test, binary_of};
 
 use crate::chain_rule::ChainRule;
 use crate::evaluatable_profile::EvaluatableProfile;
-use nextest_config_elements_plain::NextestRunMode;
+use nextest_config_elements_choices::NextestRunMode;
 use nextest_config_resolution_filters::{Filters, Specs};
 use nextest_config_resolution_overrides::PlacedOverride;
 use nextest_config_resolution_scripts::PlacedScriptRule;

@@ -9,8 +9,8 @@ ghost use Rattle.nextest_filtering_filters.specs.Query.{Test, test_of};
 use crate::evaluatable_profile::EvaluatableProfile;
 use nextest_config_resolution_filters::{Filters, Specs};
 use nextest_config_resolution_settings::TestGroupRef;
+use nextest_filtering_ast::NameMatcher;
 use nextest_filtering_filters::{GroupLookup, TestQuery};
-use nextest_filtering_trees::NameMatcher;
 use nextest_text::Text;
 use std::alloc::{AllocError, Global};
 use std::collections::BTreeMap;
@@ -58,7 +58,7 @@ impl PrecomputedGroupMembership {
 
 impl GroupLookup for PrecomputedGroupMembership {
     ghost use Rattle.nextest_config_resolution_profiles.specs.Memberships.{group_name};
-    ghost use Rattle.nextest_filtering_trees.specs.Meaning.{MatchesName};
+    ghost use Rattle.nextest_filtering_ast.specs.Meaning.{MatchesName};
 
     ghost member = { λ groups test matcher. MatchesName matcher (group_name groups test) };
 

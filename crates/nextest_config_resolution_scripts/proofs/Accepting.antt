@@ -3,17 +3,17 @@ use Rattle.std.proofs.Common.{◌≡◌, ℕ, ◌+◌, Bool, true, false, List, 
 use Rattle.std.specs.Prelude.{codes}
 use Rattle.std.specs.Option.{option_map_or}
 use Rattle.toml.specs.Data.{Data, string, integer, float, boolean, datetime, array, table, Items, no_items, item, Members, as_str, get_member}
-use Rattle.nextest_config_elements_counts.specs.declared.timeouts.LeakTimeout.{LeakTimeout}
-use Rattle.nextest_config_elements_counts.specs.declared.timeouts.SlowTimeout.{SlowTimeout}
-use Rattle.nextest_config_elements_reading.specs.Reading.{Reading, ◌>>=◌, defaulted, optional, under}
-use Rattle.nextest_config_elements_readers.proofs.Keys.{taken, step, leaf_is, is_leaf, optional_has, has_optional, defaulted_has, has_defaulted}
-use Rattle.nextest_config_elements_readers.proofs.Parts.{by_has, has_by, read_so, so_read, table_is, is_table}
-use Rattle.nextest_config_elements_readers.proofs.Slow.{accepted_slow_timeout}
-use Rattle.nextest_config_elements_readers.specs.Keys.{optional_by, table_by}
-use Rattle.nextest_config_elements_readers.specs.Names.{config_identifier_in, name}
-use Rattle.nextest_config_elements_readers.specs.Tables.{IsTable, Reads}
-use Rattle.nextest_config_elements_readers.specs.Timeouts.{leak_timeout_in, slow_timeout_in}
-use Rattle.nextest_config_elements_readers.specs.Values.{truth}
+use Rattle.nextest_config_elements_values.specs.declared.timeouts.LeakTimeout.{LeakTimeout}
+use Rattle.nextest_config_elements_values.specs.declared.timeouts.SlowTimeout.{SlowTimeout}
+use Rattle.nextest_config_elements_toml.specs.Reading.{Reading, ◌>>=◌, defaulted, optional, under}
+use Rattle.nextest_config_elements_deserialize.proofs.Keys.{taken, step, leaf_is, is_leaf, optional_has, has_optional, defaulted_has, has_defaulted}
+use Rattle.nextest_config_elements_deserialize.proofs.Parts.{by_has, has_by, read_so, so_read, table_is, is_table}
+use Rattle.nextest_config_elements_deserialize.proofs.Slow.{accepted_slow_timeout}
+use Rattle.nextest_config_elements_deserialize.specs.Keys.{optional_by, table_by}
+use Rattle.nextest_config_elements_deserialize.specs.Names.{config_identifier_in, name}
+use Rattle.nextest_config_elements_deserialize.specs.Tables.{IsTable, Reads}
+use Rattle.nextest_config_elements_deserialize.specs.Timeouts.{leak_timeout_in, slow_timeout_in}
+use Rattle.nextest_config_elements_deserialize.specs.Values.{truth}
 use Rattle.nextest_config_resolution_commands.proofs.Accepting.{accepted_command}
 use Rattle.nextest_config_resolution_commands.proofs.Stands.{read_under, required_is, is_required, defaulted_is, is_defaulted}
 use Rattle.nextest_config_resolution_commands.specs.Accepted.{IsCommand, MayBeOr, MustBe}

@@ -3,10 +3,10 @@ use Rattle.std.proofs.Common.{◌≡◌, ℕ, List, ◌++◌, Ok, Err, sym, ap, 
 use Rattle.std.proofs.lemmas.Result.{err_from_is_err_and}
 use Rattle.std.specs.Result.{IsErrAnd}
 use denote.Ref.{Bor}
-use Rattle.nextest_config_elements_reading.specs.Paths.{Gives, texts}
-use Rattle.nextest_config_elements_reading.specs.Reading.{Reading, ◌>>=◌}
-use Rattle.nextest_config_elements_reading.specs.declared.value_error.ValueError.{ValueError}
-use Rattle.nextest_config_elements_reading.specs.declared.value_error.ValueError.TheVariants as error
+use Rattle.nextest_config_elements_toml.specs.Paths.{Gives, texts}
+use Rattle.nextest_config_elements_toml.specs.Reading.{Reading, ◌>>=◌}
+use Rattle.nextest_config_elements_toml.specs.declared.value_error.ValueError.{ValueError}
+use Rattle.nextest_config_elements_toml.specs.declared.value_error.ValueError.TheVariants as error
 
 fails_with : {A B : Type 0} (path : List (Bor (List ℕ))) (told : ValueError) (reading : Reading A) (next : A → Reading B) → Gives path (Err told) reading → Gives path (Err told) (reading >>= next)
 fails_with path (error.Refused bad) (Ok x) next gives = absurd (cc)

@@ -4,7 +4,7 @@ use Rattle.std.proofs.lemmas.List.{append_assoc}
 use Rattle.toml.specs.Data.{Data}
 use Rattle.toml.specs.View.{members_view, view}
 use Rattle.toml.specs.declared.value.Value.{Value}
-use Rattle.nextest_config_elements_reading.specs.Reading.{Reading, ◌>>=◌, under}
+use Rattle.nextest_config_elements_toml.specs.Reading.{Reading, ◌>>=◌, under}
 use Rattle.nextest_config_resolution_overrides.proofs.Listed.{joined}
 use Rattle.nextest_config_resolution_scripts.specs.Scripts.{script_of, scripts_in}
 use Rattle.nextest_config_resolution_scripts.specs.declared.script_config.NamedScript.{NamedScript}

@@ -1,12 +1,12 @@
 -- Which tables are setup scripts, wrapper scripts and script rules, key by key and in no order.
 use Rattle.std.specs.Prelude.{◌≡◌, ℕ, true, false, List, [], ◌∷◌, Some, codes, ⊤}
 use Rattle.toml.specs.Data.{Data, array, Items, no_items, item, Members, as_str}
-use Rattle.nextest_config_elements_counts.specs.declared.timeouts.SlowTimeout.{SlowTimeout}
-use Rattle.nextest_config_elements_readers.specs.Accepted.{HasOr, IsSlowTimeout, MayHave}
-use Rattle.nextest_config_elements_readers.specs.Names.{name}
-use Rattle.nextest_config_elements_readers.specs.Tables.{IsTable, MayBe, Reads}
-use Rattle.nextest_config_elements_readers.specs.Timeouts.{leak_timeout_in}
-use Rattle.nextest_config_elements_readers.specs.Values.{truth}
+use Rattle.nextest_config_elements_values.specs.declared.timeouts.SlowTimeout.{SlowTimeout}
+use Rattle.nextest_config_elements_deserialize.specs.Accepted.{HasOr, IsSlowTimeout, MayHave}
+use Rattle.nextest_config_elements_deserialize.specs.Names.{name}
+use Rattle.nextest_config_elements_deserialize.specs.Tables.{IsTable, MayBe, Reads}
+use Rattle.nextest_config_elements_deserialize.specs.Timeouts.{leak_timeout_in}
+use Rattle.nextest_config_elements_deserialize.specs.Values.{truth}
 use Rattle.nextest_config_resolution_commands.specs.Accepted.{IsCommand, MayBeOr, MustBe}
 use Rattle.nextest_config_resolution_overrides.specs.Accepted.{IsPlatforms}
 use Rattle.nextest_config_resolution_scripts.specs.Scripts.{has_all, target_runner}

@@ -1,6 +1,6 @@
 -- Where scripts and script rules stand.
 use Rattle.std.specs.Prelude.{ℕ, List, [], ◌∷◌, codes}
-use Rattle.nextest_config_elements_reading.specs.Reading.{Path}
+use Rattle.nextest_config_elements_toml.specs.Reading.{Path}
 
 -- where the scripts of both kinds stand, and where setup scripts stood before
 abbrev pub scripts_path : Path

@@ -2,9 +2,9 @@
 -- are read past.
 use Rattle.std.specs.Prelude.{ℕ, ◌+◌, List, [], ◌∷◌, Option, None, Some, Ok, Err, codes, decimal}
 use Rattle.toml.specs.Data.{Data, array, Items, no_items, item, Members, as_str, get_member}
-use Rattle.nextest_config_elements_reading.specs.Reading.{Reading, ◌>>=◌, optional, under}
-use Rattle.nextest_config_elements_readers.specs.Keys.{optional_by, table_by}
-use Rattle.nextest_config_elements_readers.specs.Names.{config_identifier_in}
+use Rattle.nextest_config_elements_toml.specs.Reading.{Reading, ◌>>=◌, optional, under}
+use Rattle.nextest_config_elements_deserialize.specs.Keys.{optional_by, table_by}
+use Rattle.nextest_config_elements_deserialize.specs.Names.{config_identifier_in}
 use Rattle.nextest_config_resolution_overrides.specs.Overrides.{platforms_of}
 use Rattle.nextest_config_resolution_scripts.specs.declared.script_rule.ScriptRuleConfig.{ScriptRuleConfig}
 

@@ -1,13 +1,13 @@
 -- The scripts that a configuration defines, as its tree says them.
 use Rattle.std.specs.Prelude.{ℕ, List, [], ◌∷◌, true, false, Option, None, Some, Ok, codes}
 use Rattle.toml.specs.Data.{Data, Members, no_members, member, get_member}
-use Rattle.nextest_config_elements_counts.specs.declared.timeouts.SlowTimeout.{SlowTimeout}
+use Rattle.nextest_config_elements_values.specs.declared.timeouts.SlowTimeout.{SlowTimeout}
 use Rattle.nextest_config_elements_identifiers.specs.Config.{identifier}
-use Rattle.nextest_config_elements_reading.specs.Reading.{Reading, ◌>>=◌, defaulted, under}
-use Rattle.nextest_config_elements_readers.specs.Keys.{optional_by, table_by}
-use Rattle.nextest_config_elements_readers.specs.Timeouts.{leak_timeout_in, slow_timeout_in}
-use Rattle.nextest_config_elements_readers.specs.Values.{truth}
-use Rattle.nextest_config_elements_readers.specs.Words.{one_of}
+use Rattle.nextest_config_elements_toml.specs.Reading.{Reading, ◌>>=◌, defaulted, under}
+use Rattle.nextest_config_elements_deserialize.specs.Keys.{optional_by, table_by}
+use Rattle.nextest_config_elements_deserialize.specs.Timeouts.{leak_timeout_in, slow_timeout_in}
+use Rattle.nextest_config_elements_deserialize.specs.Values.{truth}
+use Rattle.nextest_config_elements_deserialize.specs.Words.{one_of}
 use Rattle.nextest_config_resolution_commands.specs.Below.{defaulted_by, required_by}
 use Rattle.nextest_config_resolution_commands.specs.Commands.{command_in}
 use Rattle.nextest_config_resolution_overrides.specs.Groups.{named}

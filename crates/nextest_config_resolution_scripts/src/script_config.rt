@@ -3,9 +3,9 @@ ghost use Rattle.std.specs.Prelude.{◌≡◌, [], IfOk, option_map};
 ghost use Rattle.std.specs.Option.{option_copied};
 ghost use Rattle.toml.specs.View.{table_view, view};
 ghost use Rattle.nextest_config_elements_identifiers.specs.Config.{identifier};
-ghost use Rattle.nextest_config_elements_reading.specs.Paths.{Gives};
-ghost use Rattle.nextest_config_elements_reading.specs.Reading.{under};
-ghost use Rattle.nextest_config_elements_readers.specs.Paths.{GivesAt};
+ghost use Rattle.nextest_config_elements_toml.specs.Paths.{Gives};
+ghost use Rattle.nextest_config_elements_toml.specs.Reading.{under};
+ghost use Rattle.nextest_config_elements_deserialize.specs.Paths.{GivesAt};
 ghost use Rattle.nextest_config_resolution_overrides.specs.Groups.{named};
 ghost use Rattle.nextest_config_resolution_scripts.specs.Defined.{or_earlier, script_named};
 ghost use Rattle.nextest_config_resolution_scripts.specs.Paths.{old_scripts_path, scripts_path};
@@ -13,9 +13,9 @@ ghost use Rattle.nextest_config_resolution_scripts.specs.Scripts.{kinds_in, old_
 
 use crate::setup_script::SetupScriptConfig;
 use crate::wrapper_script::WrapperScriptConfig;
+use nextest_config_elements_deserialize::{DeserializeValue, member};
 use nextest_config_elements_identifiers::InvalidIdentifier;
-use nextest_config_elements_readers::{DeserializeValue, member};
-use nextest_config_elements_reading::{BadValue, KeyPath, ValueError, refused};
+use nextest_config_elements_toml::{BadValue, KeyPath, ValueError, refused};
 use nextest_config_resolution_commands::{ScriptId, below};
 use nextest_text::{Listing, Text};
 use std::alloc::{AllocError, Global};

@@ -1,15 +1,15 @@
 // Setup scripts.
 ghost use Rattle.std.specs.Prelude.{◌≡◌};
 ghost use Rattle.toml.specs.View.{table_view};
-ghost use Rattle.nextest_config_elements_reading.specs.Paths.{Gives};
-ghost use Rattle.nextest_config_elements_readers.specs.Keys.{table_by};
+ghost use Rattle.nextest_config_elements_toml.specs.Paths.{Gives};
+ghost use Rattle.nextest_config_elements_deserialize.specs.Keys.{table_by};
 ghost use Rattle.nextest_config_resolution_scripts.specs.Defined.{lets_through};
 ghost use Rattle.nextest_config_resolution_scripts.specs.Scripts.{has_all, junit_in, setup_script_in, slow_script, slow_script_in};
 
-use nextest_config_elements_counts::{ConfigDuration, LeakTimeout, SlowTimeout};
-use nextest_config_elements_plain::SlowTimeoutResult;
-use nextest_config_elements_readers::{Any, DeserializeValue, defaulted};
-use nextest_config_elements_reading::{ValueError, refused};
+use nextest_config_elements_choices::SlowTimeoutResult;
+use nextest_config_elements_deserialize::{Any, DeserializeValue, defaulted};
+use nextest_config_elements_toml::{ValueError, refused};
+use nextest_config_elements_values::{ConfigDuration, LeakTimeout, SlowTimeout};
 use nextest_config_resolution_commands::{
     ScriptCommand, defaulted_value, optional_value, required_value,
 };

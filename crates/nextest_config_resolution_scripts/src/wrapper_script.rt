@@ -1,12 +1,12 @@
 // Wrapper scripts.
 ghost use Rattle.std.specs.Prelude.{◌≡◌};
 ghost use Rattle.toml.specs.View.{table_view};
-ghost use Rattle.nextest_config_elements_reading.specs.Paths.{Gives};
-ghost use Rattle.nextest_config_elements_readers.specs.Keys.{table_by};
+ghost use Rattle.nextest_config_elements_toml.specs.Paths.{Gives};
+ghost use Rattle.nextest_config_elements_deserialize.specs.Keys.{table_by};
 ghost use Rattle.nextest_config_resolution_scripts.specs.Scripts.{wrapper_script_in};
 
-use nextest_config_elements_readers::{Any, ConfigValue, DeserializeValue, defaulted};
-use nextest_config_elements_reading::{ValueError, refused};
+use nextest_config_elements_deserialize::{Any, ConfigValue, DeserializeValue, defaulted};
+use nextest_config_elements_toml::{ValueError, refused};
 use nextest_config_resolution_commands::{ScriptCommand, required_value};
 use std::alloc::{AllocError, Global};
 use toml::{Table, Value};

@@ -1,36 +1,36 @@
 -- Which value a setting has that no layer sets.
 use Rattle.std.specs.Prelude.{ℕ, ℤ, Bool, true, false, List, [], codes, None, pos}
-use Rattle.nextest_config_elements_counts.specs.Retries.{without_delay}
-use Rattle.nextest_config_elements_counts.specs.declared.junit.JunitFlakyFailStatus.{JunitFlakyFailStatus}
-use Rattle.nextest_config_elements_counts.specs.declared.junit.JunitFlakyFailStatus.TheVariants as status
-use Rattle.nextest_config_elements_counts.specs.declared.junit.ReportSkipPolicy.{ReportSkipPolicy}
-use Rattle.nextest_config_elements_counts.specs.declared.junit.ReportSkipPolicy.TheVariants as skipped
-use Rattle.nextest_config_elements_counts.specs.declared.retries.RetryPolicy.{RetryPolicy}
-use Rattle.nextest_config_elements_counts.specs.declared.threads.TestThreads.{TestThreads}
-use Rattle.nextest_config_elements_counts.specs.declared.threads.TestThreads.TheVariants as threads
-use Rattle.nextest_config_elements_counts.specs.declared.threads.ThreadsRequired.{ThreadsRequired}
-use Rattle.nextest_config_elements_counts.specs.declared.threads.ThreadsRequired.TheVariants as taken
-use Rattle.nextest_config_elements_counts.specs.declared.timeouts.GlobalTimeout.{GlobalTimeout}
-use Rattle.nextest_config_elements_counts.specs.declared.timeouts.LeakTimeout.{LeakTimeout}
-use Rattle.nextest_config_elements_counts.specs.declared.timeouts.SlowTimeout.{SlowTimeout}
-use Rattle.nextest_config_elements_counts.specs.declared.config_duration.ConfigDuration.{ConfigDuration}
+use Rattle.nextest_config_elements_values.specs.Retries.{without_delay}
+use Rattle.nextest_config_elements_values.specs.declared.junit.JunitFlakyFailStatus.{JunitFlakyFailStatus}
+use Rattle.nextest_config_elements_values.specs.declared.junit.JunitFlakyFailStatus.TheVariants as status
+use Rattle.nextest_config_elements_values.specs.declared.junit.ReportSkipPolicy.{ReportSkipPolicy}
+use Rattle.nextest_config_elements_values.specs.declared.junit.ReportSkipPolicy.TheVariants as skipped
+use Rattle.nextest_config_elements_values.specs.declared.retries.RetryPolicy.{RetryPolicy}
+use Rattle.nextest_config_elements_values.specs.declared.threads.TestThreads.{TestThreads}
+use Rattle.nextest_config_elements_values.specs.declared.threads.TestThreads.TheVariants as threads
+use Rattle.nextest_config_elements_values.specs.declared.threads.ThreadsRequired.{ThreadsRequired}
+use Rattle.nextest_config_elements_values.specs.declared.threads.ThreadsRequired.TheVariants as taken
+use Rattle.nextest_config_elements_values.specs.declared.timeouts.GlobalTimeout.{GlobalTimeout}
+use Rattle.nextest_config_elements_values.specs.declared.timeouts.LeakTimeout.{LeakTimeout}
+use Rattle.nextest_config_elements_values.specs.declared.timeouts.SlowTimeout.{SlowTimeout}
+use Rattle.nextest_config_elements_values.specs.declared.config_duration.ConfigDuration.{ConfigDuration}
 use Rattle.nextest_config_elements_identifiers.specs.declared.test_group.TestGroup.{TestGroup}
 use Rattle.nextest_config_elements_identifiers.specs.declared.test_group.TestGroup.TheVariants as group
-use Rattle.nextest_config_elements_plain.specs.declared.max_fail.MaxFail.{MaxFail}
-use Rattle.nextest_config_elements_plain.specs.declared.max_fail.MaxFail.TheVariants.{Count}
-use Rattle.nextest_config_elements_plain.specs.declared.max_fail.TerminateMode.TheVariants.{Wait}
-use Rattle.nextest_config_elements_plain.specs.declared.output_display.TestOutputDisplay.{TestOutputDisplay}
-use Rattle.nextest_config_elements_plain.specs.declared.output_display.TestOutputDisplay.TheVariants as shown
-use Rattle.nextest_config_elements_plain.specs.declared.run_mode.NextestRunMode.{NextestRunMode}
-use Rattle.nextest_config_elements_plain.specs.declared.run_mode.NextestRunMode.TheVariants as mode
-use Rattle.nextest_config_elements_plain.specs.declared.status_level.FinalStatusLevel.{FinalStatusLevel}
-use Rattle.nextest_config_elements_plain.specs.declared.status_level.FinalStatusLevel.TheVariants as final_level
-use Rattle.nextest_config_elements_plain.specs.declared.status_level.StatusLevel.{StatusLevel}
-use Rattle.nextest_config_elements_plain.specs.declared.status_level.StatusLevel.TheVariants as level
-use Rattle.nextest_config_elements_plain.specs.declared.timeouts.FlakyResult.{FlakyResult}
-use Rattle.nextest_config_elements_plain.specs.declared.timeouts.FlakyResult.TheVariants as flaky
-use Rattle.nextest_config_elements_plain.specs.declared.timeouts.LeakTimeoutResult.TheVariants as leak
-use Rattle.nextest_config_elements_plain.specs.declared.timeouts.SlowTimeoutResult.TheVariants as slow
+use Rattle.nextest_config_elements_choices.specs.declared.max_fail.MaxFail.{MaxFail}
+use Rattle.nextest_config_elements_choices.specs.declared.max_fail.MaxFail.TheVariants.{Count}
+use Rattle.nextest_config_elements_choices.specs.declared.max_fail.TerminateMode.TheVariants.{Wait}
+use Rattle.nextest_config_elements_choices.specs.declared.output_display.TestOutputDisplay.{TestOutputDisplay}
+use Rattle.nextest_config_elements_choices.specs.declared.output_display.TestOutputDisplay.TheVariants as shown
+use Rattle.nextest_config_elements_choices.specs.declared.run_mode.NextestRunMode.{NextestRunMode}
+use Rattle.nextest_config_elements_choices.specs.declared.run_mode.NextestRunMode.TheVariants as mode
+use Rattle.nextest_config_elements_choices.specs.declared.status_level.FinalStatusLevel.{FinalStatusLevel}
+use Rattle.nextest_config_elements_choices.specs.declared.status_level.FinalStatusLevel.TheVariants as final_level
+use Rattle.nextest_config_elements_choices.specs.declared.status_level.StatusLevel.{StatusLevel}
+use Rattle.nextest_config_elements_choices.specs.declared.status_level.StatusLevel.TheVariants as level
+use Rattle.nextest_config_elements_choices.specs.declared.timeouts.FlakyResult.{FlakyResult}
+use Rattle.nextest_config_elements_choices.specs.declared.timeouts.FlakyResult.TheVariants as flaky
+use Rattle.nextest_config_elements_choices.specs.declared.timeouts.LeakTimeoutResult.TheVariants as leak
+use Rattle.nextest_config_elements_choices.specs.declared.timeouts.SlowTimeoutResult.TheVariants as slow
 
 -- durations
 abbrev pub hundred_milliseconds : ConfigDuration

@@ -2,13 +2,13 @@
 ghost use Rattle.std.specs.Prelude.{◌≡◌};
 ghost use Rattle.nextest_config_resolution_settings.specs.Fallbacks as fallback;
 
-use nextest_config_elements_counts::{
-    ConfigDuration, GlobalTimeout, JunitFlakyFailStatus, LeakTimeout, ReportSkipPolicy,
-    RetryPolicy, SlowTimeout, TestPriority, TestThreads, ThreadsRequired,
-};
-use nextest_config_elements_plain::{
+use nextest_config_elements_choices::{
     FinalStatusLevel, FlakyResult, LeakTimeoutResult, MaxFail, NextestRunMode, SlowTimeoutResult,
     StatusLevel, TestOutputDisplay,
+};
+use nextest_config_elements_values::{
+    ConfigDuration, GlobalTimeout, JunitFlakyFailStatus, LeakTimeout, ReportSkipPolicy,
+    RetryPolicy, SlowTimeout, TestPriority, TestThreads, ThreadsRequired,
 };
 
 /// `fail-fast`: the first failing test stops a run, which waits for what runs.

@@ -1,12 +1,12 @@
 // The settings, by their keys: one type for each, of which no value is made. And those of a profile.
 use crate::layers::{Sets, Setting};
-use nextest_config_elements_counts::{
-    GlobalTimeout, JunitFlakyFailStatus, LeakTimeout, ReportSkipPolicy, RetryPolicy, SlowTimeout,
-    TestPriority, TestThreads, ThreadsRequired,
+use nextest_config_elements_choices::{
+    FinalStatusLevel, FlakyResult, MaxFail, StatusLevel, TestOutputDisplay,
 };
 use nextest_config_elements_identifiers::TestGroup;
-use nextest_config_elements_plain::{
-    FinalStatusLevel, FlakyResult, MaxFail, StatusLevel, TestOutputDisplay,
+use nextest_config_elements_values::{
+    GlobalTimeout, JunitFlakyFailStatus, LeakTimeout, ReportSkipPolicy, RetryPolicy, SlowTimeout,
+    TestPriority, TestThreads, ThreadsRequired,
 };
 use nextest_config_resolution_scripts::ScriptId;
 use nextest_config_resolution_values::ProfileConfig;

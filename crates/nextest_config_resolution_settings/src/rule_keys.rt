@@ -6,12 +6,12 @@ use crate::keys::{
     ThreadsRequiredKey,
 };
 use crate::layers::{InProfile, Rule, Sets};
-use nextest_config_elements_counts::{
+use nextest_config_elements_choices::{FlakyResult, TestOutputDisplay};
+use nextest_config_elements_identifiers::TestGroup;
+use nextest_config_elements_values::{
     JunitFlakyFailStatus, LeakTimeout, ReportSkipPolicy, RetryPolicy, SlowTimeout, TestPriority,
     ThreadsRequired,
 };
-use nextest_config_elements_identifiers::TestGroup;
-use nextest_config_elements_plain::{FlakyResult, TestOutputDisplay};
 use nextest_config_resolution_overrides::{OverrideId, PlacedOverride};
 use nextest_text::{Listing, Text};
 

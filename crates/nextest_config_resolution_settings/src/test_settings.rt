@@ -1,12 +1,12 @@
 // The settings of a test.
 ghost use Rattle.std.specs.Prelude.{◌≡◌};
 
-use nextest_config_elements_counts::{
+use nextest_config_elements_choices::{FlakyResult, TestOutputDisplay};
+use nextest_config_elements_identifiers::CustomTestGroup;
+use nextest_config_elements_values::{
     JunitFlakyFailStatus, LeakTimeout, ReportSkipPolicy, RetryPolicy, SlowTimeout, TestPriority,
     ThreadsRequired,
 };
-use nextest_config_elements_identifiers::CustomTestGroup;
-use nextest_config_elements_plain::{FlakyResult, TestOutputDisplay};
 use nextest_config_resolution_scripts::WrapperScriptConfig;
 use nextest_text::Text;
 

@@ -2,13 +2,13 @@
 use Rattle.std.proofs.Common.{◌≡◌, Option, Ok, ◌∙◌, subst}
 use Rattle.std.specs.Prelude.{codes}
 use Rattle.toml.specs.Data.{Members}
-use Rattle.nextest_config_elements_reading.specs.Reading.{Reading, ◌>>=◌}
-use Rattle.nextest_config_elements_readers.proofs.Keys.{taken, step}
-use Rattle.nextest_config_elements_readers.proofs.Parts.{by_has, has_by, table_is, is_table}
+use Rattle.nextest_config_elements_toml.specs.Reading.{Reading, ◌>>=◌}
+use Rattle.nextest_config_elements_deserialize.proofs.Keys.{taken, step}
+use Rattle.nextest_config_elements_deserialize.proofs.Parts.{by_has, has_by, table_is, is_table}
 use Rattle.nextest_config_resolution_values.proofs.SpanLaws.{IsFirst, IsSecond, IsThird, IsLast, read_bench, bench_read, read_junit, junit_read, read_first, first_read, read_second, second_read, read_third, third_read, read_last, last_read}
-use Rattle.nextest_config_elements_readers.specs.Tables.{IsTable}
+use Rattle.nextest_config_elements_deserialize.specs.Tables.{IsTable}
 use Rattle.nextest_config_resolution_values.specs.Accepted.{IsBench, IsJunit, IsProfile}
-use Rattle.nextest_config_elements_readers.specs.Keys.{optional_by, table_by}
+use Rattle.nextest_config_elements_deserialize.specs.Keys.{optional_by, table_by}
 use Rattle.nextest_config_resolution_values.specs.Laws.{AcceptedProfile}
 use Rattle.nextest_config_resolution_values.specs.Profile.{bench_in, config_of, default_to_final, flaky_to_inherits, junit_in, leak_to_slow, profile_in, status_to_threads}
 use Rattle.nextest_config_resolution_values.specs.declared.bench.ProfileBench.{ProfileBench}

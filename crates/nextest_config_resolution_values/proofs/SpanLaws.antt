@@ -2,35 +2,35 @@
 use Rattle.std.proofs.Common.{◌≡◌, ℕ, Bool, List, Option, Ok, ◌∙◌, subst}
 use Rattle.std.specs.Prelude.{codes}
 use Rattle.toml.specs.Data.{Data, Members, as_str}
-use Rattle.nextest_config_elements_counts.specs.declared.junit.JunitFlakyFailStatus.{JunitFlakyFailStatus}
-use Rattle.nextest_config_elements_counts.specs.declared.junit.ReportSkipPolicy.{ReportSkipPolicy}
-use Rattle.nextest_config_elements_counts.specs.declared.retries.RetryPolicy.{RetryPolicy}
-use Rattle.nextest_config_elements_counts.specs.declared.threads.TestThreads.{TestThreads}
-use Rattle.nextest_config_elements_counts.specs.declared.threads.ThreadsRequired.{ThreadsRequired}
-use Rattle.nextest_config_elements_counts.specs.declared.timeouts.GlobalTimeout.{GlobalTimeout}
-use Rattle.nextest_config_elements_counts.specs.declared.timeouts.LeakTimeout.{LeakTimeout}
-use Rattle.nextest_config_elements_counts.specs.declared.timeouts.SlowTimeout.{SlowTimeout}
-use Rattle.nextest_config_elements_plain.specs.declared.max_fail.MaxFail.{MaxFail}
-use Rattle.nextest_config_elements_plain.specs.declared.output_display.TestOutputDisplay.{TestOutputDisplay}
-use Rattle.nextest_config_elements_plain.specs.declared.status_level.FinalStatusLevel.{FinalStatusLevel}
-use Rattle.nextest_config_elements_plain.specs.declared.status_level.StatusLevel.{StatusLevel}
-use Rattle.nextest_config_elements_plain.specs.declared.timeouts.FlakyResult.{FlakyResult}
-use Rattle.nextest_config_elements_reading.specs.Reading.{Reading, ◌>>=◌, optional}
-use Rattle.nextest_config_elements_readers.proofs.Keys.{taken, step, optional_has, has_optional}
-use Rattle.nextest_config_elements_readers.proofs.Policies.{accepted_policy}
-use Rattle.nextest_config_elements_readers.proofs.Slow.{accepted_slow_timeout}
-use Rattle.nextest_config_elements_readers.specs.Accepted.{MayHave, IsRetryPolicy, IsSlowTimeout}
-use Rattle.nextest_config_elements_readers.specs.Junit.{report_skip_policy, flaky_fail_status}
-use Rattle.nextest_config_elements_readers.specs.Limits.{fail_fast_in}
-use Rattle.nextest_config_elements_readers.specs.Retries.{retry_policy_in}
-use Rattle.nextest_config_elements_readers.specs.Threads.{test_threads, threads_required}
-use Rattle.nextest_config_elements_readers.specs.Timeouts.{global_timeout_in, leak_timeout_in, slow_timeout_in}
-use Rattle.nextest_config_elements_readers.specs.Values.{truth}
-use Rattle.nextest_config_elements_readers.specs.Words.{flaky_result, final_status_level, output_display, status_level}
-use Rattle.nextest_config_elements_readers.proofs.Parts.{by_has, has_by, read_so, so_read}
-use Rattle.nextest_config_elements_readers.specs.Tables.{MayBe, Reads}
+use Rattle.nextest_config_elements_values.specs.declared.junit.JunitFlakyFailStatus.{JunitFlakyFailStatus}
+use Rattle.nextest_config_elements_values.specs.declared.junit.ReportSkipPolicy.{ReportSkipPolicy}
+use Rattle.nextest_config_elements_values.specs.declared.retries.RetryPolicy.{RetryPolicy}
+use Rattle.nextest_config_elements_values.specs.declared.threads.TestThreads.{TestThreads}
+use Rattle.nextest_config_elements_values.specs.declared.threads.ThreadsRequired.{ThreadsRequired}
+use Rattle.nextest_config_elements_values.specs.declared.timeouts.GlobalTimeout.{GlobalTimeout}
+use Rattle.nextest_config_elements_values.specs.declared.timeouts.LeakTimeout.{LeakTimeout}
+use Rattle.nextest_config_elements_values.specs.declared.timeouts.SlowTimeout.{SlowTimeout}
+use Rattle.nextest_config_elements_choices.specs.declared.max_fail.MaxFail.{MaxFail}
+use Rattle.nextest_config_elements_choices.specs.declared.output_display.TestOutputDisplay.{TestOutputDisplay}
+use Rattle.nextest_config_elements_choices.specs.declared.status_level.FinalStatusLevel.{FinalStatusLevel}
+use Rattle.nextest_config_elements_choices.specs.declared.status_level.StatusLevel.{StatusLevel}
+use Rattle.nextest_config_elements_choices.specs.declared.timeouts.FlakyResult.{FlakyResult}
+use Rattle.nextest_config_elements_toml.specs.Reading.{Reading, ◌>>=◌, optional}
+use Rattle.nextest_config_elements_deserialize.proofs.Keys.{taken, step, optional_has, has_optional}
+use Rattle.nextest_config_elements_deserialize.proofs.Policies.{accepted_policy}
+use Rattle.nextest_config_elements_deserialize.proofs.Slow.{accepted_slow_timeout}
+use Rattle.nextest_config_elements_deserialize.specs.Accepted.{MayHave, IsRetryPolicy, IsSlowTimeout}
+use Rattle.nextest_config_elements_deserialize.specs.Junit.{report_skip_policy, flaky_fail_status}
+use Rattle.nextest_config_elements_deserialize.specs.Limits.{fail_fast_in}
+use Rattle.nextest_config_elements_deserialize.specs.Retries.{retry_policy_in}
+use Rattle.nextest_config_elements_deserialize.specs.Threads.{test_threads, threads_required}
+use Rattle.nextest_config_elements_deserialize.specs.Timeouts.{global_timeout_in, leak_timeout_in, slow_timeout_in}
+use Rattle.nextest_config_elements_deserialize.specs.Values.{truth}
+use Rattle.nextest_config_elements_deserialize.specs.Words.{flaky_result, final_status_level, output_display, status_level}
+use Rattle.nextest_config_elements_deserialize.proofs.Parts.{by_has, has_by, read_so, so_read}
+use Rattle.nextest_config_elements_deserialize.specs.Tables.{MayBe, Reads}
 use Rattle.nextest_config_resolution_values.specs.Accepted.{IsBench, IsJunit}
-use Rattle.nextest_config_elements_readers.specs.Keys.{optional_by, texts_of}
+use Rattle.nextest_config_elements_deserialize.specs.Keys.{optional_by, texts_of}
 use Rattle.nextest_config_resolution_values.specs.Profile.{bench_in, junit_in, default_to_final, flaky_to_inherits, leak_to_slow, status_to_threads}
 use Rattle.nextest_config_resolution_values.specs.declared.bench.ProfileBench.{ProfileBench}
 use Rattle.nextest_config_resolution_values.specs.declared.junit.ProfileJunit.{ProfileJunit}

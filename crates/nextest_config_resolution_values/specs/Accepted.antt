@@ -1,16 +1,16 @@
 -- Which tables are profiles, key by key and in no order.
 use Rattle.std.specs.Prelude.{◌≡◌, ℕ, List, codes, Option, None, Some, Ok}
 use Rattle.toml.specs.Data.{Data, table, Members, as_str, get_member}
-use Rattle.nextest_config_elements_reading.specs.Reading.{Reading}
-use Rattle.nextest_config_elements_readers.specs.Accepted.{IsLeftOut, MayHave, IsRetryPolicy, IsSlowTimeout}
-use Rattle.nextest_config_elements_readers.specs.Junit.{report_skip_policy, flaky_fail_status}
-use Rattle.nextest_config_elements_readers.specs.Limits.{fail_fast_in}
-use Rattle.nextest_config_elements_readers.specs.Threads.{test_threads, threads_required}
-use Rattle.nextest_config_elements_readers.specs.Tables.{IsTable, MayBe, Reads}
-use Rattle.nextest_config_elements_readers.specs.Timeouts.{global_timeout_in, leak_timeout_in}
-use Rattle.nextest_config_elements_readers.specs.Values.{truth}
-use Rattle.nextest_config_elements_readers.specs.Words.{flaky_result, final_status_level, output_display, status_level}
-use Rattle.nextest_config_elements_readers.specs.Keys.{texts_of}
+use Rattle.nextest_config_elements_toml.specs.Reading.{Reading}
+use Rattle.nextest_config_elements_deserialize.specs.Accepted.{IsLeftOut, MayHave, IsRetryPolicy, IsSlowTimeout}
+use Rattle.nextest_config_elements_deserialize.specs.Junit.{report_skip_policy, flaky_fail_status}
+use Rattle.nextest_config_elements_deserialize.specs.Limits.{fail_fast_in}
+use Rattle.nextest_config_elements_deserialize.specs.Threads.{test_threads, threads_required}
+use Rattle.nextest_config_elements_deserialize.specs.Tables.{IsTable, MayBe, Reads}
+use Rattle.nextest_config_elements_deserialize.specs.Timeouts.{global_timeout_in, leak_timeout_in}
+use Rattle.nextest_config_elements_deserialize.specs.Values.{truth}
+use Rattle.nextest_config_elements_deserialize.specs.Words.{flaky_result, final_status_level, output_display, status_level}
+use Rattle.nextest_config_elements_deserialize.specs.Keys.{texts_of}
 use Rattle.nextest_config_resolution_values.specs.declared.bench.ProfileBench.{ProfileBench}
 use Rattle.nextest_config_resolution_values.specs.declared.junit.ProfileJunit.{ProfileJunit}
 use Rattle.nextest_config_resolution_values.specs.declared.profile_config.ProfileConfig.{ProfileConfig}

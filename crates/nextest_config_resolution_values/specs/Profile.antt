@@ -1,15 +1,15 @@
 -- The values of a profile. Each key may be left out; other keys are read past.
 use Rattle.std.specs.Prelude.{codes, Option, Ok}
 use Rattle.toml.specs.Data.{Data, Members, as_str}
-use Rattle.nextest_config_elements_reading.specs.Reading.{Reading, ◌>>=◌, optional}
-use Rattle.nextest_config_elements_readers.specs.Junit.{report_skip_policy, flaky_fail_status}
-use Rattle.nextest_config_elements_readers.specs.Limits.{fail_fast_in}
-use Rattle.nextest_config_elements_readers.specs.Retries.{retry_policy_in}
-use Rattle.nextest_config_elements_readers.specs.Threads.{test_threads, threads_required}
-use Rattle.nextest_config_elements_readers.specs.Timeouts.{global_timeout_in, leak_timeout_in, slow_timeout_in}
-use Rattle.nextest_config_elements_readers.specs.Values.{truth}
-use Rattle.nextest_config_elements_readers.specs.Words.{flaky_result, final_status_level, output_display, status_level}
-use Rattle.nextest_config_elements_readers.specs.Keys.{optional_by, table_by, texts_of}
+use Rattle.nextest_config_elements_toml.specs.Reading.{Reading, ◌>>=◌, optional}
+use Rattle.nextest_config_elements_deserialize.specs.Junit.{report_skip_policy, flaky_fail_status}
+use Rattle.nextest_config_elements_deserialize.specs.Limits.{fail_fast_in}
+use Rattle.nextest_config_elements_deserialize.specs.Retries.{retry_policy_in}
+use Rattle.nextest_config_elements_deserialize.specs.Threads.{test_threads, threads_required}
+use Rattle.nextest_config_elements_deserialize.specs.Timeouts.{global_timeout_in, leak_timeout_in, slow_timeout_in}
+use Rattle.nextest_config_elements_deserialize.specs.Values.{truth}
+use Rattle.nextest_config_elements_deserialize.specs.Words.{flaky_result, final_status_level, output_display, status_level}
+use Rattle.nextest_config_elements_deserialize.specs.Keys.{optional_by, table_by, texts_of}
 use Rattle.nextest_config_resolution_values.specs.declared.bench.ProfileBench.{ProfileBench}
 use Rattle.nextest_config_resolution_values.specs.declared.junit.ProfileJunit.{ProfileJunit}
 use Rattle.nextest_config_resolution_values.specs.declared.profile_config.ProfileConfig.{ProfileConfig}

@@ -1,13 +1,13 @@
 // What holds of benchmarks.
 ghost use Rattle.toml.specs.View.{table_view, view};
-ghost use Rattle.nextest_config_elements_readers.specs.Keys.{table_by};
-ghost use Rattle.nextest_config_elements_readers.specs.Paths.{GivesAt};
+ghost use Rattle.nextest_config_elements_deserialize.specs.Keys.{table_by};
+ghost use Rattle.nextest_config_elements_deserialize.specs.Paths.{GivesAt};
 ghost use Rattle.nextest_config_resolution_values.specs.Paths.{bench_path};
 ghost use Rattle.nextest_config_resolution_values.specs.Profile.{bench_in};
 
 use crate::profile_value::optional_bench_value;
-use nextest_config_elements_counts::{GlobalTimeout, SlowTimeout};
-use nextest_config_elements_reading::{ValueError, refused};
+use nextest_config_elements_toml::{ValueError, refused};
+use nextest_config_elements_values::{GlobalTimeout, SlowTimeout};
 use std::alloc::Global;
 use toml::{Table, Value};
 

@@ -1,8 +1,8 @@
 // What a profile says.
 ghost use Rattle.std.specs.Prelude.{◌≡◌, codes};
 ghost use Rattle.toml.specs.View.{table_view, view};
-ghost use Rattle.nextest_config_elements_readers.specs.Keys.{optional_by, table_by};
-ghost use Rattle.nextest_config_elements_readers.specs.Paths.{GivesAt, profile_path};
+ghost use Rattle.nextest_config_elements_deserialize.specs.Keys.{optional_by, table_by};
+ghost use Rattle.nextest_config_elements_deserialize.specs.Paths.{GivesAt, profile_path};
 ghost use Rattle.nextest_config_resolution_values.specs.Profile.{bench_in, config_of, profile_in, profile_of};
 
 use crate::bench::{ProfileBench, bench_of};
@@ -14,8 +14,8 @@ use crate::spans::{
     DefaultToFinal, FlakyToInherits, LeakToSlow, StatusToThreads, default_to_final,
     flaky_to_inherits, leak_to_slow, status_to_threads,
 };
-use nextest_config_elements_readers::member;
-use nextest_config_elements_reading::{ValueError, refused};
+use nextest_config_elements_deserialize::member;
+use nextest_config_elements_toml::{ValueError, refused};
 use std::alloc::Global;
 use toml::{Table, Value};
 

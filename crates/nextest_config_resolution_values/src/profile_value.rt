@@ -1,13 +1,13 @@
 // The values of a profile that have parts of their own.
 ghost use Rattle.toml.specs.View.{table_view, view};
-ghost use Rattle.nextest_config_elements_readers.specs.Keys.{optional_by, table_by};
-ghost use Rattle.nextest_config_elements_readers.specs.Paths.{GivesAt, profile_path};
+ghost use Rattle.nextest_config_elements_deserialize.specs.Keys.{optional_by, table_by};
+ghost use Rattle.nextest_config_elements_deserialize.specs.Paths.{GivesAt, profile_path};
 ghost use Rattle.nextest_config_resolution_values.specs.Paths.{bench_path};
 ghost use Rattle.nextest_config_resolution_values.specs.Profile.{junit_in};
 
 use crate::junit::{ProfileJunit, junit_in};
-use nextest_config_elements_readers::{DeserializeValue, member};
-use nextest_config_elements_reading::{ValueError, refused};
+use nextest_config_elements_deserialize::{DeserializeValue, member};
+use nextest_config_elements_toml::{ValueError, refused};
 use std::alloc::Global;
 use toml::{Table, Value};
 

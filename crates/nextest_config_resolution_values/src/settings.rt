@@ -1,9 +1,9 @@
 // The settings of a profile that have no parts to drop.
-use nextest_config_elements_counts::{
-    GlobalTimeout, LeakTimeout, RetryPolicy, SlowTimeout, TestThreads, ThreadsRequired,
-};
-use nextest_config_elements_plain::{
+use nextest_config_elements_choices::{
     FinalStatusLevel, FlakyResult, MaxFail, StatusLevel, TestOutputDisplay,
+};
+use nextest_config_elements_values::{
+    GlobalTimeout, LeakTimeout, RetryPolicy, SlowTimeout, TestThreads, ThreadsRequired,
 };
 
 /// How a run goes. Each setting is `None` where its key is left out.

@@ -1,17 +1,17 @@
 // The values of a profile's keys that stand side by side.
 ghost use Rattle.toml.specs.View.{table_view};
-ghost use Rattle.nextest_config_elements_readers.specs.Paths.{GivesAt, profile_path};
+ghost use Rattle.nextest_config_elements_deserialize.specs.Paths.{GivesAt, profile_path};
 ghost use Rattle.nextest_config_resolution_values.specs.Profile as read;
 
 use crate::profile_value::optional_value;
-use nextest_config_elements_counts::{
-    GlobalTimeout, LeakTimeout, RetryPolicy, SlowTimeout, TestThreads, ThreadsRequired,
-};
-use nextest_config_elements_plain::{
+use nextest_config_elements_choices::{
     FinalStatusLevel, FlakyResult, MaxFail, StatusLevel, TestOutputDisplay,
 };
-use nextest_config_elements_readers::{Any, optional, optional_text};
-use nextest_config_elements_reading::ValueError;
+use nextest_config_elements_deserialize::{Any, optional, optional_text};
+use nextest_config_elements_toml::ValueError;
+use nextest_config_elements_values::{
+    GlobalTimeout, LeakTimeout, RetryPolicy, SlowTimeout, TestThreads, ThreadsRequired,
+};
 use nextest_text::{Listing, Text};
 use std::alloc::Global;
 use toml::Table;

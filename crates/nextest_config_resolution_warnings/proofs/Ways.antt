@@ -5,8 +5,8 @@ use Rattle.toml.proofs.Views.{items_view-drop}
 use Rattle.toml.specs.Data.{item}
 use Rattle.toml.specs.View.{items_view, view}
 use Rattle.toml.specs.declared.value.Value.{Value}
-use Rattle.nextest_config_elements_reading.specs.Reading.{Path}
-use Rattle.nextest_config_elements_reading.specs.declared.key_path.KeyPath.{KeyPath}
+use Rattle.nextest_config_elements_toml.specs.Reading.{Path}
+use Rattle.nextest_config_elements_toml.specs.declared.key_path.KeyPath.{KeyPath}
 use Rattle.nextest_config_resolution_warnings.specs.Steps.{path_of, paths_below, text_of}
 use Rattle.nextest_config_resolution_warnings.specs.Unknown.{behind, key_path}
 use Rattle.nextest_config_resolution_warnings.specs.declared.step.Step.{Step}

@@ -1,7 +1,7 @@
 -- The way to a value.
 use Rattle.std.specs.Prelude.{ℕ, List, decimal, map, ◌++◌}
-use Rattle.nextest_config_elements_reading.specs.Reading.{Path}
-use Rattle.nextest_config_elements_reading.specs.declared.key_path.KeyPath.{KeyPath}
+use Rattle.nextest_config_elements_toml.specs.Reading.{Path}
+use Rattle.nextest_config_elements_toml.specs.declared.key_path.KeyPath.{KeyPath}
 use Rattle.nextest_config_resolution_warnings.specs.Unknown.{key_path}
 use Rattle.nextest_config_resolution_warnings.specs.declared.step.Step.{Step}
 use Rattle.nextest_config_resolution_warnings.specs.declared.step.Step.TheVariants.{Key, Position}

@@ -2,8 +2,8 @@
 use Rattle.std.specs.Prelude.{ℕ, ◌+◌, List, [], ◌∷◌, ◌++◌, map, decimal}
 use Rattle.std.specs.Option.{option_map_or}
 use Rattle.toml.specs.Data.{Data, table, array, Items, no_items, item, Members, no_members, member}
-use Rattle.nextest_config_elements_reading.specs.Reading.{Path}
-use Rattle.nextest_config_elements_reading.specs.declared.key_path.KeyPath.{KeyPath}
+use Rattle.nextest_config_elements_toml.specs.Reading.{Path}
+use Rattle.nextest_config_elements_toml.specs.declared.key_path.KeyPath.{KeyPath}
 use Rattle.nextest_config_resolution_warnings.specs.Places.{Keys, place_of, keys_in, items_at}
 use Rattle.nextest_config_resolution_warnings.specs.declared.place.Place.{Place}
 use Rattle.nextest_config_resolution_warnings.specs.declared.place.Place.TheVariants.{Top}

@@ -1,5 +1,5 @@
 // What is told of a configuration file.
-use nextest_config_elements_reading::KeyPath;
+use nextest_config_elements_toml::KeyPath;
 use nextest_text::Text;
 
 /// What is told of a configuration file, with its path as it was given.

@@ -3,7 +3,7 @@ ghost use Rattle.std.specs.Prelude.{◌≡◌, []};
 
 use crate::texts;
 use crate::warnings::ConfigWarnings;
-use nextest_config_elements_reading::KeyPath;
+use nextest_config_elements_toml::KeyPath;
 use nextest_text::{Listing, Text};
 use std::alloc::{AllocError, Global};
 use std::marker::Model;

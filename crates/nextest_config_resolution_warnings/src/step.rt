@@ -3,7 +3,7 @@ ghost use Rattle.std.specs.Prelude.{◌≡◌, IfOk};
 ghost use Rattle.nextest_config_resolution_warnings.specs.Steps.{path_of, text_of};
 ghost use Rattle.nextest_config_resolution_warnings.specs.Unknown.{key_path};
 
-use nextest_config_elements_reading::KeyPath;
+use nextest_config_elements_toml::KeyPath;
 use nextest_text::{Listing, Text};
 use std::alloc::{AllocError, Global};
 

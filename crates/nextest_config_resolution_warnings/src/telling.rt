@@ -10,7 +10,7 @@ use crate::reserved::unknown_reserved_profiles;
 use crate::scripts::{defines_old_scripts, empty_in_profile};
 use crate::unknown::unknown_keys;
 use crate::warnings::ConfigWarnings;
-use nextest_config_elements_reading::KeyPath;
+use nextest_config_elements_toml::KeyPath;
 use nextest_text::Text;
 use std::alloc::{AllocError, Global};
 use toml::{Table, Value};

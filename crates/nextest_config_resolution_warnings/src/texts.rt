@@ -4,7 +4,7 @@ ghost use Rattle.nextest_config_resolution_warnings.specs.Warnings.{text_of};
 ghost use Rattle.nextest_config_resolution_warnings.specs.declared.config_warning.ConfigWarning.TheVariants.{UnknownKey, UnknownReservedProfile, DeprecatedScriptConfig, EmptyScriptSections};
 
 use crate::shown::{Shown, ShownKeys};
-use nextest_config_elements_reading::KeyPath;
+use nextest_config_elements_toml::KeyPath;
 use nextest_text::Text;
 use std::alloc::{AllocError, Global};
 

@@ -4,7 +4,7 @@ ghost use Rattle.toml.specs.View.{table_view};
 ghost use Rattle.nextest_config_resolution_warnings.specs.Unknown.{unknown_keys};
 
 use crate::walk::walk_file;
-use nextest_config_elements_reading::KeyPath;
+use nextest_config_elements_toml::KeyPath;
 use nextest_text::Listing;
 use std::alloc::{AllocError, Global};
 use toml::Table;

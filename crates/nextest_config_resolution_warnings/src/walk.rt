@@ -9,7 +9,7 @@ ghost use Rattle.nextest_config_resolution_warnings.specs.Unknown.{key_path, unk
 use crate::keys::{Keys, items_at, keys_in, place_of};
 use crate::place::Place;
 use crate::step::{Step, key_path};
-use nextest_config_elements_reading::KeyPath;
+use nextest_config_elements_toml::KeyPath;
 use nextest_text::Listing;
 use std::alloc::{AllocError, Global};
 use toml::value::Array;

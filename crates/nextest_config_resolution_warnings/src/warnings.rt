@@ -4,7 +4,7 @@ ghost use Rattle.nextest_config_resolution_warnings.specs.Telling.{Keeps, Tells}
 ghost use Rattle.nextest_config_resolution_warnings.specs.declared.config_warning.ConfigWarning.{ConfigWarning};
 ghost use Rattle.nextest_config_resolution_warnings.specs.declared.config_warning.ConfigWarning.TheVariants.{UnknownKey, UnknownReservedProfile, DeprecatedScriptConfig, EmptyScriptSections};
 
-use nextest_config_elements_reading::KeyPath;
+use nextest_config_elements_toml::KeyPath;
 use std::alloc::AllocError;
 
 /// Who is told of configuration files. Each call tells one warning, behind those that were told before. It fails only on

@@ -1,14 +1,14 @@
 -- What the contracts of the items that this crate hands on speak of.
 -- filtersets: which texts they are, and how they print
-pub use Rattle.nextest_filtering_trees.specs.Tree
+pub use Rattle.nextest_filtering_ast.specs.Tree
 pub use Rattle.nextest_filtering_syntax.specs.Parsed
-pub use Rattle.nextest_filtering_trees.specs.Grammar
-pub use Rattle.nextest_filtering_trees.specs.Words
-pub use Rattle.nextest_filtering_trees.specs.Printing
-pub use Rattle.nextest_filtering_trees.specs.Runtime
-pub use Rattle.nextest_filtering_trees.specs.Same
-pub use Rattle.nextest_filtering_trees.specs.Meaning
-pub use Rattle.nextest_filtering_trees.specs.Matching
+pub use Rattle.nextest_filtering_ast.specs.Grammar
+pub use Rattle.nextest_filtering_ast.specs.Words
+pub use Rattle.nextest_filtering_ast.specs.Printing
+pub use Rattle.nextest_filtering_ast.specs.Runtime
+pub use Rattle.nextest_filtering_ast.specs.Same
+pub use Rattle.nextest_filtering_ast.specs.Meaning
+pub use Rattle.nextest_filtering_ast.specs.Matching
 pub use Rattle.nextest_filtering_syntax.specs.Laws
 -- reading: what is read, and where faults and predicates stand
 pub use Rattle.nextest_filtering_syntax.specs.Reading
@@ -36,26 +36,26 @@ pub use Rattle.nextest_filtering_graph.specs.Graph
 pub use Rattle.nextest_filtering_graph.specs.Making
 pub use Rattle.nextest_filtering_graph.specs.Reaching
 -- arguments: texts, regular expressions, globs
-pub use Rattle.nextest_filtering_texts.specs.Text
-pub use Rattle.nextest_filtering_texts.specs.Spans
-pub use Rattle.nextest_filtering_texts.specs.Regex
-pub use Rattle.nextest_filtering_texts.specs.Printing as TextPrinting
-pub use Rattle.nextest_filtering_texts.specs.Laws as TextLaws
+pub use Rattle.nextest_filtering_escapes.specs.Text
+pub use Rattle.nextest_filtering_escapes.specs.Spans
+pub use Rattle.nextest_filtering_escapes.specs.Regex
+pub use Rattle.nextest_filtering_escapes.specs.Printing as TextPrinting
+pub use Rattle.nextest_filtering_escapes.specs.Laws as TextLaws
 pub use Rattle.nextest_filtering_globs.specs.Glob
 pub use Rattle.nextest_filtering_globs.specs.Syntax as GlobSyntax
 pub use Rattle.nextest_filtering_globs.specs.Meaning as GlobMeaning
 pub use Rattle.nextest_filtering_globs.specs.Laws as GlobLaws
 -- types
-pub use Rattle.nextest_filtering_trees.specs.declared.leaf.ParsedLeaf
-pub use Rattle.nextest_filtering_trees.specs.declared.leaf.BuildPlatform
-pub use Rattle.nextest_filtering_trees.specs.declared.leaf.SourceSpan
-pub use Rattle.nextest_filtering_trees.specs.declared.matcher.NameMatcher
-pub use Rattle.nextest_filtering_trees.specs.declared.matching.NameMatching
-pub use Rattle.nextest_filtering_trees.specs.declared.operators.AndOperator
-pub use Rattle.nextest_filtering_trees.specs.declared.operators.DifferenceOperator
-pub use Rattle.nextest_filtering_trees.specs.declared.operators.NotOperator
-pub use Rattle.nextest_filtering_trees.specs.declared.operators.OrOperator
-pub use Rattle.nextest_filtering_trees.specs.declared.pattern.PatternError
+pub use Rattle.nextest_filtering_ast.specs.declared.leaf.ParsedLeaf
+pub use Rattle.nextest_filtering_ast.specs.declared.leaf.BuildPlatform
+pub use Rattle.nextest_filtering_ast.specs.declared.leaf.SourceSpan
+pub use Rattle.nextest_filtering_ast.specs.declared.matcher.NameMatcher
+pub use Rattle.nextest_filtering_ast.specs.declared.matching.NameMatching
+pub use Rattle.nextest_filtering_ast.specs.declared.operators.AndOperator
+pub use Rattle.nextest_filtering_ast.specs.declared.operators.DifferenceOperator
+pub use Rattle.nextest_filtering_ast.specs.declared.operators.NotOperator
+pub use Rattle.nextest_filtering_ast.specs.declared.operators.OrOperator
+pub use Rattle.nextest_filtering_ast.specs.declared.pattern.PatternError
 pub use Rattle.nextest_filtering_arguments.specs.Bans as KindWords
 pub use Rattle.nextest_filtering_arguments.specs.declared.ban.BannedPredicateReason
 pub use Rattle.nextest_filtering_arguments.specs.declared.ban.FiltersetKind

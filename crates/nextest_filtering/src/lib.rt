@@ -7,6 +7,10 @@
 #![tactic(auto)]
 
 pub use nextest_filtering_arguments::{BannedPredicateReason, FiltersetKind, ParseSingleError};
+pub use nextest_filtering_ast::{
+    AndOperator, BuildPlatform, DifferenceOperator, NameMatcher, NameMatching, NotOperator,
+    OrOperator, ParsedLeaf, Pattern, PatternError, PatternMatcher, SourceSpan,
+};
 pub use nextest_filtering_compiling::{
     Filterset, FiltersetError, FiltersetParseErrors, ParseContext,
 };
@@ -19,19 +23,15 @@ pub use nextest_filtering_globs::{
 };
 pub use nextest_filtering_graph::{GraphError, GraphFault, PackageGraph};
 pub use nextest_filtering_syntax::{ParseError, ParsedExpr, Reading, needs_deps, read};
-pub use nextest_filtering_trees::{
-    AndOperator, BuildPlatform, DifferenceOperator, NameMatcher, NameMatching, NotOperator,
-    OrOperator, ParsedLeaf, Pattern, PatternError, PatternMatcher, SourceSpan,
-};
 pub use nextest_text::{Listing, Text};
 
 /// The laws of the language over its definitions.
 pub mod laws {
     pub use nextest_filtering_compiling::laws::{kept_meaning, one_meaning};
+    pub use nextest_filtering_escapes::laws::{escaped_reads_back, one_regex, one_text};
     pub use nextest_filtering_filters::laws::{one_answer, same_without_groups, sure_of_tests};
     pub use nextest_filtering_globs::laws::one_reading as one_glob_reading;
     pub use nextest_filtering_syntax::laws::{one_tree, printed_reads_back, reads_back_exactly};
-    pub use nextest_filtering_texts::laws::{escaped_reads_back, one_regex, one_text};
 }
 
 /// The names of the predicates, one a line.

@@ -1,15 +1,15 @@
 -- Arguments that texts are made into.
 use Rattle.std.proofs.Common.{◌≡◌, refl, ℕ, ◌+◌, Bool, false, List, [], ◌∷◌, ◌++◌, length, Option, Some, None, Result, Ok, Err, sym, ap, subst, ◌∙◌, arith}
 use Rattle.std.specs.Borrow.{Bor}
-use Rattle.nextest_filtering_texts.specs.Regex.{IsRegexText, HasNoRegex, HasRegexText, IsOnlyRegex}
-use Rattle.nextest_filtering_texts.proofs.Slashes.{one_regex}
-use Rattle.nextest_filtering_trees.specs.declared.leaf.BuildPlatform.{BuildPlatform}
-use Rattle.nextest_filtering_trees.specs.declared.leaf.BuildPlatform.TheVariants.{Host, Target}
-use Rattle.nextest_filtering_trees.specs.declared.matcher.NameMatcher.{NameMatcher}
-use Rattle.nextest_filtering_trees.specs.declared.matcher.NameMatcher.TheVariants as matcher
-use Rattle.nextest_filtering_trees.specs.Tree.{Comparison, regex, Matcher, matcher_of, IsRegex}
-use Rattle.nextest_filtering_trees.specs.Words.{platform_word}
-use Rattle.nextest_filtering_trees.specs.Grammar.{unblanked, Spells, Compares}
+use Rattle.nextest_filtering_escapes.specs.Regex.{IsRegexText, HasNoRegex, HasRegexText, IsOnlyRegex}
+use Rattle.nextest_filtering_escapes.proofs.Slashes.{one_regex}
+use Rattle.nextest_filtering_ast.specs.declared.leaf.BuildPlatform.{BuildPlatform}
+use Rattle.nextest_filtering_ast.specs.declared.leaf.BuildPlatform.TheVariants.{Host, Target}
+use Rattle.nextest_filtering_ast.specs.declared.matcher.NameMatcher.{NameMatcher}
+use Rattle.nextest_filtering_ast.specs.declared.matcher.NameMatcher.TheVariants as matcher
+use Rattle.nextest_filtering_ast.specs.Tree.{Comparison, regex, Matcher, matcher_of, IsRegex}
+use Rattle.nextest_filtering_ast.specs.Words.{platform_word}
+use Rattle.nextest_filtering_ast.specs.Grammar.{unblanked, Spells, Compares}
 use Rattle.nextest_filtering_arguments.specs.declared.stop.Stop.{Stop}
 use Rattle.nextest_filtering_arguments.specs.declared.stop.Stop.TheVariants.{NoTree, Memory}
 use Rattle.nextest_filtering_arguments.specs.Faults.{IsSuffix}

@@ -3,8 +3,8 @@ use Rattle.std.specs.Prelude.{◌≡◌, refl, ℕ, ◌<◌, true, false, List, 
 use Rattle.std.specs.Str.{IsUtf8}
 use Rattle.std.proofs.Common.{arith, rules}
 use Rattle.std.proofs.lemmas.Str.{IsCharBoundary-after_ascii}
-use Rattle.nextest_filtering_texts.specs.Text.{is_blank}
-use Rattle.nextest_filtering_trees.specs.Grammar.{unblanked}
+use Rattle.nextest_filtering_escapes.specs.Text.{is_blank}
+use Rattle.nextest_filtering_ast.specs.Grammar.{unblanked}
 use Rattle.nextest_filtering_arguments.specs.Blanks.{has_blank_front}
 
 below : (byte : ℕ) → is_blank byte ≡ true → byte < 128

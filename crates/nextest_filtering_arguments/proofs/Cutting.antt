@@ -2,11 +2,11 @@
 use Rattle.std.proofs.Common.{◌≡◌, refl, ℕ, Bool, true, false, List, [], ◌∷◌, ◌++◌, drop, Some, sym, ap, subst, ◌∙◌, inl, inr}
 use Rattle.std.specs.List.{AllByRecursion, flat_map}
 use Rattle.std.proofs.lemmas.Bool.{eqb-true, or_cases, cases_Bool}
-use Rattle.nextest_filtering_texts.specs.Text.{Piece, Plain, Escaped, Unicode, IsPiece, IsText, spelling, meaning, is_blank, is_end, escape_of}
-use Rattle.nextest_filtering_texts.specs.Ends.{Stops}
-use Rattle.nextest_filtering_texts.proofs.Shown.{last_same}
-use Rattle.nextest_filtering_texts.proofs.Pieces.{text_none, text_more}
-use Rattle.nextest_filtering_trees.specs.Grammar.{unblanked}
+use Rattle.nextest_filtering_escapes.specs.Text.{Piece, Plain, Escaped, Unicode, IsPiece, IsText, spelling, meaning, is_blank, is_end, escape_of}
+use Rattle.nextest_filtering_escapes.specs.Ends.{Stops}
+use Rattle.nextest_filtering_escapes.proofs.Shown.{last_same}
+use Rattle.nextest_filtering_escapes.proofs.Pieces.{text_none, text_more}
+use Rattle.nextest_filtering_ast.specs.Grammar.{unblanked}
 use Rattle.nextest_filtering_arguments.specs.Blanks.{AreBlanks, HasBareEnd}
 use Rattle.nextest_filtering_arguments.proofs.Trimming.{blank_cases, part_of}
 

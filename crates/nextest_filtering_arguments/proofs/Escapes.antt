@@ -2,13 +2,13 @@
 use Rattle.std.proofs.Common.{◌≡◌, refl, ℕ, zero, suc, ◌+◌, ◌-◌, ◌<◌, ◌≤◌, List, [], ◌∷◌, ◌++◌, length, get_or, sym, ap, subst, ◌∙◌, arith, append_assoc, length-append}
 use Rattle.std.specs.List.{AllByRecursion}
 use Rattle.std.proofs.lemmas.List.{nil_from_length}
-use Rattle.nextest_filtering_texts.specs.Text.{IsText}
-use Rattle.nextest_filtering_texts.specs.Ends.{IsUnended}
-use Rattle.nextest_filtering_texts.specs.Spans.{IsBadEscape, IsSpanOf}
-use Rattle.nextest_filtering_texts.specs.Parts.{IsRead}
-use Rattle.nextest_filtering_texts.proofs.Ended.{bad_escapes_stay}
-use Rattle.nextest_filtering_texts.specs.declared.escapes.EscapeSpan.{EscapeSpan}
-use Rattle.nextest_filtering_trees.specs.declared.leaf.SourceSpan.{SourceSpan}
+use Rattle.nextest_filtering_escapes.specs.Text.{IsText}
+use Rattle.nextest_filtering_escapes.specs.Ends.{IsUnended}
+use Rattle.nextest_filtering_escapes.specs.Spans.{IsBadEscape, IsSpanOf}
+use Rattle.nextest_filtering_escapes.specs.Parts.{IsRead}
+use Rattle.nextest_filtering_escapes.proofs.Ended.{bad_escapes_stay}
+use Rattle.nextest_filtering_escapes.specs.declared.escapes.EscapeSpan.{EscapeSpan}
+use Rattle.nextest_filtering_ast.specs.declared.leaf.SourceSpan.{SourceSpan}
 use Rattle.nextest_filtering_arguments.specs.Faults.{IsSuffix, here, within, Lies, spanned, past}
 use Rattle.nextest_filtering_arguments.specs.Texts.{IsFront, IsLookedAt}
 use Rattle.nextest_filtering_arguments.proofs.Spans.{told, told_past, suffix_trans, suffix_len}

@@ -3,7 +3,7 @@ use Rattle.std.specs.Prelude.{◌≡◌, ℕ, nat_eq, Bool, true, false, List, �
 use Rattle.std.proofs.Common.{arith}
 use Rattle.std.proofs.Math.Path.{ap, sym, ◌∙◌}
 use Rattle.std.proofs.Math.Seq.{drop-append_seam}
-use Rattle.nextest_filtering_trees.specs.Grammar.{ends_word}
+use Rattle.nextest_filtering_ast.specs.Grammar.{ends_word}
 
 -- behind its first byte stands one rest
 pub same_rest : (a b : ℕ) (u x y : List ℕ) → u ≡ a ∷ x → u ≡ b ∷ y → x ≡ y

@@ -1,12 +1,12 @@
 -- A text as an argument: what was read, and that nothing else stands there.
 use Rattle.std.proofs.Common.{◌≡◌, ◌≢◌, refl, ℕ, ◌+◌, ◌≤◌, Bool, true, false, eqb, not, ◌&&◌, List, [], ◌∷◌, ◌++◌, length, sym, ap, subst, ◌∙◌, arith, rules, append_assoc, length-append}
 use Rattle.std.proofs.lemmas.Bool.{false≢true}
-use Rattle.nextest_filtering_texts.specs.Text.{IsText, is_end}
-use Rattle.nextest_filtering_texts.specs.Ends.{Stops, unended, IsUnended, IsOnlyText}
-use Rattle.nextest_filtering_texts.specs.declared.escapes.EscapeSpan.{EscapeSpan}
-use Rattle.nextest_filtering_texts.proofs.Pieces.{plain_around, one_text}
-use Rattle.nextest_filtering_trees.specs.declared.leaf.SourceSpan.{SourceSpan}
-use Rattle.nextest_filtering_trees.specs.Grammar.{unblanked, Behind}
+use Rattle.nextest_filtering_escapes.specs.Text.{IsText, is_end}
+use Rattle.nextest_filtering_escapes.specs.Ends.{Stops, unended, IsUnended, IsOnlyText}
+use Rattle.nextest_filtering_escapes.specs.declared.escapes.EscapeSpan.{EscapeSpan}
+use Rattle.nextest_filtering_escapes.proofs.Pieces.{plain_around, one_text}
+use Rattle.nextest_filtering_ast.specs.declared.leaf.SourceSpan.{SourceSpan}
+use Rattle.nextest_filtering_ast.specs.Grammar.{unblanked, Behind}
 use Rattle.nextest_filtering_arguments.specs.Blanks.{IsTrimmed}
 use Rattle.nextest_filtering_arguments.specs.Faults.{IsSuffix, here, Lies}
 use Rattle.nextest_filtering_arguments.specs.Texts.{IsPlaced, IsLookedAt, IsMeant, IsTextArgument}

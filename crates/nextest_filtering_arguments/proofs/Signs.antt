@@ -1,9 +1,9 @@
 -- The sign of a matcher: where one stands, and where none does.
 use Rattle.std.proofs.Common.{◌≡◌, ◌≢◌, refl, ℕ, true, false, eqb, List, [], ◌∷◌, ◌++◌, sym, ap, subst, ◌∙◌, inl, inr, append_assoc}
 use Rattle.std.proofs.lemmas.Bool.{eqb-true, or_cases, false≢true, cases_Bool}
-use Rattle.nextest_filtering_texts.specs.Regex.{IsRegexText}
-use Rattle.nextest_filtering_trees.specs.Tree.{Comparison, equal, contains, glob, regex, Matcher, Subject}
-use Rattle.nextest_filtering_trees.specs.Grammar.{unblanked, Behind, Spells, Compares, is_sign, bare, ReadsSigned, ReadsBare, ReadsMatcher}
+use Rattle.nextest_filtering_escapes.specs.Regex.{IsRegexText}
+use Rattle.nextest_filtering_ast.specs.Tree.{Comparison, equal, contains, glob, regex, Matcher, Subject}
+use Rattle.nextest_filtering_ast.specs.Grammar.{unblanked, Behind, Spells, Compares, is_sign, bare, ReadsSigned, ReadsBare, ReadsMatcher}
 use Rattle.nextest_filtering_arguments.specs.declared.subject.Comparing.{Comparing}
 use Rattle.nextest_filtering_arguments.specs.declared.subject.Comparing.TheVariants as by
 use Rattle.nextest_filtering_arguments.specs.Matchers.{ReadsCompared, ReadsPattern, comparison_of, sign_of}

@@ -4,9 +4,9 @@ use Rattle.std.proofs.Common.{arith, length-append}
 use Rattle.std.proofs.Math.Path.{ap, sym, subst, ◌∙◌}
 use Rattle.std.proofs.Math.Seq.{drop-append_seam, take-append_seam}
 use Rattle.std.proofs.lemmas.List.{append_assoc}
-use Rattle.nextest_filtering_texts.specs.Text.{is_blank}
-use Rattle.nextest_filtering_trees.specs.Grammar.{unblanked}
-use Rattle.nextest_filtering_trees.specs.declared.leaf.SourceSpan.{SourceSpan}
+use Rattle.nextest_filtering_escapes.specs.Text.{is_blank}
+use Rattle.nextest_filtering_ast.specs.Grammar.{unblanked}
+use Rattle.nextest_filtering_ast.specs.declared.leaf.SourceSpan.{SourceSpan}
 use Rattle.nextest_filtering_arguments.specs.Blanks.{has_blank_front}
 use Rattle.nextest_filtering_arguments.specs.Faults.{IsSuffix, here, Lies, IsPlace, RunsOut, BeginsBare, spanned, past}
 

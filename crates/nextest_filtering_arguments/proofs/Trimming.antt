@@ -3,7 +3,7 @@ use Rattle.std.proofs.Common.{◌≡◌, ◌≢◌, refl, ℕ, true, List, [], �
 use Rattle.std.specs.Prelude.{MatchOption, IfNone}
 use Rattle.std.specs.Borrow.{Bor}
 use Rattle.std.proofs.lemmas.Bool.{eqb-true, or_cases, false≢true, cases_Bool}
-use Rattle.nextest_filtering_texts.specs.Text.{is_blank}
+use Rattle.nextest_filtering_escapes.specs.Text.{is_blank}
 use Rattle.nextest_filtering_arguments.specs.Blanks.{AreBlanks, HasBareEnd}
 
 -- each kind of blank

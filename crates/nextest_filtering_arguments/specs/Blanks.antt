@@ -1,7 +1,7 @@
 -- Blanks at the start of a text and at its end.
 use Rattle.std.specs.Prelude.{◌≡◌, ℕ, Bool, true, false, List, [], ◌∷◌, ◌++◌}
 use Rattle.std.specs.List.{AllByRecursion}
-use Rattle.nextest_filtering_texts.specs.Text.{is_blank}
+use Rattle.nextest_filtering_escapes.specs.Text.{is_blank}
 
 -- the first byte is a blank
 abbrev pub has_blank_front : List ℕ → Bool

@@ -1,8 +1,8 @@
 -- Where faults stand.
 use Rattle.std.specs.Prelude.{◌≡◌, ◌⊎◌, ℕ, Bool, ◌+◌, ◌-◌, ◌≤◌, false, List, ◌++◌, length, take, drop, codes}
 use Rattle.std.specs.List.{AllByRecursion}
-use Rattle.nextest_filtering_texts.specs.Spans.{IsBadEscape}
-use Rattle.nextest_filtering_trees.specs.declared.leaf.SourceSpan.{SourceSpan}
+use Rattle.nextest_filtering_escapes.specs.Spans.{IsBadEscape}
+use Rattle.nextest_filtering_ast.specs.declared.leaf.SourceSpan.{SourceSpan}
 use Rattle.nextest_filtering_arguments.specs.Blanks.{has_blank_front}
 use Rattle.nextest_filtering_arguments.specs.declared.error.ParseSingleError.{ParseSingleError}
 use Rattle.nextest_filtering_arguments.specs.declared.error.ParseSingleError.TheVariants as fault

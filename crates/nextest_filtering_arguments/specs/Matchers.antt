@@ -1,12 +1,12 @@
 -- What reading a matcher or a platform as an argument gives, faults and all.
 use Rattle.std.specs.Prelude.{◌≡◌, ℕ, ◌≤◌, ◌<◌, Bool, false, List, ◌∷◌, ◌++◌, Option, Some, None, Result, Ok, Err}
 use Rattle.std.specs.Borrow.{Bor}
-use Rattle.nextest_filtering_texts.specs.Regex.{IsRegexText}
-use Rattle.nextest_filtering_trees.specs.declared.leaf.BuildPlatform.{BuildPlatform}
-use Rattle.nextest_filtering_trees.specs.declared.matcher.NameMatcher.{NameMatcher}
-use Rattle.nextest_filtering_trees.specs.Tree.{Comparison, equal, contains, glob, regex, Matcher, matcher_of, Subject, package_name, dependencies, dependents, kind, binary_name, binary_id, test_name, group, IsRegex}
-use Rattle.nextest_filtering_trees.specs.Words.{platform_word}
-use Rattle.nextest_filtering_trees.specs.Grammar.{unblanked, Behind, Spells, Compares}
+use Rattle.nextest_filtering_escapes.specs.Regex.{IsRegexText}
+use Rattle.nextest_filtering_ast.specs.declared.leaf.BuildPlatform.{BuildPlatform}
+use Rattle.nextest_filtering_ast.specs.declared.matcher.NameMatcher.{NameMatcher}
+use Rattle.nextest_filtering_ast.specs.Tree.{Comparison, equal, contains, glob, regex, Matcher, matcher_of, Subject, package_name, dependencies, dependents, kind, binary_name, binary_id, test_name, group, IsRegex}
+use Rattle.nextest_filtering_ast.specs.Words.{platform_word}
+use Rattle.nextest_filtering_ast.specs.Grammar.{unblanked, Behind, Spells, Compares}
 use Rattle.nextest_filtering_arguments.specs.declared.stop.Stop.{Stop}
 use Rattle.nextest_filtering_arguments.specs.declared.stop.Stop.TheVariants.{NoTree, Memory}
 use Rattle.nextest_filtering_arguments.specs.declared.subject.Subject.{Subject as Looked}

@@ -1,9 +1,9 @@
 -- What reading a text as an argument gives, faults and all.
 use Rattle.std.specs.Prelude.{◌≡◌, ◌≢◌, ℕ, ◌≤◌, List, [], ◌∷◌, ◌++◌, length}
-use Rattle.nextest_filtering_texts.specs.Text.{IsText}
-use Rattle.nextest_filtering_texts.specs.Ends.{Stops, IsUnended, IsEnded}
-use Rattle.nextest_filtering_trees.specs.Grammar.{unblanked, Behind, Spells}
-use Rattle.nextest_filtering_trees.specs.declared.leaf.SourceSpan.{SourceSpan}
+use Rattle.nextest_filtering_escapes.specs.Text.{IsText}
+use Rattle.nextest_filtering_escapes.specs.Ends.{Stops, IsUnended, IsEnded}
+use Rattle.nextest_filtering_ast.specs.Grammar.{unblanked, Behind, Spells}
+use Rattle.nextest_filtering_ast.specs.declared.leaf.SourceSpan.{SourceSpan}
 use Rattle.nextest_filtering_arguments.specs.Blanks.{AreBlanks, HasBareEnd}
 use Rattle.nextest_filtering_arguments.specs.Faults.{IsSuffix, here}
 

@@ -1,7 +1,7 @@
 // What stands at the start of a text.
 ghost use Rattle.std.specs.Prelude.{◌≡◌, ◌++◌, ℕ, List, IfSome, IfNone, drop, true};
-ghost use Rattle.nextest_filtering_texts.specs.Text.{is_blank};
-ghost use Rattle.nextest_filtering_trees.specs.Grammar.{unblanked};
+ghost use Rattle.nextest_filtering_escapes.specs.Text.{is_blank};
+ghost use Rattle.nextest_filtering_ast.specs.Grammar.{unblanked};
 ghost use Rattle.nextest_filtering_arguments.specs.Blanks.{has_blank_front, EndsBlank, HasBareEnd, IsTrimmed};
 
 /// Whether the byte is a blank: a space, a tab, a line feed or a carriage return.

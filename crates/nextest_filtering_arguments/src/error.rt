@@ -1,6 +1,6 @@
 // Why a text is refused.
 use crate::ban::{BannedPredicateReason, FiltersetKind};
-use nextest_filtering_trees::SourceSpan;
+use nextest_filtering_ast::SourceSpan;
 
 /// A fault of a filterset, and where it stands: of its text, of a predicate that may not stand there, or of one that nothing
 /// can be.

@@ -1,6 +1,6 @@
 // The faults that were found so far.
 use crate::error::ParseSingleError;
-use nextest_filtering_trees::SourceSpan;
+use nextest_filtering_ast::SourceSpan;
 use std::alloc::{AllocError, Global};
 use std::marker::Model;
 

@@ -1,7 +1,7 @@
 // A matcher as an argument.
 ghost use Rattle.std.specs.Prelude.{◌≡◌, ◌∷◌, ℕ, List, IfOk, IfSome, IfNone};
-ghost use Rattle.nextest_filtering_trees.specs.Tree.{matcher_of};
-ghost use Rattle.nextest_filtering_trees.specs.Grammar.{bare, ReadsMatcher};
+ghost use Rattle.nextest_filtering_ast.specs.Tree.{matcher_of};
+ghost use Rattle.nextest_filtering_ast.specs.Grammar.{bare, ReadsMatcher};
 ghost use Rattle.nextest_filtering_arguments.specs.declared.subject.Comparing.{Comparing};
 ghost use Rattle.nextest_filtering_arguments.specs.Faults.{IsSuffix, Lies, count};
 ghost use Rattle.nextest_filtering_arguments.specs.Matchers.{IsArgument, FindsMatcher, IsMade, ReadsCompared, ReadsPattern, comparison_of, sign_of, subject_of};
@@ -12,9 +12,9 @@ use crate::faults::Faults;
 use crate::stop::Stop;
 use crate::subject::{Comparing, Subject};
 use crate::text::{TextArgument, text_argument};
+use nextest_filtering_ast::{NameMatcher, Pattern, PatternError};
+use nextest_filtering_escapes::{split_regex, unslash};
 use nextest_filtering_globs::{GenericGlob, GlobConstructError};
-use nextest_filtering_texts::{split_regex, unslash};
-use nextest_filtering_trees::{NameMatcher, Pattern, PatternError};
 use std::alloc::{AllocError, Global};
 
 // The sign at the start of `text`, and what follows it.

@@ -1,14 +1,14 @@
 // A platform as an argument.
 ghost use Rattle.std.specs.Prelude.{◌≡◌, IfOk, IfSome, IfNone};
-ghost use Rattle.nextest_filtering_trees.specs.declared.leaf.BuildPlatform.{BuildPlatform};
-ghost use Rattle.nextest_filtering_trees.specs.Words.{platform_word};
+ghost use Rattle.nextest_filtering_ast.specs.declared.leaf.BuildPlatform.{BuildPlatform};
+ghost use Rattle.nextest_filtering_ast.specs.Words.{platform_word};
 ghost use Rattle.nextest_filtering_arguments.specs.Faults.{IsSuffix, count};
 ghost use Rattle.nextest_filtering_arguments.specs.Matchers.{IsArgument, ReadsPlatform, platform_itself};
 
 use crate::error::ParseSingleError;
 use crate::faults::Faults;
 use crate::text::text_argument;
-use nextest_filtering_trees::BuildPlatform;
+use nextest_filtering_ast::BuildPlatform;
 use std::alloc::{AllocError, Global};
 
 // The platform of that name.

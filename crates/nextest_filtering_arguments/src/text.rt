@@ -1,7 +1,7 @@
 // A text as an argument.
 ghost use Rattle.std.specs.Prelude.{◌≡◌, ◌+◌, IfOk, OnOk, length};
 ghost use Rattle.std.specs.List.{AllByRecursion};
-ghost use Rattle.nextest_filtering_texts.specs.Spans.{IsSpanOf};
+ghost use Rattle.nextest_filtering_escapes.specs.Spans.{IsSpanOf};
 ghost use Rattle.nextest_filtering_arguments.specs.Blanks.{IsTrimmed};
 ghost use Rattle.nextest_filtering_arguments.specs.Faults.{IsSuffix, Lies, count};
 ghost use Rattle.nextest_filtering_arguments.specs.Texts.{IsFront, IsPlaced, IsLookedAt, IsMeant, IsTextArgument};
@@ -9,8 +9,8 @@ ghost use Rattle.nextest_filtering_arguments.specs.Texts.{IsFront, IsPlaced, IsL
 use crate::cursor::{skip_blanks, trim_blanks_end};
 use crate::error::ParseSingleError;
 use crate::faults::Faults;
-use nextest_filtering_texts::{EscapeSpan, split_text, unescape};
-use nextest_filtering_trees::SourceSpan;
+use nextest_filtering_ast::SourceSpan;
+use nextest_filtering_escapes::{EscapeSpan, split_text, unescape};
 use nextest_text::Text;
 use std::alloc::{AllocError, Global};
 

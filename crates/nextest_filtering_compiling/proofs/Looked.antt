@@ -5,10 +5,10 @@ use Rattle.std.proofs.lemmas.Bool.{eqb-true}
 use Rattle.std.proofs.lemmas.List.{take_all}
 use Rattle.std.proofs.lemmas.List.Elements.{All-more, All-contains}
 use Rattle.nextest_filtering_filters.specs.Meaning.{Tells}
-use Rattle.nextest_filtering_trees.specs.Matching.{comparison_of, text_of}
-use Rattle.nextest_filtering_trees.specs.Meaning.{Compares, MatchesName}
-use Rattle.nextest_filtering_trees.specs.Tree.{Comparison, Matcher}
-use Rattle.nextest_filtering_trees.specs.declared.matching.NameMatching.{NameMatching}
+use Rattle.nextest_filtering_ast.specs.Matching.{comparison_of, text_of}
+use Rattle.nextest_filtering_ast.specs.Meaning.{Compares, MatchesName}
+use Rattle.nextest_filtering_ast.specs.Tree.{Comparison, Matcher}
+use Rattle.nextest_filtering_ast.specs.declared.matching.NameMatching.{NameMatching}
 use Rattle.nextest_filtering_compiling.specs.Context.{Context}
 use Rattle.nextest_filtering_compiling.specs.Faults.{NoBinary}
 

@@ -8,9 +8,9 @@ use Rattle.nextest_filtering_filters.specs.declared.leaf.FiltersetLeaf.{Filterse
 use Rattle.nextest_filtering_filters.specs.declared.leaf.FiltersetLeaf.TheVariants as leaf
 use Rattle.nextest_filtering_filters.specs.Formula.{with_leaves}
 use Rattle.nextest_filtering_graph.specs.Graph.{Graph}
-use Rattle.nextest_filtering_trees.specs.Tree.{leaf_of}
+use Rattle.nextest_filtering_ast.specs.Tree.{leaf_of}
 use Rattle.nextest_filtering_syntax.specs.Parsed.{tree_of}
-use Rattle.nextest_filtering_trees.specs.declared.leaf.ParsedLeaf.{ParsedLeaf}
+use Rattle.nextest_filtering_ast.specs.declared.leaf.ParsedLeaf.{ParsedLeaf}
 use Rattle.nextest_filtering_syntax.specs.declared.tree.ParsedExpr.{ParsedExpr}
 use Rattle.nextest_filtering_syntax.specs.declared.tree.ParsedExpr.TheVariants as tree
 use Rattle.nextest_filtering_compiling.specs.Compiling.{AreCompiled, IsCompiled, IsCompiledLeaf}

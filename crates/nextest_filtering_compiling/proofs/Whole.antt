@@ -12,11 +12,11 @@ use Rattle.nextest_filtering_filters.specs.declared.step.Step.{Step}
 use Rattle.nextest_filtering_syntax.specs.Places.{StandsWhole}
 use Rattle.nextest_filtering_syntax.specs.Reading.{IsReadingOf}
 use Rattle.nextest_filtering_syntax.specs.declared.reading.Reading.{Reading}
-use Rattle.nextest_filtering_trees.specs.Grammar.{IsFilterset}
-use Rattle.nextest_filtering_trees.specs.Tree.{Leaf, Tree, matching, built_for, default_filter, everything, nothing, package_name, dependencies, dependents, kind, binary_name, binary_id, test_name, group, leaf_of}
+use Rattle.nextest_filtering_ast.specs.Grammar.{IsFilterset}
+use Rattle.nextest_filtering_ast.specs.Tree.{Leaf, Tree, matching, built_for, default_filter, everything, nothing, package_name, dependencies, dependents, kind, binary_name, binary_id, test_name, group, leaf_of}
 use Rattle.nextest_filtering_syntax.specs.Parsed.{tree_of}
-use Rattle.nextest_filtering_trees.specs.declared.leaf.ParsedLeaf.{ParsedLeaf}
-use Rattle.nextest_filtering_trees.specs.declared.leaf.SourceSpan.{SourceSpan}
+use Rattle.nextest_filtering_ast.specs.declared.leaf.ParsedLeaf.{ParsedLeaf}
+use Rattle.nextest_filtering_ast.specs.declared.leaf.SourceSpan.{SourceSpan}
 use Rattle.nextest_filtering_syntax.specs.declared.tree.ParsedExpr.{ParsedExpr}
 use Rattle.nextest_filtering_syntax.specs.declared.tree.ParsedExpr.TheVariants as tree
 use Rattle.nextest_filtering_compiling.specs.Accepting.{IsAccepted, IsFree, IsRefusedFor}

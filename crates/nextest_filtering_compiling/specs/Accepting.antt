@@ -5,8 +5,8 @@ use Rattle.nextest_filtering_arguments.specs.declared.ban.FiltersetKind.{Filters
 use Rattle.nextest_filtering_arguments.specs.declared.error.ParseSingleError.{ParseSingleError}
 use Rattle.nextest_filtering_filters.specs.Filter.{filter_of}
 use Rattle.nextest_filtering_syntax.specs.Places.{StandsWhole}
-use Rattle.nextest_filtering_trees.specs.Grammar.{IsFilterset}
-use Rattle.nextest_filtering_trees.specs.Tree.{Tree, negation, union, intersection, difference, parens, set}
+use Rattle.nextest_filtering_ast.specs.Grammar.{IsFilterset}
+use Rattle.nextest_filtering_ast.specs.Tree.{Tree, negation, union, intersection, difference, parens, set}
 use Rattle.nextest_filtering_syntax.specs.Parsed.{tree_of}
 use Rattle.nextest_filtering_syntax.specs.declared.tree.ParsedExpr.{ParsedExpr}
 use Rattle.nextest_filtering_compiling.specs.Bans.{ban_of, banned}

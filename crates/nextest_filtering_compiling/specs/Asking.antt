@@ -4,7 +4,7 @@ use Rattle.std.specs.BTreeSet.{BTreeSet, contains_text}
 use Rattle.nextest_filtering_filters.specs.Meaning.{Tells}
 use Rattle.nextest_filtering_graph.specs.Graph.{Graph}
 use Rattle.nextest_filtering_graph.specs.Reaching.{Reaches}
-use Rattle.nextest_filtering_trees.specs.Tree.{Matcher, Subject, package_name, dependencies, dependents}
+use Rattle.nextest_filtering_ast.specs.Tree.{Matcher, Subject, package_name, dependencies, dependents}
 use Rattle.nextest_filtering_compiling.specs.Packages.{HasId, IsNamed}
 use Rattle.nextest_filtering_compiling.specs.declared.packages.Asks.{Asks}
 use Rattle.nextest_filtering_compiling.specs.declared.packages.Asks.TheVariants as asks

@@ -7,9 +7,9 @@ use Rattle.nextest_filtering_arguments.specs.declared.ban.FiltersetKind.TheVaria
 use Rattle.nextest_filtering_arguments.specs.declared.error.ParseSingleError.{ParseSingleError}
 use Rattle.nextest_filtering_arguments.specs.declared.error.ParseSingleError.TheVariants as fault
 use Rattle.nextest_filtering_syntax.specs.Places.{span_of}
-use Rattle.nextest_filtering_trees.specs.Tree.{Leaf, matching, default_filter, test_name, group, leaf_of}
-use Rattle.nextest_filtering_trees.specs.declared.leaf.ParsedLeaf.{ParsedLeaf}
-use Rattle.nextest_filtering_trees.specs.declared.leaf.SourceSpan.{SourceSpan}
+use Rattle.nextest_filtering_ast.specs.Tree.{Leaf, matching, default_filter, test_name, group, leaf_of}
+use Rattle.nextest_filtering_ast.specs.declared.leaf.ParsedLeaf.{ParsedLeaf}
+use Rattle.nextest_filtering_ast.specs.declared.leaf.SourceSpan.{SourceSpan}
 
 -- why a predicate may not stand in a filterset of this kind, if it may not
 abbrev pub ban_of : FiltersetKind → Leaf → Option BannedPredicateReason

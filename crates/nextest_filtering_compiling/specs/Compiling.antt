@@ -8,10 +8,10 @@ use Rattle.nextest_filtering_filters.specs.declared.leaf.FiltersetLeaf.TheVarian
 use Rattle.nextest_filtering_filters.specs.Formula as formula
 use Rattle.nextest_filtering_filters.specs.Formula.{Formula}
 use Rattle.nextest_filtering_graph.specs.Graph.{Graph}
-use Rattle.nextest_filtering_trees.specs.Tree.{Leaf, Matcher, Subject, Tree, matcher_of, matching, built_for, default_filter, everything, nothing, package_name, dependencies, dependents, kind, binary_name, binary_id, test_name, group, negation, union, intersection, difference, parens, set, leaf_of}
-use Rattle.nextest_filtering_trees.specs.declared.leaf.ParsedLeaf.{ParsedLeaf}
-use Rattle.nextest_filtering_trees.specs.declared.leaf.SourceSpan.{SourceSpan}
-use Rattle.nextest_filtering_trees.specs.declared.matcher.NameMatcher.{NameMatcher}
+use Rattle.nextest_filtering_ast.specs.Tree.{Leaf, Matcher, Subject, Tree, matcher_of, matching, built_for, default_filter, everything, nothing, package_name, dependencies, dependents, kind, binary_name, binary_id, test_name, group, negation, union, intersection, difference, parens, set, leaf_of}
+use Rattle.nextest_filtering_ast.specs.declared.leaf.ParsedLeaf.{ParsedLeaf}
+use Rattle.nextest_filtering_ast.specs.declared.leaf.SourceSpan.{SourceSpan}
+use Rattle.nextest_filtering_ast.specs.declared.matcher.NameMatcher.{NameMatcher}
 use Rattle.nextest_filtering_compiling.specs.Packages.{AsksFor}
 
 -- a set of the packages that a predicate asks for

@@ -26,8 +26,8 @@ use Rattle.nextest_filtering_filters.proofs.Giving.{gives_less, gives_one, of_le
 use Rattle.nextest_filtering_graph.specs.Graph.{Graph}
 use Rattle.nextest_filtering_syntax.proofs.Trees.{one_tree}
 use Rattle.nextest_filtering_syntax.specs.Parsed.{tree_of}
-use Rattle.nextest_filtering_trees.specs.Meaning.{MatchesName}
-use Rattle.nextest_filtering_trees.specs.Tree.{Leaf, Matcher, Tree, matcher_of, matching, default_filter, group, negation, union, intersection, difference, parens, set}
+use Rattle.nextest_filtering_ast.specs.Meaning.{MatchesName}
+use Rattle.nextest_filtering_ast.specs.Tree.{Leaf, Matcher, Tree, matcher_of, matching, default_filter, group, negation, union, intersection, difference, parens, set}
 use Rattle.nextest_filtering_compiling.specs.Questions.{asks_as_written}
 use Rattle.nextest_config_resolution_filters.specs.Filters.{AreAlike, FiltersLaws, IsRead}
 use Rattle.nextest_filtering_compiling.specs.Filtersets.{AsksAsWritten, HasOnBinary, HasOnTest, IsFilterset, any_leaf, asked_in, asks, asks_default, asks_group, can_be_default}

@@ -12,7 +12,7 @@ use Rattle.nextest_filtering_filters.specs.Query.{Binary, Test}
 use Rattle.nextest_filtering_filters.specs.declared.leaf.FiltersetLeaf.{FiltersetLeaf}
 use Rattle.nextest_filtering_filters.specs.Formula.{IsValue}
 use Rattle.nextest_filtering_syntax.specs.Parsed.{tree_of}
-use Rattle.nextest_filtering_trees.specs.Tree.{Leaf, Tree, matching, default_filter, test_name, group, negation, union, intersection, difference, parens, set}
+use Rattle.nextest_filtering_ast.specs.Tree.{Leaf, Tree, matching, default_filter, test_name, group, negation, union, intersection, difference, parens, set}
 use Rattle.nextest_filtering_compiling.specs.declared.questions.Question.{Question}
 use Rattle.nextest_filtering_compiling.specs.declared.questions.Question.TheVariants as about
 

@@ -12,13 +12,13 @@ use Rattle.nextest_filtering_filters.specs.Formula as formula
 use Rattle.nextest_filtering_filters.specs.Formula.{Formula, Gives, both_gives, either_gives, leaf_gives, negated_gives}
 use Rattle.nextest_filtering_filters.proofs.Giving.{of_leaf}
 use Rattle.nextest_filtering_graph.specs.Graph.{Graph}
-use Rattle.nextest_filtering_trees.specs.Grammar.{Compares, Conjunction, Expression, IsFilterset, ReadsArgument, Unary, a_group, a_negation, a_predicate, first_conjunction, first_operand, joined, next_conjunction, next_operand}
-use Rattle.nextest_filtering_trees.specs.Meaning.{MatchesName}
-use Rattle.nextest_filtering_trees.specs.Tree.{Leaf, Matcher, Subject, Tree, binary_id, binary_name, built_for, default_filter, dependencies, dependents, difference, everything, group, intersection, kind, matcher_of, matching, negation, nothing, package_name, parens, set, test_name, union}
-use Rattle.nextest_filtering_trees.specs.declared.leaf.SourceSpan.{SourceSpan}
-use Rattle.nextest_filtering_trees.specs.declared.matcher.NameMatcher.{NameMatcher}
-use Rattle.nextest_filtering_trees.specs.declared.operators.Joint.{Joint}
-use Rattle.nextest_filtering_trees.specs.declared.operators.Joint.TheVariants as joint
+use Rattle.nextest_filtering_ast.specs.Grammar.{Compares, Conjunction, Expression, IsFilterset, ReadsArgument, Unary, a_group, a_negation, a_predicate, first_conjunction, first_operand, joined, next_conjunction, next_operand}
+use Rattle.nextest_filtering_ast.specs.Meaning.{MatchesName}
+use Rattle.nextest_filtering_ast.specs.Tree.{Leaf, Matcher, Subject, Tree, binary_id, binary_name, built_for, default_filter, dependencies, dependents, difference, everything, group, intersection, kind, matcher_of, matching, negation, nothing, package_name, parens, set, test_name, union}
+use Rattle.nextest_filtering_ast.specs.declared.leaf.SourceSpan.{SourceSpan}
+use Rattle.nextest_filtering_ast.specs.declared.matcher.NameMatcher.{NameMatcher}
+use Rattle.nextest_filtering_ast.specs.declared.operators.Joint.{Joint}
+use Rattle.nextest_filtering_ast.specs.declared.operators.Joint.TheVariants as joint
 use Rattle.nextest_filtering_compiling.specs.Compiling.{IsCompiled, IsCompiledLeaf, IsSetOf, IsWith}
 use Rattle.nextest_filtering_compiling.specs.Laws.{OneMeaning}
 use Rattle.nextest_filtering_compiling.specs.Packages.{AsksFor}

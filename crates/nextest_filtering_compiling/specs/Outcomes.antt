@@ -4,10 +4,10 @@ use Rattle.nextest_filtering_arguments.specs.declared.ban.FiltersetKind.{Filters
 use Rattle.nextest_filtering_arguments.specs.declared.error.ParseSingleError.{ParseSingleError}
 use Rattle.nextest_filtering_filters.specs.Filter.{filter_of}
 use Rattle.nextest_filtering_filters.specs.declared.leaf.FiltersetLeaf.{FiltersetLeaf}
-use Rattle.nextest_filtering_trees.specs.Tree.{Leaf, leaf_of}
+use Rattle.nextest_filtering_ast.specs.Tree.{Leaf, leaf_of}
 use Rattle.nextest_filtering_syntax.specs.Parsed.{tree_of}
-use Rattle.nextest_filtering_trees.specs.declared.leaf.ParsedLeaf.{ParsedLeaf}
-use Rattle.nextest_filtering_trees.specs.declared.leaf.SourceSpan.{SourceSpan}
+use Rattle.nextest_filtering_ast.specs.declared.leaf.ParsedLeaf.{ParsedLeaf}
+use Rattle.nextest_filtering_ast.specs.declared.leaf.SourceSpan.{SourceSpan}
 use Rattle.nextest_filtering_syntax.specs.declared.tree.ParsedExpr.{ParsedExpr}
 use Rattle.nextest_filtering_compiling.specs.Bans.{banned, place_of}
 use Rattle.nextest_filtering_compiling.specs.Compiling.{AreCompiled, IsCompiled, IsCompiledLeaf}

@@ -2,8 +2,8 @@
 use Rattle.std.specs.Prelude.{◌≡◌, ℕ, List, Some, slice_get}
 use Rattle.nextest_filtering_graph.specs.Graph.{Graph}
 use Rattle.nextest_filtering_graph.specs.Reaching.{Reaches}
-use Rattle.nextest_filtering_trees.specs.Meaning.{MatchesName}
-use Rattle.nextest_filtering_trees.specs.Tree.{Matcher, Subject, package_name, dependencies, dependents}
+use Rattle.nextest_filtering_ast.specs.Meaning.{MatchesName}
+use Rattle.nextest_filtering_ast.specs.Tree.{Matcher, Subject, package_name, dependencies, dependents}
 
 -- the package at a place has a name that the matcher matches
 abbrev pub IsNamed : Graph → Matcher → ℕ → Type 0

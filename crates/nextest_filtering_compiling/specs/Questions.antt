@@ -15,8 +15,8 @@ use Rattle.nextest_filtering_graph.specs.Graph.{Graph}
 use Rattle.nextest_filtering_syntax.specs.Parsed.{tree_of}
 use Rattle.nextest_filtering_syntax.specs.declared.tree.ParsedExpr.{ParsedExpr}
 use Rattle.nextest_filtering_syntax.specs.declared.tree.ParsedExpr.TheVariants as tree
-use Rattle.nextest_filtering_trees.specs.Tree.{Leaf, Matcher, Subject, matching, built_for, default_filter, everything, nothing, package_name, dependencies, dependents, kind, binary_name, binary_id, test_name, group, leaf_of}
-use Rattle.nextest_filtering_trees.specs.declared.leaf.ParsedLeaf.{ParsedLeaf}
+use Rattle.nextest_filtering_ast.specs.Tree.{Leaf, Matcher, Subject, matching, built_for, default_filter, everything, nothing, package_name, dependencies, dependents, kind, binary_name, binary_id, test_name, group, leaf_of}
+use Rattle.nextest_filtering_ast.specs.declared.leaf.ParsedLeaf.{ParsedLeaf}
 use Rattle.nextest_filtering_compiling.specs.Filtersets.{AsksAsWritten, IsFilterset, any_leaf, asks, asks_default, asks_group, asks_test, is_asking}
 use Rattle.nextest_filtering_compiling.specs.declared.questions.Question.{Question}
 use Rattle.nextest_filtering_compiling.specs.declared.questions.Question.TheVariants as about

@@ -4,8 +4,8 @@ use Rattle.nextest_filtering_filters.specs.Formula.{Formula, Gives, leaf, negate
 use Rattle.nextest_filtering_filters.specs.Meaning.{Either, Never, Tells}
 use Rattle.nextest_filtering_filters.specs.Query.{Binary, Test}
 use Rattle.nextest_filtering_graph.specs.Graph.{Graph}
-use Rattle.nextest_filtering_trees.specs.Meaning.{MatchesName}
-use Rattle.nextest_filtering_trees.specs.Tree.{Leaf, Matcher, Tree, matching, built_for, default_filter, everything, nothing, package_name, dependencies, dependents, kind, binary_name, binary_id, test_name, group, negation, union, intersection, difference, parens, set}
+use Rattle.nextest_filtering_ast.specs.Meaning.{MatchesName}
+use Rattle.nextest_filtering_ast.specs.Tree.{Leaf, Matcher, Tree, matching, built_for, default_filter, everything, nothing, package_name, dependencies, dependents, kind, binary_name, binary_id, test_name, group, negation, union, intersection, difference, parens, set}
 use Rattle.nextest_filtering_compiling.specs.Packages.{AsksFor}
 
 -- what a predicate may be on a binary, where this is what matchers of names and of groups, and the default filter, may be

@@ -1,12 +1,12 @@
 // The predicates that may not stand in a filterset.
 ghost use Rattle.std.specs.Prelude.{◌≡◌, ◌++◌, IfOk, OnOk, map};
-ghost use Rattle.nextest_filtering_trees.specs.Tree.{leaf_of};
+ghost use Rattle.nextest_filtering_ast.specs.Tree.{leaf_of};
 ghost use Rattle.nextest_filtering_compiling.specs.Bans as words;
 ghost use Rattle.nextest_filtering_compiling.specs.Bans.{ban_of, banned, fault_for};
 ghost use Rattle.nextest_filtering_compiling.specs.Leaves.{behind};
 
 use nextest_filtering_arguments::{BannedPredicateReason, FiltersetKind, ParseSingleError};
-use nextest_filtering_trees::{ParsedLeaf, SourceSpan};
+use nextest_filtering_ast::{ParsedLeaf, SourceSpan};
 use std::alloc::{AllocError, Global};
 
 // Why a predicate may not stand in a filterset of a kind, if it may not.

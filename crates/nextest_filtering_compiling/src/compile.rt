@@ -1,6 +1,6 @@
 // What predicates are compiled to.
 ghost use Rattle.std.specs.Prelude.{◌≡◌, [], IfOk, OnOk, map};
-ghost use Rattle.nextest_filtering_trees.specs.Tree.{binary_id, binary_name, group, matcher_of, matching};
+ghost use Rattle.nextest_filtering_ast.specs.Tree.{binary_id, binary_name, group, matcher_of, matching};
 ghost use Rattle.nextest_filtering_compiling.specs.Asking.{subject_of};
 ghost use Rattle.nextest_filtering_compiling.specs.Outcomes.{IsKept, IsOutcome, IsOutcomeAt};
 ghost use Rattle.nextest_filtering_compiling.specs.Compiling.{AreCompiled};
@@ -13,8 +13,8 @@ use crate::faults::{BinaryPart, lacks_binary, lacks_group};
 use crate::packages::{Asks, named_places, packages_asked};
 use crate::parse_context::ParseContext;
 use nextest_filtering_arguments::ParseSingleError;
+use nextest_filtering_ast::{NameMatcher, ParsedLeaf, SourceSpan};
 use nextest_filtering_filters::{FiltersetLeaf, KnownGroups};
-use nextest_filtering_trees::{NameMatcher, ParsedLeaf, SourceSpan};
 use std::alloc::{AllocError, Global};
 
 // What a predicate is compiled to, or its fault.

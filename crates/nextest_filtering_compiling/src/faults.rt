@@ -1,12 +1,12 @@
 // What a matcher finds in a workspace.
 ghost use Rattle.std.specs.Prelude.{◌≡◌, IfOk};
 ghost use Rattle.nextest_filtering_filters.specs.Meaning.{Tells};
-ghost use Rattle.nextest_filtering_trees.specs.Tree.{matcher_of};
+ghost use Rattle.nextest_filtering_ast.specs.Tree.{matcher_of};
 ghost use Rattle.nextest_filtering_compiling.specs.Faults.{NoBinary, NoGroup, asked_of};
 
 use crate::parse_context::ParseContext;
+use nextest_filtering_ast::NameMatcher;
 use nextest_filtering_filters::KnownGroups;
-use nextest_filtering_trees::NameMatcher;
 use nextest_text::Text;
 use std::alloc::{AllocError, Global};
 

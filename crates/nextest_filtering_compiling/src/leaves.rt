@@ -2,8 +2,8 @@
 ghost use Rattle.std.specs.Prelude.{◌≡◌, ◌++◌, IfOk, OnOk, map};
 ghost use Rattle.nextest_filtering_compiling.specs.Leaves.{behind, leaves_of};
 
+use nextest_filtering_ast::ParsedLeaf;
 use nextest_filtering_syntax::ParsedExpr;
-use nextest_filtering_trees::ParsedLeaf;
 use std::alloc::{AllocError, Global};
 
 // The predicates of a tree, from left to right.

@@ -1,11 +1,11 @@
 // The packages that predicates ask for.
 ghost use Rattle.std.specs.Prelude.{◌<◌, length, All, IfOk};
 ghost use Rattle.nextest_filtering_filters.specs.Meaning.{Tells};
-ghost use Rattle.nextest_filtering_trees.specs.Tree.{matcher_of};
+ghost use Rattle.nextest_filtering_ast.specs.Tree.{matcher_of};
 ghost use Rattle.nextest_filtering_compiling.specs.Asking.{AreNamed, IsAsked, IsAskedBy, IsSetFor};
 
 use crate::parse_context::ParseContext;
-use nextest_filtering_trees::NameMatcher;
+use nextest_filtering_ast::NameMatcher;
 use std::alloc::{AllocError, Global};
 use std::collections::BTreeSet;
 

@@ -3,9 +3,9 @@ ghost use Rattle.std.specs.Prelude.{◌≡◌, ◌+◌, ◌<◌, ◌^◌, ◌∷
 ghost use Rattle.nextest_filtering_filters.specs.Steps.{formula_of, waiting_of};
 ghost use Rattle.nextest_filtering_compiling.specs.Leaves.{behind, leaves_of, placed};
 
+use nextest_filtering_ast::ParsedLeaf;
 use nextest_filtering_filters::{Formula, FormulaBuilder};
 use nextest_filtering_syntax::ParsedExpr;
-use nextest_filtering_trees::ParsedLeaf;
 use std::alloc::{AllocError, Global};
 
 // The formula of a tree over the places of its predicates, which are these, from left to right.

@@ -21,10 +21,10 @@ use Rattle.nextest_filtering_globs.specs.Meaning.{Matches}
 use Rattle.nextest_filtering_globs.specs.declared.token.GlobToken.{GlobToken}
 use Rattle.nextest_filtering_globs.proofs.Fold.{answers}
 use Rattle.nextest_filtering_globs.proofs.Unique.{one_list}
-use Rattle.nextest_filtering_trees.specs.Meaning.{Compares, MatchesName}
-use Rattle.nextest_filtering_trees.specs.Tree.{Comparison, IsGlobText, Matcher, contains, equal, glob, matcher_of, regex}
-use Rattle.nextest_filtering_trees.specs.declared.leaf.BuildPlatform.{BuildPlatform}
-use Rattle.nextest_filtering_trees.specs.declared.leaf.BuildPlatform.TheVariants as platform
+use Rattle.nextest_filtering_ast.specs.Meaning.{Compares, MatchesName}
+use Rattle.nextest_filtering_ast.specs.Tree.{Comparison, IsGlobText, Matcher, contains, equal, glob, matcher_of, regex}
+use Rattle.nextest_filtering_ast.specs.declared.leaf.BuildPlatform.{BuildPlatform}
+use Rattle.nextest_filtering_ast.specs.declared.leaf.BuildPlatform.TheVariants as platform
 use Rattle.nextest_filtering_filters.specs.Asking.{left_by}
 use Rattle.nextest_filtering_filters.specs.Deciding.{AllLeaves, AreReadable, HasReadable, IsReadable}
 use Rattle.nextest_filtering_filters.specs.Filter.{Compiled, filter_of, is_default, leaf_at}

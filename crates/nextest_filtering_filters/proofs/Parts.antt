@@ -8,8 +8,8 @@ use Rattle.nextest_filtering_filters.specs.Values.{IsSome, may_by, nowhere, valu
 use Rattle.nextest_filtering_filters.specs.declared.step.Step.{Step}
 use Rattle.nextest_filtering_filters.specs.declared.values.Values.{Values}
 use Rattle.nextest_filtering_filters.proofs.Giving.{gives_less, gives_one, gives_with, with_gives}
-use Rattle.nextest_filtering_trees.specs.Meaning.{MatchesName}
-use Rattle.nextest_filtering_trees.specs.Tree.{Matcher, matcher_of}
+use Rattle.nextest_filtering_ast.specs.Meaning.{MatchesName}
+use Rattle.nextest_filtering_ast.specs.Tree.{Matcher, matcher_of}
 use Rattle.nextest_filtering_filters.specs.Asking.{AreOn, AreTold, IsKept, IsTold, PartOf, left_by, values_may}
 use Rattle.nextest_filtering_filters.specs.Filter.{Compiled, filter_of, is_default, leaf_at}
 use Rattle.nextest_filtering_filters.specs.Meaning.{CanBeOn, Either, IsOn, MayBe, Never, Tells}

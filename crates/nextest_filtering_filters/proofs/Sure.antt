@@ -3,8 +3,8 @@ use Rattle.std.proofs.Common.{◌≡◌, Bool, false, refl}
 use Rattle.std.specs.List.{list_any}
 use Rattle.nextest_filtering_filters.specs.Formula.{Formula, Gives}
 use Rattle.nextest_filtering_filters.proofs.Giving.{gives_less}
-use Rattle.nextest_filtering_trees.specs.Meaning.{MatchesName}
-use Rattle.nextest_filtering_trees.specs.Tree.{Matcher}
+use Rattle.nextest_filtering_ast.specs.Meaning.{MatchesName}
+use Rattle.nextest_filtering_ast.specs.Tree.{Matcher}
 use Rattle.nextest_filtering_filters.specs.Filter.{Compiled, filter_of, is_group, leaf_at}
 use Rattle.nextest_filtering_filters.specs.Laws.{OneAnswer, SameWithoutGroups, SureOfTests}
 use Rattle.nextest_filtering_filters.specs.Meaning.{CanBeOn, Either, IsOn, MayBe, Never, Tells}

@@ -3,10 +3,10 @@ use Rattle.std.proofs.Common.{◌≡◌, ℕ, zero, suc, ◌<◌, Bool, true, fa
 use Rattle.std.specs.Global.{Vec}
 use Rattle.std.specs.List.{All, AllZip, list_any, slice_get}
 use Rattle.std.proofs.lemmas.List.Elements.{All-head, All-tail}
-use Rattle.nextest_filtering_trees.specs.Matching.{comparison_of, text_of}
-use Rattle.nextest_filtering_trees.specs.Meaning.{Compares, MatchesName}
-use Rattle.nextest_filtering_trees.specs.Tree.{Comparison, Matcher, matcher_of}
-use Rattle.nextest_filtering_trees.specs.declared.matching.NameMatching.{NameMatching}
+use Rattle.nextest_filtering_ast.specs.Matching.{comparison_of, text_of}
+use Rattle.nextest_filtering_ast.specs.Meaning.{Compares, MatchesName}
+use Rattle.nextest_filtering_ast.specs.Tree.{Comparison, Matcher, matcher_of}
+use Rattle.nextest_filtering_ast.specs.declared.matching.NameMatching.{NameMatching}
 use Rattle.nextest_filtering_filters.specs.Asking.{AreTold, IsColumn, IsFor, IsTold}
 use Rattle.nextest_filtering_filters.specs.Columns.{IsLong, OnEach, just, value_at, values_in}
 use Rattle.nextest_filtering_filters.specs.Deciding.{AllLeaves, HasReadable}

@@ -7,11 +7,11 @@ use Rattle.nextest_filtering_filters.specs.Columns.{IsLong, OnEach, value_at}
 use Rattle.nextest_filtering_filters.specs.Formula.{AreValues}
 use Rattle.nextest_filtering_filters.specs.Values.{IsSome, may_by}
 use Rattle.nextest_filtering_filters.specs.declared.values.Values.{Values}
-use Rattle.nextest_filtering_trees.specs.Matching.{comparison_of, text_of}
-use Rattle.nextest_filtering_trees.specs.Meaning.{MatchesName}
-use Rattle.nextest_filtering_trees.specs.Tree.{Matcher, matcher_of}
-use Rattle.nextest_filtering_trees.specs.declared.leaf.SourceSpan.{SourceSpan}
-use Rattle.nextest_filtering_trees.specs.declared.matcher.NameMatcher.{NameMatcher}
+use Rattle.nextest_filtering_ast.specs.Matching.{comparison_of, text_of}
+use Rattle.nextest_filtering_ast.specs.Meaning.{MatchesName}
+use Rattle.nextest_filtering_ast.specs.Tree.{Matcher, matcher_of}
+use Rattle.nextest_filtering_ast.specs.declared.leaf.SourceSpan.{SourceSpan}
+use Rattle.nextest_filtering_ast.specs.declared.matcher.NameMatcher.{NameMatcher}
 use Rattle.nextest_filtering_filters.specs.Filter.{Compiled, is_default}
 use Rattle.nextest_filtering_filters.specs.Meaning.{Either, IsKnownOn, MayBe, Tells}
 use Rattle.nextest_filtering_filters.specs.Query.{Binary}

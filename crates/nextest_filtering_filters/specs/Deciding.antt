@@ -1,7 +1,7 @@
 -- Filters whose questions have answers.
 use Rattle.std.specs.Prelude.{◌≡◌, ⊤}
 use Rattle.nextest_filtering_filters.specs.Formula.{Formula, leaf, negated, either, both}
-use Rattle.nextest_filtering_trees.specs.Tree.{IsGlobText, Matcher, glob, matcher_of}
+use Rattle.nextest_filtering_ast.specs.Tree.{IsGlobText, Matcher, glob, matcher_of}
 use Rattle.nextest_filtering_filters.specs.declared.leaf.FiltersetLeaf.{FiltersetLeaf}
 use Rattle.nextest_filtering_filters.specs.declared.leaf.FiltersetLeaf.TheVariants as predicate
 

@@ -1,6 +1,6 @@
 -- Binaries and tests, as filters look at them.
 use Rattle.std.specs.Prelude.{ℕ, List}
-use Rattle.nextest_filtering_trees.specs.declared.leaf.BuildPlatform.{BuildPlatform}
+use Rattle.nextest_filtering_ast.specs.declared.leaf.BuildPlatform.{BuildPlatform}
 use Rattle.nextest_filtering_filters.specs.declared.query.BinaryQuery.{BinaryQuery}
 use Rattle.nextest_filtering_filters.specs.declared.query.TestQuery.{TestQuery}
 

@@ -7,14 +7,14 @@ ghost use Rattle.nextest_filtering_filters.specs.Asking.{IsColumn, IsFor, IsTold
 ghost use Rattle.nextest_filtering_filters.specs.Meaning.{Either, MayBe, Tells};
 ghost use Rattle.nextest_filtering_filters.specs.Query.{Binary, binary_of, test_of};
 ghost use Rattle.nextest_filtering_filters.specs.declared.leaf.FiltersetLeaf.{FiltersetLeaf};
-ghost use Rattle.nextest_filtering_trees.specs.Matching.{comparison_of, text_of};
-ghost use Rattle.nextest_filtering_trees.specs.Meaning.{Compares};
+ghost use Rattle.nextest_filtering_ast.specs.Matching.{comparison_of, text_of};
+ghost use Rattle.nextest_filtering_ast.specs.Meaning.{Compares};
 
 use crate::group_lookup::GroupLookup;
 use crate::leaf::FiltersetLeaf;
 use crate::query::{BinaryQuery, TestQuery};
 use crate::values::Values;
-use nextest_filtering_trees::{NameMatcher, NameMatching};
+use nextest_filtering_ast::{NameMatcher, NameMatching};
 use std::alloc::{AllocError, Global};
 
 // What a predicate is on a binary, or what it asks of each test.

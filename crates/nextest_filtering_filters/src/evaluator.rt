@@ -4,7 +4,7 @@ ghost use Rattle.std.specs.List.{AllZip, list_any};
 ghost use Rattle.nextest_filtering_filters.specs.Columns.{IsLong, OnEach, value_at};
 ghost use Rattle.nextest_filtering_filters.specs.Formula.{AreValues, Gives, IsValue};
 ghost use Rattle.nextest_filtering_filters.specs.Values.{IsSome};
-ghost use Rattle.nextest_filtering_trees.specs.Meaning.{MatchesName};
+ghost use Rattle.nextest_filtering_ast.specs.Meaning.{MatchesName};
 ghost use Rattle.nextest_filtering_filters.specs.Asking.{IsKept, left_by};
 ghost use Rattle.nextest_filtering_filters.specs.Filter.{filter_of, is_default};
 ghost use Rattle.nextest_filtering_filters.specs.Meaning.{CanBeOn, Either, IsOn, MayBe, Never, Tells};

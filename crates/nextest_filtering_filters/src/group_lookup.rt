@@ -1,11 +1,11 @@
 // Who knows the groups of tests.
 ghost use Rattle.std.specs.Prelude.{◌≡◌, ◌↔◌, true, IfOk};
-ghost use Rattle.nextest_filtering_trees.specs.Tree.{Matcher, matcher_of};
+ghost use Rattle.nextest_filtering_ast.specs.Tree.{Matcher, matcher_of};
 ghost use Rattle.nextest_filtering_filters.specs.Query.{Test, test_of};
 ghost use Rattle.nextest_filtering_filters.specs.Meaning.{Tells};
 
 use crate::query::TestQuery;
-use nextest_filtering_trees::NameMatcher;
+use nextest_filtering_ast::NameMatcher;
 use std::alloc::AllocError;
 
 /// Who knows the groups of tests.

@@ -2,7 +2,7 @@
 ghost use Rattle.std.specs.Prelude.{◌≡◌};
 ghost use Rattle.nextest_filtering_filters.specs.Filter.{is_runtime_only};
 
-use nextest_filtering_trees::{BuildPlatform, NameMatcher, SourceSpan};
+use nextest_filtering_ast::{BuildPlatform, NameMatcher, SourceSpan};
 use std::collections::BTreeSet;
 
 /// A predicate, as it is asked.

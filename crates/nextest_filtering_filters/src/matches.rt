@@ -12,7 +12,7 @@ use crate::evaluator::BinaryEvaluator;
 use crate::group_lookup::GroupLookup;
 use crate::query::{BinaryQuery, TestQuery};
 use crate::readable::see_leaves;
-use nextest_filtering_trees::NameMatcher;
+use nextest_filtering_ast::NameMatcher;
 use std::alloc::{AllocError, Global};
 
 // Knows of no group. It isn't asked.

@@ -1,5 +1,5 @@
 // What filters are asked of.
-use nextest_filtering_trees::BuildPlatform;
+use nextest_filtering_ast::BuildPlatform;
 
 /// A binary, as filters look at it.
 #[derive(Clone, Copy, Debug)]

@@ -1,10 +1,10 @@
 // Why a filter has an answer on each test: the text of each of its globs is one.
 ghost use Rattle.std.specs.Prelude.{All};
 ghost use Rattle.nextest_filtering_filters.specs.Deciding.{HasReadable, IsReadable};
-ghost use Rattle.nextest_filtering_trees.specs.Tree.{matcher_of};
+ghost use Rattle.nextest_filtering_ast.specs.Tree.{matcher_of};
 
 use crate::leaf::FiltersetLeaf;
-use nextest_filtering_trees::NameMatcher;
+use nextest_filtering_ast::NameMatcher;
 
 // The text of a glob is one. This changes nothing, and is called for what it says, as is all here.
 fn see_matcher(matcher: &NameMatcher)

@@ -3,15 +3,15 @@ use Rattle.std.proofs.Common.{◌≡◌, ◌≢◌, refl, ℕ, true, false, List
 use Rattle.std.specs.Prelude.{◌==◌, if◌then◌else◌}
 use Rattle.std.proofs.lemmas.Bool.{false≢true}
 use Rattle.std.proofs.lemmas.List.{append_cancel_left}
-use Rattle.nextest_filtering_texts.specs.Text.{IsText}
-use Rattle.nextest_filtering_texts.specs.Regex.{IsRegexText}
-use Rattle.nextest_filtering_texts.proofs.Pieces.{plain_around, one_text}
-use Rattle.nextest_filtering_texts.proofs.Fronts.{text_only, text_parts}
-use Rattle.nextest_filtering_texts.proofs.Slashes.{regex_only, one_regex}
-use Rattle.nextest_filtering_trees.specs.declared.leaf.BuildPlatform.{BuildPlatform}
-use Rattle.nextest_filtering_trees.specs.Tree.{Comparison, equal, contains, glob, regex, Matcher, Subject}
-use Rattle.nextest_filtering_trees.specs.Words.{platform_word}
-use Rattle.nextest_filtering_trees.specs.Grammar.{unblanked, Behind, Spells, is_sign, bare, ReadsSigned, ReadsMatcher}
+use Rattle.nextest_filtering_escapes.specs.Text.{IsText}
+use Rattle.nextest_filtering_escapes.specs.Regex.{IsRegexText}
+use Rattle.nextest_filtering_escapes.proofs.Pieces.{plain_around, one_text}
+use Rattle.nextest_filtering_escapes.proofs.Fronts.{text_only, text_parts}
+use Rattle.nextest_filtering_escapes.proofs.Slashes.{regex_only, one_regex}
+use Rattle.nextest_filtering_ast.specs.declared.leaf.BuildPlatform.{BuildPlatform}
+use Rattle.nextest_filtering_ast.specs.Tree.{Comparison, equal, contains, glob, regex, Matcher, Subject}
+use Rattle.nextest_filtering_ast.specs.Words.{platform_word}
+use Rattle.nextest_filtering_ast.specs.Grammar.{unblanked, Behind, Spells, is_sign, bare, ReadsSigned, ReadsMatcher}
 use Rattle.nextest_filtering_arguments.specs.Matchers.{ReadsPlatform}
 use Rattle.nextest_filtering_arguments.proofs.Fronts.{same_rest, same_first}
 use Rattle.nextest_filtering_arguments.proofs.Trimming.{trimmed_once}

@@ -3,8 +3,8 @@ use Rattle.std.specs.Prelude.{◌≡◌, refl, ℕ, ◌<◌, ◌≤◌, List, le
 use Rattle.std.specs.Borrow.{Bor}
 use Rattle.std.proofs.Common.{arith, inl, inr}
 use Rattle.std.proofs.Math.Path.{ap, sym, subst}
-use Rattle.nextest_filtering_trees.specs.Tree.{Tree, union}
-use Rattle.nextest_filtering_trees.specs.Grammar.{joined, ReadsOr, ReadsJoint, Unary, Conjunction, first_operand, next_operand, Expression, first_conjunction, next_conjunction}
+use Rattle.nextest_filtering_ast.specs.Tree.{Tree, union}
+use Rattle.nextest_filtering_ast.specs.Grammar.{joined, ReadsOr, ReadsJoint, Unary, Conjunction, first_operand, next_operand, Expression, first_conjunction, next_conjunction}
 use Rattle.nextest_filtering_arguments.specs.Faults.{IsSuffix}
 use Rattle.nextest_filtering_syntax.specs.Parsing.{Anywhere, Closes, ClosesConjunction, IsPart, IsNoPart, IsOperator, IsNoOperator, FindsOperator}
 use Rattle.nextest_filtering_arguments.proofs.Spans.{suffix_trans}

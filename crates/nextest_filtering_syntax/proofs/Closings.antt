@@ -3,7 +3,7 @@ use Rattle.std.specs.Prelude.{◌≡◌, refl, ℕ, ◌+◌, ◌≤◌, List, []
 use Rattle.std.proofs.Common.{arith, length-append}
 use Rattle.std.proofs.Math.Path.{ap, sym, subst, ◌∙◌}
 use Rattle.std.proofs.lemmas.List.{take-append-drop, append-nil}
-use Rattle.nextest_filtering_trees.specs.Grammar.{unblanked}
+use Rattle.nextest_filtering_ast.specs.Grammar.{unblanked}
 use Rattle.nextest_filtering_arguments.specs.Blanks.{IsTrimmed}
 use Rattle.nextest_filtering_arguments.specs.Faults.{IsSuffix}
 use Rattle.nextest_filtering_arguments.proofs.Fronts.{apart, same_rest}

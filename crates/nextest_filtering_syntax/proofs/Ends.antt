@@ -1,14 +1,14 @@
 -- Where a text begins with a filterset, its end is told by the filterset.
 use Rattle.std.proofs.Common.{◌≡◌, refl, List, ℕ, sym, subst, ◌∙◌, inl, inr}
 use Rattle.std.specs.Prelude.{◌⊎◌}
-use Rattle.nextest_filtering_trees.specs.declared.operators.NotOperator.{NotOperator}
-use Rattle.nextest_filtering_trees.specs.declared.operators.NotOperator.TheVariants.{LiteralNot, Exclamation}
-use Rattle.nextest_filtering_trees.specs.declared.operators.OrOperator.{OrOperator}
-use Rattle.nextest_filtering_trees.specs.declared.operators.Joint.{Joint}
-use Rattle.nextest_filtering_trees.specs.declared.operators.Joint.TheVariants.{And}
-use Rattle.nextest_filtering_trees.specs.declared.operators.Joint.TheVariants as joint
-use Rattle.nextest_filtering_trees.specs.Tree.{Tree, union}
-use Rattle.nextest_filtering_trees.specs.Grammar.{unblanked, joined, ReadsNot, ReadsOr, ReadsJoint, Unary, a_negation, a_group, a_predicate, Conjunction, first_operand, next_operand, Expression, first_conjunction, next_conjunction}
+use Rattle.nextest_filtering_ast.specs.declared.operators.NotOperator.{NotOperator}
+use Rattle.nextest_filtering_ast.specs.declared.operators.NotOperator.TheVariants.{LiteralNot, Exclamation}
+use Rattle.nextest_filtering_ast.specs.declared.operators.OrOperator.{OrOperator}
+use Rattle.nextest_filtering_ast.specs.declared.operators.Joint.{Joint}
+use Rattle.nextest_filtering_ast.specs.declared.operators.Joint.TheVariants.{And}
+use Rattle.nextest_filtering_ast.specs.declared.operators.Joint.TheVariants as joint
+use Rattle.nextest_filtering_ast.specs.Tree.{Tree, union}
+use Rattle.nextest_filtering_ast.specs.Grammar.{unblanked, joined, ReadsNot, ReadsOr, ReadsJoint, Unary, a_negation, a_group, a_predicate, Conjunction, first_operand, next_operand, Expression, first_conjunction, next_conjunction}
 use Rattle.nextest_filtering_syntax.proofs.Single.{one_joint, one_or}
 use Rattle.nextest_filtering_syntax.proofs.Trees.{one_operand}
 

@@ -5,14 +5,14 @@ use Rattle.std.specs.Borrow.{Bor}
 use Rattle.std.proofs.Common.{arith, rules, length-append}
 use Rattle.std.proofs.Math.Path.{ap, sym, subst, ◌∙◌}
 use Rattle.std.proofs.lemmas.Result.{err_from_is_err_and}
-use Rattle.nextest_filtering_texts.specs.Text.{is_blank}
+use Rattle.nextest_filtering_escapes.specs.Text.{is_blank}
 use Rattle.nextest_filtering_syntax.specs.declared.tree.ParsedExpr.{ParsedExpr}
-use Rattle.nextest_filtering_trees.specs.Tree.{Leaf, matching, built_for, Tree, set, matcher_of}
+use Rattle.nextest_filtering_ast.specs.Tree.{Leaf, matching, built_for, Tree, set, matcher_of}
 use Rattle.nextest_filtering_syntax.specs.Parsed.{tree_of}
-use Rattle.nextest_filtering_trees.specs.Grammar.{unblanked, leaf_word, ReadsLeaf, ReadsArgument, ReadsMatcher}
+use Rattle.nextest_filtering_ast.specs.Grammar.{unblanked, leaf_word, ReadsLeaf, ReadsArgument, ReadsMatcher}
 use Rattle.nextest_filtering_arguments.specs.declared.stop.Stop.{Stop}
 use Rattle.nextest_filtering_arguments.specs.declared.stop.Stop.TheVariants.{NoTree, Memory}
-use Rattle.nextest_filtering_trees.specs.declared.leaf.SourceSpan.{SourceSpan}
+use Rattle.nextest_filtering_ast.specs.declared.leaf.SourceSpan.{SourceSpan}
 use Rattle.nextest_filtering_arguments.specs.Faults.{IsSuffix, here, Lies}
 use Rattle.nextest_filtering_arguments.specs.Matchers.{subject_of}
 use Rattle.nextest_filtering_arguments.specs.Matchers.{IsArgument, IsNoArgument, FindsMatcher, ReadsPlatform, platform_itself}

@@ -3,9 +3,9 @@ use Rattle.std.specs.Prelude.{◌≡◌, refl, ℕ, Bool, true, false, List, [],
 use Rattle.std.specs.List.{AllByRecursion}
 use Rattle.std.proofs.Common.{arith, rules}
 use Rattle.std.proofs.Math.Path.{ap, sym, ◌∙◌}
-use Rattle.nextest_filtering_trees.specs.declared.leaf.BuildPlatform.{BuildPlatform}
-use Rattle.nextest_filtering_trees.specs.Tree.{Subject, package_name, dependencies, dependents, kind, binary_name, binary_id, test_name, group, Matcher, Leaf, matching, built_for, default_filter, everything, nothing}
-use Rattle.nextest_filtering_trees.specs.Grammar.{leaf_word}
+use Rattle.nextest_filtering_ast.specs.declared.leaf.BuildPlatform.{BuildPlatform}
+use Rattle.nextest_filtering_ast.specs.Tree.{Subject, package_name, dependencies, dependents, kind, binary_name, binary_id, test_name, group, Matcher, Leaf, matching, built_for, default_filter, everything, nothing}
+use Rattle.nextest_filtering_ast.specs.Grammar.{leaf_word}
 use Rattle.nextest_filtering_arguments.specs.Matchers.{subject_of}
 use Rattle.nextest_filtering_arguments.specs.declared.subject.Subject.TheVariants as subject
 use Rattle.nextest_filtering_arguments.proofs.Fronts.{same_behind, same_rest, same_first}

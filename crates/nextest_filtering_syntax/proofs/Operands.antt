@@ -5,11 +5,11 @@ use Rattle.std.specs.Borrow.{Bor}
 use Rattle.std.proofs.Common.{arith, inr}
 use Rattle.std.proofs.Math.Path.{ap, sym, subst, ◌∙◌}
 use Rattle.std.proofs.lemmas.Result.{err_from_is_err_and}
-use Rattle.nextest_filtering_trees.specs.declared.operators.NotOperator.{NotOperator}
-use Rattle.nextest_filtering_trees.specs.declared.operators.NotOperator.TheVariants.{LiteralNot, Exclamation}
+use Rattle.nextest_filtering_ast.specs.declared.operators.NotOperator.{NotOperator}
+use Rattle.nextest_filtering_ast.specs.declared.operators.NotOperator.TheVariants.{LiteralNot, Exclamation}
 use Rattle.nextest_filtering_syntax.specs.declared.tree.ParsedExpr.{ParsedExpr}
-use Rattle.nextest_filtering_trees.specs.Tree.{package_name, dependencies, dependents, kind, binary_name, binary_id, test_name, group, Leaf, matching, built_for, default_filter, everything, nothing, Tree, negation, parens}
-use Rattle.nextest_filtering_trees.specs.Grammar.{unblanked, ReadsNot, Unary, a_negation, a_group, a_predicate, Expression, ReadsLeaf}
+use Rattle.nextest_filtering_ast.specs.Tree.{package_name, dependencies, dependents, kind, binary_name, binary_id, test_name, group, Leaf, matching, built_for, default_filter, everything, nothing, Tree, negation, parens}
+use Rattle.nextest_filtering_ast.specs.Grammar.{unblanked, ReadsNot, Unary, a_negation, a_group, a_predicate, Expression, ReadsLeaf}
 use Rattle.nextest_filtering_arguments.specs.declared.stop.Stop.{Stop}
 use Rattle.nextest_filtering_arguments.specs.declared.stop.Stop.TheVariants.{NoTree, Memory}
 use Rattle.nextest_filtering_syntax.specs.Parsing.{Anywhere, Closes, IsPart, IsNoPart, Finds, IsClosed, ReadsPredicate}

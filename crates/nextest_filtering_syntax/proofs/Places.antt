@@ -1,10 +1,10 @@
 -- Where predicates stand.
 use Rattle.std.proofs.Common.{◌≡◌, refl, ℕ, zero, suc, ◌-◌, ◌≤◌, List, [], ◌∷◌, ◌++◌, length, take, Some, IfSome, IfOk, Result, Ok, Err, sym, ap, subst, ◌∙◌, arith, length-append}
-use Rattle.nextest_filtering_trees.specs.Grammar.{unblanked, leaf_word, ReadsLeaf}
-use Rattle.nextest_filtering_trees.specs.Tree.{Leaf, Tree, negation, union, intersection, difference, parens, set, leaf_of}
+use Rattle.nextest_filtering_ast.specs.Grammar.{unblanked, leaf_word, ReadsLeaf}
+use Rattle.nextest_filtering_ast.specs.Tree.{Leaf, Tree, negation, union, intersection, difference, parens, set, leaf_of}
 use Rattle.nextest_filtering_syntax.specs.Parsed.{tree_of}
-use Rattle.nextest_filtering_trees.specs.declared.leaf.SourceSpan.{SourceSpan}
-use Rattle.nextest_filtering_trees.specs.declared.leaf.ParsedLeaf.{ParsedLeaf}
+use Rattle.nextest_filtering_ast.specs.declared.leaf.SourceSpan.{SourceSpan}
+use Rattle.nextest_filtering_ast.specs.declared.leaf.ParsedLeaf.{ParsedLeaf}
 use Rattle.nextest_filtering_arguments.specs.Faults.{IsSuffix, Lies, here, spanned}
 use Rattle.nextest_filtering_arguments.proofs.Spans.{here_lies, here_spans, suffix_len, suffix_trans}
 use Rattle.nextest_filtering_syntax.specs.declared.tree.ParsedExpr.{ParsedExpr}

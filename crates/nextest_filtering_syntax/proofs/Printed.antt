@@ -2,19 +2,19 @@
 use Rattle.std.proofs.Common.{◌≡◌, ℕ, List, [], ◌∷◌, ◌++◌, refl, sym, ap, ◌∙◌, subst}
 use Rattle.std.specs.Prelude.{codes}
 use Rattle.std.proofs.lemmas.List.{append-nil, append_assoc}
-use Rattle.nextest_filtering_trees.specs.declared.operators.NotOperator.{NotOperator}
-use Rattle.nextest_filtering_trees.specs.declared.operators.NotOperator.TheVariants.{LiteralNot, Exclamation}
-use Rattle.nextest_filtering_trees.specs.declared.operators.OrOperator.{OrOperator}
-use Rattle.nextest_filtering_trees.specs.declared.operators.OrOperator.TheVariants.{LiteralOr, Pipe, Plus}
-use Rattle.nextest_filtering_trees.specs.declared.operators.AndOperator.TheVariants.{LiteralAnd, Ampersand}
-use Rattle.nextest_filtering_trees.specs.declared.operators.DifferenceOperator.TheVariants.{Minus}
-use Rattle.nextest_filtering_trees.specs.declared.operators.Joint.{Joint}
-use Rattle.nextest_filtering_trees.specs.declared.operators.Joint.TheVariants.{And}
-use Rattle.nextest_filtering_trees.specs.declared.operators.Joint.TheVariants as joint
-use Rattle.nextest_filtering_trees.specs.Tree.{Tree, negation, union, parens, set}
-use Rattle.nextest_filtering_trees.specs.Words.{or_word, and_word, minus_word}
-use Rattle.nextest_filtering_trees.specs.Grammar.{joined, ReadsNot, ReadsOr, ReadsJoint, Unary, a_negation, a_group, a_predicate, Conjunction, first_operand, next_operand, Expression, first_conjunction, next_conjunction, IsFilterset}
-use Rattle.nextest_filtering_trees.specs.Printing.{not_front, between, printed}
+use Rattle.nextest_filtering_ast.specs.declared.operators.NotOperator.{NotOperator}
+use Rattle.nextest_filtering_ast.specs.declared.operators.NotOperator.TheVariants.{LiteralNot, Exclamation}
+use Rattle.nextest_filtering_ast.specs.declared.operators.OrOperator.{OrOperator}
+use Rattle.nextest_filtering_ast.specs.declared.operators.OrOperator.TheVariants.{LiteralOr, Pipe, Plus}
+use Rattle.nextest_filtering_ast.specs.declared.operators.AndOperator.TheVariants.{LiteralAnd, Ampersand}
+use Rattle.nextest_filtering_ast.specs.declared.operators.DifferenceOperator.TheVariants.{Minus}
+use Rattle.nextest_filtering_ast.specs.declared.operators.Joint.{Joint}
+use Rattle.nextest_filtering_ast.specs.declared.operators.Joint.TheVariants.{And}
+use Rattle.nextest_filtering_ast.specs.declared.operators.Joint.TheVariants as joint
+use Rattle.nextest_filtering_ast.specs.Tree.{Tree, negation, union, parens, set}
+use Rattle.nextest_filtering_ast.specs.Words.{or_word, and_word, minus_word}
+use Rattle.nextest_filtering_ast.specs.Grammar.{joined, ReadsNot, ReadsOr, ReadsJoint, Unary, a_negation, a_group, a_predicate, Conjunction, first_operand, next_operand, Expression, first_conjunction, next_conjunction, IsFilterset}
+use Rattle.nextest_filtering_ast.specs.Printing.{not_front, between, printed}
 use Rattle.nextest_filtering_syntax.specs.Laws.{HasNoSignedBare, IsWellFormed}
 use Rattle.nextest_filtering_syntax.proofs.Texts.{leaf_prints}
 

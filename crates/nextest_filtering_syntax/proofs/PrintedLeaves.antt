@@ -1,7 +1,7 @@
 -- A predicate that a text begins with is the only one.
 use Rattle.std.proofs.Common.{◌≡◌, ℕ, ◌<◌, List, [], ◌∷◌, ◌++◌, length, sym, ap, subst, ◌∙◌, inl, inr, arith}
-use Rattle.nextest_filtering_trees.specs.Tree.{Comparison, equal, contains, glob, regex, Matcher, Subject, Leaf, matching, built_for, default_filter, everything, nothing}
-use Rattle.nextest_filtering_trees.specs.Grammar.{unblanked, ReadsSigned, ReadsMatcher, leaf_word, ReadsArgument, ReadsLeaf}
+use Rattle.nextest_filtering_ast.specs.Tree.{Comparison, equal, contains, glob, regex, Matcher, Subject, Leaf, matching, built_for, default_filter, everything, nothing}
+use Rattle.nextest_filtering_ast.specs.Grammar.{unblanked, ReadsSigned, ReadsMatcher, leaf_word, ReadsArgument, ReadsLeaf}
 use Rattle.nextest_filtering_arguments.specs.Faults.{IsSuffix}
 use Rattle.nextest_filtering_arguments.proofs.Fronts.{same_rest}
 use Rattle.nextest_filtering_arguments.proofs.Spans.{suffix_trans, suffix_token, shorter_token, suffix_len}

@@ -4,17 +4,17 @@ use Rattle.std.proofs.Common.{arith, inl, inr}
 use Rattle.std.specs.Prelude.{Option, Some, None, IfSome, IfNone}
 use Rattle.std.specs.Borrow.{Bor}
 use Rattle.std.proofs.Math.Path.{ap, sym, ◌∙◌}
-use Rattle.nextest_filtering_trees.specs.declared.operators.NotOperator.{NotOperator}
-use Rattle.nextest_filtering_trees.specs.declared.operators.NotOperator.TheVariants.{LiteralNot, Exclamation}
-use Rattle.nextest_filtering_trees.specs.declared.operators.OrOperator.{OrOperator}
-use Rattle.nextest_filtering_trees.specs.declared.operators.OrOperator.TheVariants.{LiteralOr, Pipe, Plus}
-use Rattle.nextest_filtering_trees.specs.declared.operators.AndOperator.TheVariants.{LiteralAnd, Ampersand}
-use Rattle.nextest_filtering_trees.specs.declared.operators.DifferenceOperator.TheVariants.{Minus}
-use Rattle.nextest_filtering_trees.specs.declared.operators.Joint.{Joint}
-use Rattle.nextest_filtering_trees.specs.declared.operators.Joint.TheVariants.{And}
-use Rattle.nextest_filtering_trees.specs.declared.operators.Joint.TheVariants as joint
-use Rattle.nextest_filtering_trees.specs.Tree.{package_name, dependencies, dependents, kind, binary_name, binary_id, test_name, group, Leaf, matching, built_for, default_filter, everything, nothing, Tree}
-use Rattle.nextest_filtering_trees.specs.Grammar.{unblanked, leaf_word, ReadsNot, ReadsOr, ReadsJoint, Unary, a_negation, a_group, a_predicate, Conjunction, first_operand, next_operand}
+use Rattle.nextest_filtering_ast.specs.declared.operators.NotOperator.{NotOperator}
+use Rattle.nextest_filtering_ast.specs.declared.operators.NotOperator.TheVariants.{LiteralNot, Exclamation}
+use Rattle.nextest_filtering_ast.specs.declared.operators.OrOperator.{OrOperator}
+use Rattle.nextest_filtering_ast.specs.declared.operators.OrOperator.TheVariants.{LiteralOr, Pipe, Plus}
+use Rattle.nextest_filtering_ast.specs.declared.operators.AndOperator.TheVariants.{LiteralAnd, Ampersand}
+use Rattle.nextest_filtering_ast.specs.declared.operators.DifferenceOperator.TheVariants.{Minus}
+use Rattle.nextest_filtering_ast.specs.declared.operators.Joint.{Joint}
+use Rattle.nextest_filtering_ast.specs.declared.operators.Joint.TheVariants.{And}
+use Rattle.nextest_filtering_ast.specs.declared.operators.Joint.TheVariants as joint
+use Rattle.nextest_filtering_ast.specs.Tree.{package_name, dependencies, dependents, kind, binary_name, binary_id, test_name, group, Leaf, matching, built_for, default_filter, everything, nothing, Tree}
+use Rattle.nextest_filtering_ast.specs.Grammar.{unblanked, leaf_word, ReadsNot, ReadsOr, ReadsJoint, Unary, a_negation, a_group, a_predicate, Conjunction, first_operand, next_operand}
 use Rattle.nextest_filtering_arguments.specs.Faults.{IsSuffix}
 use Rattle.nextest_filtering_syntax.specs.Parsing.{Closes, ClosesConjunction, IsOperator, FindsOperator}
 use Rattle.nextest_filtering_arguments.proofs.Fronts.{apart, same_rest}

@@ -5,15 +5,15 @@ use Rattle.std.specs.List.{flat_map}
 use Rattle.std.proofs.lemmas.Bool.{or_from, false≢true, cond-false, ne_eqb}
 use Rattle.std.proofs.lemmas.List.{append_assoc}
 use Rattle.std.proofs.lemmas.Str.{length-encode, len_utf8_bounds}
-use Rattle.nextest_filtering_texts.specs.Text.{Piece, Plain, Escaped, Unicode, spelling, meaning, is_blank}
-use Rattle.nextest_filtering_texts.specs.Printing.{escaped, slashed}
-use Rattle.nextest_filtering_texts.proofs.Shown.{escaped_reads_back, escaped_has_no_blank_ends}
-use Rattle.nextest_filtering_trees.specs.declared.leaf.BuildPlatform.{BuildPlatform}
-use Rattle.nextest_filtering_trees.specs.declared.leaf.BuildPlatform.TheVariants.{Host, Target}
-use Rattle.nextest_filtering_trees.specs.Tree.{Comparison, equal, contains, glob, regex, Matcher, Subject, package_name, dependencies, dependents, kind, binary_name, binary_id, test_name, group, Leaf, matching, built_for, default_filter, everything, nothing}
-use Rattle.nextest_filtering_trees.specs.Words.{platform_word}
-use Rattle.nextest_filtering_trees.specs.Grammar.{unblanked, Behind, is_sign, bare, Spells, ReadsSigned, ReadsBare, ReadsMatcher, leaf_word, ReadsArgument, ReadsLeaf}
-use Rattle.nextest_filtering_trees.specs.Printing.{printed_as, printed_argument, printed_leaf}
+use Rattle.nextest_filtering_escapes.specs.Text.{Piece, Plain, Escaped, Unicode, spelling, meaning, is_blank}
+use Rattle.nextest_filtering_escapes.specs.Printing.{escaped, slashed}
+use Rattle.nextest_filtering_escapes.proofs.Shown.{escaped_reads_back, escaped_has_no_blank_ends}
+use Rattle.nextest_filtering_ast.specs.declared.leaf.BuildPlatform.{BuildPlatform}
+use Rattle.nextest_filtering_ast.specs.declared.leaf.BuildPlatform.TheVariants.{Host, Target}
+use Rattle.nextest_filtering_ast.specs.Tree.{Comparison, equal, contains, glob, regex, Matcher, Subject, package_name, dependencies, dependents, kind, binary_name, binary_id, test_name, group, Leaf, matching, built_for, default_filter, everything, nothing}
+use Rattle.nextest_filtering_ast.specs.Words.{platform_word}
+use Rattle.nextest_filtering_ast.specs.Grammar.{unblanked, Behind, is_sign, bare, Spells, ReadsSigned, ReadsBare, ReadsMatcher, leaf_word, ReadsArgument, ReadsLeaf}
+use Rattle.nextest_filtering_ast.specs.Printing.{printed_as, printed_argument, printed_leaf}
 use Rattle.nextest_filtering_syntax.specs.Laws.{is_text_sign, IsUnsigned, HasUnsignedText}
 
 -- ---- a text

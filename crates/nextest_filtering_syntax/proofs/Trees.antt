@@ -2,10 +2,10 @@
 use Rattle.std.proofs.Common.{◌≡◌, refl, ℕ, Bool, true, false, List, ◌++◌, take, sym, ap, ◌∙◌, inl, inr, arith}
 use Rattle.std.specs.Prelude.{◌||◌, codes, bytes_eq}
 use Rattle.std.proofs.lemmas.Bool.{false≢true}
-use Rattle.nextest_filtering_trees.specs.declared.operators.NotOperator.{NotOperator}
-use Rattle.nextest_filtering_trees.specs.declared.operators.NotOperator.TheVariants.{LiteralNot, Exclamation}
-use Rattle.nextest_filtering_trees.specs.Tree.{package_name, dependencies, dependents, kind, binary_name, binary_id, test_name, group, Leaf, matching, built_for, default_filter, everything, nothing, Tree, set, union}
-use Rattle.nextest_filtering_trees.specs.Grammar.{unblanked, leaf_word, joined, ReadsNot, ReadsOr, ReadsJoint, ReadsLeaf, Unary, a_negation, a_group, a_predicate, Conjunction, first_operand, next_operand, Expression, first_conjunction, next_conjunction, IsFilterset}
+use Rattle.nextest_filtering_ast.specs.declared.operators.NotOperator.{NotOperator}
+use Rattle.nextest_filtering_ast.specs.declared.operators.NotOperator.TheVariants.{LiteralNot, Exclamation}
+use Rattle.nextest_filtering_ast.specs.Tree.{package_name, dependencies, dependents, kind, binary_name, binary_id, test_name, group, Leaf, matching, built_for, default_filter, everything, nothing, Tree, set, union}
+use Rattle.nextest_filtering_ast.specs.Grammar.{unblanked, leaf_word, joined, ReadsNot, ReadsOr, ReadsJoint, ReadsLeaf, Unary, a_negation, a_group, a_predicate, Conjunction, first_operand, next_operand, Expression, first_conjunction, next_conjunction, IsFilterset}
 use Rattle.nextest_filtering_syntax.specs.Parsing.{Anywhere, Closes, ClosesConjunction, IsPart, IsNoOperator}
 use Rattle.nextest_filtering_syntax.proofs.Chains.{HasRead, conjunction_level, expression_level, begins, goes_on, ends_here, read_as}
 use Rattle.nextest_filtering_syntax.proofs.Closings.{closed}

@@ -3,16 +3,16 @@ use Rattle.std.proofs.Common.{◌≡◌, refl, ℕ, eqb, Bool, false, List, [], 
 use Rattle.std.specs.Prelude.{◌||◌, ◌↔◌, codes}
 use Rattle.std.proofs.lemmas.Bool.{or_from, false≢true, ne_eqb}
 use Rattle.std.proofs.lemmas.List.{append-nil}
-use Rattle.nextest_filtering_texts.specs.Printing.{escaped, escaped_behind}
-use Rattle.nextest_filtering_trees.specs.declared.operators.NotOperator.{NotOperator}
-use Rattle.nextest_filtering_trees.specs.declared.operators.NotOperator.TheVariants.{LiteralNot, Exclamation}
-use Rattle.nextest_filtering_trees.specs.declared.operators.Joint.{Joint}
-use Rattle.nextest_filtering_trees.specs.declared.operators.Joint.TheVariants.{And}
-use Rattle.nextest_filtering_trees.specs.declared.operators.Joint.TheVariants as joint
-use Rattle.nextest_filtering_trees.specs.Tree.{Comparison, equal, contains, glob, regex, Matcher, Subject, Leaf, matching, built_for, default_filter, everything, nothing, Tree}
-use Rattle.nextest_filtering_trees.specs.Words.{or_word}
-use Rattle.nextest_filtering_trees.specs.Grammar.{unblanked, ReadsBare, ReadsMatcher, ReadsArgument, leaf_word, ReadsLeaf, joined, ReadsNot, ReadsOr, ReadsJoint, Unary, a_negation, a_group, a_predicate, Conjunction, first_operand, next_operand, Expression, first_conjunction, next_conjunction, IsFilterset}
-use Rattle.nextest_filtering_trees.specs.Printing.{printed_as, printed_argument, printed_leaf, not_front, printed}
+use Rattle.nextest_filtering_escapes.specs.Printing.{escaped, escaped_behind}
+use Rattle.nextest_filtering_ast.specs.declared.operators.NotOperator.{NotOperator}
+use Rattle.nextest_filtering_ast.specs.declared.operators.NotOperator.TheVariants.{LiteralNot, Exclamation}
+use Rattle.nextest_filtering_ast.specs.declared.operators.Joint.{Joint}
+use Rattle.nextest_filtering_ast.specs.declared.operators.Joint.TheVariants.{And}
+use Rattle.nextest_filtering_ast.specs.declared.operators.Joint.TheVariants as joint
+use Rattle.nextest_filtering_ast.specs.Tree.{Comparison, equal, contains, glob, regex, Matcher, Subject, Leaf, matching, built_for, default_filter, everything, nothing, Tree}
+use Rattle.nextest_filtering_ast.specs.Words.{or_word}
+use Rattle.nextest_filtering_ast.specs.Grammar.{unblanked, ReadsBare, ReadsMatcher, ReadsArgument, leaf_word, ReadsLeaf, joined, ReadsNot, ReadsOr, ReadsJoint, Unary, a_negation, a_group, a_predicate, Conjunction, first_operand, next_operand, Expression, first_conjunction, next_conjunction, IsFilterset}
+use Rattle.nextest_filtering_ast.specs.Printing.{printed_as, printed_argument, printed_leaf, not_front, printed}
 use Rattle.nextest_filtering_arguments.proofs.Fronts.{same_behind}
 use Rattle.nextest_filtering_syntax.proofs.Single.{one_joint, one_or}
 use Rattle.nextest_filtering_syntax.specs.Laws.{is_text_sign, IsUnsigned, HasUnsignedText, HasNoSignedBare, IsWellFormed}

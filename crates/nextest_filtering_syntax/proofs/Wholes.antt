@@ -3,9 +3,9 @@ use Rattle.std.specs.Prelude.{◌≡◌, ◌≢◌, refl, ℕ, List, [], ◌∷�
 use Rattle.std.proofs.Common.{arith}
 use Rattle.std.proofs.Math.Path.{ap, sym, subst, ◌∙◌}
 use Rattle.nextest_filtering_syntax.specs.declared.tree.ParsedExpr.{ParsedExpr}
-use Rattle.nextest_filtering_trees.specs.Tree.{Tree}
+use Rattle.nextest_filtering_ast.specs.Tree.{Tree}
 use Rattle.nextest_filtering_syntax.specs.Parsed.{tree_of}
-use Rattle.nextest_filtering_trees.specs.Grammar.{IsFilterset}
+use Rattle.nextest_filtering_ast.specs.Grammar.{IsFilterset}
 use Rattle.nextest_filtering_arguments.specs.declared.error.ParseSingleError.{ParseSingleError}
 use Rattle.nextest_filtering_arguments.specs.declared.stop.Stop.{Stop}
 use Rattle.nextest_filtering_arguments.specs.declared.stop.Stop.TheVariants.{NoTree}

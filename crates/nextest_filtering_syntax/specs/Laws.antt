@@ -1,8 +1,8 @@
 -- What holds of every filterset.
 use Rattle.std.specs.Prelude.{◌≡◌, ◌↔◌, ℕ, ◌==◌, Bool, true, false, ◌||◌, List, ◌∷◌, ⊤}
-use Rattle.nextest_filtering_trees.specs.Tree.{Matcher, Leaf, matching, built_for, default_filter, everything, nothing, Tree, negation, union, intersection, difference, parens, set}
-use Rattle.nextest_filtering_trees.specs.Grammar.{IsFilterset}
-use Rattle.nextest_filtering_trees.specs.Printing.{printed}
+use Rattle.nextest_filtering_ast.specs.Tree.{Matcher, Leaf, matching, built_for, default_filter, everything, nothing, Tree, negation, union, intersection, difference, parens, set}
+use Rattle.nextest_filtering_ast.specs.Grammar.{IsFilterset}
+use Rattle.nextest_filtering_ast.specs.Printing.{printed}
 
 -- `=`, `~` and `#`
 abbrev pub is_text_sign : ℕ → Bool

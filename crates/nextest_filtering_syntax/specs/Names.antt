@@ -1,6 +1,6 @@
 -- The names of predicates.
 use Rattle.std.specs.Prelude.{◌≡◌, ℕ, ◌==◌, Bool, false, ◌||◌, ◌&&◌, nat_le, List, [], ◌∷◌, ◌++◌, codes}
-use Rattle.nextest_filtering_trees.specs.Words.{subject_word}
+use Rattle.nextest_filtering_ast.specs.Words.{subject_word}
 use Rattle.nextest_filtering_arguments.specs.Matchers.{subject_of}
 use Rattle.nextest_filtering_syntax.specs.declared.name.Name.{Name}
 use Rattle.nextest_filtering_syntax.specs.declared.name.Name.TheVariants as name

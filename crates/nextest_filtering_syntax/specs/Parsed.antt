@@ -1,5 +1,5 @@
 -- What a tree that was parsed stands for, without spans.
-use Rattle.nextest_filtering_trees.specs.Tree.{Tree, negation, union, intersection, difference, parens, set, leaf_of}
+use Rattle.nextest_filtering_ast.specs.Tree.{Tree, negation, union, intersection, difference, parens, set, leaf_of}
 use Rattle.nextest_filtering_syntax.specs.declared.tree.ParsedExpr.{ParsedExpr}
 use Rattle.nextest_filtering_syntax.specs.declared.tree.ParsedExpr.TheVariants as tree
 

@@ -1,12 +1,12 @@
 -- What reading a part of a text gives, faults and all.
 use Rattle.std.specs.Prelude.{◌≡◌, ◌⊎◌, ℕ, ◌<◌, ◌≤◌, List, [], ◌∷◌, length, Option, Some, None, Result, Ok, Err}
 use Rattle.std.specs.Borrow.{Bor}
-use Rattle.nextest_filtering_trees.specs.declared.operators.OrOperator.{OrOperator}
+use Rattle.nextest_filtering_ast.specs.declared.operators.OrOperator.{OrOperator}
 use Rattle.nextest_filtering_syntax.specs.declared.tree.ParsedExpr.{ParsedExpr}
-use Rattle.nextest_filtering_trees.specs.Tree.{Matcher, Leaf, matching, built_for, default_filter, everything, nothing, Tree, set}
+use Rattle.nextest_filtering_ast.specs.Tree.{Matcher, Leaf, matching, built_for, default_filter, everything, nothing, Tree, set}
 use Rattle.nextest_filtering_syntax.specs.Parsed.{tree_of}
-use Rattle.nextest_filtering_trees.specs.Grammar.{unblanked, Behind, ReadsOr, ReadsLeaf, ReadsArgument}
-use Rattle.nextest_filtering_trees.specs.declared.leaf.BuildPlatform.{BuildPlatform}
+use Rattle.nextest_filtering_ast.specs.Grammar.{unblanked, Behind, ReadsOr, ReadsLeaf, ReadsArgument}
+use Rattle.nextest_filtering_ast.specs.declared.leaf.BuildPlatform.{BuildPlatform}
 use Rattle.nextest_filtering_arguments.specs.Matchers.{subject_of}
 use Rattle.nextest_filtering_arguments.specs.declared.stop.Stop.{Stop}
 use Rattle.nextest_filtering_arguments.specs.declared.stop.Stop.TheVariants.{NoTree, Memory}

@@ -1,11 +1,11 @@
 -- Where the predicates of a tree stand.
 use Rattle.std.specs.Prelude.{◌≡◌, ℕ, ◌-◌, List, [], ◌++◌, length, codes, Option, Some, None, IfSome}
-use Rattle.nextest_filtering_trees.specs.Grammar.{unblanked, leaf_word, Behind, ReadsNot, ReadsOr, ReadsJoint, ReadsLeaf}
-use Rattle.nextest_filtering_trees.specs.Tree.{leaf_of}
-use Rattle.nextest_filtering_trees.specs.declared.operators.Joint.TheVariants.{And, Minus}
-use Rattle.nextest_filtering_trees.specs.declared.leaf.SourceSpan.{SourceSpan}
-use Rattle.nextest_filtering_trees.specs.declared.leaf.ParsedLeaf.{ParsedLeaf}
-use Rattle.nextest_filtering_trees.specs.declared.leaf.ParsedLeaf.TheVariants as leaf
+use Rattle.nextest_filtering_ast.specs.Grammar.{unblanked, leaf_word, Behind, ReadsNot, ReadsOr, ReadsJoint, ReadsLeaf}
+use Rattle.nextest_filtering_ast.specs.Tree.{leaf_of}
+use Rattle.nextest_filtering_ast.specs.declared.operators.Joint.TheVariants.{And, Minus}
+use Rattle.nextest_filtering_ast.specs.declared.leaf.SourceSpan.{SourceSpan}
+use Rattle.nextest_filtering_ast.specs.declared.leaf.ParsedLeaf.{ParsedLeaf}
+use Rattle.nextest_filtering_ast.specs.declared.leaf.ParsedLeaf.TheVariants as leaf
 use Rattle.nextest_filtering_syntax.specs.declared.tree.ParsedExpr.{ParsedExpr}
 use Rattle.nextest_filtering_syntax.specs.declared.tree.ParsedExpr.TheVariants as tree
 use Rattle.nextest_filtering_arguments.specs.Faults.{IsSuffix, Lies, here, spanned}

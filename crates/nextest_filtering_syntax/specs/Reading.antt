@@ -1,9 +1,9 @@
 -- What reading a whole text gives.
 use Rattle.std.specs.Prelude.{◌≡◌, ◌≢◌, ℕ, ◌<◌, List, [], Some, IfSome, Result, Ok, Err}
 use Rattle.nextest_filtering_syntax.specs.declared.tree.ParsedExpr.{ParsedExpr}
-use Rattle.nextest_filtering_trees.specs.Tree.{Tree}
+use Rattle.nextest_filtering_ast.specs.Tree.{Tree}
 use Rattle.nextest_filtering_syntax.specs.Parsed.{tree_of}
-use Rattle.nextest_filtering_trees.specs.Grammar.{IsFilterset}
+use Rattle.nextest_filtering_ast.specs.Grammar.{IsFilterset}
 use Rattle.nextest_filtering_arguments.specs.declared.stop.Stop.{Stop}
 use Rattle.nextest_filtering_arguments.specs.declared.stop.Stop.TheVariants.{NoTree, Memory}
 use Rattle.nextest_filtering_arguments.specs.Faults.{AreFaultsOf}

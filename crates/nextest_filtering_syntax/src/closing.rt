@@ -1,6 +1,6 @@
 // The ends of predicates and of parentheses.
 ghost use Rattle.std.specs.Prelude.{◌≡◌, ◌≤◌, ◌⊎◌, ◌∷◌, ◌++◌, ◌+◌, ℕ, List, IfOk};
-ghost use Rattle.nextest_filtering_trees.specs.Grammar.{unblanked};
+ghost use Rattle.nextest_filtering_ast.specs.Grammar.{unblanked};
 ghost use Rattle.nextest_filtering_arguments.specs.Faults.{IsSuffix, count};
 ghost use Rattle.nextest_filtering_syntax.specs.Parsing.{IsClosed};
 

@@ -1,10 +1,10 @@
 // Predicates: a name, and an argument in parentheses.
 ghost use Rattle.std.specs.Prelude.{◌≡◌, ◌≤◌, ◌<◌, ◌+◌, IfOk, OnOk, Err, Some, codes};
-ghost use Rattle.nextest_filtering_trees.specs.Tree.{leaf_of, matching, matcher_of};
+ghost use Rattle.nextest_filtering_ast.specs.Tree.{leaf_of, matching, matcher_of};
 ghost use Rattle.nextest_filtering_arguments.specs.Faults.{IsSuffix, count};
 ghost use Rattle.nextest_filtering_arguments.specs.Matchers.{subject_of};
 ghost use Rattle.nextest_filtering_syntax.specs.declared.name.Name.TheVariants.{About, Platform};
-ghost use Rattle.nextest_filtering_trees.specs.Words.{subject_word};
+ghost use Rattle.nextest_filtering_ast.specs.Words.{subject_word};
 ghost use Rattle.nextest_filtering_syntax.specs.Names.{name_word};
 ghost use Rattle.nextest_filtering_syntax.specs.Places.{ArePlaced, IsNamed, IsSpanned, Stands, span_of};
 ghost use Rattle.nextest_filtering_syntax.specs.Parsing.{Anywhere, Finds, FindsArgument, IfToldOf, IsClosed, ReadsPredicate};
@@ -16,7 +16,7 @@ use nextest_filtering_arguments::{
     Faults, ParseSingleError, Stop, Subject, behind, matcher, platform, skip_blanks,
     trim_blanks_end,
 };
-use nextest_filtering_trees::{NameMatcher, ParsedLeaf, SourceSpan};
+use nextest_filtering_ast::{NameMatcher, ParsedLeaf, SourceSpan};
 use std::alloc::{AllocError, Global};
 
 // The predicate on a subject with this matcher.

@@ -1,16 +1,16 @@
 // The operators between operands, and what is taken for one.
 ghost use Rattle.std.specs.Prelude.{◌≡◌, ◌⊎◌, ◌++◌, ◌∷◌, ℕ, List, true, IfOk, IfSome, IfNone};
-ghost use Rattle.nextest_filtering_trees.specs.Grammar.{unblanked, ends_word, ReadsNot, ReadsOr, ReadsJoint, Unary, Conjunction};
-ghost use Rattle.nextest_filtering_trees.specs.declared.operators.NotOperator.{NotOperator};
-ghost use Rattle.nextest_filtering_trees.specs.declared.operators.OrOperator.{OrOperator};
-ghost use Rattle.nextest_filtering_trees.specs.declared.operators.Joint.{Joint};
+ghost use Rattle.nextest_filtering_ast.specs.Grammar.{unblanked, ends_word, ReadsNot, ReadsOr, ReadsJoint, Unary, Conjunction};
+ghost use Rattle.nextest_filtering_ast.specs.declared.operators.NotOperator.{NotOperator};
+ghost use Rattle.nextest_filtering_ast.specs.declared.operators.OrOperator.{OrOperator};
+ghost use Rattle.nextest_filtering_ast.specs.declared.operators.Joint.{Joint};
 ghost use Rattle.nextest_filtering_arguments.specs.Faults.{IsSuffix, count};
 ghost use Rattle.nextest_filtering_syntax.specs.Parsing.{FindsOperator, Closes, ClosesConjunction};
 
 use nextest_filtering_arguments::{
     Faults, ParseSingleError, begins_blank, behind, is_blank, skip_blanks,
 };
-use nextest_filtering_trees::{AndOperator, DifferenceOperator, Joint, NotOperator, OrOperator};
+use nextest_filtering_ast::{AndOperator, DifferenceOperator, Joint, NotOperator, OrOperator};
 use std::alloc::AllocError;
 
 // Whether a word of an operator ends before `text`.

@@ -1,8 +1,8 @@
 // Expressions, from the operators that bind least to predicates.
 ghost use Rattle.std.specs.Prelude.{◌≡◌, ◌∷◌, ℕ, List, IfOk, codes};
-ghost use Rattle.nextest_filtering_trees.specs.Tree.{negation, union, parens};
+ghost use Rattle.nextest_filtering_ast.specs.Tree.{negation, union, parens};
 ghost use Rattle.nextest_filtering_syntax.specs.Parsed.{tree_of};
-ghost use Rattle.nextest_filtering_trees.specs.Grammar.{unblanked, Behind, ReadsJoint, ReadsNot, ReadsOr, Unary, Conjunction, Expression, joined};
+ghost use Rattle.nextest_filtering_ast.specs.Grammar.{unblanked, Behind, ReadsJoint, ReadsNot, ReadsOr, Unary, Conjunction, Expression, joined};
 ghost use Rattle.nextest_filtering_arguments.specs.Faults.{IsSuffix, count};
 ghost use Rattle.nextest_filtering_syntax.specs.Places.{ArePlaced, Stands};
 ghost use Rattle.nextest_filtering_syntax.specs.Parsing.{Anywhere, Closes, ClosesConjunction, Finds};
@@ -12,7 +12,7 @@ use crate::leaf::predicate;
 use crate::operators::{joint_operator, not_operator, or_operator};
 use crate::tree::ParsedExpr;
 use nextest_filtering_arguments::{Faults, Stop, behind, skip_blanks};
-use nextest_filtering_trees::{Joint, NotOperator, OrOperator};
+use nextest_filtering_ast::{Joint, NotOperator, OrOperator};
 use std::alloc::{AllocError, Global};
 
 // Joins two operands of a union.

@@ -1,10 +1,10 @@
 // The predicates of a tree that only a test that runs can answer.
 ghost use Rattle.std.specs.Prelude.{◌≡◌, ◌++◌, IfOk, OnOk, map};
-ghost use Rattle.nextest_filtering_trees.specs.Runtime.{runtime_leaves, leaf_behind};
+ghost use Rattle.nextest_filtering_ast.specs.Runtime.{runtime_leaves, leaf_behind};
 ghost use Rattle.nextest_filtering_syntax.specs.Parsed.{tree_of};
 
 use crate::tree::ParsedExpr;
-use nextest_filtering_trees::ParsedLeaf;
+use nextest_filtering_ast::ParsedLeaf;
 use std::alloc::{AllocError, Global};
 
 impl ParsedExpr {

@@ -1,7 +1,5 @@
 // The tree of a filterset.
-use nextest_filtering_trees::{
-    AndOperator, DifferenceOperator, NotOperator, OrOperator, ParsedLeaf,
-};
+use nextest_filtering_ast::{AndOperator, DifferenceOperator, NotOperator, OrOperator, ParsedLeaf};
 use std::fmt;
 
 /// A filterset as it was written, blanks aside. It prints as it was written, with one space on both sides of an operator
@@ -40,7 +38,7 @@ impl Drop for ParsedExpr {
 impl fmt::Display for ParsedExpr {
     ghost use Rattle.std.specs.Prelude.{Some};
     ghost use Rattle.nextest_filtering_syntax.specs.Parsed.{tree_of};
-    ghost use Rattle.nextest_filtering_trees.specs.Printing.{printed};
+    ghost use Rattle.nextest_filtering_ast.specs.Printing.{printed};
 
     ghost output = { λ it. Some (printed (tree_of it)) };
 

@@ -30,8 +30,8 @@ pub use Rattle.nextest_run_events_json.specs.Reading
 pub use Rattle.nextest_run_events_json.specs.Calls
 pub use Rattle.nextest_run_events_json.specs.Laws as JsonLaws
 -- what is shown of a finished test, and the levels and displays that say so
-pub use Rattle.nextest_config_elements_plain.specs.Display
-pub use Rattle.nextest_config_elements_plain.specs.Levels
+pub use Rattle.nextest_config_elements_choices.specs.Display
+pub use Rattle.nextest_config_elements_choices.specs.Levels
 pub use Rattle.nextest_run_events_visibility.specs.Laws as VisibilityLaws
 pub use Rattle.nextest_run_events_visibility.specs.Visibility
 -- the part of an output that tells of its error
@@ -54,17 +54,17 @@ pub use Rattle.nextest_config_resolution_commands.specs.Programs
 -- clones of lists
 pub use Rattle.nextest_text.specs.Clones
 -- types
-pub use Rattle.nextest_config_elements_counts.specs.declared.junit.JunitFlakyFailStatus
-pub use Rattle.nextest_config_elements_counts.specs.declared.junit.MismatchReason
-pub use Rattle.nextest_config_elements_counts.specs.declared.junit.ReportSkipPolicy
+pub use Rattle.nextest_config_elements_values.specs.declared.junit.JunitFlakyFailStatus
+pub use Rattle.nextest_config_elements_values.specs.declared.junit.MismatchReason
+pub use Rattle.nextest_config_elements_values.specs.declared.junit.ReportSkipPolicy
 pub use Rattle.nextest_config_elements_identifiers.specs.declared.test_group.TestGroup
-pub use Rattle.nextest_config_elements_plain.specs.declared.timeouts.FlakyResult
-pub use Rattle.nextest_config_elements_plain.specs.declared.timeouts.LeakTimeoutResult
-pub use Rattle.nextest_config_elements_plain.specs.declared.timeouts.SlowTimeoutResult
-pub use Rattle.nextest_config_elements_plain.specs.declared.run_mode.NextestRunMode
-pub use Rattle.nextest_config_elements_plain.specs.declared.status_level.FinalStatusLevel
-pub use Rattle.nextest_config_elements_plain.specs.declared.status_level.StatusLevel
-pub use Rattle.nextest_config_elements_plain.specs.declared.output_display.TestOutputDisplay
+pub use Rattle.nextest_config_elements_choices.specs.declared.timeouts.FlakyResult
+pub use Rattle.nextest_config_elements_choices.specs.declared.timeouts.LeakTimeoutResult
+pub use Rattle.nextest_config_elements_choices.specs.declared.timeouts.SlowTimeoutResult
+pub use Rattle.nextest_config_elements_choices.specs.declared.run_mode.NextestRunMode
+pub use Rattle.nextest_config_elements_choices.specs.declared.status_level.FinalStatusLevel
+pub use Rattle.nextest_config_elements_choices.specs.declared.status_level.StatusLevel
+pub use Rattle.nextest_config_elements_choices.specs.declared.output_display.TestOutputDisplay
 pub use Rattle.nextest_run_events_results.specs.declared.cancel_reason.CancelReason
 pub use Rattle.nextest_run_events_results.specs.declared.execution_result.AbortStatus
 pub use Rattle.nextest_run_events_results.specs.declared.execution_result.ExecutionResult

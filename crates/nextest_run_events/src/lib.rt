@@ -9,12 +9,12 @@
 
 pub mod laws;
 
-pub use nextest_config_elements_counts::{JunitFlakyFailStatus, MismatchReason, ReportSkipPolicy};
-pub use nextest_config_elements_identifiers::{CustomTestGroup, TestGroup};
-pub use nextest_config_elements_plain::{
+pub use nextest_config_elements_choices::{
     FinalStatusLevel, FlakyResult, LeakTimeoutResult, NextestRunMode, SlowTimeoutResult,
     StatusLevel, TestOutputDisplay,
 };
+pub use nextest_config_elements_identifiers::{CustomTestGroup, TestGroup};
+pub use nextest_config_elements_values::{JunitFlakyFailStatus, MismatchReason, ReportSkipPolicy};
 pub use nextest_config_resolution_commands::ScriptId;
 pub use nextest_json::Form;
 pub use nextest_run_events_counters::{

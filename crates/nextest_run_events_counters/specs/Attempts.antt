@@ -1,6 +1,6 @@
 -- The attempts of a test.
 use Rattle.std.specs.Prelude.{ℕ, ◌-◌, List, length, Option, slice_get}
-use Rattle.nextest_config_elements_plain.specs.declared.timeouts.FlakyResult.{FlakyResult}
+use Rattle.nextest_config_elements_choices.specs.declared.timeouts.FlakyResult.{FlakyResult}
 
 -- a list, and for how many more elements there is room
 pub record Roomy (Item : Type 0) : Type 0 where

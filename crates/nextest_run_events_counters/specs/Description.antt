@@ -1,14 +1,14 @@
 -- What the attempts of a test come to.
 use Rattle.std.specs.Prelude.{List, [], ◌∷◌, length, take, Bool, true, false, IsTrue, Option, None, if◌then◌else◌}
 use Rattle.std.specs.Option.{option_map}
-use Rattle.nextest_config_elements_plain.specs.declared.status_level.StatusLevel.{StatusLevel}
-use Rattle.nextest_config_elements_plain.specs.declared.status_level.StatusLevel.TheVariants as level
-use Rattle.nextest_config_elements_plain.specs.declared.status_level.FinalStatusLevel.{FinalStatusLevel}
-use Rattle.nextest_config_elements_plain.specs.declared.status_level.FinalStatusLevel.TheVariants as final_level
-use Rattle.nextest_config_elements_plain.specs.declared.timeouts.FlakyResult.{FlakyResult}
-use Rattle.nextest_config_elements_plain.specs.declared.timeouts.FlakyResult.TheVariants as flaky
-use Rattle.nextest_config_elements_plain.specs.declared.timeouts.LeakTimeoutResult.TheVariants as leak
-use Rattle.nextest_config_elements_plain.specs.declared.timeouts.SlowTimeoutResult.TheVariants as timeout
+use Rattle.nextest_config_elements_choices.specs.declared.status_level.StatusLevel.{StatusLevel}
+use Rattle.nextest_config_elements_choices.specs.declared.status_level.StatusLevel.TheVariants as level
+use Rattle.nextest_config_elements_choices.specs.declared.status_level.FinalStatusLevel.{FinalStatusLevel}
+use Rattle.nextest_config_elements_choices.specs.declared.status_level.FinalStatusLevel.TheVariants as final_level
+use Rattle.nextest_config_elements_choices.specs.declared.timeouts.FlakyResult.{FlakyResult}
+use Rattle.nextest_config_elements_choices.specs.declared.timeouts.FlakyResult.TheVariants as flaky
+use Rattle.nextest_config_elements_choices.specs.declared.timeouts.LeakTimeoutResult.TheVariants as leak
+use Rattle.nextest_config_elements_choices.specs.declared.timeouts.SlowTimeoutResult.TheVariants as timeout
 use Rattle.nextest_run_events_results.specs.Result.{is_success}
 use Rattle.nextest_run_events_results.specs.declared.result.ExecutionResultDescription.{ExecutionResultDescription}
 use Rattle.nextest_run_events_results.specs.declared.result.ExecutionResultDescription.TheVariants as ended

@@ -1,6 +1,6 @@
 -- What a finished script and a finished test count as: the rows of the counters.
 use Rattle.std.specs.Prelude.{Bool, true, false, not, ◌&&◌, ◌||◌}
-use Rattle.nextest_config_elements_plain.specs.declared.timeouts.FlakyResult as flaky_rule
+use Rattle.nextest_config_elements_choices.specs.declared.timeouts.FlakyResult as flaky_rule
 use Rattle.nextest_run_events_results.specs.Result.{is_success, passes_with_leak}
 use Rattle.nextest_run_events_results.specs.declared.result.ExecutionResultDescription.{ExecutionResultDescription}
 use Rattle.nextest_run_events_results.specs.declared.result.ExecutionResultDescription.TheVariants as ended

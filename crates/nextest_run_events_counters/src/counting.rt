@@ -4,7 +4,7 @@ ghost use Rattle.nextest_run_events_counters.specs.Counting.{CanCountScript, Can
 
 use super::execution_statuses::ExecutionStatuses;
 use super::run_stats::RunStats;
-use nextest_config_elements_plain::{FlakyResult, LeakTimeoutResult, SlowTimeoutResult};
+use nextest_config_elements_choices::{FlakyResult, LeakTimeoutResult, SlowTimeoutResult};
 use nextest_run_events_outputs::{OutputSpec, SetupScriptExecuteStatus};
 use nextest_run_events_results::ExecutionResultDescription;
 

@@ -2,7 +2,7 @@
 ghost use Rattle.std.specs.Prelude.{◌≡◌};
 ghost use Rattle.nextest_run_events_counters.specs.Description.{told_by, HoldsSuccess, ends_in_success, last_described, level_of, final_level_of};
 
-use nextest_config_elements_plain::{
+use nextest_config_elements_choices::{
     FinalStatusLevel, FlakyResult, LeakTimeoutResult, SlowTimeoutResult, StatusLevel,
 };
 use nextest_run_events_outputs::{ExecuteStatus, OutputSpec};

@@ -6,7 +6,7 @@ ghost use Rattle.nextest_run_events_counters.specs.Description.{description_of, 
 
 use super::execution_description::ExecutionDescription;
 use super::roomy_list::RoomyList;
-use nextest_config_elements_plain::FlakyResult;
+use nextest_config_elements_choices::FlakyResult;
 use nextest_run_events_outputs::{ExecuteStatus, OutputSpec};
 use nextest_text::Listing;
 use std::alloc::AllocError;

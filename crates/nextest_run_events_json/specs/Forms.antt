@@ -3,8 +3,8 @@ use Rattle.std.specs.Prelude.{ℤ, List, map, Option, None, Some, codes}
 use Rattle.serde_json.specs.Data.{Data, null, boolean, number, string, array, object, no_members, member}
 use Rattle.serde_json.specs.Find.{of_integer}
 use Rattle.serde_json.specs.View.{items_of}
-use Rattle.nextest_config_elements_plain.specs.declared.timeouts.LeakTimeoutResult as leak_judged
-use Rattle.nextest_config_elements_plain.specs.declared.timeouts.SlowTimeoutResult as timeout_judged
+use Rattle.nextest_config_elements_choices.specs.declared.timeouts.LeakTimeoutResult as leak_judged
+use Rattle.nextest_config_elements_choices.specs.declared.timeouts.SlowTimeoutResult as timeout_judged
 use Rattle.nextest_run_events_results.specs.declared.result.AbortDescription.{AbortDescription}
 use Rattle.nextest_run_events_results.specs.declared.result.AbortDescription.TheVariants as aborted
 use Rattle.nextest_run_events_results.specs.declared.result.FailureDescription.{FailureDescription}

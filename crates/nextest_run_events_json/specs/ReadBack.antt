@@ -8,8 +8,8 @@ use Rattle.nextest_json.proofs.Lists.{listed_items}
 use Rattle.nextest_run_events_json.specs.Forms as form
 use Rattle.nextest_run_events_json.specs.Reading as read
 use Rattle.nextest_run_events_json.specs.Laws.{FitsAbort, FitsFailure, FitsResult}
-use Rattle.nextest_config_elements_plain.specs.declared.timeouts.LeakTimeoutResult as leak_judged
-use Rattle.nextest_config_elements_plain.specs.declared.timeouts.SlowTimeoutResult as timeout_judged
+use Rattle.nextest_config_elements_choices.specs.declared.timeouts.LeakTimeoutResult as leak_judged
+use Rattle.nextest_config_elements_choices.specs.declared.timeouts.SlowTimeoutResult as timeout_judged
 use Rattle.nextest_run_events_results.specs.declared.result.AbortDescription.{AbortDescription}
 use Rattle.nextest_run_events_results.specs.declared.result.AbortDescription.TheVariants as aborted
 use Rattle.nextest_run_events_results.specs.declared.result.FailureDescription.{FailureDescription}

@@ -4,8 +4,8 @@ use Rattle.std.specs.Str.{bytes_eq}
 use Rattle.serde_json.specs.Data.{Data}
 use Rattle.serde_json.specs.Find.{as_number, as_i64, as_str, as_bool}
 use Rattle.nextest_json.specs.Reading.{Reading, ◌>>=◌, leaf, text, required, optional, worded, listed_member}
-use Rattle.nextest_config_elements_plain.specs.declared.timeouts.LeakTimeoutResult as leak_judged
-use Rattle.nextest_config_elements_plain.specs.declared.timeouts.SlowTimeoutResult as timeout_judged
+use Rattle.nextest_config_elements_choices.specs.declared.timeouts.LeakTimeoutResult as leak_judged
+use Rattle.nextest_config_elements_choices.specs.declared.timeouts.SlowTimeoutResult as timeout_judged
 use Rattle.nextest_run_events_results.specs.declared.result.AbortDescription.{AbortDescription}
 use Rattle.nextest_run_events_results.specs.declared.result.AbortDescription.TheVariants as aborted
 use Rattle.nextest_run_events_results.specs.declared.result.FailureDescription.{FailureDescription}

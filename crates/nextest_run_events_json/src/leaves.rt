@@ -14,7 +14,7 @@ ghost use Rattle.nextest_run_events_json.specs.ReadBack as back;
 
 use crate::form::{JsonForm, RunEvents};
 use crate::json_error::JsonError;
-use nextest_config_elements_plain::{LeakTimeoutResult, SlowTimeoutResult};
+use nextest_config_elements_choices::{LeakTimeoutResult, SlowTimeoutResult};
 use nextest_json::{Fault, Form, JsonValue, text, truth};
 use nextest_text::Text;
 use serde_json::Value;

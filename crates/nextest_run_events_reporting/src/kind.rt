@@ -5,8 +5,8 @@ use crate::copies::{
 };
 use crate::info::InfoResponse;
 use crate::slot_assignment::TestSlotAssignment;
-use nextest_config_elements_counts::{JunitFlakyFailStatus, MismatchReason, ReportSkipPolicy};
-use nextest_config_elements_plain::TestOutputDisplay;
+use nextest_config_elements_choices::TestOutputDisplay;
+use nextest_config_elements_values::{JunitFlakyFailStatus, MismatchReason, ReportSkipPolicy};
 use nextest_config_resolution_commands::ScriptId;
 use nextest_run_events_counters::{ExecutionStatuses, RunStats};
 use nextest_run_events_outcomes::{

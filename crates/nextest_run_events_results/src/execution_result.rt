@@ -7,7 +7,7 @@ ghost use Rattle.nextest_run_events_results.specs.Texts.{kind_name};
 
 use crate::result::{AbortDescription, ExecutionResultDescription, FailureDescription};
 use crate::signals::signal_name;
-use nextest_config_elements_plain::{LeakTimeoutResult, SlowTimeoutResult};
+use nextest_config_elements_choices::{LeakTimeoutResult, SlowTimeoutResult};
 use nextest_text::Text;
 use std::alloc::{AllocError, Global};
 

@@ -5,7 +5,7 @@ ghost use Rattle.nextest_run_events_results.specs.Signals.{is_termination_failur
 ghost use Rattle.nextest_run_events_results.specs.Texts.{kind_name};
 
 use crate::signals::SIGTERM;
-use nextest_config_elements_plain::{LeakTimeoutResult, SlowTimeoutResult};
+use nextest_config_elements_choices::{LeakTimeoutResult, SlowTimeoutResult};
 use nextest_text::Text;
 use std::fmt;
 

@@ -1,8 +1,8 @@
 -- What the laws say.
 use Rattle.std.specs.Prelude.{◌≡◌, ◌≤◌, Bool, true, false, IsTrue, IsFalse, Option, None}
-use Rattle.nextest_config_elements_plain.specs.declared.output_display.TestOutputDisplay.{TestOutputDisplay}
-use Rattle.nextest_config_elements_plain.specs.declared.status_level.FinalStatusLevel.{FinalStatusLevel}
-use Rattle.nextest_config_elements_plain.specs.declared.status_level.StatusLevel.{StatusLevel}
+use Rattle.nextest_config_elements_choices.specs.declared.output_display.TestOutputDisplay.{TestOutputDisplay}
+use Rattle.nextest_config_elements_choices.specs.declared.status_level.FinalStatusLevel.{FinalStatusLevel}
+use Rattle.nextest_config_elements_choices.specs.declared.status_level.StatusLevel.{StatusLevel}
 use Rattle.nextest_run_events_results.specs.declared.cancel_reason.CancelReason.{CancelReason}
 use Rattle.nextest_run_events_results.specs.declared.result.ExecutionResultDescription.{ExecutionResultDescription}
 use Rattle.nextest_run_events_visibility.specs.Visibility.{weight, was_ended_by_run, shown}

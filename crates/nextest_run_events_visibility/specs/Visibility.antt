@@ -1,10 +1,10 @@
 -- What is shown of a finished test, when it ends and when the run ends.
 use Rattle.std.specs.Prelude.{ℕ, ◌+◌, Bool, true, false, not, ◌&&◌, ◌||◌, nat_le, if◌then◌else◌, Option, None, Some}
-use Rattle.nextest_config_elements_plain.specs.Display.{shown_at_once, shown_at_end}
-use Rattle.nextest_config_elements_plain.specs.Levels.{rank, final_rank}
-use Rattle.nextest_config_elements_plain.specs.declared.output_display.TestOutputDisplay.{TestOutputDisplay}
-use Rattle.nextest_config_elements_plain.specs.declared.status_level.FinalStatusLevel.{FinalStatusLevel}
-use Rattle.nextest_config_elements_plain.specs.declared.status_level.StatusLevel.{StatusLevel}
+use Rattle.nextest_config_elements_choices.specs.Display.{shown_at_once, shown_at_end}
+use Rattle.nextest_config_elements_choices.specs.Levels.{rank, final_rank}
+use Rattle.nextest_config_elements_choices.specs.declared.output_display.TestOutputDisplay.{TestOutputDisplay}
+use Rattle.nextest_config_elements_choices.specs.declared.status_level.FinalStatusLevel.{FinalStatusLevel}
+use Rattle.nextest_config_elements_choices.specs.declared.status_level.StatusLevel.{StatusLevel}
 use Rattle.nextest_run_events_results.specs.Cancel.{gravity}
 use Rattle.nextest_run_events_results.specs.Signals.{is_termination_failure}
 use Rattle.nextest_run_events_results.specs.declared.cancel_reason.CancelReason.{CancelReason}

@@ -2,7 +2,7 @@
 ghost use Rattle.std.specs.Prelude.{◌≡◌};
 ghost use Rattle.nextest_run_events_visibility.specs.Visibility.{ends_at_once, was_ended_by_run, shows_at_once, is_stored, shows_output_at_end, shown};
 
-use nextest_config_elements_plain::{FinalStatusLevel, StatusLevel, TestOutputDisplay};
+use nextest_config_elements_choices::{FinalStatusLevel, StatusLevel, TestOutputDisplay};
 use nextest_run_events_results::{CancelReason, ExecutionResultDescription};
 
 /// Which statuses are shown, as they are set for a run.

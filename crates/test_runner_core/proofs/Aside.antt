@@ -7,19 +7,19 @@ use Rattle.test_runner_core_log_reader.specs.Items.{Item, Line, Refused}
 use Rattle.test_runner_core_plan.specs.declared.plan.Plan.{Plan}
 use Rattle.test_runner_core_planning.proofs.OnePlan.{with_warnings}
 use Rattle.test_runner_core_plan.specs.declared.plan.PlanTest.{PlanTest}
-use Rattle.test_runner_core_report.specs.declared.shows.Shows.{Shows}
-use Rattle.test_runner_core_runs.specs.Finishing.{finishing}
-use Rattle.test_runner_core_runs.specs.State.{State, TestState, initial}
-use Rattle.test_runner_core_runs.specs.Step.{step}
-use Rattle.test_runner_core_runs.specs.declared.event.Event.{Event}
-use Rattle.test_runner_core_runs.specs.declared.step_refusal.StepRefusal.{StepRefusal}
+use Rattle.test_runner_core_report_lines.specs.declared.shows.Shows.{Shows}
+use Rattle.test_runner_core_run_model.specs.Finishing.{finishing}
+use Rattle.test_runner_core_run_model.specs.State.{State, TestState, initial}
+use Rattle.test_runner_core_run_model.specs.Step.{step}
+use Rattle.test_runner_core_run_model.specs.declared.event.Event.{Event}
+use Rattle.test_runner_core_run_model.specs.declared.step_refusal.StepRefusal.{StepRefusal}
 use Rattle.test_runner_core_session.specs.Session.{run_plan}
-use Rattle.test_runner_core_telling.specs.Final.{script_parts, shown_part, shown_tests, shows_of}
-use Rattle.test_runner_core_telling.specs.Opening.{opening}
-use Rattle.test_runner_core_telling.specs.Parts.{Part, Said}
-use Rattle.test_runner_core_telling.specs.RunEnd.{end_of, end_text}
-use Rattle.test_runner_core_telling.specs.Steps.{all_done, done, done_at, parts_after, progress}
-use Rattle.test_runner_core_telling.specs.declared.final_text.ShownTest.{ShownTest}
+use Rattle.test_runner_core_reporter.specs.Final.{script_parts, shown_part, shown_tests, shows_of}
+use Rattle.test_runner_core_reporter.specs.Opening.{opening}
+use Rattle.test_runner_core_reporter.specs.Parts.{Part, Said}
+use Rattle.test_runner_core_reporter.specs.RunEnd.{end_of, end_text}
+use Rattle.test_runner_core_reporter.specs.Steps.{all_done, done, done_at, parts_after, progress}
+use Rattle.test_runner_core_reporter.specs.declared.final_text.ShownTest.{ShownTest}
 use Rattle.test_runner_core.specs.Judging.{Finds, Refuses, TellsEvents, event_of}
 use Rattle.test_runner_core.specs.Report.{Judged, ending}
 use Rattle.test_runner_core.specs.declared.refused_line.LineRefusal.{LineRefusal}

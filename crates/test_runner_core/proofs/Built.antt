@@ -7,16 +7,16 @@ use Rattle.std.proofs.lemmas.List.Elements.{All-from_recursion, recursion_from_A
 use Rattle.std.proofs.lemmas.List.Sorted.{All-permutation, length_permutation}
 use Rattle.nextest_config_resolution_profiles.specs.Enabled.{AreNamesOf}
 use Rattle.nextest_filtering_filters.specs.Query.{Test}
-use Rattle.nextest_config_elements_plain.specs.declared.max_fail.MaxFail.{MaxFail}
-use Rattle.nextest_config_elements_plain.specs.declared.max_fail.MaxFail.TheVariants as limits
+use Rattle.nextest_config_elements_choices.specs.declared.max_fail.MaxFail.{MaxFail}
+use Rattle.nextest_config_elements_choices.specs.declared.max_fail.MaxFail.TheVariants as limits
 use Rattle.test_runner_core_inputs.specs.declared.inputs.Inputs.{Inputs}
 use Rattle.test_runner_core_planning.specs.Filtering.{context_of}
 use Rattle.test_runner_core_planning.specs.Checks.{Planned}
 use Rattle.test_runner_core_planning.specs.Plan.{IsPlanOf, Plans, plan_test}
 use Rattle.test_runner_core_plan.specs.declared.plan.Plan.{Plan}
 use Rattle.test_runner_core_plan.specs.declared.plan.PlanTest.{PlanTest}
-use Rattle.test_runner_core_runs.specs.RunPlan.{IsLimit, IsPlan}
-use Rattle.test_runner_core_runs.specs.declared.run_test.RunTest.{RunTest}
+use Rattle.test_runner_core_run_model.specs.RunPlan.{IsLimit, IsPlan}
+use Rattle.test_runner_core_run_model.specs.declared.run_test.RunTest.{RunTest}
 use Rattle.test_runner_core_session.specs.Session.{run_plan, run_test}
 use Rattle.test_runner_core_settings.specs.Laws.{IsOneAtLeast}
 use Rattle.test_runner_core_plan.specs.declared.plan_settings.PlanSettings.{PlanSettings}

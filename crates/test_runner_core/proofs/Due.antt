@@ -2,18 +2,18 @@
 use Rattle.std.proofs.Common.{◌≡◌, ◌↔◌, ℕ, List, [], ◌++◌, map, None, Ok, refl, sym, ◌∙◌, subst, inr, append-nil}
 use Rattle.test_runner_core_inputs.specs.declared.inputs.Inputs.{Inputs}
 use Rattle.test_runner_core_log_reader.specs.Items.{Item, Line}
-use Rattle.test_runner_core_runs.proofs.DueStatus as runs
-use Rattle.test_runner_core_runs.proofs.NoMilder as cut_runs
-use Rattle.test_runner_core_runs.specs.Assignment.{due_status}
-use Rattle.test_runner_core_runs.specs.Counters.{status}
-use Rattle.test_runner_core_runs.specs.RunPlan.{IsPlan}
-use Rattle.test_runner_core_runs.specs.Runs.{IsNoMilder}
-use Rattle.test_runner_core_runs.specs.State.{initial}
+use Rattle.test_runner_core_run_model.proofs.DueStatus as runs
+use Rattle.test_runner_core_run_model.proofs.NoMilder as cut_runs
+use Rattle.test_runner_core_run_model.specs.Assignment.{due_status}
+use Rattle.test_runner_core_run_model.specs.Counters.{status}
+use Rattle.test_runner_core_run_model.specs.RunPlan.{IsPlan}
+use Rattle.test_runner_core_run_model.specs.Runs.{IsNoMilder}
+use Rattle.test_runner_core_run_model.specs.State.{initial}
 use Rattle.test_runner_core_session.specs.Session.{run_plan}
-use Rattle.test_runner_core_telling.specs.Final.{final_parts}
-use Rattle.test_runner_core_telling.specs.Opening.{opening}
-use Rattle.test_runner_core_telling.specs.Parts.{Part}
-use Rattle.test_runner_core_telling.specs.Steps.{progress}
+use Rattle.test_runner_core_reporter.specs.Final.{final_parts}
+use Rattle.test_runner_core_reporter.specs.Opening.{opening}
+use Rattle.test_runner_core_reporter.specs.Parts.{Part}
+use Rattle.test_runner_core_reporter.specs.Steps.{progress}
 use Rattle.test_runner_core_workspace.specs.Lister.{Answer}
 use Rattle.test_runner_core_workspace.specs.declared.record.Binary.{Binary}
 use Rattle.test_runner_core.specs.Laws.{EndsNoMilder, EndsWithDueStatus}

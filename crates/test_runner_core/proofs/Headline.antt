@@ -12,8 +12,8 @@ use Rattle.test_runner_core_planning.specs.declared.plan_fault.PlanFault.{PlanFa
 use Rattle.test_runner_core_planning.proofs.Listed.{lists_exactly}
 use Rattle.test_runner_core_planning.proofs.Once.{plans_once}
 use Rattle.test_runner_core_planning.proofs.Selected.{exactly_the_wanted}
-use Rattle.test_runner_core_telling.specs.Parts.{Part, Said}
-use Rattle.test_runner_core_telling.specs.RunEnd.{LF, TAB}
+use Rattle.test_runner_core_reporter.specs.Parts.{Part, Said}
+use Rattle.test_runner_core_reporter.specs.RunEnd.{LF, TAB}
 use Rattle.test_runner_core_workspace.specs.Lister.{Answer}
 use Rattle.test_runner_core_workspace.specs.declared.record.Binary.{Binary}
 use Rattle.test_runner_core.specs.Headline.{Filters, Headline, LineHeadline, ListsExactly, SelectsExactly, StreamHeadline}

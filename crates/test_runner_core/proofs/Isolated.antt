@@ -4,15 +4,15 @@ use Rattle.test_runner_core_inputs.specs.declared.inputs.Inputs.{Inputs}
 use Rattle.test_runner_core_log_reader.specs.Items.{Item}
 use Rattle.test_runner_core_planning.specs.Plan.{Builds}
 use Rattle.test_runner_core_plan.specs.declared.plan.Plan.{Plan}
-use Rattle.test_runner_core_telling.specs.Opening.{opening}
-use Rattle.test_runner_core_telling.specs.Parts.{IsText, Part}
+use Rattle.test_runner_core_reporter.specs.Opening.{opening}
+use Rattle.test_runner_core_reporter.specs.Parts.{IsText, Part}
 use Rattle.test_runner_core_workspace.specs.Lister.{Answer}
 use Rattle.test_runner_core_workspace.specs.declared.record.Binary.{Binary}
 use Rattle.test_runner_core.specs.Laws.{IsolatesReports}
 use Rattle.test_runner_core.specs.Report.{Composed, Judged}
 use Rattle.test_runner_core.proofs.Aside.{judged_aside}
 use Rattle.test_runner_core.proofs.OneReport.{judged_once, never_planned, parted}
-use Rattle.test_runner_core_telling.proofs.Texts.{one_text}
+use Rattle.test_runner_core_reporter.proofs.Texts.{one_text}
 use Rattle.test_runner_core_planning.proofs.Isolated.{isolates_plans}
 use Rattle.test_runner_core_planning.proofs.OnePlan.{one_plan, with_warnings}
 

@@ -10,10 +10,10 @@ use Rattle.test_runner_core_log_reader.specs.declared.fault.LogFault.{LogFault}
 use Rattle.test_runner_core_log_reader.specs.declared.fault.LogFault.TheVariants as unread
 use Rattle.test_runner_core_log_reader.specs.declared.next.Next.{Next}
 use Rattle.test_runner_core_log_reader.proofs.Reading.{ahead_then, ahead_refl, ahead_unmoved}
-use Rattle.test_runner_core_telling.specs.Telling.{MovesOn, TellsAll}
-use Rattle.test_runner_core_telling.specs.declared.fault.TellFault.{TellFault}
-use Rattle.test_runner_core_telling.specs.declared.fault.TellFault.TheVariants as untold
-use Rattle.test_runner_core_telling.proofs.Told.{front_none, front_then}
+use Rattle.test_runner_core_reporter.specs.Telling.{MovesOn, TellsAll}
+use Rattle.test_runner_core_reporter.specs.declared.fault.TellFault.{TellFault}
+use Rattle.test_runner_core_reporter.specs.declared.fault.TellFault.TheVariants as untold
+use Rattle.test_runner_core_reporter.proofs.Told.{front_none, front_then}
 use Rattle.test_runner_core.specs.Faults.{fault_of, fault_of_telling}
 use Rattle.test_runner_core.specs.Inside.{HandsNext, ReadsNext}
 use Rattle.test_runner_core.specs.declared.judge_fault.JudgeFault.{JudgeFault}

@@ -7,15 +7,15 @@ use Rattle.test_runner_core_planning.specs.Texts.{status_of}
 use Rattle.test_runner_core_plan.specs.declared.plan.Plan.{Plan}
 use Rattle.test_runner_core_planning.specs.declared.plan_fault.PlanFault.{PlanFault}
 use Rattle.test_runner_core_planning.specs.declared.plan_fault.PlanFault.TheVariants as plan_refused
-use Rattle.test_runner_core_runs.proofs.OneEnd as runs
-use Rattle.test_runner_core_runs.proofs.WholeRuns as whole_runs
-use Rattle.test_runner_core_runs.specs.Assignment.{Assignment, IsUnstopped}
-use Rattle.test_runner_core_runs.specs.Counters.{status}
-use Rattle.test_runner_core_runs.specs.Ends.{final_state}
-use Rattle.test_runner_core_runs.specs.State.{State}
+use Rattle.test_runner_core_run_model.proofs.OneEnd as runs
+use Rattle.test_runner_core_run_model.proofs.WholeRuns as whole_runs
+use Rattle.test_runner_core_run_model.specs.Assignment.{Assignment, IsUnstopped}
+use Rattle.test_runner_core_run_model.specs.Counters.{status}
+use Rattle.test_runner_core_run_model.specs.Ends.{final_state}
+use Rattle.test_runner_core_run_model.specs.State.{State}
 use Rattle.test_runner_core_session.specs.Session.{run_plan}
-use Rattle.test_runner_core_telling.specs.Final.{final_parts}
-use Rattle.test_runner_core_telling.specs.Parts.{IsText, Part}
+use Rattle.test_runner_core_reporter.specs.Final.{final_parts}
+use Rattle.test_runner_core_reporter.specs.Parts.{IsText, Part}
 use Rattle.test_runner_core_workspace.specs.Lister.{Answer}
 use Rattle.test_runner_core_workspace.specs.declared.record.Binary.{Binary}
 use Rattle.test_runner_core.specs.Judging.{Finds}
@@ -25,7 +25,7 @@ use Rattle.test_runner_core.specs.Report.{Composed, IsWritten, Judged, exit_stat
 use Rattle.test_runner_core.specs.declared.refused_line.RefusedLine.{RefusedLine}
 use Rattle.test_runner_core.proofs.Due.{ends_as_its_run, plan_of_run, told_of}
 use Rattle.test_runner_core.proofs.OneReport.{parted}
-use Rattle.test_runner_core_telling.proofs.Texts.{one_text}
+use Rattle.test_runner_core_reporter.proofs.Texts.{one_text}
 use Rattle.test_runner_core_planning.proofs.OnePlan.{one_plan}
 
 -- ---- the final text that is due

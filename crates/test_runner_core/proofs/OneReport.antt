@@ -5,11 +5,11 @@ use Rattle.test_runner_core_log_reader.specs.Items.{Item, Line}
 use Rattle.test_runner_core_planning.specs.Plan.{Builds, Plans}
 use Rattle.test_runner_core_plan.specs.declared.plan.Plan.{Plan}
 use Rattle.test_runner_core_planning.specs.declared.plan_fault.PlanFault.{PlanFault}
-use Rattle.test_runner_core_telling.proofs.Texts.{one_text}
-use Rattle.test_runner_core_runs.specs.State.{State, initial}
+use Rattle.test_runner_core_reporter.proofs.Texts.{one_text}
+use Rattle.test_runner_core_run_model.specs.State.{State, initial}
 use Rattle.test_runner_core_session.specs.Session.{run_plan}
-use Rattle.test_runner_core_telling.specs.Parts.{IsText, Part, Said}
-use Rattle.test_runner_core_telling.specs.RunEnd.{LF, TAB}
+use Rattle.test_runner_core_reporter.specs.Parts.{IsText, Part, Said}
+use Rattle.test_runner_core_reporter.specs.RunEnd.{LF, TAB}
 use Rattle.test_runner_core_workspace.specs.Lister.{Answer}
 use Rattle.test_runner_core_workspace.specs.declared.record.Binary.{Binary}
 use Rattle.test_runner_core.specs.Judging.{Finds}

@@ -8,15 +8,15 @@ use Rattle.test_runner_core_line_syntax.proofs.Lines.{nothing_empty, one_event}
 use Rattle.test_runner_core_line_syntax.specs.Spelling.{Spells}
 use Rattle.test_runner_core_line_syntax.specs.declared.log_line.LogLine.{LogLine}
 use Rattle.test_runner_core_plan.specs.declared.plan.Plan.{Plan}
-use Rattle.test_runner_core_runs.specs.Runs.{Run}
-use Rattle.test_runner_core_runs.specs.State.{State, initial}
-use Rattle.test_runner_core_runs.specs.Step.{step}
-use Rattle.test_runner_core_runs.specs.declared.event.Event.{Event}
-use Rattle.test_runner_core_runs.specs.declared.step_refusal.StepRefusal.{StepRefusal}
+use Rattle.test_runner_core_run_model.specs.Runs.{Run}
+use Rattle.test_runner_core_run_model.specs.State.{State, initial}
+use Rattle.test_runner_core_run_model.specs.Step.{step}
+use Rattle.test_runner_core_run_model.specs.declared.event.Event.{Event}
+use Rattle.test_runner_core_run_model.specs.declared.step_refusal.StepRefusal.{StepRefusal}
 use Rattle.test_runner_core_session.specs.Session.{run_plan}
-use Rattle.test_runner_core_telling.specs.Opening.{opening}
-use Rattle.test_runner_core_telling.specs.Parts.{Part}
-use Rattle.test_runner_core_telling.specs.Steps.{parts_after, progress}
+use Rattle.test_runner_core_reporter.specs.Opening.{opening}
+use Rattle.test_runner_core_reporter.specs.Parts.{Part}
+use Rattle.test_runner_core_reporter.specs.Steps.{parts_after, progress}
 use Rattle.test_runner_core.specs.Judging.{Finds, Leads, Refuses, TellsEvents, event_of}
 use Rattle.test_runner_core.specs.Report.{SoFar}
 use Rattle.test_runner_core.specs.declared.refused_line.LineRefusal.{LineRefusal}

@@ -4,15 +4,15 @@ use Rattle.std.specs.Prelude.{◌⊎◌}
 use Rattle.std.specs.Result.{IsErr}
 use Rattle.test_runner_core_line_syntax.specs.declared.log_line.LogLine.{LogLine}
 use Rattle.test_runner_core_plan.specs.declared.plan.Plan.{Plan}
-use Rattle.test_runner_core_runs.specs.Finishing.{KeepsReasons, finished_places}
-use Rattle.test_runner_core_runs.specs.State.{State}
-use Rattle.test_runner_core_runs.specs.Step.{step}
-use Rattle.test_runner_core_runs.specs.declared.finished.Finished.{Finished}
+use Rattle.test_runner_core_run_model.specs.Finishing.{KeepsReasons, finished_places}
+use Rattle.test_runner_core_run_model.specs.State.{State}
+use Rattle.test_runner_core_run_model.specs.Step.{step}
+use Rattle.test_runner_core_run_model.specs.declared.finished.Finished.{Finished}
 use Rattle.test_runner_core_session.specs.Session.{SessionState}
-use Rattle.test_runner_core_telling.specs.Parts.{Part}
-use Rattle.test_runner_core_telling.specs.Steps.{all_done, step_parts}
-use Rattle.test_runner_core_telling.specs.Telling.{TellsAll, TellsFront}
-use Rattle.test_runner_core_telling.specs.declared.fault.TellFault.{TellFault}
+use Rattle.test_runner_core_reporter.specs.Parts.{Part}
+use Rattle.test_runner_core_reporter.specs.Steps.{all_done, step_parts}
+use Rattle.test_runner_core_reporter.specs.Telling.{TellsAll, TellsFront}
+use Rattle.test_runner_core_reporter.specs.declared.fault.TellFault.{TellFault}
 use Rattle.test_runner_core.specs.Inside.{Steps, StepsLine}
 use Rattle.test_runner_core.specs.Judging.{event_of}
 use Rattle.test_runner_core.specs.declared.judging_line.Step.TheVariants as it

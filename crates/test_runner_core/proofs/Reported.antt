@@ -15,10 +15,10 @@ use Rattle.test_runner_core_planning.specs.declared.plan_error.PlanError.TheVari
 use Rattle.test_runner_core_planning.specs.Texts.{status_of}
 use Rattle.test_runner_core_plan.specs.declared.plan.Plan.{Plan}
 use Rattle.test_runner_core_planning.specs.declared.plan_fault.PlanFault.{PlanFault}
-use Rattle.test_runner_core_telling.specs.Parts.{Part}
-use Rattle.test_runner_core_telling.specs.Telling.{TellsAll, TellsFront}
-use Rattle.test_runner_core_telling.specs.declared.fault.TellFault.{TellFault}
-use Rattle.test_runner_core_telling.specs.declared.fault.TellFault.TheVariants as untold
+use Rattle.test_runner_core_reporter.specs.Parts.{Part}
+use Rattle.test_runner_core_reporter.specs.Telling.{TellsAll, TellsFront}
+use Rattle.test_runner_core_reporter.specs.declared.fault.TellFault.{TellFault}
+use Rattle.test_runner_core_reporter.specs.declared.fault.TellFault.TheVariants as untold
 use Rattle.test_runner_core_workspace.specs.Lister.{Answer}
 use Rattle.test_runner_core_workspace.specs.declared.record.Binary.{Binary}
 use Rattle.test_runner_core.specs.Faults.{fault_of_telling, lacks_memory}

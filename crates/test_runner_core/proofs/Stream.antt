@@ -15,8 +15,8 @@ use Rattle.test_runner_core_log_reader.specs.declared.fault.LogFault.TheVariants
 use Rattle.test_runner_core_log_reader.specs.Items.{Item, items, whole_lines}
 use Rattle.test_runner_core_planning.specs.Plan.{Plans}
 use Rattle.test_runner_core_planning.specs.declared.plan_fault.PlanFault.{PlanFault}
-use Rattle.test_runner_core_telling.proofs.Told.{appends_none, front_none}
-use Rattle.test_runner_core_telling.specs.Parts.{Part}
+use Rattle.test_runner_core_reporter.proofs.Told.{appends_none, front_none}
+use Rattle.test_runner_core_reporter.specs.Parts.{Part}
 use Rattle.test_runner_core.specs.Faults.{fault_of}
 use Rattle.test_runner_core.specs.Inside.{IsGotOf}
 use Rattle.test_runner_core.specs.declared.judge_fault.JudgeFault.{JudgeFault}

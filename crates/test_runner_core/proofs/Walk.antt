@@ -13,15 +13,15 @@ use Rattle.test_runner_core_log_reader.specs.declared.limits.TheConstants.{LOG_L
 use Rattle.test_runner_core_log_reader.specs.declared.fault.LineFault.{LineFault}
 use Rattle.test_runner_core_log_reader.specs.declared.next.Next.TheVariants as found_is
 use Rattle.test_runner_core_plan.specs.declared.plan.Plan.{Plan}
-use Rattle.test_runner_core_runs.specs.State.{State, initial}
+use Rattle.test_runner_core_run_model.specs.State.{State, initial}
 use Rattle.test_runner_core_session.specs.Session.{SessionState, run_plan}
-use Rattle.test_runner_core_telling.specs.Opening.{opening}
-use Rattle.test_runner_core_telling.specs.Parts.{Part}
-use Rattle.test_runner_core_telling.specs.Steps.{step_parts}
-use Rattle.test_runner_core_telling.specs.Telling.{MovesOn, TellsAll, TellsFront}
-use Rattle.test_runner_core_telling.specs.declared.fault.TellFault.{TellFault}
-use Rattle.test_runner_core_telling.specs.declared.fault.TellFault.TheVariants as untold
-use Rattle.test_runner_core_telling.proofs.Told.{all_then, front_then, moves_then}
+use Rattle.test_runner_core_reporter.specs.Opening.{opening}
+use Rattle.test_runner_core_reporter.specs.Parts.{Part}
+use Rattle.test_runner_core_reporter.specs.Steps.{step_parts}
+use Rattle.test_runner_core_reporter.specs.Telling.{MovesOn, TellsAll, TellsFront}
+use Rattle.test_runner_core_reporter.specs.declared.fault.TellFault.{TellFault}
+use Rattle.test_runner_core_reporter.specs.declared.fault.TellFault.TheVariants as untold
+use Rattle.test_runner_core_reporter.proofs.Told.{all_then, front_then, moves_then}
 use Rattle.test_runner_core.specs.Faults.{fault_of_telling}
 use Rattle.test_runner_core.specs.Inside.{BegunLines, GotLines, HandsNext, IsGotOf, IsLogOf, JudgedLines, JudgesLine, JudgesLines}
 use Rattle.test_runner_core.specs.declared.judge_fault.JudgeFault.{JudgeFault}

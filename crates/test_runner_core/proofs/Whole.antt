@@ -4,12 +4,12 @@ use Rattle.std.specs.Io.KnownBytes.{Appends}
 use Rattle.std.proofs.lemmas.List.{take-append-drop}
 use Rattle.test_runner_core_log_reader.specs.Cursor.{Cursor}
 use Rattle.test_runner_core_plan.specs.declared.plan.Plan.{Plan}
-use Rattle.test_runner_core_runs.specs.State.{State}
-use Rattle.test_runner_core_telling.specs.Parts.{Part, Said}
-use Rattle.test_runner_core_telling.specs.Telling.{TellsAll, TellsFront}
-use Rattle.test_runner_core_telling.specs.declared.fault.TellFault.{TellFault}
-use Rattle.test_runner_core_telling.specs.declared.fault.TellFault.TheVariants as untold
-use Rattle.test_runner_core_telling.proofs.Told.{all_then, front_none, front_then, one_text, then_nothing}
+use Rattle.test_runner_core_run_model.specs.State.{State}
+use Rattle.test_runner_core_reporter.specs.Parts.{Part, Said}
+use Rattle.test_runner_core_reporter.specs.Telling.{TellsAll, TellsFront}
+use Rattle.test_runner_core_reporter.specs.declared.fault.TellFault.{TellFault}
+use Rattle.test_runner_core_reporter.specs.declared.fault.TellFault.TheVariants as untold
+use Rattle.test_runner_core_reporter.proofs.Told.{all_then, front_none, front_then, one_text, then_nothing}
 use Rattle.test_runner_core.specs.Faults.{fault_of_telling}
 use Rattle.test_runner_core.specs.Inside.{BegunLines, IsBegun, IsGot, IsJudged, JudgedLines, JudgesLines}
 use Rattle.test_runner_core.specs.Report.{IsWritten, Reports, ending, exit_status}

@@ -3,8 +3,8 @@ use Rattle.std.proofs.Common.{◌≡◌, ℕ, List, [], ◌++◌, Option, Ok, Er
 use Rattle.std.specs.Io.KnownBytes.{Appends}
 use Rattle.test_runner_core_inputs.specs.declared.inputs.Inputs.{Inputs}
 use Rattle.test_runner_core_log_reader.specs.Items.{Item}
-use Rattle.test_runner_core_telling.specs.Parts.{IsText, Part}
-use Rattle.test_runner_core_telling.specs.Telling.{TellsFront}
+use Rattle.test_runner_core_reporter.specs.Parts.{IsText, Part}
+use Rattle.test_runner_core_reporter.specs.Telling.{TellsFront}
 use Rattle.test_runner_core_workspace.specs.Lister.{Answer}
 use Rattle.test_runner_core_workspace.specs.declared.record.Binary.{Binary}
 use Rattle.test_runner_core.specs.Laws.{WrittenFirst}

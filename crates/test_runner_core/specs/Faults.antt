@@ -2,8 +2,8 @@
 use Rattle.std.specs.Prelude.{◌≡◌, ℕ, ◌+◌, Bool, true, false, Result, Err}
 use Rattle.test_runner_core_log_reader.specs.declared.fault.LogFault.{LogFault}
 use Rattle.test_runner_core_log_reader.specs.declared.fault.LogFault.TheVariants as read
-use Rattle.test_runner_core_telling.specs.declared.fault.TellFault.{TellFault}
-use Rattle.test_runner_core_telling.specs.declared.fault.TellFault.TheVariants as told
+use Rattle.test_runner_core_reporter.specs.declared.fault.TellFault.{TellFault}
+use Rattle.test_runner_core_reporter.specs.declared.fault.TellFault.TheVariants as told
 use Rattle.test_runner_core.specs.declared.judge_fault.JudgeFault.{JudgeFault}
 use Rattle.test_runner_core.specs.declared.judge_fault.JudgeFault.TheVariants as fault
 

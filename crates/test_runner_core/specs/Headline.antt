@@ -15,7 +15,7 @@ use Rattle.test_runner_core_planning.specs.Laws.{IsWanted}
 use Rattle.test_runner_core_planning.specs.Plan.{Builds, Plans}
 use Rattle.test_runner_core_planning.specs.Texts.{status_of}
 use Rattle.test_runner_core_planning.specs.declared.plan_fault.PlanFault.{PlanFault}
-use Rattle.test_runner_core_telling.specs.Parts.{Part}
+use Rattle.test_runner_core_reporter.specs.Parts.{Part}
 use Rattle.test_runner_core_workspace.specs.Lister.{Answer}
 use Rattle.test_runner_core_workspace.specs.declared.record.Binary.{Binary}
 use Rattle.test_runner_core.specs.Outcome.{EndsAsDue, IsDue, IsNoMilderThanDue, table_of}

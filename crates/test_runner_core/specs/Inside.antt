@@ -9,14 +9,14 @@ use Rattle.test_runner_core_log_reader.specs.Items.{Item, Line, whole_lines}
 use Rattle.test_runner_core_log_reader.specs.Limits.{log_reads}
 use Rattle.test_runner_core_log_reader.specs.declared.next.Next.{Next}
 use Rattle.test_runner_core_plan.specs.declared.plan.Plan.{Plan}
-use Rattle.test_runner_core_progress.specs.Progress.{TakesStep}
-use Rattle.test_runner_core_runs.specs.State.{State}
-use Rattle.test_runner_core_runs.specs.Step.{step}
+use Rattle.test_runner_core_run_state.specs.Progress.{TakesStep}
+use Rattle.test_runner_core_run_model.specs.State.{State}
+use Rattle.test_runner_core_run_model.specs.Step.{step}
 use Rattle.test_runner_core_session.specs.Session.{SessionState}
-use Rattle.test_runner_core_telling.specs.Parts.{Part}
-use Rattle.test_runner_core_telling.specs.Steps.{step_parts}
-use Rattle.test_runner_core_telling.specs.Telling.{MovesOn, TellsAll, TellsFront}
-use Rattle.test_runner_core_telling.specs.declared.fault.TellFault.{TellFault}
+use Rattle.test_runner_core_reporter.specs.Parts.{Part}
+use Rattle.test_runner_core_reporter.specs.Steps.{step_parts}
+use Rattle.test_runner_core_reporter.specs.Telling.{MovesOn, TellsAll, TellsFront}
+use Rattle.test_runner_core_reporter.specs.declared.fault.TellFault.{TellFault}
 use Rattle.test_runner_core.specs.Judging.{Finds, Refuses, event_of}
 use Rattle.test_runner_core.specs.Report.{IsWritten, Judged, SoFar}
 use Rattle.test_runner_core.specs.declared.judge_fault.JudgeFault.{JudgeFault}

@@ -9,11 +9,11 @@ use Rattle.test_runner_core_line_syntax.specs.declared.log_line.LogLine.{LogLine
 use Rattle.test_runner_core_line_syntax.specs.declared.log_line.LogLine.TheVariants as lines
 use Rattle.test_runner_core_line_syntax.specs.declared.parse_line_error.ParseLineError.TheVariants as unread
 use Rattle.test_runner_core_plan.specs.declared.plan.Plan.{Plan}
-use Rattle.test_runner_core_runs.specs.Runs.{Run}
-use Rattle.test_runner_core_runs.specs.State.{State, initial}
-use Rattle.test_runner_core_runs.specs.Step.{step}
-use Rattle.test_runner_core_runs.specs.declared.event.Event.{Event}
-use Rattle.test_runner_core_runs.specs.declared.event.Event.TheVariants as events
+use Rattle.test_runner_core_run_model.specs.Runs.{Run}
+use Rattle.test_runner_core_run_model.specs.State.{State, initial}
+use Rattle.test_runner_core_run_model.specs.Step.{step}
+use Rattle.test_runner_core_run_model.specs.declared.event.Event.{Event}
+use Rattle.test_runner_core_run_model.specs.declared.event.Event.TheVariants as events
 use Rattle.test_runner_core_session.specs.Names.{script_place}
 use Rattle.test_runner_core_session.specs.Session.{place_in, run_plan}
 use Rattle.test_runner_core.specs.declared.refused_line.LineRefusal.{LineRefusal}

@@ -6,12 +6,12 @@ use Rattle.test_runner_core_log_reader.specs.Items.{Item}
 use Rattle.test_runner_core_planning.specs.Laws.{DifferOutside}
 use Rattle.test_runner_core_planning.specs.Plan.{Builds}
 use Rattle.test_runner_core_plan.specs.declared.plan.Plan.{Plan}
-use Rattle.test_runner_core_runs.specs.Assignment.{Assignment, IsUnstopped}
-use Rattle.test_runner_core_runs.specs.Ends.{EndedWhole}
-use Rattle.test_runner_core_runs.specs.RunPlan.{IsPlan}
+use Rattle.test_runner_core_run_model.specs.Assignment.{Assignment, IsUnstopped}
+use Rattle.test_runner_core_run_model.specs.Ends.{EndedWhole}
+use Rattle.test_runner_core_run_model.specs.RunPlan.{IsPlan}
 use Rattle.test_runner_core_session.specs.Session.{run_plan}
-use Rattle.test_runner_core_telling.specs.Opening.{opening}
-use Rattle.test_runner_core_telling.specs.Parts.{IsText, Part}
+use Rattle.test_runner_core_reporter.specs.Opening.{opening}
+use Rattle.test_runner_core_reporter.specs.Parts.{IsText, Part}
 use Rattle.test_runner_core_workspace.specs.Lister.{Answer}
 use Rattle.test_runner_core_workspace.specs.declared.record.Binary.{Binary}
 use Rattle.test_runner_core.specs.Outcome.{IsDue, IsNoMilderThanDue, IsRun, IsWholeRun, due_parts}

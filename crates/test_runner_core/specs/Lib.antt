@@ -9,30 +9,30 @@ pub mod Check
 pub mod Laws
 pub mod Inside
 -- how a run is told
-pub use Rattle.test_runner_core_telling.specs.Parts
-pub use Rattle.test_runner_core_telling.specs.Telling
-pub use Rattle.test_runner_core_telling.specs.RunEnd
-pub use Rattle.test_runner_core_telling.specs.Opening
-pub use Rattle.test_runner_core_telling.specs.Final
-pub use Rattle.test_runner_core_telling.specs.Steps
-pub use Rattle.test_runner_core_report.specs.Report as TestReport
-pub use Rattle.test_runner_core_report.specs.Texts as TestTexts
-pub use Rattle.test_runner_core_report.specs.Due
-pub use Rattle.test_runner_core_runs.specs.Finishing
+pub use Rattle.test_runner_core_reporter.specs.Parts
+pub use Rattle.test_runner_core_reporter.specs.Telling
+pub use Rattle.test_runner_core_reporter.specs.RunEnd
+pub use Rattle.test_runner_core_reporter.specs.Opening
+pub use Rattle.test_runner_core_reporter.specs.Final
+pub use Rattle.test_runner_core_reporter.specs.Steps
+pub use Rattle.test_runner_core_report_lines.specs.Report as TestReport
+pub use Rattle.test_runner_core_report_lines.specs.Texts as TestTexts
+pub use Rattle.test_runner_core_report_lines.specs.Due
+pub use Rattle.test_runner_core_run_model.specs.Finishing
 -- runs: plan, assignment, state, step, whole runs
-pub use Rattle.test_runner_core_runs.specs.RunPlan
-pub use Rattle.test_runner_core_runs.specs.Assignment
-pub use Rattle.test_runner_core_runs.specs.State
-pub use Rattle.test_runner_core_runs.specs.Step
-pub use Rattle.test_runner_core_runs.specs.Counters
-pub use Rattle.test_runner_core_runs.specs.Runs
-pub use Rattle.test_runner_core_runs.specs.Decisions
-pub use Rattle.test_runner_core_runs.specs.Laws as RunLaws
+pub use Rattle.test_runner_core_run_model.specs.RunPlan
+pub use Rattle.test_runner_core_run_model.specs.Assignment
+pub use Rattle.test_runner_core_run_model.specs.State
+pub use Rattle.test_runner_core_run_model.specs.Step
+pub use Rattle.test_runner_core_run_model.specs.Counters
+pub use Rattle.test_runner_core_run_model.specs.Runs
+pub use Rattle.test_runner_core_run_model.specs.Decisions
+pub use Rattle.test_runner_core_run_model.specs.Laws as RunLaws
 -- a session by names, and what it keeps
 pub use Rattle.test_runner_core_session.specs.Names
 pub use Rattle.test_runner_core_session.specs.Session
-pub use Rattle.test_runner_core_progress.specs.Progress
-pub use Rattle.test_runner_core_progress.specs.Statuses
+pub use Rattle.test_runner_core_run_state.specs.Progress
+pub use Rattle.test_runner_core_run_state.specs.Statuses
 -- plans, and which tests they select
 pub use Rattle.test_runner_core_plan.specs.Order
 pub use Rattle.test_runner_core_planning.specs.Checks
@@ -85,12 +85,12 @@ pub use Rattle.nextest_run_events_counters.specs.Rows
 pub use Rattle.nextest_run_events_counters.specs.Summary
 -- limits and types
 pub use Rattle.test_runner_core_log_reader.specs.declared.limits.TheConstants as Limits
-pub use Rattle.nextest_config_elements_plain.specs.declared.timeouts.FlakyResult
-pub use Rattle.nextest_config_elements_plain.specs.declared.timeouts.LeakTimeoutResult
-pub use Rattle.nextest_config_elements_plain.specs.declared.max_fail.MaxFail
-pub use Rattle.nextest_config_elements_plain.specs.declared.run_mode.NextestRunMode
-pub use Rattle.nextest_config_elements_plain.specs.declared.timeouts.SlowTimeoutResult
-pub use Rattle.nextest_config_elements_plain.specs.declared.max_fail.TerminateMode
+pub use Rattle.nextest_config_elements_choices.specs.declared.timeouts.FlakyResult
+pub use Rattle.nextest_config_elements_choices.specs.declared.timeouts.LeakTimeoutResult
+pub use Rattle.nextest_config_elements_choices.specs.declared.max_fail.MaxFail
+pub use Rattle.nextest_config_elements_choices.specs.declared.run_mode.NextestRunMode
+pub use Rattle.nextest_config_elements_choices.specs.declared.timeouts.SlowTimeoutResult
+pub use Rattle.nextest_config_elements_choices.specs.declared.max_fail.TerminateMode
 pub use Rattle.nextest_run_events_counters.specs.declared.summary.FinalRunStats
 pub use Rattle.nextest_run_events_counters.specs.declared.run_stats.RunStats
 pub use Rattle.nextest_run_events_counters.specs.declared.summary.RunStatsFailureKind
@@ -130,11 +130,11 @@ pub use Rattle.test_runner_core_planning.specs.declared.plan_error.PlanError
 pub use Rattle.test_runner_core_planning.specs.declared.plan_fault.PlanFault
 pub use Rattle.test_runner_core_plan.specs.declared.plan_settings.PlanSettings
 pub use Rattle.test_runner_core_plan.specs.declared.plan.PlanTest
-pub use Rattle.test_runner_core_progress.specs.declared.start_fault.StartFault
-pub use Rattle.test_runner_core_runs.specs.declared.finished.Finished
-pub use Rattle.test_runner_core_runs.specs.declared.mark.Mark
-pub use Rattle.test_runner_core_runs.specs.declared.run_test.RunTest
-pub use Rattle.test_runner_core_runs.specs.declared.step_refusal.StepRefusal
+pub use Rattle.test_runner_core_run_state.specs.declared.start_fault.StartFault
+pub use Rattle.test_runner_core_run_model.specs.declared.finished.Finished
+pub use Rattle.test_runner_core_run_model.specs.declared.mark.Mark
+pub use Rattle.test_runner_core_run_model.specs.declared.run_test.RunTest
+pub use Rattle.test_runner_core_run_model.specs.declared.step_refusal.StepRefusal
 pub use Rattle.test_runner_core_session.specs.declared.session.Fate
 pub use Rattle.test_runner_core_streams.specs.declared.memory_writer.WriteFailure
 pub use Rattle.test_runner_core_settings.specs.declared.pass.VersionPass

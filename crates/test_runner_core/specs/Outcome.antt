@@ -10,14 +10,14 @@ use Rattle.test_runner_core_log_reader.specs.Items.{Item, Line, items, whole_lin
 use Rattle.test_runner_core_planning.specs.Plan.{Builds, Plans}
 use Rattle.test_runner_core_plan.specs.declared.plan.Plan.{Plan}
 use Rattle.test_runner_core_planning.specs.declared.plan_fault.PlanFault.{PlanFault}
-use Rattle.test_runner_core_runs.specs.Assignment.{Assignment, IsUnstopped, due_status}
-use Rattle.test_runner_core_runs.specs.Ends.{final_state}
-use Rattle.test_runner_core_runs.specs.Runs.{Agrees, IsNoMilder, IsNoStop, is_complete}
-use Rattle.test_runner_core_runs.specs.State.{State, initial}
-use Rattle.test_runner_core_runs.specs.declared.event.Event.{Event}
+use Rattle.test_runner_core_run_model.specs.Assignment.{Assignment, IsUnstopped, due_status}
+use Rattle.test_runner_core_run_model.specs.Ends.{final_state}
+use Rattle.test_runner_core_run_model.specs.Runs.{Agrees, IsNoMilder, IsNoStop, is_complete}
+use Rattle.test_runner_core_run_model.specs.State.{State, initial}
+use Rattle.test_runner_core_run_model.specs.declared.event.Event.{Event}
 use Rattle.test_runner_core_session.specs.Session.{run_plan}
-use Rattle.test_runner_core_telling.specs.Final.{final_parts}
-use Rattle.test_runner_core_telling.specs.Parts.{IsText, Part}
+use Rattle.test_runner_core_reporter.specs.Final.{final_parts}
+use Rattle.test_runner_core_reporter.specs.Parts.{IsText, Part}
 use Rattle.test_runner_core_workspace.specs.Lister.{Answer, table_answer}
 use Rattle.test_runner_core_workspace.specs.declared.record.Binary.{Binary}
 use Rattle.test_runner_core.specs.Judging.{Leads}

@@ -9,16 +9,16 @@ use Rattle.test_runner_core_planning.specs.Plan.{Builds, Plans}
 use Rattle.test_runner_core_planning.specs.Texts.{name_of, status_of}
 use Rattle.test_runner_core_plan.specs.declared.plan.Plan.{Plan}
 use Rattle.test_runner_core_planning.specs.declared.plan_fault.PlanFault.{PlanFault}
-use Rattle.test_runner_core_runs.specs.Counters.{status}
-use Rattle.test_runner_core_runs.specs.State.{State, initial}
-use Rattle.test_runner_core_runs.specs.declared.event.Event.{Event}
+use Rattle.test_runner_core_run_model.specs.Counters.{status}
+use Rattle.test_runner_core_run_model.specs.State.{State, initial}
+use Rattle.test_runner_core_run_model.specs.declared.event.Event.{Event}
 use Rattle.test_runner_core_session.specs.Session.{run_plan}
-use Rattle.test_runner_core_telling.specs.Final.{final_parts}
-use Rattle.test_runner_core_telling.specs.Opening.{opening}
-use Rattle.test_runner_core_telling.specs.Parts.{IsText, Part, Said}
-use Rattle.test_runner_core_telling.specs.RunEnd.{LF, TAB}
-use Rattle.test_runner_core_telling.specs.Steps.{progress}
-use Rattle.test_runner_core_telling.specs.Telling.{TellsFront}
+use Rattle.test_runner_core_reporter.specs.Final.{final_parts}
+use Rattle.test_runner_core_reporter.specs.Opening.{opening}
+use Rattle.test_runner_core_reporter.specs.Parts.{IsText, Part, Said}
+use Rattle.test_runner_core_reporter.specs.RunEnd.{LF, TAB}
+use Rattle.test_runner_core_reporter.specs.Steps.{progress}
+use Rattle.test_runner_core_reporter.specs.Telling.{TellsFront}
 use Rattle.test_runner_core_workspace.specs.Lister.{Answer}
 use Rattle.test_runner_core_workspace.specs.declared.record.Binary.{Binary}
 use Rattle.test_runner_core.specs.Judging.{Finds, Leads}

@@ -1,6 +1,6 @@
 -- The names by which refusals print.
 use Rattle.std.specs.Prelude.{ℕ, List, codes}
-use Rattle.test_runner_core_runs.specs.declared.step_refusal.StepRefusal.TheVariants as step
+use Rattle.test_runner_core_run_model.specs.declared.step_refusal.StepRefusal.TheVariants as step
 use Rattle.test_runner_core.specs.declared.refused_line.LineRefusal.{LineRefusal}
 use Rattle.test_runner_core.specs.declared.refused_line.LineRefusal.TheVariants as it
 

@@ -4,7 +4,7 @@ ghost use Rattle.std.specs.Prelude.{◌≡◌};
 use std::alloc::{AllocError, AllocFailed};
 use std::io;
 use test_runner_core_log_reader::LogFault;
-use test_runner_core_telling::TellFault;
+use test_runner_core_reporter::TellFault;
 use thiserror::Error;
 
 /// Why a run can't be judged to its end. What the report took until then is a front of it.

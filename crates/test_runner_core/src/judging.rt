@@ -2,7 +2,7 @@
 ghost use Rattle.std.specs.Prelude.{◌≡◌, ◌⊎◌, ◌+◌, ◌^◌, ◌<◌, ◌≤◌, [], IfOk, string_bytes, true};
 ghost use Rattle.test_runner_core_log_reader.specs.Limits.{log_reads};
 ghost use Rattle.test_runner_core_log_reader.specs.Cursor.{Unmoved, tells_next};
-ghost use Rattle.test_runner_core_telling.specs.Telling as telling;
+ghost use Rattle.test_runner_core_reporter.specs.Telling as telling;
 ghost use Rattle.test_runner_core_session.specs.Session.{session_of};
 ghost use Rattle.test_runner_core.specs.Faults.{TellsRead, TellsWrite};
 ghost use Rattle.test_runner_core.specs.Inside.{HandsNext, JudgesLines, ReadsNext};
@@ -12,9 +12,9 @@ use crate::judging_line::judge_line;
 use crate::refused_line::{RefusedLine, refusal_for, refused_at};
 use std::alloc::Global;
 use test_runner_core_log_reader::{LogLines, Next};
+use test_runner_core_reporter::{TellFault, tell_opening, write_waiting};
 use test_runner_core_session::Session;
 use test_runner_core_streams::{LogReader, ReportWriter};
-use test_runner_core_telling::{TellFault, tell_opening, write_waiting};
 
 // Takes the run of a plan from its beginning by the lines of a log, as `lines` cuts them from the reader, up to the first
 // that is refused, which changes nothing and is answered; `None` where all are accepted. The plan's warnings are told first, and

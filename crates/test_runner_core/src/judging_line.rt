@@ -1,7 +1,7 @@
 // What one line of a log does to a run.
 ghost use Rattle.std.specs.Prelude.{◌≡◌, ◌^◌, ◌<◌, IfOk, MatchResult, OnErr, string_bytes};
-ghost use Rattle.test_runner_core_runs.specs.Finishing.{KeepsReasons};
-ghost use Rattle.test_runner_core_telling.specs.Telling.{TellsWrite};
+ghost use Rattle.test_runner_core_run_model.specs.Finishing.{KeepsReasons};
+ghost use Rattle.test_runner_core_reporter.specs.Telling.{TellsWrite};
 ghost use Rattle.test_runner_core_line_syntax.specs.Lent.{line_meant, record_meant};
 ghost use Rattle.test_runner_core_line_syntax.specs.declared.log_line.LogLine.TheVariants as lines;
 ghost use Rattle.test_runner_core.specs.declared.judging_line.Step.TheVariants as it;
@@ -11,11 +11,11 @@ use crate::refused_line::LineRefusal;
 use nextest_run_events_results::TestInstanceId;
 use std::alloc::{AllocError, Global};
 use test_runner_core_line_syntax::{LentLine, LentRecord, SpellingError};
-use test_runner_core_progress::StartFault;
-use test_runner_core_runs::{Finished, StepRefusal};
+use test_runner_core_reporter::{TellFault, tell_step};
+use test_runner_core_run_model::{Finished, StepRefusal};
+use test_runner_core_run_state::StartFault;
 use test_runner_core_session::Session;
 use test_runner_core_streams::ReportWriter;
-use test_runner_core_telling::{TellFault, tell_step};
 
 // What became of a line's event.
 #[derive(Clone, Copy)]

@@ -18,10 +18,10 @@ mod whole_report;
 pub use check::first_refused;
 pub use entry::{judge, judge_stream};
 pub use judge_fault::JudgeFault;
-pub use nextest_config_elements_identifiers::ConfigSourceKind;
-pub use nextest_config_elements_plain::{
+pub use nextest_config_elements_choices::{
     FlakyResult, LeakTimeoutResult, MaxFail, NextestRunMode, SlowTimeoutResult, TerminateMode,
 };
+pub use nextest_config_elements_identifiers::ConfigSourceKind;
 pub use nextest_run_events_counters::{
     ExecutionStatuses, FinalRunStats, RunStats, RunStatsFailureKind,
 };
@@ -50,8 +50,8 @@ pub use test_runner_core_planning::{
 pub use test_runner_core_platforms::{
     Fact, PlatformFacts, PlatformFactsError, PlatformSpec, PlatformSpecError,
 };
-pub use test_runner_core_progress::StartFault;
-pub use test_runner_core_runs::{Finished, Mark, RunTest, StepRefusal, exit_status};
+pub use test_runner_core_run_model::{Finished, Mark, RunTest, StepRefusal, exit_status};
+pub use test_runner_core_run_state::StartFault;
 pub use test_runner_core_session::{Fate, Session};
 pub use test_runner_core_settings::owned_settings;
 pub use test_runner_core_streams::{

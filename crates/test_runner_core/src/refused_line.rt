@@ -5,7 +5,7 @@ ghost use Rattle.test_runner_core.specs.Texts.{text_of};
 
 use std::fmt;
 use test_runner_core_log_reader::LineFault;
-use test_runner_core_runs::StepRefusal;
+use test_runner_core_run_model::StepRefusal;
 
 /// Why a line of a log is refused, in the order in which the reasons are looked for.
 #[derive(Clone, Copy, Debug, PartialEq, Eq, Hash)]

@@ -2,8 +2,8 @@
 ghost use Rattle.std.specs.Prelude.{◌≡◌, ◌+◌, ◌^◌, ◌<◌, ◌≤◌, [], ◌∷◌, IfOk, string_bytes};
 ghost use Rattle.test_runner_core_log_reader.specs.Limits.{log_reads};
 ghost use Rattle.test_runner_core_planning.specs.Texts.{status_of};
-ghost use Rattle.test_runner_core_telling.specs.Parts.{Said};
-ghost use Rattle.test_runner_core_telling.specs.Telling as telling;
+ghost use Rattle.test_runner_core_reporter.specs.Parts.{Said};
+ghost use Rattle.test_runner_core_reporter.specs.Telling as telling;
 ghost use Rattle.test_runner_core.specs.Faults.{TellsRead, TellsWrite};
 ghost use Rattle.test_runner_core.specs.Inside.{IsBegun, IsGot, IsJudged};
 ghost use Rattle.test_runner_core.specs.Report.{Reports, ending, exit_status, refused_inputs, refused_plan, refused_line};
@@ -16,9 +16,9 @@ use test_runner_core_inputs::InputsRefusal;
 use test_runner_core_log_reader::LogLines;
 use test_runner_core_plan::Plan;
 use test_runner_core_planning::PlanFault;
+use test_runner_core_reporter::{TellFault, tell_final, tell_words, write_waiting};
 use test_runner_core_session::Session;
 use test_runner_core_streams::{LogReader, ReportWriter, write_all};
-use test_runner_core_telling::{TellFault, tell_final, tell_words, write_waiting};
 
 // The exit status where a line, or a stream's first line, is refused.
 const REFUSED: u8 = 96;

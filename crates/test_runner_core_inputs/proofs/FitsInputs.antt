@@ -2,7 +2,7 @@
 use Rattle.std.proofs.Common.{◌≡◌, ◌⊎◌, inl, inr, ℕ, suc, ◌∷◌, ◌++◌, [], List, Bool, true, false, codes, decimal, Option, None, Some, Ok, Err, refl, ap, sym, ◌∙◌, subst, is_some, cond, length, option_and_then, append_assoc}
 use Rattle.serde_json.specs.Data.{Data}
 use Rattle.serde_json.specs.Find.{as_object}
-use Rattle.nextest_config_elements_plain.specs.declared.run_mode.NextestRunMode.TheVariants as modes
+use Rattle.nextest_config_elements_choices.specs.declared.run_mode.NextestRunMode.TheVariants as modes
 use Rattle.nextest_config_elements_identifiers.specs.declared.source_kind.ConfigSourceKind.{ConfigSourceKind}
 use Rattle.nextest_config_elements_identifiers.specs.declared.source_kind.ConfigSourceKind.TheVariants as kinds
 use Rattle.nextest_config_resolution_sources.specs.declared.source.ConfigSourceOutcome.{ConfigSourceOutcome}

@@ -1,7 +1,7 @@
 -- Which JSON is which inputs: what has to stand under each name, in any order.
 use Rattle.std.specs.Prelude.{◌≡◌, ◌⊎◌, ℕ, false, List, [], ◌∷◌, codes, Option, None, Some}
 use Rattle.serde_json.specs.Data.{Data}
-use Rattle.nextest_config_elements_plain.specs.declared.run_mode.NextestRunMode.TheVariants as modes
+use Rattle.nextest_config_elements_choices.specs.declared.run_mode.NextestRunMode.TheVariants as modes
 use Rattle.test_runner_core_workspace.specs.declared.record.Package.{Package}
 use Rattle.test_runner_core_workspace.specs.declared.record.Link.{Link}
 use Rattle.test_runner_core_workspace.specs.declared.record.Binary.{Binary}

@@ -10,8 +10,8 @@ use Rattle.nextest_config_elements_identifiers.specs.declared.invalid_identifier
 use Rattle.test_runner_core_inputs.specs.declared.leaves.OnlyTrue.{OnlyTrue}
 use Rattle.test_runner_core_inputs.specs.declared.source_word.SourceWord.{SourceWord}
 use Rattle.test_runner_core_inputs.specs.declared.source_word.SourceWord.TheVariants as words
-use Rattle.nextest_config_elements_plain.specs.declared.run_mode.NextestRunMode.{NextestRunMode}
-use Rattle.nextest_config_elements_plain.specs.declared.run_mode.NextestRunMode.TheVariants as modes
+use Rattle.nextest_config_elements_choices.specs.declared.run_mode.NextestRunMode.{NextestRunMode}
+use Rattle.nextest_config_elements_choices.specs.declared.run_mode.NextestRunMode.TheVariants as modes
 use Rattle.test_runner_core_workspace.specs.Workspace.{has_separator}
 use Rattle.test_runner_core_workspace.specs.declared.record.BinaryKind.{BinaryKind}
 use Rattle.test_runner_core_workspace.specs.declared.record.BinaryKind.TheVariants as kinds

@@ -9,7 +9,7 @@ ghost use Rattle.test_runner_core_inputs.specs.Reading as read;
 use crate::inputs_error::{InputsError, InputsRefusal};
 use crate::leaves::Positive;
 use crate::platform::PlatformRecord;
-use nextest_config_elements_plain::NextestRunMode;
+use nextest_config_elements_choices::NextestRunMode;
 use nextest_config_resolution_sources::ConfigSource;
 use nextest_json::{
     DocumentError, Fault, Form, JsonDocument, JsonMemory, JsonValue, Step, defaulted, optional,

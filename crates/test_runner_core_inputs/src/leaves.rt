@@ -3,8 +3,8 @@ ghost use Rattle.test_runner_core_inputs.specs.Reading as read;
 ghost use Rattle.test_runner_core_inputs.specs.Values as value_of;
 
 use crate::inputs::Inputs;
+use nextest_config_elements_choices::NextestRunMode;
 use nextest_config_elements_identifiers::{InvalidIdentifier, ToolName};
-use nextest_config_elements_plain::NextestRunMode;
 use nextest_json::{Fault, Form, JsonValue, text, truth};
 use nextest_text::Text;
 use nextest_version::{PlainVersion, VersionError};

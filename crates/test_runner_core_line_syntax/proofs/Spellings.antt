@@ -10,8 +10,8 @@ use Rattle.std.proofs.lemmas.Fmt.{decimal_injective, signed_decimal_injective, d
 use Rattle.std.proofs.lemmas.List.{append_cancel_left, append_cancel_right, append-nil}
 use Rattle.std.proofs.lemmas.List.Elements.{recursion_from_All, All-from_get_or}
 use Rattle.std.proofs.lemmas.Str.Parse.{numerals_by_value, tells_by_index}
-use Rattle.nextest_config_elements_plain.specs.declared.timeouts.LeakTimeoutResult as leak_judged
-use Rattle.nextest_config_elements_plain.specs.declared.timeouts.SlowTimeoutResult as timeout_judged
+use Rattle.nextest_config_elements_choices.specs.declared.timeouts.LeakTimeoutResult as leak_judged
+use Rattle.nextest_config_elements_choices.specs.declared.timeouts.SlowTimeoutResult as timeout_judged
 use Rattle.nextest_run_events_results.specs.Signals.{signal_name}
 use Rattle.nextest_run_events_results.specs.declared.cancel_reason.CancelReason.{CancelReason}
 use Rattle.nextest_run_events_results.specs.declared.cancel_reason.CancelReason.TheVariants as why

@@ -5,8 +5,8 @@ use Rattle.std.specs.Int.{w32}
 use Rattle.std.specs.List.{AllByRecursion}
 use Rattle.std.specs.Str.{IsUtf8}
 use Rattle.hex.specs.Hex.{IsBytes, encode_lower}
-use Rattle.nextest_config_elements_plain.specs.declared.timeouts.LeakTimeoutResult as leak_judged
-use Rattle.nextest_config_elements_plain.specs.declared.timeouts.SlowTimeoutResult as timeout_judged
+use Rattle.nextest_config_elements_choices.specs.declared.timeouts.LeakTimeoutResult as leak_judged
+use Rattle.nextest_config_elements_choices.specs.declared.timeouts.SlowTimeoutResult as timeout_judged
 use Rattle.nextest_run_events_results.specs.Cancel.{is_inner}
 use Rattle.nextest_run_events_results.specs.Signals.{signal_name}
 use Rattle.nextest_run_events_results.specs.declared.cancel_reason.CancelReason.{CancelReason}

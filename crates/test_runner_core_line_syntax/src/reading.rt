@@ -13,7 +13,7 @@ use super::lent::{LentLine, LentOutput, LentRecord, LentStream};
 use super::signals::is_signal;
 use super::spelling_error::SpellingError;
 use memchr::memchr;
-use nextest_config_elements_plain::{LeakTimeoutResult, SlowTimeoutResult};
+use nextest_config_elements_choices::{LeakTimeoutResult, SlowTimeoutResult};
 use nextest_run_events_results::{AbortStatus, CancelReason, ExecutionResult, FailureStatus};
 use nextest_text::{i32_of_decimal, u64_of_decimal};
 

@@ -8,7 +8,7 @@ ghost use Rattle.test_runner_core_line_syntax.specs.Writing.{Appends, IsSpellabl
 
 use super::signals::{is_name_of, is_signal};
 use itoa::Buffer;
-use nextest_config_elements_plain::{LeakTimeoutResult, SlowTimeoutResult};
+use nextest_config_elements_choices::{LeakTimeoutResult, SlowTimeoutResult};
 use nextest_run_events_results::{
     AbortDescription, ExecutionResultDescription, FailureDescription, Record, RecordOutput,
 };

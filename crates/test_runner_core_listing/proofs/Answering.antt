@@ -13,7 +13,7 @@ use Rattle.nextest_filtering_filters.specs.declared.leaf.FiltersetLeaf.{Filterse
 use Rattle.nextest_filtering_filters.proofs.Deciding.{decided_on_binary, decided_on_test}
 use Rattle.nextest_filtering_filters.proofs.Parts.{tells_one}
 use Rattle.nextest_filtering_filters.proofs.Sure.{one_on_test}
-use Rattle.nextest_filtering_trees.specs.Tree.{Matcher}
+use Rattle.nextest_filtering_ast.specs.Tree.{Matcher}
 use Rattle.test_runner_core_listing.specs.Answers.{Answers, AreAnswers, AnswerAs, seen, seen_test}
 use Rattle.test_runner_core_listing.proofs.Told.{can_hold}
 use Rattle.test_runner_core_workspace.specs.declared.record.Binary.{Binary}

@@ -7,9 +7,9 @@ use Rattle.nextest_filtering_filters.specs.Meaning.{CanBeOn, IsOn, Tells}
 use Rattle.nextest_filtering_filters.specs.Query as query
 use Rattle.nextest_filtering_filters.specs.declared.leaf.FiltersetLeaf.{FiltersetLeaf}
 use Rattle.nextest_filtering_filters.specs.Formula.{Formula}
-use Rattle.nextest_filtering_trees.specs.Tree.{Matcher}
-use Rattle.nextest_filtering_trees.specs.declared.leaf.BuildPlatform as filtering
-use Rattle.nextest_filtering_trees.specs.declared.leaf.BuildPlatform.TheVariants as built_for
+use Rattle.nextest_filtering_ast.specs.Tree.{Matcher}
+use Rattle.nextest_filtering_ast.specs.declared.leaf.BuildPlatform as filtering
+use Rattle.nextest_filtering_ast.specs.declared.leaf.BuildPlatform.TheVariants as built_for
 use Rattle.test_runner_core_workspace.specs.declared.record.Binary.{Binary}
 use Rattle.test_runner_core_workspace.specs.declared.record.BinaryKind.{BinaryKind}
 use Rattle.test_runner_core_workspace.specs.declared.record.BinaryKind.TheVariants as kinds

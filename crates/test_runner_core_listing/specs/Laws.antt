@@ -6,7 +6,7 @@ use Rattle.nextest_filtering_filters.specs.Formula.{Formula}
 use Rattle.nextest_filtering_filters.specs.Meaning.{Tells}
 use Rattle.nextest_filtering_filters.specs.Query as query
 use Rattle.nextest_filtering_filters.specs.declared.leaf.FiltersetLeaf.{FiltersetLeaf}
-use Rattle.nextest_filtering_trees.specs.Tree.{Matcher}
+use Rattle.nextest_filtering_ast.specs.Tree.{Matcher}
 use Rattle.test_runner_core_listing.specs.Answers.{Answers, AreAnswers, AnswerAs}
 
 -- filters and a default filter have answers, where the globs of their matchers are globs, the default filter has no `default()`

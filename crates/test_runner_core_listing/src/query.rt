@@ -3,8 +3,8 @@ ghost use Rattle.std.specs.Prelude.{◌≡◌};
 ghost use Rattle.nextest_filtering_filters.specs.Query.{binary_of};
 ghost use Rattle.test_runner_core_listing.specs.Answers as words;
 
+use nextest_filtering_ast::BuildPlatform as FilteringPlatform;
 use nextest_filtering_filters::BinaryQuery;
-use nextest_filtering_trees::BuildPlatform as FilteringPlatform;
 use test_runner_core_workspace::{Binary, BinaryKind, BuildPlatform};
 
 // The name of a kind.

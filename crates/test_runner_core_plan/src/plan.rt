@@ -1,6 +1,6 @@
 // The plan of a run.
 use crate::shared_settings::SharedSettings;
-use nextest_config_elements_plain::MaxFail;
+use nextest_config_elements_choices::MaxFail;
 use nextest_run_events_results::OwnedTestInstanceId;
 use nextest_run_events_visibility::StatusLevels;
 use nextest_text::{Listing, Text};

@@ -1,10 +1,10 @@
 // The settings of a selected test.
-use nextest_config_elements_counts::{
+use nextest_config_elements_choices::{FlakyResult, TestOutputDisplay};
+use nextest_config_elements_identifiers::TestGroup;
+use nextest_config_elements_values::{
     JunitFlakyFailStatus, LeakTimeout, ReportSkipPolicy, RetryPolicy, SlowTimeout, TestPriority,
     ThreadsRequired,
 };
-use nextest_config_elements_identifiers::TestGroup;
-use nextest_config_elements_plain::{FlakyResult, TestOutputDisplay};
 use nextest_config_resolution_scripts::WrapperScriptConfig;
 use nextest_text::{Listing, Text};
 use std::alloc::AllocError;

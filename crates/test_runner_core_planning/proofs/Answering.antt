@@ -19,7 +19,7 @@ use Rattle.nextest_filtering_filters.specs.declared.known_groups.KnownGroups.The
 use Rattle.nextest_filtering_filters.specs.declared.leaf.FiltersetLeaf.{FiltersetLeaf}
 use Rattle.nextest_filtering_filters.proofs.Deciding.{decided_name}
 use Rattle.nextest_filtering_syntax.specs.Parsed.{tree_of}
-use Rattle.nextest_filtering_trees.specs.Tree.{Matcher, Tree}
+use Rattle.nextest_filtering_ast.specs.Tree.{Matcher, Tree}
 use Rattle.nextest_filtering_compiling.specs.Trees.{TreeCanBeOn, TreeIsOn}
 use Rattle.test_runner_core_inputs.specs.declared.inputs.Inputs.{Inputs}
 use Rattle.test_runner_core_listing.specs.Answers.{AnswerAs, Answers, seen, seen_test}

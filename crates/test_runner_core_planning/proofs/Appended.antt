@@ -1,17 +1,17 @@
 -- A filterset stays what it is where more text follows; so it may stand in parentheses, with `and default()` behind it.
 use Rattle.std.proofs.Common.{◌≡◌, inl, inr, ℕ, Bool, true, false, cond, List, [], ◌∷◌, ◌++◌, codes, refl, ap, ◌∙◌, append_assoc}
 use Rattle.std.specs.Prelude.{◌≢◌}
-use Rattle.nextest_filtering_texts.specs.Text.{is_blank}
-use Rattle.nextest_filtering_trees.specs.Grammar.{Behind, Conjunction, Expression, IsFilterset, ReadsArgument, ReadsBare, ReadsJoint, ReadsLeaf, ReadsMatcher, ReadsNot, ReadsOr, ReadsSigned, Unary, a_group, a_negation, a_predicate, ends_word, first_conjunction, first_operand, leaf_word, next_conjunction, next_operand, unblanked}
-use Rattle.nextest_filtering_trees.specs.Tree.{Comparison, Leaf, Matcher, Subject, Tree, binary_id, binary_name, built_for, contains, default_filter, dependencies, dependents, equal, everything, glob, group, intersection, kind, matching, nothing, package_name, parens, regex, set, test_name}
-use Rattle.nextest_filtering_trees.specs.declared.operators.AndOperator.TheVariants as and_as
-use Rattle.nextest_filtering_trees.specs.declared.operators.DifferenceOperator.TheVariants as difference_as
-use Rattle.nextest_filtering_trees.specs.declared.operators.Joint.{Joint}
-use Rattle.nextest_filtering_trees.specs.declared.operators.Joint.TheVariants as joint
-use Rattle.nextest_filtering_trees.specs.declared.operators.NotOperator.{NotOperator}
-use Rattle.nextest_filtering_trees.specs.declared.operators.NotOperator.TheVariants as not_as
-use Rattle.nextest_filtering_trees.specs.declared.operators.OrOperator.{OrOperator}
-use Rattle.nextest_filtering_trees.specs.declared.operators.OrOperator.TheVariants as or_as
+use Rattle.nextest_filtering_escapes.specs.Text.{is_blank}
+use Rattle.nextest_filtering_ast.specs.Grammar.{Behind, Conjunction, Expression, IsFilterset, ReadsArgument, ReadsBare, ReadsJoint, ReadsLeaf, ReadsMatcher, ReadsNot, ReadsOr, ReadsSigned, Unary, a_group, a_negation, a_predicate, ends_word, first_conjunction, first_operand, leaf_word, next_conjunction, next_operand, unblanked}
+use Rattle.nextest_filtering_ast.specs.Tree.{Comparison, Leaf, Matcher, Subject, Tree, binary_id, binary_name, built_for, contains, default_filter, dependencies, dependents, equal, everything, glob, group, intersection, kind, matching, nothing, package_name, parens, regex, set, test_name}
+use Rattle.nextest_filtering_ast.specs.declared.operators.AndOperator.TheVariants as and_as
+use Rattle.nextest_filtering_ast.specs.declared.operators.DifferenceOperator.TheVariants as difference_as
+use Rattle.nextest_filtering_ast.specs.declared.operators.Joint.{Joint}
+use Rattle.nextest_filtering_ast.specs.declared.operators.Joint.TheVariants as joint
+use Rattle.nextest_filtering_ast.specs.declared.operators.NotOperator.{NotOperator}
+use Rattle.nextest_filtering_ast.specs.declared.operators.NotOperator.TheVariants as not_as
+use Rattle.nextest_filtering_ast.specs.declared.operators.OrOperator.{OrOperator}
+use Rattle.nextest_filtering_ast.specs.declared.operators.OrOperator.TheVariants as or_as
 use Rattle.test_runner_core_planning.specs.Laws.{and_default}
 
 -- ---- blanks

@@ -6,8 +6,8 @@ use Rattle.nextest_config_resolution_profiles.specs.Enabled.{AreNamesOf}
 use Rattle.nextest_config_resolution_scripts.specs.declared.script_rule.PlacedScriptRule.{PlacedScriptRule}
 use Rattle.nextest_filtering_filters.specs.Query.{Test}
 use Rattle.nextest_filtering_filters.specs.declared.known_groups.KnownGroups.{KnownGroups}
-use Rattle.nextest_filtering_trees.specs.Tree.{Tree}
-use Rattle.nextest_filtering_trees.specs.declared.leaf.BuildPlatform.TheVariants as platform
+use Rattle.nextest_filtering_ast.specs.Tree.{Tree}
+use Rattle.nextest_filtering_ast.specs.declared.leaf.BuildPlatform.TheVariants as platform
 use Rattle.test_runner_core_inputs.specs.declared.inputs.Inputs.{Inputs}
 use Rattle.test_runner_core_listing.specs.Answers.{Answers}
 use Rattle.test_runner_core_listing.specs.Listing.{Found, listing}

@@ -4,7 +4,7 @@ use Rattle.nextest_filtering_filters.specs.Query.{Test}
 use Rattle.nextest_filtering_filters.specs.declared.known_groups.KnownGroups.{KnownGroups}
 use Rattle.nextest_filtering_filters.proofs.Parts.{tells_one}
 use Rattle.nextest_filtering_syntax.proofs.Trees.{one_tree}
-use Rattle.nextest_filtering_trees.specs.Tree.{Tree}
+use Rattle.nextest_filtering_ast.specs.Tree.{Tree}
 use Rattle.test_runner_core_inputs.specs.declared.inputs.Inputs.{Inputs}
 use Rattle.test_runner_core_listing.specs.Answers.{Answers}
 use Rattle.test_runner_core_listing.specs.Listing.{Found, listing}

@@ -1,6 +1,6 @@
 -- Inputs have one plan.
 use Rattle.std.proofs.Common.{◌≡◌, List, ℕ, map, Ok, Err, sym, ap, ◌∙◌, subst}
-use Rattle.nextest_config_elements_plain.specs.declared.max_fail.MaxFail.{MaxFail}
+use Rattle.nextest_config_elements_choices.specs.declared.max_fail.MaxFail.{MaxFail}
 use Rattle.nextest_config_resolution_profiles.proofs.Enabling.{one_names}
 use Rattle.nextest_run_events_visibility.specs.declared.visibility.StatusLevels.{StatusLevels}
 use Rattle.nextest_run_events_results.specs.declared.instance.OwnedTestInstanceId.{OwnedTestInstanceId}

@@ -12,7 +12,7 @@ use Rattle.std.specs.Cmp.{booleans_Decides}
 use Rattle.std.specs.Cmp.Lexicographic.{pointwise}
 use Rattle.std.proofs.lemmas.List.FromFn.{get_or-enumerate_from, length-enumerate_from}
 use Rattle.std.proofs.lemmas.Option.{slice_get_read}
-use Rattle.nextest_config_elements_plain.specs.declared.run_mode.NextestRunMode.{NextestRunMode}
+use Rattle.nextest_config_elements_choices.specs.declared.run_mode.NextestRunMode.{NextestRunMode}
 use Rattle.nextest_config_resolution_profiles.specs.Evaluatable.{Evaluatable}
 use Rattle.nextest_config_resolution_profiles.specs.HeldRules.{AreHeldColumns, Columns}
 use Rattle.nextest_filtering_compiling.specs.declared.filterset.Filterset.{Filterset}

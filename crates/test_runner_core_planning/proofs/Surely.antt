@@ -6,8 +6,8 @@ use Rattle.nextest_filtering_filters.specs.Formula.{Gives}
 use Rattle.nextest_filtering_filters.specs.Meaning.{Either, Never, Tells}
 use Rattle.nextest_filtering_filters.specs.Query.{Binary, Test}
 use Rattle.nextest_filtering_graph.specs.Graph.{Graph}
-use Rattle.nextest_filtering_trees.specs.Meaning.{MatchesName}
-use Rattle.nextest_filtering_trees.specs.Tree.{Leaf, Matcher, Tree, binary_id, binary_name, built_for, default_filter, dependencies, dependents, everything, group, kind, matching, nothing, package_name, test_name}
+use Rattle.nextest_filtering_ast.specs.Meaning.{MatchesName}
+use Rattle.nextest_filtering_ast.specs.Tree.{Leaf, Matcher, Tree, binary_id, binary_name, built_for, default_filter, dependencies, dependents, everything, group, kind, matching, nothing, package_name, test_name}
 
 -- a predicate may be more of a binary, where names, groups and the default filter may be more
 leaf_may_more : (graph : Graph) (binary : Binary) (Name Group More_names More_groups : Matcher → Bool → Type 0) (Default Other : Bool → Type 0)

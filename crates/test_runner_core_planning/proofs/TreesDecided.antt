@@ -16,13 +16,13 @@ use Rattle.nextest_filtering_filters.specs.Formula.{Formula, Gives, both, both_g
 use Rattle.nextest_filtering_filters.specs.Meaning.{Either, Never, Tells}
 use Rattle.nextest_filtering_filters.specs.Query as query
 use Rattle.nextest_filtering_graph.specs.Graph.{Graph}
-use Rattle.nextest_filtering_trees.specs.Grammar.{Compares, Conjunction, Expression, IsFilterset, ReadsArgument, Unary, a_group, a_negation, a_predicate, first_conjunction, first_operand, joined, next_conjunction, next_operand}
-use Rattle.nextest_filtering_trees.specs.Meaning.{MatchesName}
-use Rattle.nextest_filtering_trees.specs.Tree.{Leaf, Matcher, Subject, Tree, binary_id, binary_name, built_for, default_filter, dependencies, dependents, everything, group, kind, matching, nothing, package_name, test_name}
-use Rattle.nextest_filtering_trees.specs.declared.leaf.BuildPlatform.{BuildPlatform}
-use Rattle.nextest_filtering_trees.specs.declared.leaf.BuildPlatform.TheVariants as platform
-use Rattle.nextest_filtering_trees.specs.declared.operators.Joint.{Joint}
-use Rattle.nextest_filtering_trees.specs.declared.operators.Joint.TheVariants as joint
+use Rattle.nextest_filtering_ast.specs.Grammar.{Compares, Conjunction, Expression, IsFilterset, ReadsArgument, Unary, a_group, a_negation, a_predicate, first_conjunction, first_operand, joined, next_conjunction, next_operand}
+use Rattle.nextest_filtering_ast.specs.Meaning.{MatchesName}
+use Rattle.nextest_filtering_ast.specs.Tree.{Leaf, Matcher, Subject, Tree, binary_id, binary_name, built_for, default_filter, dependencies, dependents, everything, group, kind, matching, nothing, package_name, test_name}
+use Rattle.nextest_filtering_ast.specs.declared.leaf.BuildPlatform.{BuildPlatform}
+use Rattle.nextest_filtering_ast.specs.declared.leaf.BuildPlatform.TheVariants as platform
+use Rattle.nextest_filtering_ast.specs.declared.operators.Joint.{Joint}
+use Rattle.nextest_filtering_ast.specs.declared.operators.Joint.TheVariants as joint
 use Rattle.test_runner_core_listing.specs.Answers.{Answers, seen, seen_test}
 use Rattle.test_runner_core_plan.specs.declared.plan_settings.PlanSettings.{PlanSettings}
 use Rattle.test_runner_core_workspace.specs.declared.record.Binary.{Binary}

@@ -1,7 +1,7 @@
 -- What is checked of inputs, in the written order: they are refused by the first check that they break.
 use Rattle.std.specs.Prelude.{◌≡◌, ◌⊎◌, ◌+◌, Bool, true, List, [], ◌∷◌, ◌++◌, Some, Ok, Err, ⊤, nat_lt}
 use Rattle.std.specs.List.{list_any}
-use Rattle.nextest_config_elements_counts.specs.Retries.{count_of}
+use Rattle.nextest_config_elements_values.specs.Retries.{count_of}
 use Rattle.nextest_filtering_filters.specs.Query.{Test}
 use Rattle.test_runner_core_inputs.specs.declared.inputs.Inputs.{Inputs}
 use Rattle.test_runner_core_listing.specs.Answers.{Answers}

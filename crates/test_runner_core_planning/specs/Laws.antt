@@ -1,7 +1,7 @@
 -- What holds of every plan.
 use Rattle.std.specs.Prelude.{◌≡◌, ◌≢◌, ◌↔◌, ◌⊎◌, ◌+◌, ℕ, false, List, ◌++◌, codes, map, Option, Some, Ok, Err}
 use Rattle.std.specs.List.{AllPairs, Contains}
-use Rattle.nextest_config_elements_counts.specs.Retries.{count_of}
+use Rattle.nextest_config_elements_values.specs.Retries.{count_of}
 use Rattle.nextest_run_events_results.specs.declared.instance.OwnedTestInstanceId.{OwnedTestInstanceId}
 use Rattle.test_runner_core_inputs.specs.declared.inputs.Inputs.{Inputs}
 use Rattle.test_runner_core_listing.specs.Answers.{seen_test}

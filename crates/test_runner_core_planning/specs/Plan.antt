@@ -1,7 +1,7 @@
 -- Which inputs have a plan, and which.
 use Rattle.std.specs.Prelude.{◌≡◌, ℕ, ◌+◌, Bool, true, false, List, [], ◌++◌, min, Result, Ok, Err, ⊤, map}
 use Rattle.std.specs.List.Sorted.{IsPermutation, IsSorted}
-use Rattle.nextest_config_elements_counts.specs.Retries.{count_of}
+use Rattle.nextest_config_elements_values.specs.Retries.{count_of}
 use Rattle.nextest_config_resolution_profiles.specs.Enabled.{AreNamesOf}
 use Rattle.nextest_filtering_filters.specs.Query.{Test}
 use Rattle.nextest_run_events_results.specs.declared.instance.OwnedTestInstanceId.{OwnedTestInstanceId}

@@ -5,9 +5,9 @@ ghost use Rattle.nextest_config_resolution_settings.specs.TestSettings.{group_of
 
 use nextest_config_resolution_profiles::EvaluatableProfile;
 use nextest_config_resolution_settings::TestGroupRef;
+use nextest_filtering_ast::NameMatcher;
 use nextest_filtering_compiling::Filterset;
 use nextest_filtering_filters::{GroupLookup, TestQuery};
-use nextest_filtering_trees::NameMatcher;
 use std::alloc::{AllocError, Global};
 use test_runner_core_platforms::PlatformSpec;
 

@@ -1,6 +1,6 @@
 // The selected tests with their settings, and the setup scripts that are enabled for them.
 ghost use Rattle.std.specs.Prelude.{◌≡◌, [], ◌∷◌, ◌++◌, List, IfOk, IfSome, OnOk, map};
-ghost use Rattle.nextest_config_elements_plain.specs.declared.run_mode.NextestRunMode.{NextestRunMode};
+ghost use Rattle.nextest_config_elements_choices.specs.declared.run_mode.NextestRunMode.{NextestRunMode};
 ghost use Rattle.nextest_config_resolution_profiles.specs.Enabled.{AreNamesOf, HasEnabled, IsEnabled};
 ghost use Rattle.nextest_config_resolution_profiles.specs.Evaluatable.{Evaluatable};
 ghost use Rattle.nextest_config_resolution_profiles.specs.HeldRules.{AreHeldColumns};
@@ -15,7 +15,7 @@ ghost use Rattle.test_runner_core_planning.specs.Plan.{with_settings};
 ghost use Rattle.test_runner_core_platforms.specs.declared.platform_spec.PlatformSpec.{PlatformSpec};
 ghost use Rattle.test_runner_core_planning.specs.Tests.{AreShared, HasForEach, HasForRow};
 
-use nextest_config_elements_plain::NextestRunMode;
+use nextest_config_elements_choices::NextestRunMode;
 use nextest_config_resolution_profiles::{EnabledNames, EvaluatableProfile, HeldRules};
 use nextest_filtering_compiling::Filterset;
 use nextest_run_events_results::OwnedTestInstanceId;

@@ -1,7 +1,7 @@
 -- What is read is shorter than the text.
 use Rattle.std.proofs.Common.{ℕ, ◌<◌, List, [], ◌∷◌, ◌++◌, length, arith}
 use Rattle.std.specs.Prelude.{codes}
-use Rattle.nextest_filtering_trees.specs.Grammar.{Behind}
+use Rattle.nextest_filtering_ast.specs.Grammar.{Behind}
 use Rattle.nextest_filtering_arguments.proofs.Spans.{shorter_token}
 use Rattle.test_runner_core_platforms.specs.Spec.{Condition, Conditions}
 use Rattle.test_runner_core_platforms.specs.Grammar.{IsName, ReadsName, ReadsValue, IsCondition, is_fact, is_value, is_negation, is_all, is_any, AreConditions, no_more, last_one, one_more}

@@ -5,7 +5,7 @@ use Rattle.std.specs.Borrow.{Bor}
 use Rattle.std.specs.Result.{IsErrAnd}
 use Rattle.std.proofs.lemmas.Result.{err_from_is_err_and}
 use Rattle.std.proofs.lemmas.Bool.{false≢true, or_cases, eqb-true}
-use Rattle.nextest_filtering_trees.specs.Grammar.{Behind, unblanked}
+use Rattle.nextest_filtering_ast.specs.Grammar.{Behind, unblanked}
 use Rattle.test_runner_core_platforms.specs.Spec.{Condition, fact, fact_value, negation, all_of, any_of, Conditions, no_conditions, with_first}
 use Rattle.test_runner_core_platforms.specs.Grammar.{starts, ReadsName, goes_on, IsCondition, is_fact, is_value, is_negation, is_all, is_any, AreConditions, no_more, last_one, one_more}
 use Rattle.test_runner_core_platforms.specs.Parsing.{ReadsFactValue, ReadsOperation, FindsCondition, FindsConditions}

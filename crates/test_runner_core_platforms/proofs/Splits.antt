@@ -5,7 +5,7 @@ use Rattle.std.specs.Str.{IsUtf8}
 use Rattle.std.proofs.lemmas.Bool.{cases_lt}
 use Rattle.std.proofs.lemmas.Bool.Decides.{nat_tests}
 use Rattle.std.proofs.lemmas.Str.{IsCharBoundary-start, IsCharBoundary-end, IsCharBoundary-before_ascii, IsCharBoundary-after_ascii}
-use Rattle.nextest_filtering_trees.specs.Grammar.{Behind}
+use Rattle.nextest_filtering_ast.specs.Grammar.{Behind}
 use Rattle.test_runner_core_platforms.specs.Grammar.{is_of_name, is_of_triple, is_of_value, AllAre, starts, ReadsValue}
 use Rattle.test_runner_core_platforms.specs.Parsing.{is_in, IsSplit}
 use Rattle.test_runner_core_platforms.specs.Single.{one_span, quote_last, tail}

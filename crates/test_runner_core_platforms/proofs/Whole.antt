@@ -3,7 +3,7 @@ use Rattle.std.proofs.Common.{◌≡◌, ℕ, true, false, List, [], length, ap,
 use Rattle.std.specs.Prelude.{codes, nat_eq, Result, Ok, Err}
 use Rattle.std.proofs.lemmas.Bool.{false≢true, eqb-true}
 use Rattle.std.proofs.lemmas.List.{nil_from_length}
-use Rattle.nextest_filtering_trees.specs.Grammar.{Behind, unblanked}
+use Rattle.nextest_filtering_ast.specs.Grammar.{Behind, unblanked}
 use Rattle.test_runner_core_platforms.specs.Spec.{Condition, Spec, triple, condition}
 use Rattle.test_runner_core_platforms.specs.Grammar.{is_of_triple, IsCondition, IsSpec}
 use Rattle.test_runner_core_platforms.specs.Parsing.{IsSplit, EndsCfg, OnlyTriple, FindsSpec}

@@ -1,7 +1,7 @@
 -- Which texts are platform specs, and which one each is. All is over bytes; blanks are free between what stands here.
 use Rattle.std.specs.Prelude.{◌≡◌, ◌≢◌, ℕ, ◌==◌, Bool, true, false, ◌||◌, ◌&&◌, List, [], ◌∷◌, ◌++◌, codes, nat_le, not}
 use Rattle.std.specs.List.{AllByRecursion}
-use Rattle.nextest_filtering_trees.specs.Grammar.{Behind, unblanked}
+use Rattle.nextest_filtering_ast.specs.Grammar.{Behind, unblanked}
 use Rattle.test_runner_core_platforms.specs.Spec.{Condition, fact, fact_value, negation, all_of, any_of, Conditions, no_conditions, with_first, Spec, triple, condition}
 
 -- ---- bytes

@@ -3,8 +3,8 @@ use Rattle.std.specs.Prelude.{◌≡◌, refl, ℕ, ◌==◌, ◌||◌, Bool, tr
 use Rattle.std.proofs.Common.{sym, ap, ◌∙◌, subst, inl, inr}
 use Rattle.std.proofs.lemmas.Bool.{false≢true, or_cases, eqb-true}
 use Rattle.std.proofs.lemmas.List.{append_cancel_left}
-use Rattle.nextest_filtering_texts.specs.Text.{is_blank}
-use Rattle.nextest_filtering_trees.specs.Grammar.{Behind, unblanked}
+use Rattle.nextest_filtering_escapes.specs.Text.{is_blank}
+use Rattle.nextest_filtering_ast.specs.Grammar.{Behind, unblanked}
 use Rattle.test_runner_core_platforms.specs.Spec.{Condition, fact, fact_value, negation, all_of, any_of, Conditions, no_conditions, with_first, Spec, triple, condition}
 use Rattle.test_runner_core_platforms.specs.Grammar.{begins_name, is_digit, is_of_name, is_of_triple, is_of_value, AllAre, IsName, starts, ReadsName, ReadsValue, goes_on, IsCondition, is_fact, is_value, is_negation, is_all, is_any, AreConditions, no_more, last_one, one_more, IsTriple, IsCfg, IsSpec}
 use Rattle.test_runner_core_platforms.specs.Parsing.{ReadsFactValue, ReadsOperation}

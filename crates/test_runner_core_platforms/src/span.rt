@@ -1,6 +1,6 @@
 // Names, triples and values: spans of bytes of one kind.
 ghost use Rattle.std.specs.Prelude.{◌≡◌, ◌≤◌, ℕ, List, false, length, take, drop, IfSome, IfNone};
-ghost use Rattle.nextest_filtering_trees.specs.Grammar.{Behind};
+ghost use Rattle.nextest_filtering_ast.specs.Grammar.{Behind};
 ghost use Rattle.test_runner_core_platforms.specs.Grammar.{AllAre, begins_name, starts, ReadsName, ReadsValue};
 ghost use Rattle.test_runner_core_platforms.specs.Parsing.{is_in, Finds, IsSplit};
 

@@ -3,10 +3,10 @@ use Rattle.std.specs.Prelude.{◌≡◌, ℕ, List, map, length, Option, None, S
 use Rattle.nextest_run_events_results.specs.declared.instance.OwnedTestInstanceId.{OwnedTestInstanceId}
 use Rattle.test_runner_core_plan.specs.declared.plan.Plan.{Plan}
 use Rattle.test_runner_core_plan.specs.declared.plan.PlanTest.{PlanTest}
-use Rattle.test_runner_core_runs.specs.RunPlan.{RunPlan}
-use Rattle.test_runner_core_runs.specs.State.{State, TestState, initial}
-use Rattle.test_runner_core_runs.specs.declared.run_test.RunTest.{RunTest}
-use Rattle.test_runner_core_progress.specs.Statuses.{IsAttempts}
+use Rattle.test_runner_core_run_model.specs.RunPlan.{RunPlan}
+use Rattle.test_runner_core_run_model.specs.State.{State, TestState, initial}
+use Rattle.test_runner_core_run_model.specs.declared.run_test.RunTest.{RunTest}
+use Rattle.test_runner_core_run_state.specs.Statuses.{IsAttempts}
 use Rattle.test_runner_core_session.specs.Names.{place_of}
 use Rattle.test_runner_core_session.specs.declared.session.Fate.{Fate}
 

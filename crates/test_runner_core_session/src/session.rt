@@ -1,10 +1,10 @@
 // A run of a plan.
 ghost use Rattle.std.specs.Prelude.{◌≡◌, IfOk, is_some, map, slice_get};
-ghost use Rattle.test_runner_core_progress.specs.Progress.{Takes, Starts};
-ghost use Rattle.test_runner_core_progress.specs.Statuses.{IsScriptStatus};
-ghost use Rattle.test_runner_core_runs.specs.Counters as counters;
-ghost use Rattle.test_runner_core_runs.specs.Runs as runs;
-ghost use Rattle.test_runner_core_runs.specs.declared.event.Event.TheVariants as events;
+ghost use Rattle.test_runner_core_run_state.specs.Progress.{Takes, Starts};
+ghost use Rattle.test_runner_core_run_state.specs.Statuses.{IsScriptStatus};
+ghost use Rattle.test_runner_core_run_model.specs.Counters as counters;
+ghost use Rattle.test_runner_core_run_model.specs.Runs as runs;
+ghost use Rattle.test_runner_core_run_model.specs.declared.event.Event.TheVariants as events;
 ghost use Rattle.test_runner_core_session.specs.Names.{script_place};
 ghost use Rattle.test_runner_core_session.specs.Session.{place_in, session_of, run_test, test_of, IsFate};
 
@@ -16,8 +16,8 @@ use nextest_text::Text;
 use std::alloc::{AllocError, Global};
 use std::marker::Model;
 use test_runner_core_plan::{Plan, PlanTest};
-use test_runner_core_progress::{Progress, StartFault};
-use test_runner_core_runs::{Finished, Mark, RunTest, StepRefusal};
+use test_runner_core_run_model::{Finished, Mark, RunTest, StepRefusal};
+use test_runner_core_run_state::{Progress, StartFault};
 
 /// How far a test is, and what is planned of it.
 #[derive(Clone, Copy)]

@@ -19,9 +19,9 @@ use Rattle.nextest_filtering_filters.specs.Filter.{filter_of}
 use Rattle.nextest_filtering_filters.specs.Query.{Test}
 use Rattle.nextest_filtering_syntax.proofs.Trees.{one_tree}
 use Rattle.nextest_filtering_syntax.specs.Parsed.{tree_of}
-use Rattle.nextest_filtering_trees.specs.Tree.{Tree}
-use Rattle.nextest_filtering_trees.specs.declared.leaf.BuildPlatform.{BuildPlatform}
-use Rattle.nextest_filtering_trees.specs.declared.leaf.BuildPlatform.TheVariants as built
+use Rattle.nextest_filtering_ast.specs.Tree.{Tree}
+use Rattle.nextest_filtering_ast.specs.declared.leaf.BuildPlatform.{BuildPlatform}
+use Rattle.nextest_filtering_ast.specs.declared.leaf.BuildPlatform.TheVariants as built
 use Rattle.test_runner_core_platforms.proofs.Values.{has_value, one_value}
 use Rattle.test_runner_core_platforms.specs.Facts.{Facts}
 use Rattle.test_runner_core_platforms.specs.Meaning.{HasValue, value_of}

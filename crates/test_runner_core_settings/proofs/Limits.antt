@@ -6,20 +6,20 @@ use Rattle.std.specs.List.{AllByRecursion}
 use Rattle.std.specs.Option.{option_map, option_map_or}
 use Rattle.std.specs.Str.{bytes_eq}
 use Rattle.toml.specs.Data.{Data, string, integer, float, boolean, datetime, array, table, Members, no_members, member, get_member}
-use Rattle.nextest_config_elements_plain.specs.declared.max_fail.MaxFail.{MaxFail}
-use Rattle.nextest_config_elements_plain.specs.declared.max_fail.TerminateMode.{TerminateMode}
-use Rattle.nextest_config_elements_plain.specs.declared.max_fail.TerminateMode.TheVariants.{Wait}
-use Rattle.nextest_config_elements_reading.specs.Reading.{Path, Reading, ◌>>=◌, defaulted, leaf, required, under}
-use Rattle.nextest_config_elements_readers.specs.Limits.{fail_fast_in, limit, limit_in, stopped_at, switch_in, switched}
-use Rattle.nextest_config_elements_readers.specs.Values.{above_none, truth}
-use Rattle.nextest_config_elements_readers.specs.Words.{terminate_mode}
+use Rattle.nextest_config_elements_choices.specs.declared.max_fail.MaxFail.{MaxFail}
+use Rattle.nextest_config_elements_choices.specs.declared.max_fail.TerminateMode.{TerminateMode}
+use Rattle.nextest_config_elements_choices.specs.declared.max_fail.TerminateMode.TheVariants.{Wait}
+use Rattle.nextest_config_elements_toml.specs.Reading.{Path, Reading, ◌>>=◌, defaulted, leaf, required, under}
+use Rattle.nextest_config_elements_deserialize.specs.Limits.{fail_fast_in, limit, limit_in, stopped_at, switch_in, switched}
+use Rattle.nextest_config_elements_deserialize.specs.Values.{above_none, truth}
+use Rattle.nextest_config_elements_deserialize.specs.Words.{terminate_mode}
 use Rattle.nextest_config_resolution_load.specs.Checks.{MergedConfig, config_in, merged_in}
 use Rattle.nextest_config_resolution_overrides.specs.Groups.{groups_at}
 use Rattle.nextest_config_resolution_profiles.specs.Config.{values_of}
 use Rattle.nextest_config_resolution_settings.specs.Fallbacks as fallback
 use Rattle.nextest_config_resolution_settings.specs.Keys as key
 use Rattle.nextest_config_resolution_settings.specs.Nearest.{IsOfProfiles, Source, of_fallback, of_profile}
-use Rattle.nextest_config_elements_readers.specs.Tables.{MayBe, Reads}
+use Rattle.nextest_config_elements_deserialize.specs.Tables.{MayBe, Reads}
 use Rattle.nextest_config_resolution_scripts.specs.Scripts.{scripts_at}
 use Rattle.nextest_config_resolution_values.specs.File.{Named, profiles_at, profiles_in, profiles_of, store_dir_at}
 use Rattle.nextest_config_resolution_values.specs.Profile.{profile_in, profile_of}

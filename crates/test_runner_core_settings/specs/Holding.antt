@@ -13,8 +13,8 @@ use Rattle.nextest_filtering_compiling.specs.Context.{Context}
 use Rattle.nextest_filtering_compiling.specs.Trees.{TreeIsOn}
 use Rattle.nextest_filtering_filters.specs.Query.{Test}
 use Rattle.nextest_filtering_filters.specs.declared.known_groups.KnownGroups.TheVariants as groups
-use Rattle.nextest_filtering_trees.specs.Tree.{Tree}
-use Rattle.nextest_filtering_trees.specs.declared.leaf.BuildPlatform.TheVariants as built_for
+use Rattle.nextest_filtering_ast.specs.Tree.{Tree}
+use Rattle.nextest_filtering_ast.specs.declared.leaf.BuildPlatform.TheVariants as built_for
 use Rattle.test_runner_core_settings.specs.Platforms.{HoldsFor, Platforms}
 
 -- ---- tests

@@ -1,7 +1,7 @@
 -- What the laws say.
 use Rattle.std.specs.Prelude.{◌≡◌, ◌↔◌, ◌<◌, ℕ, true, is_some, List, All, Contains, Result, Ok, Err, ⊤}
-use Rattle.nextest_config_elements_plain.specs.declared.max_fail.MaxFail.{MaxFail}
-use Rattle.nextest_config_elements_plain.specs.declared.max_fail.MaxFail.TheVariants as limits
+use Rattle.nextest_config_elements_choices.specs.declared.max_fail.MaxFail.{MaxFail}
+use Rattle.nextest_config_elements_choices.specs.declared.max_fail.MaxFail.TheVariants as limits
 use Rattle.nextest_config_resolution_inheritance.specs.Inheritance.{IsChain, Name}
 use Rattle.nextest_config_resolution_load.specs.Kinds.{kind_of}
 use Rattle.nextest_config_resolution_load.specs.Checks.{parents_of}

@@ -2,8 +2,8 @@
 use Rattle.std.specs.Prelude.{ℕ, Bool, false, ◌||◌, List, Option, None, Some, map, option_map, unwrap_or, ⊤}
 use Rattle.std.specs.Option.{option_map_or}
 use Rattle.nextest_config_resolution_load.specs.Rules.{Conditions}
-use Rattle.nextest_filtering_trees.specs.declared.leaf.BuildPlatform.{BuildPlatform}
-use Rattle.nextest_filtering_trees.specs.declared.leaf.BuildPlatform.TheVariants as built_for
+use Rattle.nextest_filtering_ast.specs.declared.leaf.BuildPlatform.{BuildPlatform}
+use Rattle.nextest_filtering_ast.specs.declared.leaf.BuildPlatform.TheVariants as built_for
 use Rattle.test_runner_core_inputs.specs.declared.inputs.Inputs.{Inputs}
 use Rattle.test_runner_core_inputs.specs.declared.platform.FactRecord.{FactRecord}
 use Rattle.test_runner_core_inputs.specs.declared.platform.PlatformRecord.{PlatformRecord}

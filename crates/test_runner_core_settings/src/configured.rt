@@ -8,7 +8,7 @@ ghost use Rattle.test_runner_core_settings.specs.Settings.{IsOfChain};
 
 use crate::platforms::{facts_of, platforms_of, target_of};
 use crate::settings_error::SettingsError;
-use nextest_config_elements_plain::MaxFail;
+use nextest_config_elements_choices::MaxFail;
 use nextest_config_elements_versions::FeatureSet;
 use nextest_config_resolution_profiles::{EvaluatableProfile, NextestConfig};
 use nextest_config_resolution_warnings::DefaultConfigWarnings;

@@ -1,7 +1,7 @@
 -- What is asked of configurations.
 use Rattle.std.specs.Prelude.{◌≡◌, ◌⊎◌, ℕ, Bool, List, [], Option, None, Some, Ok, Err, Contains}
-use Rattle.nextest_config_elements_counts.specs.declared.retries.RetryPolicy.{RetryPolicy}
-use Rattle.nextest_config_elements_plain.specs.declared.run_mode.NextestRunMode.TheVariants as mode
+use Rattle.nextest_config_elements_values.specs.declared.retries.RetryPolicy.{RetryPolicy}
+use Rattle.nextest_config_elements_choices.specs.declared.run_mode.NextestRunMode.TheVariants as mode
 use Rattle.nextest_config_elements_versions.specs.declared.feature.FeatureSet.{FeatureSet}
 use Rattle.nextest_config_resolution_load.specs.Load.{IsFilterBy, IsSpecBy}
 use Rattle.nextest_config_resolution_load.specs.declared.load_error.LoadError.TheVariants.{Refused}

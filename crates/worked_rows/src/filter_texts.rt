@@ -3,7 +3,7 @@ use crate::filter_trees::with_faults;
 use crate::parts::two;
 use nextest_filtering::GenericGlob;
 use nextest_filtering_arguments::{Faults, text_argument};
-use nextest_filtering_texts::{
+use nextest_filtering_escapes::{
     escaped_text, slashed_text, split_regex, split_text, unescape, unslash,
 };
 use nextest_text::Text;

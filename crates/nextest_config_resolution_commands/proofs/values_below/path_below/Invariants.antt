@@ -1,5 +1,5 @@
 use Rattle.std.proofs.Common.{◌≡◌, [], ◌∷◌, ◌++◌, take}
-use Rattle.nextest_config_elements_reading.specs.Paths.{texts}
+use Rattle.nextest_config_elements_toml.specs.Paths.{texts}
 use Rattle.nextest_config_resolution_commands.proofs.values_below.path_below.Given as goal
 
 -- the path in front, and so many of the keys behind it

@@ -2,8 +2,8 @@ use Rattle.std.proofs.Common.{List, inl, map, refl, sym, ap, ◌∙◌, subst}
 use Rattle.std.specs.List.{AllByRecursion}
 use Rattle.toml.specs.Data.{Members, table}
 use Rattle.toml.specs.View.{table_view}
-use Rattle.nextest_config_elements_reading.specs.Reading.{Reading}
-use Rattle.nextest_config_resolution_tree.specs.Whole.{IsTree}
+use Rattle.nextest_config_elements_toml.specs.Reading.{Reading}
+use Rattle.nextest_config_resolution_merge.specs.Whole.{IsTree}
 use Rattle.nextest_config_resolution_load.specs.Checks.{bad_merged, config_in, members_of, MergedConfig, moved, raised, value_checks}
 use Rattle.nextest_config_resolution_load.specs.Files.{layered_in, members_in}
 use Rattle.nextest_config_resolution_load.specs.Load.{BreaksFirst, IsKept}

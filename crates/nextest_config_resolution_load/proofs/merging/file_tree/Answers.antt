@@ -1,7 +1,7 @@
 use Rattle.std.proofs.Common.{IfOk, Option, option_map, sym, subst}
 use Rattle.toml.specs.Data.{table}
 use Rattle.toml.specs.View.{table_view}
-use Rattle.nextest_config_resolution_tree.specs.Whole.{IsTree}
+use Rattle.nextest_config_resolution_merge.specs.Whole.{IsTree}
 use Rattle.nextest_config_resolution_load.specs.Checks.{layered}
 use Rattle.nextest_config_resolution_load.proofs.merging.file_tree.Goals as goal
 

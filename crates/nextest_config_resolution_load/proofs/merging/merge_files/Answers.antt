@@ -2,7 +2,7 @@ use Rattle.std.proofs.Common.{◌≡◌, ◌∷◌, ◌+◌, drop, get_or, map, 
 use Rattle.std.proofs.lemmas.Grind.{common_steps}
 use Rattle.std.proofs.lemmas.List.{drop_more}
 use Rattle.toml.specs.Data.{table}
-use Rattle.nextest_config_resolution_tree.specs.Tree.{over}
+use Rattle.nextest_config_resolution_merge.specs.Tree.{over}
 use Rattle.nextest_config_resolution_load.specs.Files.{layered_in}
 use Rattle.nextest_config_resolution_load.specs.Checks.{raised}
 use Rattle.nextest_config_resolution_load.proofs.merging.merge_files.Goals as goal

@@ -1,7 +1,7 @@
 use Rattle.std.proofs.Common.{◌≡◌, drop, map}
 use Rattle.toml.specs.Data.{Data, table}
 use Rattle.toml.specs.View.{table_view}
-use Rattle.nextest_config_resolution_tree.specs.Whole.{IsTree}
+use Rattle.nextest_config_resolution_merge.specs.Whole.{IsTree}
 use Rattle.nextest_config_resolution_load.specs.Files.{layered_in}
 use Rattle.nextest_config_resolution_load.specs.Checks.{raised}
 use Rattle.nextest_config_resolution_load.proofs.merging.merge_files.Given as goal

@@ -1,7 +1,7 @@
 use Rattle.std.proofs.Common.{◌≡◌, codes, ◌∙◌, subst, option_map}
 use Rattle.toml.specs.Data.{get_member, table}
 use Rattle.toml.specs.View.{view}
-use Rattle.nextest_config_elements_reading.specs.Reading.{under}
+use Rattle.nextest_config_elements_toml.specs.Reading.{under}
 use Rattle.nextest_config_resolution_overrides.specs.Groups.{groups_of}
 use Rattle.nextest_config_resolution_load.specs.Reading.{GivesSeen}
 use Rattle.nextest_config_resolution_load.proofs.Tops.{only_some, ref_view, seen_at}

@@ -1,8 +1,8 @@
 use Rattle.std.proofs.Common.{◌≡◌, codes, map, ap, ◌∙◌, subst, option_map}
 use Rattle.toml.specs.Data.{get_member, table}
 use Rattle.toml.specs.View.{view}
-use Rattle.nextest_config_elements_reading.specs.Reading.{under}
-use Rattle.nextest_config_resolution_tree.specs.Tree.{keys_in}
+use Rattle.nextest_config_elements_toml.specs.Reading.{under}
+use Rattle.nextest_config_resolution_merge.specs.Tree.{keys_in}
 use Rattle.nextest_config_resolution_values.specs.File.{profiles_of}
 use Rattle.nextest_config_resolution_load.specs.Load.{named}
 use Rattle.nextest_config_resolution_load.specs.Reading.{GivesSeen}

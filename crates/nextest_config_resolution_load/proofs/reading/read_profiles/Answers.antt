@@ -3,11 +3,11 @@ use Rattle.std.proofs.lemmas.Bool.{false≢true}
 use Rattle.std.proofs.lemmas.Grind.{common_steps}
 use Rattle.std.proofs.lemmas.List.{drop_all, drop_more, map_push}
 use Rattle.toml.specs.Data.{table}
-use Rattle.nextest_config_elements_reading.specs.Paths.{texts}
-use Rattle.nextest_config_elements_reading.specs.Reading.{under}
-use Rattle.nextest_config_resolution_tree.specs.Nesting.{OfSorted}
-use Rattle.nextest_config_resolution_tree.specs.Tree.{get_path, keys_in, AreSorted}
-use Rattle.nextest_config_resolution_tree.proofs.Looked.{sorted_path}
+use Rattle.nextest_config_elements_toml.specs.Paths.{texts}
+use Rattle.nextest_config_elements_toml.specs.Reading.{under}
+use Rattle.nextest_config_resolution_merge.specs.Nesting.{OfSorted}
+use Rattle.nextest_config_resolution_merge.specs.Tree.{get_path, keys_in, AreSorted}
+use Rattle.nextest_config_resolution_merge.proofs.Looked.{sorted_path}
 use Rattle.nextest_config_resolution_load.specs.Load.{named}
 use Rattle.nextest_config_resolution_load.specs.Reading.{GivesSeen}
 use Rattle.nextest_config_resolution_load.proofs.Profiles.{Left, all_left, next_left, goes_on, stops_seen, ends, member_path, has_table, no_names, some_texts, profiles_there}

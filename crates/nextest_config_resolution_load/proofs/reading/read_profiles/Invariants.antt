@@ -1,8 +1,8 @@
 use Rattle.std.proofs.Common.{◌≡◌, [], ◌∷◌, codes, drop, map, Some}
 use Rattle.toml.specs.Data.{table, Members}
-use Rattle.nextest_config_elements_reading.specs.Paths.{texts}
-use Rattle.nextest_config_resolution_tree.specs.Tree.{get_path}
-use Rattle.nextest_config_resolution_tree.specs.Whole.{IsTree}
+use Rattle.nextest_config_elements_toml.specs.Paths.{texts}
+use Rattle.nextest_config_resolution_merge.specs.Tree.{get_path}
+use Rattle.nextest_config_resolution_merge.specs.Whole.{IsTree}
 use Rattle.nextest_config_resolution_load.specs.Load.{named}
 use Rattle.nextest_config_resolution_load.proofs.Profiles.{Left}
 use Rattle.nextest_config_resolution_load.proofs.reading.read_profiles.Given as goal

@@ -3,7 +3,7 @@ use Rattle.toml.specs.Data.{get_member}
 use Rattle.toml.specs.View.{table_view}
 use Rattle.nextest_config_resolution_overrides.specs.Overrides.{overrides_of}
 use Rattle.nextest_config_resolution_overrides.proofs.Below.{at_key}
-use Rattle.nextest_config_elements_readers.specs.Paths.{profile_path}
+use Rattle.nextest_config_elements_deserialize.specs.Paths.{profile_path}
 use Rattle.nextest_config_resolution_overrides.proofs.list.deserialize_overrides.Goals as goal
 
 pub returns : goal.returns

@@ -1,6 +1,6 @@
 use Rattle.std.proofs.Common.{◌≡◌, List, ℕ, map, rules, ◌∙◌, subst}
 use Rattle.toml.specs.View.{table_view}
-use Rattle.nextest_config_elements_reading.specs.declared.key_path.KeyPath.{KeyPath}
+use Rattle.nextest_config_elements_toml.specs.declared.key_path.KeyPath.{KeyPath}
 use Rattle.nextest_config_resolution_warnings.proofs.Fronts.{behind_fault, front_behind, front_of_first}
 use Rattle.nextest_config_resolution_warnings.specs.Reserved.{unknown_reserved}
 use Rattle.nextest_config_resolution_warnings.specs.Telling.{Tells, TellsFront, unknown_told}

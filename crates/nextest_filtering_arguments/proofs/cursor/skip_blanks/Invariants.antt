@@ -1,7 +1,7 @@
 use Rattle.std.proofs.Common.{length, ◌≡◌}
 use denote.Shadow.{shadow}
 use denote.Text.{Utf8}
-use Rattle.nextest_filtering_trees.specs.Grammar.{unblanked}
+use Rattle.nextest_filtering_ast.specs.Grammar.{unblanked}
 use Rattle.nextest_filtering_arguments.proofs.cursor.skip_blanks.Given as goal
 
 abbrev pub invariant-loop-rest : goal.invariant-loop-rest

@@ -1,5 +1,5 @@
 use Rattle.std.proofs.Common.{◌≡◌, ◌∷◌, ℕ, List, [], true, false, refl, sym, ◌∙◌}
-use Rattle.nextest_filtering_trees.specs.Grammar.{unblanked, ReadsMatcher}
+use Rattle.nextest_filtering_ast.specs.Grammar.{unblanked, ReadsMatcher}
 use Rattle.nextest_filtering_arguments.specs.Faults.{IsSuffix}
 use Rattle.nextest_filtering_arguments.specs.Matchers.{ReadsCompared, ReadsPattern, comparison_of, subject_of}
 use Rattle.nextest_filtering_arguments.proofs.Spans.{suffix_trans, suffix_token}

@@ -1,5 +1,5 @@
 use Rattle.std.proofs.Common.{Err, ap, ◌∙◌}
-use Rattle.nextest_filtering_trees.specs.declared.pattern.PatternError.{PatternError}
+use Rattle.nextest_filtering_ast.specs.declared.pattern.PatternError.{PatternError}
 use Rattle.nextest_filtering_arguments.proofs.Arguments.{pattern_found, pattern_refused, pattern_unclosed}
 use Rattle.nextest_filtering_arguments.proofs.matchers.pattern.Goals as goal
 

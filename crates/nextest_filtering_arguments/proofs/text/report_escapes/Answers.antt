@@ -1,7 +1,7 @@
 use Rattle.std.proofs.Common.{sym, subst}
 use Rattle.std.specs.List.{AllByRecursion}
 use Rattle.std.proofs.lemmas.Result.{on_ok_weaker}
-use Rattle.nextest_filtering_texts.specs.Spans.{IsSpanOf}
+use Rattle.nextest_filtering_escapes.specs.Spans.{IsSpanOf}
 use Rattle.nextest_filtering_arguments.proofs.Escapes.{looked_at, spans_ahead}
 use Rattle.nextest_filtering_arguments.proofs.text.report_escapes.Goals as goal
 

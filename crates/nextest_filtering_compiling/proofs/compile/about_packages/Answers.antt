@@ -1,7 +1,7 @@
 use Rattle.std.proofs.Common.{◌≡◌, ℕ, ◌<◌, List, length, arith, sym, subst, ◌∙◌}
 use Rattle.std.specs.Prelude.{All, vec_len}
 use Rattle.std.proofs.lemmas.Bool.{eqb-true}
-use Rattle.nextest_filtering_trees.specs.Tree.{matcher_of}
+use Rattle.nextest_filtering_ast.specs.Tree.{matcher_of}
 use Rattle.nextest_filtering_compiling.specs.Asking.{IsSetFor}
 use Rattle.nextest_filtering_compiling.proofs.Asked.{named_within, none_named, not_none, some_named}
 use Rattle.nextest_filtering_compiling.proofs.compile.about_packages.Goals as goal

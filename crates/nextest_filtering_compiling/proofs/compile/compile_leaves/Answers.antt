@@ -1,5 +1,5 @@
 use Rattle.std.proofs.Common.{List, map, take, subst, sym}
-use Rattle.nextest_filtering_trees.specs.declared.leaf.ParsedLeaf.{ParsedLeaf}
+use Rattle.nextest_filtering_ast.specs.declared.leaf.ParsedLeaf.{ParsedLeaf}
 use Rattle.nextest_filtering_compiling.specs.Compiling.{AreCompiled}
 use Rattle.nextest_filtering_compiling.specs.Faults.{Have}
 use Rattle.nextest_filtering_compiling.specs.Leaves.{behind}

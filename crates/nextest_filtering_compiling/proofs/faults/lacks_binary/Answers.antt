@@ -1,7 +1,7 @@
 use Rattle.std.proofs.Common.{ℕ, List, ◌∙◌, length, ◌≤◌, take, ap, subst}
 use Rattle.std.specs.Prelude.{All}
-use Rattle.nextest_filtering_trees.specs.Meaning.{MatchesName}
-use Rattle.nextest_filtering_trees.specs.Tree.{matcher_of}
+use Rattle.nextest_filtering_ast.specs.Meaning.{MatchesName}
+use Rattle.nextest_filtering_ast.specs.Tree.{matcher_of}
 use Rattle.nextest_filtering_compiling.specs.Faults.{asked_of}
 use Rattle.nextest_filtering_compiling.proofs.Looked.{no_binary, none_more}
 use Rattle.nextest_filtering_compiling.proofs.faults.lacks_binary.Goals as goal

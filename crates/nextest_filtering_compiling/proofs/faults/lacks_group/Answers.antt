@@ -1,8 +1,8 @@
 use Rattle.std.proofs.Common.{ℕ, List, ◌∙◌, true, refl, subst, sym, codes, length, ◌≤◌, take}
 use Rattle.std.specs.Prelude.{All}
 use Rattle.nextest_filtering_filters.specs.Meaning.{Tells}
-use Rattle.nextest_filtering_trees.specs.Meaning.{MatchesName}
-use Rattle.nextest_filtering_trees.specs.Tree.{matcher_of}
+use Rattle.nextest_filtering_ast.specs.Meaning.{MatchesName}
+use Rattle.nextest_filtering_ast.specs.Tree.{matcher_of}
 use Rattle.nextest_filtering_compiling.specs.Faults.{NoGroup}
 use Rattle.nextest_filtering_filters.specs.declared.known_groups.KnownGroups.{KnownGroups}
 use Rattle.nextest_filtering_compiling.proofs.Looked.{none_more, none_of_all, not_so, tells_name}

@@ -1,6 +1,6 @@
 use Rattle.std.proofs.Common.{◌≡◌, List, map, ap, subst, ◌∙◌, arith}
 use Rattle.std.specs.Prelude.{vec_len}
-use Rattle.nextest_filtering_trees.specs.declared.leaf.ParsedLeaf.{ParsedLeaf}
+use Rattle.nextest_filtering_ast.specs.declared.leaf.ParsedLeaf.{ParsedLeaf}
 use Rattle.nextest_filtering_compiling.specs.Bans.{banned}
 use Rattle.nextest_filtering_compiling.specs.Compiling.{AreCompiled}
 use Rattle.nextest_filtering_compiling.specs.Faults.{Have}

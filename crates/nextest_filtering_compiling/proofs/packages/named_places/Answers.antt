@@ -1,8 +1,8 @@
 use Rattle.std.proofs.Common.{◌≡◌, ℕ, ◌+◌, ◌<◌, ◌≤◌, List, ◌∙◌, Global, Vec, get_or, length, subst, sym, ap}
 use Rattle.nextest_filtering_filters.specs.Meaning.{Tells}
 use Rattle.nextest_filtering_graph.specs.Graph.{Graph}
-use Rattle.nextest_filtering_trees.specs.Meaning.{MatchesName}
-use Rattle.nextest_filtering_trees.specs.Tree.{matcher_of}
+use Rattle.nextest_filtering_ast.specs.Meaning.{MatchesName}
+use Rattle.nextest_filtering_ast.specs.Tree.{matcher_of}
 use Rattle.nextest_filtering_compiling.proofs.Asked.{NamedBelow, named_all, named_none, named_one}
 use Rattle.nextest_filtering_compiling.proofs.Looked.{not_so, tells_name}
 use Rattle.nextest_filtering_compiling.proofs.packages.named_places.Goals.{then-branch+in_ok-push, else-branch}

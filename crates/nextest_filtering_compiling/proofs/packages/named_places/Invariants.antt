@@ -1,7 +1,7 @@
 use Rattle.std.proofs.Common.{◌≡◌, ℕ, ◌<◌, ◌↔◌}
 use Rattle.std.specs.List.{Contains}
-use Rattle.nextest_filtering_trees.specs.Matching.{comparison_of, text_of}
-use Rattle.nextest_filtering_trees.specs.Tree.{matcher_of}
+use Rattle.nextest_filtering_ast.specs.Matching.{comparison_of, text_of}
+use Rattle.nextest_filtering_ast.specs.Tree.{matcher_of}
 use Rattle.nextest_filtering_compiling.specs.Packages.{IsNamed}
 use Rattle.nextest_filtering_compiling.proofs.packages.named_places.Given as goal
 

@@ -2,9 +2,9 @@ use Rattle.std.proofs.Common.{Bool, Bor, List, [], ℕ, get_or, subst, ◌∙◌
 use Rattle.nextest_filtering_filters.specs.Meaning.{Tells}
 use Rattle.nextest_filtering_filters.proofs.Lists.{zip_more_read}
 use Rattle.nextest_filtering_filters.proofs.asked.matched.Goals as goal
-use Rattle.nextest_filtering_trees.specs.Matching.{comparison_of, text_of}
-use Rattle.nextest_filtering_trees.specs.Meaning.{Compares}
-use Rattle.nextest_filtering_trees.specs.Tree.{Comparison}
+use Rattle.nextest_filtering_ast.specs.Matching.{comparison_of, text_of}
+use Rattle.nextest_filtering_ast.specs.Meaning.{Compares}
+use Rattle.nextest_filtering_ast.specs.Tree.{Comparison}
 
 pub loop-name-preserved : goal.loop-name-preserved
 loop-name-preserved c =

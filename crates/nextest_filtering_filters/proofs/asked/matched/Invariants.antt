@@ -1,8 +1,8 @@
 use Rattle.std.proofs.Common.{◌≡◌, take}
 use Rattle.std.specs.List.{AllZip}
 use Rattle.nextest_filtering_filters.specs.Meaning.{Tells}
-use Rattle.nextest_filtering_trees.specs.Matching.{comparison_of, text_of}
-use Rattle.nextest_filtering_trees.specs.Meaning.{Compares}
+use Rattle.nextest_filtering_ast.specs.Matching.{comparison_of, text_of}
+use Rattle.nextest_filtering_ast.specs.Meaning.{Compares}
 use Rattle.nextest_filtering_filters.proofs.asked.matched.Given as goal
 
 -- the matcher is the same, and the names so far are told

@@ -2,8 +2,8 @@ use Rattle.std.proofs.Common.{◌≡◌, Bool, Option, false, Some, sym, subst}
 use Rattle.std.specs.List.{list_any}
 use Rattle.std.specs.Prelude.{IfSome}
 use Rattle.std.proofs.lemmas.Result.{IfOk-weaker}
-use Rattle.nextest_filtering_trees.specs.Meaning.{MatchesName}
-use Rattle.nextest_filtering_trees.specs.Tree.{Matcher}
+use Rattle.nextest_filtering_ast.specs.Meaning.{MatchesName}
+use Rattle.nextest_filtering_ast.specs.Tree.{Matcher}
 use Rattle.nextest_filtering_filters.specs.Asking.{PartOf}
 use Rattle.nextest_filtering_filters.specs.Filter.{filter_of, is_default}
 use Rattle.nextest_filtering_filters.specs.Formula.{Gives, IsValue}

@@ -1,6 +1,6 @@
 use Rattle.std.proofs.Common.{sym, subst}
-use Rattle.nextest_filtering_trees.specs.Tree.{IsGlobText, matcher_of}
-use Rattle.nextest_filtering_trees.specs.declared.matcher.NameMatcher.{NameMatcher}
+use Rattle.nextest_filtering_ast.specs.Tree.{IsGlobText, matcher_of}
+use Rattle.nextest_filtering_ast.specs.declared.matcher.NameMatcher.{NameMatcher}
 use Rattle.nextest_filtering_filters.proofs.readable.see_matcher.Goals as goal
 
 pub returns-in-Glob : goal.returns-in-Glob

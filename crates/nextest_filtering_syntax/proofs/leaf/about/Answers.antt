@@ -3,7 +3,7 @@ use Rattle.std.specs.Prelude.{length}
 use Rattle.nextest_filtering_arguments.proofs.Spans.{suffix_in, suffix_trans}
 use Rattle.nextest_filtering_syntax.proofs.Leaves.{matchers, argued_from, argued_not_from, matcher_passes}
 use Rattle.nextest_filtering_syntax.proofs.Places.{placed, spanned_so}
-use Rattle.nextest_filtering_trees.specs.Grammar.{leaf_word}
+use Rattle.nextest_filtering_ast.specs.Grammar.{leaf_word}
 use Rattle.nextest_filtering_syntax.proofs.leaf.about.Goals as goal
 
 pub matcher-requires : goal.matcher-requires

@@ -1,4 +1,4 @@
-use Rattle.nextest_filtering_trees.specs.declared.leaf.ParsedLeaf.TheVariants as leaf
+use Rattle.nextest_filtering_ast.specs.declared.leaf.ParsedLeaf.TheVariants as leaf
 use Rattle.nextest_filtering_arguments.proofs.Spans.{suffix_trans}
 use Rattle.std.specs.Prelude.{codes, refl}
 use Rattle.std.proofs.Math.Path.{subst}

@@ -1,6 +1,6 @@
 use Rattle.std.proofs.Math.Path.{ap, ◌∙◌}
 use Rattle.std.specs.Prelude.{length, refl, codes}
-use Rattle.nextest_filtering_trees.specs.declared.leaf.ParsedLeaf.TheVariants as leaf
+use Rattle.nextest_filtering_ast.specs.declared.leaf.ParsedLeaf.TheVariants as leaf
 use Rattle.nextest_filtering_arguments.proofs.Spans.{suffix_in, suffix_trans}
 use Rattle.nextest_filtering_syntax.proofs.Leaves.{platforms, argued_from, argued_not_from}
 use Rattle.nextest_filtering_syntax.proofs.Places.{begins_so, spanned_so}

@@ -1,4 +1,4 @@
-use Rattle.nextest_filtering_trees.specs.declared.leaf.ParsedLeaf.TheVariants as leaf
+use Rattle.nextest_filtering_ast.specs.declared.leaf.ParsedLeaf.TheVariants as leaf
 use Rattle.nextest_filtering_arguments.proofs.Spans.{place_at, suffix_at, suffix_trans}
 use Rattle.std.specs.Prelude.{[], refl, codes}
 use Rattle.std.proofs.Math.Path.{subst}

@@ -1,9 +1,9 @@
 use Rattle.std.proofs.Common.{◌≡◌, ◌+◌, ◌*◌, length}
 use denote.Text.{Utf8}
 use denote.Shadow.{shadow}
-use Rattle.nextest_filtering_trees.specs.Tree.{union}
+use Rattle.nextest_filtering_ast.specs.Tree.{union}
 use Rattle.nextest_filtering_syntax.specs.Parsed.{tree_of}
-use Rattle.nextest_filtering_trees.specs.Grammar.{joined, ReadsOr, ReadsJoint, Unary, Conjunction, Expression}
+use Rattle.nextest_filtering_ast.specs.Grammar.{joined, ReadsOr, ReadsJoint, Unary, Conjunction, Expression}
 use Rattle.nextest_filtering_arguments.specs.Faults.{count}
 use Rattle.nextest_filtering_syntax.specs.Places.{ArePlaced, Stands}
 use Rattle.nextest_filtering_syntax.specs.Parsing.{Closes, ClosesConjunction}

@@ -1,6 +1,6 @@
 use Rattle.std.proofs.Common.{List, ℕ, [], IfSome, refl, inl}
 use Rattle.test_runner_core_log_reader.specs.Cursor.{items_ahead}
-use Rattle.test_runner_core_telling.proofs.Told.{front_none}
+use Rattle.test_runner_core_reporter.proofs.Told.{front_none}
 use Rattle.test_runner_core.specs.Inside.{IsBegun, IsGot, IsGotOf, IsJudged}
 use Rattle.test_runner_core.specs.Outcome.{table_of}
 use Rattle.test_runner_core.specs.Report.{Begun, Composed, TellsSoFar, refused_plan}

@@ -1,7 +1,7 @@
 use Rattle.std.proofs.Common.{[], IfSome, Ok, Err, true, false, refl, inl, subst}
 use Rattle.test_runner_core_log_reader.specs.Cursor.{Cursor, items_ahead}
 use Rattle.test_runner_core_log_reader.specs.Items.{items}
-use Rattle.test_runner_core_telling.proofs.Told.{front_none}
+use Rattle.test_runner_core_reporter.proofs.Told.{front_none}
 use Rattle.test_runner_core.specs.Faults.{lacks_memory}
 use Rattle.test_runner_core.specs.Inside.{IsBegun, IsGot, IsJudged}
 use Rattle.test_runner_core.specs.Report.{Begun, Composed, GotTo, refused_plan}

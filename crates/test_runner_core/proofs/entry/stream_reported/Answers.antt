@@ -4,7 +4,7 @@ use Rattle.test_runner_core_inputs.specs.Reading.{read_inputs}
 use Rattle.test_runner_core_inputs.specs.declared.inputs_error.InputsError.{InputsError}
 use Rattle.test_runner_core_log_reader.specs.Calls.{PartsAtFirst}
 use Rattle.test_runner_core_log_reader.specs.Cursor.{Cursor, items_ahead}
-use Rattle.test_runner_core_telling.proofs.Told.{front_none}
+use Rattle.test_runner_core_reporter.proofs.Told.{front_none}
 use Rattle.test_runner_core.specs.Inside.{IsGotOf}
 use Rattle.test_runner_core.specs.Outcome.{StreamBegun, StreamComposed, StreamGotTo, table_of}
 use Rattle.test_runner_core.specs.Report.{Begun, Composed, TellsSoFar, refused_inputs}

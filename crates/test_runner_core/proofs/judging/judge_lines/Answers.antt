@@ -3,7 +3,7 @@ use Rattle.test_runner_core_log_reader.specs.Calls.{Hands, HandsAhead, HandsByte
 use Rattle.test_runner_core_log_reader.specs.declared.next.Next.{Next}
 use Rattle.test_runner_core_log_reader.proofs.WholeLines.{takes_none}
 use Rattle.test_runner_core_session.specs.Session.{SessionState}
-use Rattle.test_runner_core_telling.specs.Opening.{opening}
+use Rattle.test_runner_core_reporter.specs.Opening.{opening}
 use Rattle.test_runner_core.specs.Inside.{JudgedLines, JudgesLine}
 use Rattle.test_runner_core.specs.Report.{SoFar}
 use Rattle.test_runner_core.specs.declared.refused_line.LineRefusal.{LineRefusal}

@@ -1,4 +1,4 @@
-use Rattle.test_runner_core_progress.proofs.Taken.{takes_start}
+use Rattle.test_runner_core_run_state.proofs.Taken.{takes_start}
 use Rattle.test_runner_core_session.specs.Session.{place_in}
 use Rattle.test_runner_core.proofs.judging_line.start.Goals as goal
 

@@ -1,6 +1,6 @@
 use Rattle.std.proofs.Common.{[], string_bytes, subst, inl}
 use Rattle.test_runner_core_line_syntax.specs.Lent.{line_meant}
-use Rattle.test_runner_core_telling.proofs.Told.{front_none}
+use Rattle.test_runner_core_reporter.proofs.Told.{front_none}
 use Rattle.test_runner_core.specs.Inside.{Steps}
 use Rattle.test_runner_core.specs.declared.judging_line.Step.{Step}
 use Rattle.test_runner_core.proofs.OneStep.{line_fails, step_fails, step_tells}

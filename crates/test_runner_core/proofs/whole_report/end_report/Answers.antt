@@ -1,5 +1,5 @@
 use Rattle.std.proofs.Common.{string_bytes}
-use Rattle.test_runner_core_telling.proofs.Told.{fails}
+use Rattle.test_runner_core_reporter.proofs.Told.{fails}
 use Rattle.test_runner_core.specs.Report.{ending}
 use Rattle.test_runner_core.proofs.Whole.{told_and_written, told_unwritten}
 use Rattle.test_runner_core.proofs.whole_report.end_report.Goals as goal

@@ -2,7 +2,7 @@ use Rattle.std.proofs.Common.{◌≡◌, Err, string_bytes, ap, ◌∙◌, subst
 use Rattle.std.proofs.lemmas.Result.{err_from_is_err_and}
 use Rattle.test_runner_core_plan.specs.declared.plan.Plan.{Plan}
 use Rattle.test_runner_core_session.specs.Session.{SessionState}
-use Rattle.test_runner_core_telling.specs.Telling.{TellsAll, TellsFront}
+use Rattle.test_runner_core_reporter.specs.Telling.{TellsAll, TellsFront}
 use Rattle.test_runner_core.specs.Inside.{JudgedLines, JudgesLines}
 use Rattle.test_runner_core.specs.Report.{ending}
 use Rattle.test_runner_core.proofs.Whole.{reports_none, reports_unended, reports_unjudged, reports_whole}

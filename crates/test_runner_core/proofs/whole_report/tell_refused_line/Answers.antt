@@ -1,7 +1,7 @@
 use Rattle.std.proofs.Common.{◌≡◌, List, ℕ, [], ◌∷◌, ◌++◌, codes, decimal, string_bytes, ◌∙◌, subst}
-use Rattle.test_runner_core_telling.specs.Parts.{Said}
-use Rattle.test_runner_core_telling.specs.Telling.{Tells}
-use Rattle.test_runner_core_telling.proofs.Told.{fails, front_none}
+use Rattle.test_runner_core_reporter.specs.Parts.{Said}
+use Rattle.test_runner_core_reporter.specs.Telling.{Tells}
+use Rattle.test_runner_core_reporter.proofs.Told.{fails, front_none}
 use Rattle.test_runner_core.specs.Report.{refused_line}
 use Rattle.test_runner_core.specs.Texts.{text_of}
 use Rattle.test_runner_core.proofs.Whole.{line_words}

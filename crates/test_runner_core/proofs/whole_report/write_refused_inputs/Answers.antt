@@ -1,5 +1,5 @@
 use Rattle.std.proofs.Common.{[]}
-use Rattle.test_runner_core_telling.proofs.Told.{fails, front_none}
+use Rattle.test_runner_core_reporter.proofs.Told.{fails, front_none}
 use Rattle.test_runner_core.specs.Report.{refused_inputs}
 use Rattle.test_runner_core.proofs.whole_report.write_refused_inputs.Goals as goal
 

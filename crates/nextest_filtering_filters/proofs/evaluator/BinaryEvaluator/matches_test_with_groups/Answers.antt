@@ -1,8 +1,8 @@
 use Rattle.std.proofs.Common.{Bool, Some, subst}
 use Rattle.std.proofs.lemmas.Result.{IfOk-weaker}
 use Rattle.nextest_filtering_filters.specs.Formula.{Gives, IsValue}
-use Rattle.nextest_filtering_trees.specs.Meaning.{MatchesName}
-use Rattle.nextest_filtering_trees.specs.Tree.{Matcher}
+use Rattle.nextest_filtering_ast.specs.Meaning.{MatchesName}
+use Rattle.nextest_filtering_ast.specs.Tree.{Matcher}
 use Rattle.nextest_filtering_filters.specs.Asking.{Asking, IsTold}
 use Rattle.nextest_filtering_filters.specs.Filter.{Compiled, filter_of}
 use Rattle.nextest_filtering_filters.specs.Meaning.{IsOn, MayBe, Never, Tells}

@@ -1,6 +1,6 @@
 use Rattle.std.proofs.Common.{Bool, Bor, List, ℕ, Some, subst, sym}
 use Rattle.std.specs.List.{AllZip}
-use Rattle.nextest_filtering_trees.specs.Meaning.{MatchesName}
+use Rattle.nextest_filtering_ast.specs.Meaning.{MatchesName}
 use Rattle.nextest_filtering_filters.specs.Asking.{Asking, IsTold}
 use Rattle.nextest_filtering_filters.specs.Columns.{OnEach, value_at}
 use Rattle.nextest_filtering_filters.specs.Filter.{Compiled, filter_of}

@@ -1,5 +1,5 @@
 use Rattle.nextest_filtering_filters.specs.Query.{test_of}
-use Rattle.nextest_filtering_trees.specs.Tree.{matcher_of}
+use Rattle.nextest_filtering_ast.specs.Tree.{matcher_of}
 use Rattle.nextest_config_resolution_settings.specs.TestSettings.{group_of}
 use Rattle.test_runner_core_planning.proofs.Choosing.{tells_in}
 use Rattle.test_runner_core_planning.proofs.groups.ProfileGroupsGroupLookup.is_member_test.Goals as goal

@@ -1,5 +1,0 @@
-use Rattle.nextest_config_elements_counts.proofs.Nanos.{nanos_of_durations}
-use Rattle.nextest_config_elements_counts.proofs.laws.nanos_of_durations.Goals as goal
-
-pub returns : goal.returns
-returns c = nanos_of_durations

@@ -1,5 +1,0 @@
-use Rattle.nextest_config_elements_counts.proofs.Meanings.{one_duration}
-use Rattle.nextest_config_elements_counts.proofs.laws.one_duration.Goals as goal
-
-pub returns : goal.returns
-returns c = one_duration

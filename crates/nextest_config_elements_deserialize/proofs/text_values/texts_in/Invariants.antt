@@ -1,0 +1,10 @@
+use Rattle.std.proofs.Common.{◌≡◌, drop}
+use Rattle.toml.specs.View.{items_view}
+use Rattle.nextest_config_elements_deserialize.specs.Keys.{texts_in}
+use Rattle.nextest_config_elements_deserialize.proofs.Texts.{joined}
+use Rattle.nextest_config_elements_deserialize.proofs.text_values.texts_in.Given as goal
+
+-- the texts so far, and then those that are ahead
+abbrev pub invariant-loop-place : goal.invariant-loop-place
+invariant-loop-place l =
+    texts_in 0 (items_view l.items) ≡ joined l.texts (texts_in l.place-counter (items_view (drop l.place-counter l.items)))

@@ -1,0 +1,57 @@
+// Texts, and lists of them.
+ghost use Rattle.toml.specs.Data.{as_str};
+ghost use Rattle.toml.specs.View.{items_view, table_view, view};
+ghost use Rattle.nextest_config_elements_toml.specs.Paths.{Gives};
+ghost use Rattle.nextest_config_elements_toml.specs.Reading.{optional};
+ghost use Rattle.nextest_config_elements_deserialize.specs.Keys.{texts_in, texts_of};
+
+use crate::config_value::member;
+use nextest_config_elements_toml::{ValueError, refused, refused_below};
+use nextest_text::{Listing, Text};
+use std::alloc::Global;
+use toml::{Table, Value};
+
+/// The text under a key that may be left out.
+pub fn optional_text(
+    alloc: Global,
+    table: &Table,
+    path: &[&str],
+    key: &str,
+) -> Result<Option<Text>, ValueError>
+    ensures { Gives path.now result (optional key.now as_str (table_view table.now)) }
+{
+    match member(table, key) {
+        None => Ok(None),
+        Some(Value::String(text)) => Ok(Some(Text::from_str(alloc, text.as_str())?)),
+        Some(other) => Err(refused_below(alloc, path, key, Some(other), "a string")),
+    }
+}
+
+/// A list of texts.
+pub fn deserialize_texts(
+    alloc: Global,
+    value: &Value,
+    path: &[&str],
+) -> Result<Listing<Text>, ValueError>
+    ensures { Gives path.now result (texts_of (view value.now)) }
+{
+    match value {
+        Value::Array(items) => texts_in(alloc, items.as_slice(), path),
+        _ => Err(refused(alloc, path, Some(value), "an array of strings")),
+    }
+}
+
+// Each item of a list is a text.
+fn texts_in(alloc: Global, items: &[Value], path: &[&str]) -> Result<Listing<Text>, ValueError>
+    ensures { Gives path.now result (texts_in 0 (items_view items.now)) }
+{
+    let mut texts = Listing::new(alloc);
+    for (place, item) in items.iter().enumerate() {
+        let Value::String(text) = item else {
+            let key = format!(in alloc; "{place}")?;
+            return Err(refused_below(alloc, path, key.as_str(), Some(item), "a string"));
+        };
+        texts.push(Text::from_str(alloc, text.as_str())?)?;
+    }
+    Ok(texts)
+}

@@ -1,5 +1,0 @@
-use Rattle.nextest_config_elements_plain.proofs.Limits.{reads_back}
-use Rattle.nextest_config_elements_plain.proofs.laws.reads_back.Goals as goal
-
-pub returns : goal.returns
-returns c = reads_back

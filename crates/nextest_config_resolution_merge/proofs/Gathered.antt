@@ -1,0 +1,102 @@
+-- The keys of a table, by its ends.
+use Rattle.std.proofs.Common.{◌≡◌, ℕ, suc, ◌-◌, true, false, List, [], ◌∷◌, ◌++◌, map, length, slice_get, Option, None, Some, option_map, is_some, cond, refl, sym, ap, ◌∙◌, subst, arith, append_assoc, append-nil, Bor, Less}
+use Rattle.std.specs.Bool.{⊤}
+use Rattle.std.specs.Option.{option_copied, option_map_or}
+use Rattle.std.specs.Ordering.{is_eq}
+use Rattle.std.specs.Str.{bytes_eq}
+use Rattle.std.proofs.lemmas.Bool.{false≢true}
+use Rattle.std.proofs.lemmas.Map.Text.{is_eq-slice_cmp}
+use Rattle.toml.specs.Data.{Data, string, integer, float, boolean, datetime, array, table, Members, no_members, member}
+use Rattle.nextest_config_elements_toml.specs.Paths.{texts}
+use Rattle.nextest_config_elements_toml.specs.Reading.{Path}
+use Rattle.nextest_config_resolution_merge.specs.Nesting.{OfSorted, last_key, is_last, head_of, gathered, shorter}
+use Rattle.nextest_config_resolution_merge.specs.Tree.{End, along, behind, ends, ends_at, members_ends, keys, keys_in, IsBefore, IsSorted, AreSorted}
+use Rattle.nextest_config_resolution_merge.proofs.Keys.{key_cmp, same_key}
+use Rattle.nextest_config_resolution_merge.proofs.Nested.{drop_along}
+use Rattle.nextest_config_resolution_merge.proofs.Walk.{Begins, some_end}
+
+-- the last key of some that are lent
+pub last_text : (all : List (Bor (List ℕ))) (last : Bor (List ℕ)) → slice_get all (length all - 1) ≡ Some last → last_key (texts all) ≡ Some last.now
+last_text [] last e = absurd (false≢true (ap is_some e))
+last_text (key ∷ []) last e = ap (option_map (λ it. it.now)) e
+last_text (key ∷ next ∷ all) last e =
+    let count : suc (suc (length all)) - 1 ≡ suc (length all) = omega arith in
+    let deeper : suc (length all) - 1 ≡ length all = omega arith in
+    last_text (next ∷ all) last (rw deeper (subst (λ n. slice_get (key ∷ next ∷ all) n ≡ Some last) count e))
+
+-- the key that a look-up gives
+copied_now : (result : Option (Bor (Bor (List ℕ)))) → option_map (λ it. it.now.now) result ≡ option_map (λ key. key.now) (option_copied result)
+copied_now None = refl
+copied_now (Some it) = refl
+
+first_text : (path : List (Bor (List ℕ))) → option_map (λ key. key.now) (slice_get path 0) ≡ head_of (texts path)
+first_text [] = refl
+first_text (key ∷ path) = refl
+
+pub got_head : (result : Option (Bor (Bor (List ℕ)))) (rest : List (Bor (List ℕ))) (path : Path) → option_copied result ≡ slice_get rest 0 → texts rest ≡ path
+    → option_map (λ it. it.now.now) result ≡ head_of path
+got_head result rest path e same = copied_now result ∙ ap (option_map (λ key. key.now)) e ∙ first_text rest ∙ ap head_of same
+
+same_bytes : (key : List ℕ) → bytes_eq key key ≡ true
+same_bytes key = sym (is_eq-slice_cmp key key) ∙ ap is_eq (same_key key)
+
+other_bytes : (key other : List ℕ) → key_cmp key other ≡ Less → bytes_eq key other ≡ false
+other_bytes key other less = sym (is_eq-slice_cmp key other) ∙ ap is_eq less
+
+last_pushed : (all : List (List ℕ)) (key : List ℕ) → last_key (all ++ key ∷ []) ≡ Some key
+last_pushed [] key = refl
+last_pushed (first ∷ []) key = refl
+last_pushed (first ∷ second ∷ all) key = last_pushed (second ∷ all) key
+
+last_is : (all : List (List ℕ)) (key : List ℕ) → is_last (all ++ key ∷ []) key ≡ true
+last_is all key = ap (λ last. option_map_or (λ it. bytes_eq it key) last false) (last_pushed all key) ∙ same_bytes key
+
+-- the further ends below the last key add nothing
+gathered_same : (all : List (List ℕ)) (key : List ℕ) (front more : List End)
+    → gathered (all ++ key ∷ []) (map (behind key) front ++ more) ≡ gathered (all ++ key ∷ []) more
+gathered_same all key [] more = refl
+gathered_same all key (end ∷ front) more =
+    ap (λ is. gathered (cond is (all ++ key ∷ []) ((all ++ key ∷ []) ++ key ∷ [])) (map (behind key) front ++ more)) (last_is all key)
+    ∙ gathered_same all key front more
+
+gathered_key : (all : List (List ℕ)) (key : List ℕ) (front more : List End) → is_last all key ≡ false → Begins front
+    → gathered all (map (behind key) front ++ more) ≡ gathered (all ++ key ∷ []) more
+gathered_key all key [] more new begins = absurd begins
+gathered_key all key (end ∷ front) more new begins =
+    ap (λ is. gathered (cond is all (all ++ key ∷ [])) (map (behind key) front ++ more)) new ∙ gathered_same all key front more
+
+-- the last key isn't the first of a table
+abbrev IsNew : List (List ℕ) → Members → Type 0
+IsNew all no_members = ⊤
+IsNew all (member key value more) = is_last all key ≡ false
+
+new_behind : (all : List (List ℕ)) (key : List ℕ) (members : Members) → IsBefore key members → IsNew (all ++ key ∷ []) members
+new_behind all key no_members before = tt
+new_behind all key (member other value more) before =
+    ap (λ last. option_map_or (λ it. bytes_eq it other) last false) (last_pushed all key) ∙ other_bytes key other before.0
+
+gathered_members : (all : List (List ℕ)) (members : Members) → AreSorted members → IsNew all members → gathered all (members_ends members) ≡ all ++ keys members
+gathered_members all no_members sorted new = sym (append-nil all)
+gathered_members all (member key value more) sorted new =
+    gathered_key all key (ends value) (members_ends more) new (some_end value)
+    ∙ gathered_members (all ++ key ∷ []) more sorted.1.1 (new_behind all key more sorted.0)
+    ∙ append_assoc all (key ∷ []) (keys more)
+
+begins_new : (members : Members) → IsNew [] members
+begins_new no_members = tt
+begins_new (member key value more) = refl
+
+gathered_ends : (tree : Data) → IsSorted tree → gathered [] (ends tree) ≡ keys_in (Some tree)
+gathered_ends (table (member key value more)) sorted = gathered_members [] (member key value more) sorted refl
+gathered_ends (table no_members) sorted = refl
+gathered_ends (string text) sorted = refl
+gathered_ends (integer number) sorted = refl
+gathered_ends (float number) sorted = refl
+gathered_ends (boolean truth) sorted = refl
+gathered_ends (datetime time) sorted = refl
+gathered_ends (array items) sorted = refl
+
+-- what is gathered of the ends at a path are the keys of what stands there
+pub keys_found : (path : Path) (found : Option Data) → OfSorted found → gathered [] (map (shorter (length path)) (map (along path) (ends_at found))) ≡ keys_in found
+keys_found path None sorted = refl
+keys_found path (Some tree) sorted = ap (gathered []) (drop_along path (ends tree)) ∙ gathered_ends tree sorted

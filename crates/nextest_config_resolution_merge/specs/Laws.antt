@@ -1,0 +1,13 @@
+-- What the laws say.
+use Rattle.std.specs.Prelude.{◌≡◌, List, ◌∷◌}
+use Rattle.toml.specs.Data.{Data}
+use Rattle.nextest_config_elements_toml.specs.Reading.{Path}
+use Rattle.nextest_config_resolution_merge.specs.Merged.{Standing, StandsIn, IsMerged, merged}
+
+-- the files, each over the lower ones, are their merged tree
+abbrev pub MergedByOver : Type 0
+MergedByOver = (file : Data) (below : List Data) → IsMerged (file ∷ below) (merged file below)
+
+-- at a path stands one thing
+abbrev pub OneStanding : Type 0
+OneStanding = (files : List Data) (path : Path) (one other : Standing) → StandsIn files path one → StandsIn files path other → one ≡ other

@@ -1,0 +1,83 @@
+-- Trees of tables: what stands at a path, the list of what a tree ends in, and a tree over another.
+use Rattle.std.specs.Prelude.{◌≡◌, ℕ, Bool, true, false, List, [], ◌∷◌, ◌++◌, map, Option, None, Some, option_and_then, ⊤}
+use Rattle.std.specs.declared.cmp.Ordering.TheVariants.{Less}
+use Rattle.std.specs.Ordering.{nat_cmp, match_ordering}
+use Rattle.std.specs.Cmp.Lexicographic.{slice_cmp}
+use Rattle.toml.specs.Data.{Data, table, Members, no_members, member, get, get_member}
+use Rattle.nextest_config_elements_toml.specs.Reading.{Path}
+
+-- what stands at a path
+abbrev pub get_path : Path → Data → Option Data
+get_path [] tree = Some tree
+get_path (key ∷ path) tree = option_and_then (get_path path) (get key tree)
+
+-- anything but a table is a leaf, an array too
+abbrev pub is_leaf : Data → Bool
+is_leaf (table _) = false
+is_leaf _ = true
+
+-- what a tree ends in: a leaf or an empty table, and the path that leads to it
+abbrev pub End : Type 0
+End = Path × Data
+
+abbrev pub behind : List ℕ → End → End
+behind key end = (key ∷ end.0, end.1)
+
+-- an end below a path
+abbrev pub along : Path → End → End
+along path end = (path ++ end.0, end.1)
+
+-- the ends of a tree, by the bytes of the keys, an array being a leaf
+abbrev mutual
+  pub ends : Data → List End
+  ends (table (member key value more)) = members_ends (member key value more)
+  ends leaf = ([], leaf) ∷ []
+
+  pub members_ends : Members → List End
+  members_ends no_members = []
+  members_ends (member key value more) = map (behind key) (ends value) ++ members_ends more
+
+-- the ends of what stands somewhere, if anything does
+abbrev pub ends_at : Option Data → List End
+ends_at (Some tree) = ends tree
+ends_at None = []
+
+-- the keys of a table; anything else has none
+abbrev pub keys : Members → List (List ℕ)
+keys no_members = []
+keys (member key value more) = key ∷ keys more
+
+abbrev pub keys_in : Option Data → List (List ℕ)
+keys_in (Some (table members)) = keys members
+keys_in other = []
+
+-- the members with another value at a key
+abbrev pub set : List ℕ → Data → Members → Members
+set key value no_members = member key value no_members
+set key value (member other old more) =
+    match_ordering (slice_cmp nat_cmp key other) (member key value (member other old more)) (member key value more) (member other old (set key value more))
+
+-- a tree over another: tables join key by key, and anything else hides what is below it
+abbrev mutual
+  pub over : Data → Option Data → Data
+  over (table higher) (Some (table lower)) = table (merge higher lower)
+  over higher lower = higher
+
+  pub merge : Members → Members → Members
+  merge no_members lower = lower
+  merge (member key value more) lower = set key (over value (get_member key lower)) (merge more lower)
+
+-- a key comes before each key of a table
+abbrev pub IsBefore : List ℕ → Members → Type 0
+IsBefore key no_members = ⊤
+IsBefore key (member other value more) = (slice_cmp nat_cmp key other ≡ Less) × IsBefore key more
+
+-- the keys of each table rise by their bytes
+abbrev mutual
+  pub IsSorted : Data → Type 0
+  IsSorted (table members) = AreSorted members
+  IsSorted leaf = ⊤
+
+  pub AreSorted : Members → Type 0
+  AreSorted no_members = ⊤
+  AreSorted (member key value more) = IsBefore key more × (IsSorted value × AreSorted more)

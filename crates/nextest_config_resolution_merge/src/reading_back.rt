@@ -1,0 +1,78 @@
+// What stands at a path, from its entries.
+ghost use Rattle.std.specs.Prelude.{◌≡◌, [], length, map, option_map, Option, IfOk};
+ghost use Rattle.toml.specs.Data.{Data};
+ghost use Rattle.toml.specs.View.{view};
+ghost use Rattle.nextest_config_elements_toml.specs.Paths.{texts};
+ghost use Rattle.nextest_config_elements_toml.specs.Reading.{Path};
+ghost use Rattle.nextest_config_resolution_merge.specs.Entries.{end_of};
+ghost use Rattle.nextest_config_resolution_merge.specs.Nesting as words;
+ghost use Rattle.nextest_config_resolution_merge.specs.Tree.{along, ends_at};
+
+use crate::entry::Entry;
+use crate::rebuilding::{behind, rebuilt, value_of};
+use std::alloc::{AllocError, Global};
+use toml::Value;
+
+// The value that entries end in, whose paths lead to it by so many keys.
+pub(crate) fn value_in(
+    alloc: Global,
+    run: &[Entry<'_>],
+    depth: usize,
+) -> Result<Option<Value>, AllocError>
+    ensures { (path : Path) (found : Option Data) → length path ≡ depth → words.OfSorted found → map end_of run.now ≡ map (along path) (ends_at found) → IfOk result (λ it. option_map view it ≡ found) }
+{
+    match run.split_first() {
+        None => Ok(None),
+        Some((first, _)) => Ok(Some(value_from(alloc, first, run, depth)?)),
+    }
+}
+
+// The value that some entries end in: the first one's, if nothing stands below it.
+fn value_from(
+    alloc: Global,
+    first: &Entry<'_>,
+    run: &[Entry<'_>],
+    depth: usize,
+) -> Result<Value, AllocError>
+    ensures { IfOk result (λ it. view it ≡ words.value_by depth (end_of first.now) (map end_of run.now)) }
+{
+    if first.path.len() <= depth {
+        return value_of(alloc, &first.ending);
+    }
+    Ok(Value::Table(rebuilt(alloc, run, depth)?))
+}
+
+// The first keys below so many, each once.
+pub(crate) fn keys_in<'a>(
+    alloc: Global,
+    run: &[Entry<'a>],
+    depth: usize,
+) -> Result<Vec<&'a str>, AllocError>
+    ensures { IfOk result (λ it. texts it.items ≡ words.gathered [] (map (words.shorter depth) (map end_of run.now))) }
+{
+    let mut keys = Vec::new(alloc);
+    for entry in run {
+        push_new(&mut keys, behind(entry.path.as_slice(), depth).first())?;
+    }
+    Ok(keys)
+}
+
+// Adds a key that isn't the last one.
+fn push_new<'a>(keys: &mut Vec<&'a str>, key: Option<&&'a str>) -> Result<(), AllocError>
+    ensures { IfOk result (λ _. texts keys.new.items ≡ words.with_key (texts keys.old.items) (option_map (λ it. it.now.now) key.entry)) }
+{
+    match key {
+        Some(key) if !is_last(keys.as_slice(), key) => Ok(keys.push(*key)?),
+        _ => Ok(()),
+    }
+}
+
+// Whether a key is the last of some.
+fn is_last(keys: &[&str], key: &str) -> bool
+    ensures { result ≡ words.is_last (texts keys.now) key.now }
+{
+    match keys.last() {
+        None => false,
+        Some(last) => *last == key,
+    }
+}

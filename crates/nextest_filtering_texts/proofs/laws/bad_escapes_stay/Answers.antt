@@ -1,5 +1,0 @@
-use Rattle.nextest_filtering_texts.proofs.Ended as lemma
-use Rattle.nextest_filtering_texts.proofs.laws.bad_escapes_stay.Goals as goal
-
-pub returns : goal.returns
-returns c = lemma.bad_escapes_stay

@@ -1,5 +1,0 @@
-use Rattle.nextest_filtering_texts.proofs.Shown as lemma
-use Rattle.nextest_filtering_texts.proofs.laws.escaped_reads_back.Goals as goal
-
-pub returns : goal.returns
-returns c = lemma.escaped_reads_back

@@ -1,5 +1,0 @@
-use Rattle.nextest_filtering_texts.proofs.Pieces as lemma
-use Rattle.nextest_filtering_texts.proofs.laws.one_text.Goals as goal
-
-pub returns : goal.returns
-returns c = lemma.one_text

@@ -1,8 +1,0 @@
-use Rattle.std.proofs.Common.{ap, sym, refl, ◌∙◌, count_by}
-use Rattle.test_runner_core_runs.specs.State.{is_running}
-use Rattle.test_runner_core_progress.proofs.Tallies.{none_waits}
-use Rattle.test_runner_core_progress.proofs.all_tests.AllTests.new.Goals as goal
-
-pub invariant_of-result : goal.invariant_of-result
-invariant_of-result c =
-    sym (ap (count_by is_running) c.in_ok-waiting_tests.ensures ∙ none_waits is_running (λ plan. refl) c.args.planned.now)

@@ -1,6 +1,0 @@
-use Rattle.std.proofs.Common.{◌≡◌, ◌++◌, map, take, drop}
-use Rattle.test_runner_core_runs.specs.Step.{finished_by}
-use Rattle.test_runner_core_progress.proofs.all_tests.finish_each.Given as goal
-
-abbrev pub invariant-loop-test : goal.invariant-loop-test
-invariant-loop-test l = l.tests ≡ map (finished_by l.reason) (take l.test-index l.initial.tests) ++ drop l.test-index l.initial.tests

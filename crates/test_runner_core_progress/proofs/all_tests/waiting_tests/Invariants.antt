@@ -1,6 +1,0 @@
-use Rattle.std.proofs.Common.{◌≡◌, map, take}
-use Rattle.test_runner_core_runs.specs.State.{waiting}
-use Rattle.test_runner_core_progress.proofs.all_tests.waiting_tests.Given as goal
-
-abbrev pub invariant-loop-plan : goal.invariant-loop-plan
-invariant-loop-plan l = l.tests.items ≡ map waiting ((take l.plan-index l.planned))

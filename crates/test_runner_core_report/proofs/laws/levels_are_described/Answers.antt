@@ -1,5 +1,0 @@
-use Rattle.test_runner_core_report.proofs.Levels.{levels_are_described}
-use Rattle.test_runner_core_report.proofs.laws.levels_are_described.Goals as goal
-
-pub returns : goal.returns
-returns c = levels_are_described

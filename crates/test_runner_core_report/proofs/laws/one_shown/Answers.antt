@@ -1,6 +1,0 @@
-use Rattle.test_runner_core_report.proofs.OneText.{one_shown}
-use Rattle.test_runner_core_report.proofs.SomeText.{some_shown}
-use Rattle.test_runner_core_report.proofs.laws.one_shown.Goals as goal
-
-pub returns : goal.returns
-returns c = record { one = one_shown; some = some_shown }

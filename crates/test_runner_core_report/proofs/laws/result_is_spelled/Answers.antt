@@ -1,5 +1,0 @@
-use Rattle.test_runner_core_report.proofs.Spelled.{result_is_spelled}
-use Rattle.test_runner_core_report.proofs.laws.result_is_spelled.Goals as goal
-
-pub returns : goal.returns
-returns c = result_is_spelled

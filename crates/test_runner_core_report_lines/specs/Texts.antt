@@ -1,0 +1,188 @@
+-- The lines that a report can have of a test, and of a script.
+use Rattle.std.specs.Prelude.{◌≡◌, ℕ, ◌+◌, Bool, true, false, not, List, [], ◌∷◌, ◌++◌, Option, Some, None, length, codes, decimal, map, if◌then◌else◌}
+use Rattle.std.specs.Fmt.{signed_decimal}
+use denote.Ref.{Bor}
+use Rattle.hex.specs.Hex.{encode_lower}
+use Rattle.nextest_config_elements_choices.specs.declared.timeouts.FlakyResult.TheVariants as flaky_rule
+use Rattle.nextest_config_elements_choices.specs.declared.timeouts.FlakyResult.{FlakyResult}
+use Rattle.nextest_run_events_counters.specs.Attempts.{Attempts}
+use Rattle.nextest_run_events_counters.specs.Rows.{Finished}
+use Rattle.nextest_run_events_results.specs.Result.{is_success}
+use Rattle.nextest_run_events_results.specs.declared.instance.OwnedTestInstanceId.{OwnedTestInstanceId}
+use Rattle.nextest_run_events_results.specs.declared.record.Record.{Record}
+use Rattle.nextest_run_events_results.specs.declared.record.RecordOutput.TheVariants as wrote
+use Rattle.nextest_run_events_results.specs.declared.record.RecordOutput.{RecordOutput}
+use Rattle.nextest_run_events_results.specs.declared.result.AbortDescription.TheVariants as aborted_by
+use Rattle.nextest_run_events_results.specs.declared.result.ExecutionResultDescription.TheVariants as ended
+use Rattle.nextest_run_events_results.specs.declared.result.ExecutionResultDescription.{ExecutionResultDescription}
+use Rattle.nextest_run_events_results.specs.declared.result.FailureDescription.TheVariants as failed_by
+use Rattle.nextest_run_events_results.specs.declared.result.FailureDescription.{FailureDescription}
+use Rattle.nextest_run_events_slices.specs.Slices.{IsSlice, captured}
+use Rattle.nextest_run_events_slices.specs.declared.slices.ByteSubslice.{ByteSubslice}
+use Rattle.nextest_run_events_slices.specs.declared.slices.TestOutputErrorSlice.TheVariants.{PanicMessage, ErrorStr, ShouldPanic}
+use Rattle.nextest_run_events_slices.specs.declared.slices.TestOutputErrorSlice.{TestOutputErrorSlice}
+use Rattle.test_runner_core_line_syntax.specs.Spelling.{joined, leak_word, timeout_word, leaked_suffix}
+use Rattle.test_runner_core_run_state.specs.Statuses.{Status, record_of}
+use Rattle.test_runner_core_run_model.specs.State.{TestState, finished_as, is_finished, last_record}
+use Rattle.test_runner_core_run_model.specs.declared.mark.Mark.{Mark}
+use Rattle.test_runner_core_run_model.specs.declared.run_test.RunTest.{RunTest}
+use Rattle.test_runner_core_report_lines.specs.declared.fate.Fate.TheVariants as fates
+use Rattle.test_runner_core_report_lines.specs.declared.fate.Fate.{Fate}
+
+-- a test by its name, and how far it is
+pub record NamedTest : Type 0 where
+  pub name : OwnedTestInstanceId
+  pub state : TestState
+
+-- the records that attempts tell
+abbrev pub records_in : Option (Bor (Attempts Status)) → List Record
+records_in None = []
+records_in (Some attempts) = map record_of attempts.now.statuses
+
+-- a test with these attempts
+abbrev pub test_with : RunTest → Mark → Attempts Status → TestState
+test_with plan mark attempts = record { plan = plan; records = map record_of attempts.statuses; mark = mark }
+
+-- the attempts go by this flaky rule
+abbrev pub GoesBy : FlakyResult → Option (Bor (Attempts Status)) → Type 0
+GoesBy flaky None = Unit {0}
+GoesBy flaky (Some attempts) = attempts.now.flaky_result ≡ flaky
+
+-- a line has its fields with a tab between each two, and a line feed behind them
+abbrev pub line : List (List ℕ) → List ℕ
+line fields = joined fields ++ 10 ∷ []
+
+-- a success that came late
+abbrev pub late_fate : FlakyResult → Fate
+late_fate flaky_rule.Pass = fates.Flaky
+late_fate flaky_rule.Fail = fates.FlakyFail
+
+-- what a finished test came to
+abbrev pub fate_after : Finished → Fate
+fate_after test =
+    if not (is_success test.result) then fates.Fail
+    else if test.late then late_fate test.flaky
+    else fates.Pass
+
+-- by the last record of a test, if it has one
+abbrev pub fate_by : TestState → Option Record → Fate
+fate_by test None = fates.NotRun
+fate_by test (Some told) = if is_finished test then fate_after (finished_as test told) else fates.Unfinished
+
+-- what became of a test
+abbrev pub fate_of : TestState → Fate
+fate_of test = fate_by test (last_record test.records)
+
+-- FATE
+abbrev pub fate_word : Fate → List ℕ
+fate_word fates.NotRun = codes "not-run"
+fate_word fates.Unfinished = codes "unfinished"
+fate_word fates.Fail = codes "fail"
+fate_word fates.Pass = codes "pass"
+fate_word fates.Flaky = codes "flaky"
+fate_word fates.FlakyFail = codes "flaky-fail"
+
+-- how many attempts ended, of how many tries
+abbrev pub tries_text : TestState → List ℕ
+tries_text test = decimal (length test.records) ++ (codes "/" ++ decimal test.plan.tries)
+
+-- a line of this kind: which test it is, what became of it, and its tries
+abbrev pub test_line : List ℕ → NamedTest → List ℕ
+test_line kind test = line (kind ∷ test.name.binary_id ∷ test.name.test_name ∷ fate_word (fate_of test.state) ∷ tries_text test.state ∷ [])
+
+-- a failure: as a log spells it where it does, and else in the same words
+abbrev pub failure_text : FailureDescription → List ℕ
+failure_text (failed_by.ExitCode code) = codes "fail:" ++ signed_decimal code
+failure_text (failed_by.Abort (aborted_by.UnixSignal signal name)) = codes "abort:" ++ signed_decimal signal
+failure_text (failed_by.Abort (aborted_by.WindowsNtStatus code message)) = codes "abort:nt:" ++ signed_decimal code
+failure_text (failed_by.Abort aborted_by.WindowsJobObject) = codes "abort:job-object"
+
+-- RESULT
+abbrev pub result_text : ExecutionResultDescription → List ℕ
+result_text ended.Pass = codes "pass"
+result_text (ended.Leak judged) = codes "leak:" ++ leak_word judged
+result_text (ended.Fail failure leaked) = failure_text failure ++ leaked_suffix leaked
+result_text ended.ExecFail = codes "exec-fail"
+result_text (ended.Timeout judged) = codes "timeout:" ++ timeout_word judged
+
+-- SLOW
+abbrev pub slow_word : Bool → List ℕ
+slow_word true = codes "slow"
+slow_word false = codes "-"
+
+-- how an attempt or a script ended: its result, whether it was slow, and how long it took
+abbrev pub end_by : ExecutionResultDescription → Bool → ℕ → List ℕ
+end_by result slow nanos = joined (result_text result ∷ slow_word slow ∷ decimal nanos ∷ [])
+
+abbrev pub end_text : Record → List ℕ
+end_text told = end_by told.result told.slow told.nanos
+
+-- the line of an attempt with this number
+abbrev pub try_line : ℕ → Record → List ℕ
+try_line number told = line (codes "try" ∷ decimal number ∷ end_text told ∷ [])
+
+-- the lines of attempts that follow one another, the first of which has this number
+abbrev pub try_lines : ℕ → List Record → List ℕ
+try_lines number [] = []
+try_lines number (told ∷ records) = try_line number told ++ try_lines (number + 1) records
+
+-- what a stream wrote, behind its word, where it was captured
+abbrev pub stream_line : List ℕ → Option (List ℕ) → List ℕ
+stream_line word None = []
+stream_line word (Some bytes) = line (word ∷ encode_lower bytes ∷ [])
+
+-- why an attempt could not be started
+abbrev pub message_line : RecordOutput → List ℕ
+message_line (wrote.Streams out err) = []
+message_line (wrote.Message message) = line (codes "error" ∷ encode_lower message ∷ [])
+
+-- what it wrote to standard output, where that was captured
+abbrev pub out_of : RecordOutput → Option (List ℕ)
+out_of (wrote.Streams out err) = out
+out_of (wrote.Message message) = None
+
+-- and to standard error
+abbrev pub err_of : RecordOutput → Option (List ℕ)
+err_of (wrote.Streams out err) = err
+err_of (wrote.Message message) = None
+
+-- all that it wrote, or why it could not be started
+abbrev pub written_text : RecordOutput → List ℕ
+written_text output = stream_line (codes "out") (out_of output) ++ (stream_line (codes "err") (err_of output) ++ message_line output)
+
+-- where a part of an output stands
+abbrev pub part_line : List ℕ → ByteSubslice → List ℕ
+part_line kind part = line (codes "slice" ∷ kind ∷ decimal part.start ∷ decimal (length part.slice.now) ∷ [])
+
+abbrev pub slice_line : Option TestOutputErrorSlice → List ℕ
+slice_line None = []
+slice_line (Some (PanicMessage part)) = part_line (codes "panic") part
+slice_line (Some (ErrorStr part)) = part_line (codes "error") part
+slice_line (Some (ShouldPanic part)) = part_line (codes "should-panic") part
+
+-- the part of an output that tells of the error; none of a success
+abbrev pub IsToldSlice : Bool → RecordOutput → Option TestOutputErrorSlice → Type 0
+IsToldSlice true output slice = slice ≡ None
+IsToldSlice false output slice = IsSlice (captured (out_of output)) (captured (err_of output)) slice
+
+-- the outputs of an attempt
+abbrev pub IsOutputs : Record → List ℕ → Type 0
+IsOutputs told text = (slice : Option TestOutputErrorSlice) × IsToldSlice (is_success told.result) told.output slice × (text ≡ written_text told.output ++ slice_line slice)
+
+-- how a script ended, if it did
+abbrev pub script_end : Option Record → List ℕ
+script_end None = codes "not-run"
+script_end (Some told) = end_text told
+
+-- the line of a script with this id
+abbrev pub script_line : List ℕ → Option Record → List ℕ
+script_line id told = line (codes "script" ∷ id ∷ script_end told ∷ [])
+
+-- its outputs, where it ended and is no success
+abbrev pub script_outputs : Option Record → List ℕ
+script_outputs None = []
+script_outputs (Some told) = if is_success told.result then [] else written_text told.output
+
+-- what the final text says of a script with this id
+abbrev pub script_text : List ℕ → Option Record → List ℕ
+script_text id told = script_line id told ++ script_outputs told

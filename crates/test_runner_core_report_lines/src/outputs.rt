@@ -1,0 +1,196 @@
+// The outputs of an attempt and of a script.
+ghost use Rattle.std.specs.Prelude.{◌≡◌, ◌∷◌, ◌++◌, [], OnOk, decimal, length, option_copied, string_bytes};
+ghost use Rattle.hex.specs.Hex.{encode_lower};
+ghost use Rattle.nextest_run_events_results.specs.Result.{is_success};
+ghost use Rattle.test_runner_core_run_state.specs.Statuses.{record_of, script_told, told_of};
+ghost use Rattle.test_runner_core_report_lines.specs.Texts.{IsOutputs, IsToldSlice, err_of, line, message_line, out_of, part_line, script_outputs, slice_line, stream_line, written_text};
+ghost use Rattle.test_runner_core_report_lines.specs.Writing.{Adds, Extends};
+
+use crate::writing::{push_feed, push_field, push_hex, push_text};
+use itoa::Buffer;
+use nextest_run_events_outputs::{
+    ChildExecutionOutputDescription, ChildOutputDescription, ChildSingleOutput,
+    ChildStartErrorDescription, ExecuteStatus, LiveSpec, SetupScriptExecuteStatus,
+};
+use nextest_run_events_slices::{ByteSubslice, TestOutputErrorSlice};
+use std::alloc::AllocError;
+
+// Adds the outputs of an attempt.
+pub(crate) fn push_outputs(
+    text: &mut String,
+    status: &ExecuteStatus<LiveSpec>,
+) -> Result<(), AllocError>
+    ensures ok { OnOk result (Adds (IsOutputs (record_of status.now)) (string_bytes text.old) (string_bytes text.new)) }
+    ensures kept { Extends (string_bytes text.old) (string_bytes text.new) }
+{
+    push_written(text, &status.output)?;
+    push_slice(text, slice_of(status))
+}
+
+// Adds what an attempt or a script wrote, or why it could not be started.
+fn push_written(
+    text: &mut String,
+    output: &ChildExecutionOutputDescription<LiveSpec>,
+) -> Result<(), AllocError>
+    ensures ok { OnOk result (string_bytes text.new ≡ string_bytes text.old ++ written_text (told_of output.now)) }
+    ensures kept { Extends (string_bytes text.old) (string_bytes text.new) }
+{
+    push_stream(text, "out", out_of(output))?;
+    push_stream(text, "err", err_of(output))?;
+    push_message(text, output)
+}
+
+// The bytes of a stream, lent.
+fn lent(stream: &Option<ChildSingleOutput>) -> Option<&[u8]>
+    ensures { option_copied result ≡ stream.now }
+{
+    match stream {
+        Some(output) => Some(output.buf()),
+        None => None,
+    }
+}
+
+// Adds what a script wrote, or why it could not be started; nothing of a success, or of one that didn't end.
+pub(crate) fn push_script_outputs(
+    text: &mut String,
+    status: Option<&SetupScriptExecuteStatus<LiveSpec>>,
+) -> Result<(), AllocError>
+    ensures ok { OnOk result (string_bytes text.new
+        ≡ string_bytes text.old ++ script_outputs (script_told status.entry)) }
+    ensures kept { Extends (string_bytes text.old) (string_bytes text.new) }
+{
+    match status {
+        Some(status) if !status.result.is_success() => push_written(text, &status.output),
+        _ => Ok(()),
+    }
+}
+
+// What was written to standard output, where it was captured. Both streams in one count as that.
+fn out_of(output: &ChildExecutionOutputDescription<LiveSpec>) -> Option<&[u8]>
+    ensures { option_copied result ≡ out_of (told_of output.now) }
+{
+    match output {
+        ChildExecutionOutputDescription::Output { output, .. } => match output {
+            ChildOutputDescription::Split { stdout, .. } => lent(stdout),
+            ChildOutputDescription::Combined { output } => Some(output.buf()),
+            ChildOutputDescription::NotLoaded => None,
+        },
+        ChildExecutionOutputDescription::StartError(error) => match error {
+            ChildStartErrorDescription::TempPath { .. } => None,
+            ChildStartErrorDescription::Spawn { .. } => None,
+        },
+    }
+}
+
+// What was written to standard error, where it was captured.
+fn err_of(output: &ChildExecutionOutputDescription<LiveSpec>) -> Option<&[u8]>
+    ensures { option_copied result ≡ err_of (told_of output.now) }
+{
+    match output {
+        ChildExecutionOutputDescription::Output { output, .. } => match output {
+            ChildOutputDescription::Split { stderr, .. } => lent(stderr),
+            ChildOutputDescription::Combined { .. } => None,
+            ChildOutputDescription::NotLoaded => None,
+        },
+        ChildExecutionOutputDescription::StartError(error) => match error {
+            ChildStartErrorDescription::TempPath { .. } => None,
+            ChildStartErrorDescription::Spawn { .. } => None,
+        },
+    }
+}
+
+// Adds the line of a stream, where it was captured.
+fn push_stream(text: &mut String, word: &str, stream: Option<&[u8]>) -> Result<(), AllocError>
+    ensures ok { OnOk result (string_bytes text.new ≡ string_bytes text.old ++ stream_line word.now (option_copied stream.entry)) }
+    ensures kept { Extends (string_bytes text.old) (string_bytes text.new) }
+{
+    match stream {
+        Some(bytes) => push_hex_line(text, word, bytes),
+        None => Ok(()),
+    }
+}
+
+// Adds a line of a word and bytes in hex.
+fn push_hex_line(text: &mut String, word: &str, bytes: &[u8]) -> Result<(), AllocError>
+    ensures ok { OnOk result (string_bytes text.new ≡ string_bytes text.old ++ line (word.now ∷ encode_lower bytes.now ∷ [])) }
+    ensures kept { Extends (string_bytes text.old) (string_bytes text.new) }
+{
+    push_text(text, word)?;
+    push_text(text, "\t")?;
+    push_hex(text, bytes)?;
+    push_feed(text)
+}
+
+// Adds the line that says why an attempt or a script could not be started.
+fn push_message(
+    text: &mut String,
+    output: &ChildExecutionOutputDescription<LiveSpec>,
+) -> Result<(), AllocError>
+    ensures ok { OnOk result (string_bytes text.new ≡ string_bytes text.old ++ message_line (told_of output.now)) }
+    ensures kept { Extends (string_bytes text.old) (string_bytes text.new) }
+{
+    match output {
+        ChildExecutionOutputDescription::Output { output, .. } => match output {
+            ChildOutputDescription::Split { .. } => Ok(()),
+            ChildOutputDescription::Combined { .. } => Ok(()),
+            ChildOutputDescription::NotLoaded => Ok(()),
+        },
+        ChildExecutionOutputDescription::StartError(error) => match error {
+            ChildStartErrorDescription::TempPath { source }
+            | ChildStartErrorDescription::Spawn { source } => {
+                push_hex_line(text, "error", source.message().as_bytes())
+            }
+        },
+    }
+}
+
+// The part of an attempt's outputs that tells of its error; none of a success.
+fn slice_of(status: &ExecuteStatus<LiveSpec>) -> Option<TestOutputErrorSlice<'_>>
+    ensures { IsToldSlice (is_success status.now.result) (told_of status.now.output) result }
+{
+    if status.result.is_success() {
+        return None;
+    }
+    TestOutputErrorSlice::heuristic_extract(out_of(&status.output), err_of(&status.output))
+}
+
+// Adds the line of a part of an output, if there is one.
+fn push_slice(text: &mut String, slice: Option<TestOutputErrorSlice<'_>>) -> Result<(), AllocError>
+    ensures ok { OnOk result (string_bytes text.new ≡ string_bytes text.old ++ slice_line slice.entry) }
+    ensures kept { Extends (string_bytes text.old) (string_bytes text.new) }
+{
+    let Some(slice) = slice else {
+        return Ok(());
+    };
+    match slice {
+        TestOutputErrorSlice::PanicMessage { stderr_subslice } => {
+            push_part(text, "panic", stderr_subslice)
+        }
+        TestOutputErrorSlice::ErrorStr { stderr_subslice } => {
+            push_part(text, "error", stderr_subslice)
+        }
+        TestOutputErrorSlice::ShouldPanic { stdout_subslice } => {
+            push_part(text, "should-panic", stdout_subslice)
+        }
+    }
+}
+
+// Adds the line of a part of an output.
+fn push_part(text: &mut String, kind: &str, part: ByteSubslice<'_>) -> Result<(), AllocError>
+    ensures ok { OnOk result (string_bytes text.new ≡ string_bytes text.old ++ part_line kind.now part.entry) }
+    ensures kept { Extends (string_bytes text.old) (string_bytes text.new) }
+{
+    push_text(text, "slice")?;
+    push_field(text, kind)?;
+    push_place(text, part)?;
+    push_feed(text)
+}
+
+// Adds a tab, where a part begins, a tab and how long it is.
+fn push_place(text: &mut String, part: ByteSubslice<'_>) -> Result<(), AllocError>
+    ensures ok { OnOk result (string_bytes text.new ≡ string_bytes text.old ++ 9 ∷ (decimal part.entry.start ++ 9 ∷ decimal (length part.entry.slice.now))) }
+    ensures kept { Extends (string_bytes text.old) (string_bytes text.new) }
+{
+    push_field(text, Buffer::new().format(part.start))?;
+    push_field(text, Buffer::new().format(part.slice.len()))
+}

@@ -1,0 +1,114 @@
+-- The laws over whole runs.
+use Rattle.std.specs.Prelude.{◌≡◌, ◌↔◌, ℕ, ◌≤◌, true, false, List, [], ◌∷◌, ◌++◌, None, Some, Ok, Err, length, count_by, is_some, nat_le, if◌then◌else◌}
+use Rattle.std.specs.List.{AllByRecursion}
+use Rattle.nextest_run_events_results.specs.Cancel.{gravity}
+use Rattle.nextest_run_events_results.specs.declared.cancel_reason.CancelReason.{CancelReason}
+use Rattle.nextest_run_events_results.specs.declared.record.Record.{Record}
+use Rattle.test_runner_core_run_model.specs.RunPlan.{RunPlan, IsPlan}
+use Rattle.test_runner_core_run_model.specs.Assignment.{Assignment, IsUnstopped, due_status}
+use Rattle.test_runner_core_run_model.specs.State.{State, initial}
+use Rattle.test_runner_core_run_model.specs.Step.{step}
+use Rattle.test_runner_core_run_model.specs.Counters.{status}
+use Rattle.test_runner_core_run_model.specs.Ends.{EndedWhole, final_state}
+use Rattle.test_runner_core_run_model.specs.Finishing.{KeepsReasons}
+use Rattle.test_runner_core_run_model.specs.Runs.{Run, Agrees, IsNoStop, IsNoMilder, is_complete, is_no_stop, most_events}
+use Rattle.test_runner_core_run_model.specs.declared.event.Event.{Event}
+use Rattle.test_runner_core_run_model.specs.declared.event.Event.TheVariants.{ScriptEnded, Started}
+use Rattle.test_runner_core_run_model.specs.declared.step_refusal.StepRefusal.TheVariants as refused
+
+-- any complete run that agrees with an assignment and that nobody told to stop ends with the due status
+abbrev pub EndsWithDueStatus : Type 0
+EndsWithDueStatus =
+    (plan : RunPlan) (assigned : Assignment) (events : List Event) (last : State)
+    → IsPlan plan → Run (initial plan) events last → Agrees assigned (initial plan) events
+    → AllByRecursion IsNoStop events → is_complete last ≡ true
+    → status last ≡ due_status plan assigned
+
+-- any run that agrees with an assignment, cut wherever it is and whoever told it to stop, has the due status or a graver one
+abbrev pub EndsNoMilder : Type 0
+EndsNoMilder =
+    (plan : RunPlan) (assigned : Assignment) (events : List Event) (last : State)
+    → IsPlan plan → Run (initial plan) events last → Agrees assigned (initial plan) events
+    → IsNoMilder (status last) (due_status plan assigned)
+
+-- and it has status 4 exactly where 4 is due
+abbrev pub HasFourExactlyWhereDue : Type 0
+HasFourExactlyWhereDue =
+    (plan : RunPlan) (assigned : Assignment) (events : List Event) (last : State)
+    → IsPlan plan → Run (initial plan) events last → Agrees assigned (initial plan) events
+    → (status last ≡ 4) ↔ (due_status plan assigned ≡ 4)
+
+-- in a stopped run no script ends any more: one that the plan has is refused since the run is stopped, another as unknown
+abbrev pub RefusesScripts : Type 0
+RefusesScripts =
+    (state : State) (script : ℕ) (told : Record)
+    → is_some state.reason ≡ true
+    → step state (ScriptEnded script told) ≡ Err (if nat_le state.planned_scripts script then refused.UnknownScript else refused.Stopped)
+
+-- nor does an attempt start, of a test that the plan has or of another
+abbrev pub RefusesStarts : Type 0
+RefusesStarts =
+    (state : State) (place : ℕ)
+    → is_some state.reason ≡ true
+    → step state (Started place) ≡ Err (if nat_le (length state.tests) place then refused.UnknownTest else refused.Stopped)
+
+-- a reason that stands is never lost, whatever happens: it still stands, or a graver one does
+abbrev pub KeepsAReason : Type 0
+KeepsAReason =
+    (old new : State) (events : List Event) (reason : CancelReason)
+    → old.reason ≡ Some reason → Run old events new
+    → (kept : CancelReason) × (new.reason ≡ Some kept) × (gravity reason ≤ gravity kept)
+
+-- any run that has status 0 ended all scripts of its plan and finished all tests: none was cut short or left out
+abbrev pub SucceedsWhole : Type 0
+SucceedsWhole = (plan : RunPlan) (events : List Event) (last : State) → Run (initial plan) events last → status last ≡ 0 → EndedWhole plan last
+
+-- any complete run that agrees with an unstopped assignment and that nobody told to stop ends in one state, whatever its order
+abbrev pub EndsInOneState : Type 0
+EndsInOneState =
+    (plan : RunPlan) (assigned : Assignment) (events : List Event) (last : State)
+    → IsPlan plan → IsUnstopped plan assigned → Run (initial plan) events last → Agrees assigned (initial plan) events
+    → AllByRecursion IsNoStop events → is_complete last ≡ true
+    → last ≡ final_state plan assigned
+
+-- and there is such a run, so that this state is reached
+abbrev pub ReachesTheOneState : Type 0
+ReachesTheOneState =
+    (plan : RunPlan) (assigned : Assignment)
+    → IsPlan plan → IsUnstopped plan assigned
+    → (events : List Event) × Run (initial plan) events (final_state plan assigned) × Agrees assigned (initial plan) events
+    × AllByRecursion IsNoStop events × (is_complete (final_state plan assigned) ≡ true)
+
+-- whatever the assignment, no reason stands at the end of a complete run that agrees with it and that nobody told to stop exactly
+-- where the assignment is unstopped
+abbrev pub StopsWhereDue : Type 0
+StopsWhereDue =
+    (plan : RunPlan) (assigned : Assignment) (events : List Event) (last : State)
+    → IsPlan plan → Run (initial plan) events last → Agrees assigned (initial plan) events
+    → AllByRecursion IsNoStop events → is_complete last ≡ true
+    → (last.reason ≡ None) ↔ IsUnstopped plan assigned
+
+-- a run that agrees with an assignment and isn't complete goes on: an event other than a stop is taken and agrees, so that
+-- with it the run still is one that agrees
+abbrev pub HasNext : Type 0
+HasNext =
+    (plan : RunPlan) (assigned : Assignment) (events : List Event) (last : State)
+    → Run (initial plan) events last → Agrees assigned (initial plan) events → is_complete last ≡ false
+    → (event : Event) × (next : State) × IsNoStop event × (step last event ≡ Ok next)
+    × Run (initial plan) (events ++ event ∷ []) next × Agrees assigned (initial plan) (events ++ event ∷ [])
+
+-- whoever stops a run and when, its other events are no more than one for each script and two for each try
+abbrev pub HasAtMost : Type 0
+HasAtMost = (plan : RunPlan) (events : List Event) (last : State) → IsPlan plan → Run (initial plan) events last → count_by is_no_stop events ≤ most_events plan
+
+-- so any run that agrees with an assignment is the front of a complete one that agrees, with no more stops
+abbrev pub ReachesAnEnd : Type 0
+ReachesAnEnd =
+    (plan : RunPlan) (assigned : Assignment) (events : List Event) (last : State)
+    → IsPlan plan → Run (initial plan) events last → Agrees assigned (initial plan) events
+    → (more : List Event) × (end : State) × AllByRecursion IsNoStop more × (is_complete end ≡ true)
+    × Run (initial plan) (events ++ more) end × Agrees assigned (initial plan) (events ++ more)
+
+-- in a run from its beginning no test is over under a reason before a reason stands
+abbrev pub HasReasonsFirst : Type 0
+HasReasonsFirst = (plan : RunPlan) (events : List Event) (last : State) → Run (initial plan) events last → KeepsReasons last

@@ -1,0 +1,29 @@
+-- The plan of a run, as far as a run asks for it.
+use Rattle.std.specs.Prelude.{◌≡◌, ℕ, ◌<◌, List, [], ⊤}
+use Rattle.std.specs.List.{AllByRecursion}
+use Rattle.nextest_config_elements_choices.specs.declared.max_fail.MaxFail.{MaxFail}
+use Rattle.nextest_config_elements_choices.specs.declared.max_fail.MaxFail.TheVariants as limits
+use Rattle.test_runner_core_run_model.specs.declared.run_test.RunTest.{RunTest}
+
+-- how many scripts are to run, the selected tests in their order, how many failing tests stop the run, and how many
+-- tests were skipped
+pub record RunPlan : Type 0 where
+  pub scripts : ℕ
+  pub tests : List RunTest
+  pub limit : MaxFail
+  pub skipped : ℕ
+
+-- what a test that fails adds to the sum that is compared with the limit
+abbrev pub weight : RunTest → ℕ
+weight test = 1
+
+-- a limit stops no run in which nothing failed
+abbrev pub IsLimit : MaxFail → Type 0
+IsLimit (limits.Count max_fail terminate) = 0 < max_fail
+IsLimit limits.All = ⊤
+
+-- what each plan keeps: where no test is selected no script is to run, each test has an attempt, the limit is one
+pub record IsPlan (plan : RunPlan) : Type 0 where
+  pub no_lone_script : plan.tests ≡ [] → plan.scripts ≡ 0
+  pub tries : AllByRecursion (λ test. 0 < test.tries) plan.tests
+  pub limit : IsLimit plan.limit

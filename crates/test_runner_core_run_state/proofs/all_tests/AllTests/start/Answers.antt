@@ -1,0 +1,13 @@
+use Rattle.std.proofs.Common.{◌≡◌, ◌+◌, refl, subst, sym, List, count_by}
+use Rattle.test_runner_core_run_model.specs.State.{TestState, is_running}
+use Rattle.test_runner_core_run_model.specs.declared.mark.Mark.TheVariants as marks
+use Rattle.test_runner_core_run_state.specs.Parts.{IsStartable}
+use Rattle.test_runner_core_run_state.proofs.Tallies.{started_running}
+use Rattle.test_runner_core_run_state.proofs.all_tests.AllTests.start.Goals as goal
+
+pub invariant_of-self-2 : goal.invariant_of-self-2
+invariant_of-self-2 c =
+    let it : IsStartable c.self.inside.tests.items c.args.place = subst (λ (tests : List TestState). IsStartable tests c.args.place) (sym c.self.view_is) c.requires in
+    subst (λ (tests : List TestState). c.self.inside.running + 1 ≡ count_by is_running tests)
+    (sym (c.in_ok-start_at.ensures.ok it.test it.found))
+    (started_running c.self.inside.tests.items c.args.place c.self.inside.running it.test (record it.test { mark = marks.Running }) it.found it.idle refl c.self.invariant)

@@ -1,0 +1,62 @@
+-- The counters, as tests finish one after another.
+use Rattle.std.specs.Prelude.{◌≡◌, ℕ, ◌+◌, Bool, List, count_by}
+use Rattle.std.specs.Int.{from_bool}
+use Rattle.nextest_run_events_counters.specs.Rows as rows
+use Rattle.nextest_run_events_counters.specs.declared.run_stats.RunStats.{RunStats}
+use Rattle.test_runner_core_run_model.specs.State.{TestState, counts, is_finished}
+
+-- the counters of tests, each grown by a number that its row tells
+abbrev pub with_numbers : ((TestState → Bool) → ℕ) → RunStats → RunStats
+with_numbers many stats =
+    record stats {
+      finished_count = stats.finished_count + many is_finished;
+      passed = stats.passed + many (counts rows.passed);
+      passed_slow = stats.passed_slow + many (counts rows.passed_slow);
+      passed_timed_out = stats.passed_timed_out + many (counts rows.passed_timed_out);
+      flaky = stats.flaky + many (counts rows.flaky);
+      failed = stats.failed + many (counts rows.failed);
+      failed_slow = stats.failed_slow + many (counts rows.failed_slow);
+      failed_timed_out = stats.failed_timed_out + many (counts rows.failed_timed_out);
+      leaky = stats.leaky + many (counts rows.leaky);
+      leaky_failed = stats.leaky_failed + many (counts rows.leaky_failed);
+      exec_failed = stats.exec_failed + many (counts rows.exec_failed);
+    }
+
+-- a test counted in each row, where it is finished
+abbrev pub with_finished : TestState → RunStats → RunStats
+with_finished test = with_numbers (λ row. from_bool (row test))
+
+-- all tests counted in each row
+abbrev pub with_tests : List TestState → RunStats → RunStats
+with_tests tests = with_numbers (λ row. count_by row tests)
+
+-- no test is counted yet
+pub record CountsNoTest (stats : RunStats) : Type 0 where
+  pub finished : stats.finished_count ≡ 0
+  pub passed : stats.passed ≡ 0
+  pub passed_slow : stats.passed_slow ≡ 0
+  pub passed_timed_out : stats.passed_timed_out ≡ 0
+  pub flaky : stats.flaky ≡ 0
+  pub failed : stats.failed ≡ 0
+  pub failed_slow : stats.failed_slow ≡ 0
+  pub failed_timed_out : stats.failed_timed_out ≡ 0
+  pub leaky : stats.leaky ≡ 0
+  pub leaky_failed : stats.leaky_failed ≡ 0
+  pub exec_failed : stats.exec_failed ≡ 0
+
+-- the counters, with the tests counted anew
+abbrev pub recounted : List TestState → RunStats → RunStats
+recounted tests stats =
+    record stats {
+      finished_count = count_by is_finished tests;
+      passed = count_by (counts rows.passed) tests;
+      passed_slow = count_by (counts rows.passed_slow) tests;
+      passed_timed_out = count_by (counts rows.passed_timed_out) tests;
+      flaky = count_by (counts rows.flaky) tests;
+      failed = count_by (counts rows.failed) tests;
+      failed_slow = count_by (counts rows.failed_slow) tests;
+      failed_timed_out = count_by (counts rows.failed_timed_out) tests;
+      leaky = count_by (counts rows.leaky) tests;
+      leaky_failed = count_by (counts rows.leaky_failed) tests;
+      exec_failed = count_by (counts rows.exec_failed) tests;
+    }

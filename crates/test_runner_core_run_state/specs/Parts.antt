@@ -1,0 +1,62 @@
+-- The parts of a run's progress, and what each keeps.
+use Rattle.std.specs.Prelude.{◌≡◌, ℕ, ◌-◌, ◌≤◌, ◌<◌, Bool, true, false, List, Some, is_some, length, map}
+use Rattle.std.specs.Prelude.{slice_get, slice_set}
+use Rattle.nextest_config_elements_choices.specs.declared.max_fail.MaxFail.{MaxFail}
+use Rattle.nextest_run_events_counters.specs.declared.run_stats.RunStats.{RunStats}
+use Rattle.nextest_run_events_results.specs.declared.record.Record.{Record}
+use Rattle.test_runner_core_run_model.specs.State.{TestState, State, is_finished, is_running, is_running_mark, is_finished_mark}
+use Rattle.test_runner_core_run_model.specs.declared.mark.Mark.{Mark}
+use Rattle.test_runner_core_run_model.specs.declared.mark.Mark.TheVariants as marks
+use Rattle.test_runner_core_run_state.specs.Statuses.{ScriptStatus, AreStatusesFrom, AreScriptStatuses, record_of}
+use Rattle.test_runner_core_run_state.specs.Slots.{SlotState, KeepsRule}
+use Rattle.test_runner_core_run_model.specs.declared.run_test.RunTest.{RunTest}
+
+-- how many scripts are to run, and the records of those that ended
+pub record ScriptState : Type 0 where
+  pub planned : ℕ
+  pub ended : List Record
+
+-- scripts that ended have the statuses of their records; they are no more than are to run, which have room
+pub record KeepsScripts (records : List Record) (statuses : List ScriptStatus) (planned room : ℕ) : Type 0 where
+  pub made : AreScriptStatuses records statuses
+  pub within : length statuses ≤ planned
+  pub room_left : planned ≤ room
+
+-- an attempt ended and none runs
+abbrev pub is_over_once : Mark → Bool
+is_over_once marks.Waiting = false
+is_over_once marks.Running = false
+is_over_once marks.Between = true
+is_over_once (marks.Finished reason) = true
+
+-- a test keeps the statuses of its records, at most as many as it has tries; where an attempt runs there is room for its
+-- end, and where one ended and none runs there is one
+pub record KeepsTest (plan : RunTest) (slot : SlotState) (mark : Mark) : Type 0 where
+  pub made : AreStatusesFrom 1 plan.tries (map record_of slot.statuses) slot.statuses
+  pub rule : KeepsRule plan.flaky slot.rule
+  pub room : is_running_mark mark ≡ true → 0 < slot.room
+  pub ended : is_over_once mark ≡ true → is_some slot.rule ≡ true
+  pub tries_left : is_finished_mark mark ≡ false → length slot.statuses ≤ plan.tries - 1
+
+-- the state of a run that is kept in these parts; why it is stopped and how many tests were skipped is kept with the counters
+abbrev pub state_of : ScriptState → List TestState → RunStats → MaxFail → State
+state_of scripts tests stats limit =
+    record { planned_scripts = scripts.planned; scripts = scripts.ended; tests = tests; limit = limit; skipped = stats.skipped; reason = stats.cancel_reason }
+
+-- the test at a place may start: there is one, it doesn't run and isn't over
+pub record IsStartable (tests : List TestState) (place : ℕ) : Type 0 where
+  pub test : TestState
+  pub found : slice_get tests place ≡ Some test
+  pub idle : is_running test ≡ false
+  pub open_still : is_finished test ≡ false
+
+-- an attempt of the test at a place runs
+pub record IsRunningAt (tests : List TestState) (place : ℕ) : Type 0 where
+  pub test : TestState
+  pub found : slice_get tests place ≡ Some test
+  pub runs : test.mark ≡ marks.Running
+
+-- the test at a place, if there is one, gives way to what is made of it, and the others stay
+abbrev pub ChangesAt : ℕ → (TestState → TestState) → List TestState → List TestState → Type 0
+ChangesAt place made old new =
+    (test : TestState) → slice_get old place ≡ Some test → new ≡ slice_set old place (made test)

@@ -1,0 +1,211 @@
+// How far the tests of a run are.
+ghost use Rattle.std.specs.Prelude.{◌≡◌, ◌^◌, ◌<◌, not, [], map, length, slice_get};
+ghost use Rattle.std.specs.Prelude.{Some, MatchOption, IfOk, OnOk, OnErr};
+ghost use Rattle.std.specs.List.{list_all};
+ghost use Rattle.std.specs.Option.{option_map, option_map_or};
+ghost use Rattle.nextest_run_events_counters.specs.Counting.{CanCountTest};
+ghost use Rattle.test_runner_core_run_model.specs.State.{TestState, State, waiting, is_running};
+ghost use Rattle.test_runner_core_run_model.specs.Step.{after_attempt, finished_by, finishes};
+ghost use Rattle.test_runner_core_run_model.specs.declared.mark.Mark.TheVariants as marks;
+ghost use Rattle.test_runner_core_run_state.specs.Counted.{with_finished, with_tests, CountsNoTest};
+ghost use Rattle.test_runner_core_run_state.specs.Parts.{IsStartable, IsRunningAt, ChangesAt};
+ghost use Rattle.test_runner_core_run_state.specs.Statuses.{IsAttempts};
+
+use crate::test_progress::TestProgress;
+use nextest_run_events_counters::{ExecutionStatuses, RunStats};
+use nextest_run_events_outputs::LiveSpec;
+use nextest_run_events_results::{CancelReason, Record};
+use std::alloc::{AllocError, Global};
+use std::marker::Model;
+use test_runner_core_run_model::{Mark, RunTest};
+
+// How far the tests of a run are, and how many run. In a clause they are the states of the tests, by their places.
+#[derive(Drop)]
+pub(crate) struct AllTests {
+    tests: Vec<TestProgress>,
+    running: usize,
+}
+
+impl Model for AllTests {
+    ghost use Rattle.std.specs.Prelude.{◌≡◌, List, count_by};
+    ghost use Rattle.test_runner_core_run_model.specs.State.{TestState, is_running};
+
+    ghost Value = { List TestState };
+
+    ghost view = { λ a. a.tests.items };
+
+    ghost invariant = { λ a. a.running ≡ count_by is_running a.tests.items };
+}
+
+impl AllTests {
+    // The tests of which no attempt started.
+    pub(crate) fn new(alloc: Global, planned: &[RunTest]) -> Result<AllTests, AllocError>
+        ensures { IfOk result (λ tests. tests ≡ map waiting (planned.now)) }
+    {
+        Ok(AllTests {
+            tests: waiting_tests(alloc, planned)?,
+            running: 0,
+        })
+    }
+
+    // How many they are.
+    pub(crate) fn len(&self) -> usize
+        ensures count { result ≡ length self.now }
+        ensures bound { result < 2 ^ 63 }
+    {
+        self.tests.len()
+    }
+
+    // Whether none runs.
+    pub(crate) fn none_runs(&self) -> bool
+        ensures { result ≡ list_all (λ test. not (is_running test)) self.now }
+    {
+        self.running == 0
+    }
+
+    // What is planned of the test at a place.
+    pub(crate) fn planned(&self, place: usize) -> Option<RunTest>
+        ensures { result ≡ option_map (λ test. test.plan) (slice_get self.now place) }
+    {
+        let test = self.tests.as_slice().get(place)?;
+        Some(test.planned())
+    }
+
+    // How far the test at a place is.
+    pub(crate) fn mark(&self, place: usize) -> Option<Mark>
+        ensures { result ≡ option_map (λ test. test.mark) (slice_get self.now place) }
+    {
+        let test = self.tests.as_slice().get(place)?;
+        Some(test.mark())
+    }
+
+    // The ended attempts of the test at a place; `None` where there is no test, or none ended.
+    pub(crate) fn attempts(&self, place: usize) -> Option<&ExecutionStatuses<LiveSpec>>
+        ensures { IsAttempts (slice_get self.now place) result }
+    {
+        let test = self.tests.as_slice().get(place)?;
+        test.attempts()
+    }
+
+    // An attempt of the test at a place starts. An `Err` changes nothing.
+    pub(crate) fn start(&mut self, alloc: Global, place: usize) -> Result<(), AllocError>
+        requires { IsStartable self.old place }
+        ensures ok { OnOk result (ChangesAt place (λ test. record test { mark = marks.Running }) self.old self.new) }
+        ensures err { OnErr result (self.new ≡ self.old) }
+    {
+        start_at(&mut self.tests, alloc, place)?;
+        self.running += 1;
+        Ok(())
+    }
+
+    // The attempt of the test at a place that runs ends in a run with this reason: whether that finishes the test.
+    pub(crate) fn end(
+        &mut self,
+        alloc: Global,
+        place: usize,
+        record: Record,
+        reason: Option<CancelReason>,
+    ) -> bool
+        requires { IsRunningAt self.old place }
+        ensures after { (state : State) → state.reason ≡ reason
+            → ChangesAt place (λ test. after_attempt state test «record») self.old self.new }
+        ensures finished { (state : State) (test : TestState) → state.reason ≡ reason
+            → slice_get self.old place ≡ Some test → result ≡ finishes state test «record» }
+        ensures bound { length self.old < 2 ^ 63 }
+    {
+        let finished = end_at(&mut self.tests, alloc, place, record, reason);
+        self.running -= 1;
+        finished
+    }
+
+    // Counts the test at a place, where it is finished.
+    pub(crate) fn count_at(&self, place: usize, stats: &mut RunStats)
+        requires place { place < length self.now }
+        requires below_maximum { CanCountTest stats.old }
+        ensures { (test : TestState) → slice_get self.now place ≡ Some test → stats.new ≡ with_finished test stats.old }
+    {
+        self.tests[place].count_in(stats);
+    }
+
+    // Counts all tests that are finished.
+    pub(crate) fn count_all(&self, stats: &mut RunStats)
+        requires uncounted { CountsNoTest stats.old }
+        ensures { stats.new ≡ with_tests self.now stats.old }
+    {
+        count_each(self.tests.as_slice(), stats);
+    }
+
+    // The run is stopped: the tests between two attempts are finished.
+    pub(crate) fn stop(&mut self, reason: CancelReason)
+        ensures { self.new ≡ map (finished_by reason) self.old }
+    {
+        finish_between(&mut self.tests, reason);
+    }
+}
+
+// The tests of which no attempt started.
+fn waiting_tests(alloc: Global, planned: &[RunTest]) -> Result<Vec<TestProgress>, AllocError>
+    ensures { IfOk result (λ tests. tests.items ≡ map waiting (planned.now)) }
+{
+    let mut tests = Vec::with_capacity(alloc, planned.len())?;
+    for plan in planned {
+        tests.push(TestProgress::new(*plan))?;
+    }
+    Ok(tests)
+}
+
+// An attempt of the test at a place starts. An `Err` changes nothing.
+fn start_at(tests: &mut Vec<TestProgress>, alloc: Global, place: usize) -> Result<(), AllocError>
+    requires { IsStartable tests.old.items place }
+    ensures ok { OnOk result
+        (ChangesAt place (λ test. record test { mark = marks.Running }) tests.old.items tests.new.items) }
+    ensures err { OnErr result (tests.new.items ≡ tests.old.items) }
+{
+    let test = &mut tests[place];
+    test.start(alloc)
+}
+
+// The attempt of the test at a place that runs ends: whether that finishes the test.
+fn end_at(
+    tests: &mut Vec<TestProgress>,
+    alloc: Global,
+    place: usize,
+    record: Record,
+    reason: Option<CancelReason>,
+) -> bool
+    requires { IsRunningAt tests.old.items place }
+    ensures after { (state : State) → state.reason ≡ reason
+        → ChangesAt place (λ test. after_attempt state test «record») tests.old.items tests.new.items }
+    ensures finished { (state : State) (test : TestState) → state.reason ≡ reason
+        → slice_get tests.old.items place ≡ Some test → result ≡ finishes state test «record» }
+{
+    let test = &mut tests[place];
+    test.end(alloc, record, reason)
+}
+
+// The tests between two attempts are finished.
+fn finish_between(tests: &mut Vec<TestProgress>, reason: CancelReason)
+    ensures { tests.new.items ≡ map (finished_by reason) tests.old.items }
+{
+    finish_each(tests.as_mut_slice(), reason);
+}
+
+// Each of the tests that is between two attempts is finished.
+fn finish_each(tests: &mut [TestProgress], reason: CancelReason)
+    ensures { tests.new ≡ map (finished_by reason) tests.old }
+{
+    for test in tests.iter_mut() {
+        test.finish_between(reason);
+    }
+}
+
+// Counts each of the tests that is finished.
+fn count_each(tests: &[TestProgress], stats: &mut RunStats)
+    requires uncounted { CountsNoTest stats.old }
+    requires bound { length tests.now < 2 ^ 63 }
+    ensures { stats.new ≡ with_tests tests.now stats.old }
+{
+    for test in tests {
+        test.count_in(stats);
+    }
+}

@@ -1,7 +1,0 @@
-use Rattle.std.proofs.Common.{subst}
-use Rattle.test_runner_core_runs.specs.Decisions.{ShowsTest}
-use Rattle.test_runner_core_runs.proofs.Taken.{end_taken}
-use Rattle.test_runner_core_runs.proofs.decisions.end_refusal.Goals as goal
-
-pub returns-in-Running : goal.returns-in-Running
-returns-in-Running c = λ state place told shown. end_taken state place told (subst (ShowsTest state place) c.in-Running.is shown)

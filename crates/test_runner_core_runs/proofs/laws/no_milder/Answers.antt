@@ -1,8 +1,0 @@
-use Rattle.test_runner_core_runs.proofs.NoMilder.{ends_no_milder, has_four_exactly_where_due}
-use Rattle.test_runner_core_runs.proofs.laws.no_milder.Goals as goal
-
-pub returns-clause-no_milder : goal.returns-clause-no_milder
-returns-clause-no_milder c = ends_no_milder
-
-pub returns-clause-selected_nothing : goal.returns-clause-selected_nothing
-returns-clause-selected_nothing c = has_four_exactly_where_due

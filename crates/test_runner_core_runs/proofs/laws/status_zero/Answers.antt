@@ -1,5 +1,0 @@
-use Rattle.test_runner_core_runs.proofs.WholeRuns.{succeeds_whole}
-use Rattle.test_runner_core_runs.proofs.laws.status_zero.Goals as goal
-
-pub returns : goal.returns
-returns c = succeeds_whole

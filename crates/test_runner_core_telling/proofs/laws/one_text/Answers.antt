@@ -1,5 +1,0 @@
-use Rattle.test_runner_core_telling.proofs.Texts as lemma
-use Rattle.test_runner_core_telling.proofs.laws.one_text.Goals as goal
-
-pub returns : goal.returns
-returns c = record { one = lemma.one_text; some = lemma.some_text }

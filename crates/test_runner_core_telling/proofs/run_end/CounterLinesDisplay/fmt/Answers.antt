@@ -1,6 +1,0 @@
-use Rattle.test_runner_core_telling.specs.RunEnd.{counter_lines}
-use Rattle.test_runner_core_telling.proofs.run_end.CounterLinesDisplay.fmt.Goals as goal
-
-pub returns-clause-writes : goal.returns-clause-writes
-unfolding counter_lines
-returns-clause-writes g c = c.write.ensures.writes

@@ -1,6 +1,0 @@
-use Rattle.test_runner_core_telling.specs.RunEnd.{script_lines}
-use Rattle.test_runner_core_telling.proofs.run_end.ScriptLinesDisplay.fmt.Goals as goal
-
-pub returns-clause-writes : goal.returns-clause-writes
-unfolding script_lines
-returns-clause-writes g c = c.write.ensures.writes
