@@ -7,18 +7,8 @@ use Rattle.nextest_filtering_ast.specs.Tree.{Tree, union}
 use Rattle.nextest_filtering_ast.specs.Grammar.{joined, ReadsOr, ReadsJoint, Unary, Conjunction, first_operand, next_operand, Expression, first_conjunction, next_conjunction}
 use Rattle.nextest_filtering_arguments.specs.Faults.{IsSuffix}
 use Rattle.nextest_filtering_syntax.specs.Parsing.{Anywhere, Closes, ClosesConjunction, IsPart, IsNoPart, IsOperator, IsNoOperator, FindsOperator}
+use Rattle.nextest_filtering_syntax.specs.Waiting.{After, stop, link, AfterOperand, AfterConjunction}
 use Rattle.nextest_filtering_arguments.proofs.Spans.{suffix_trans}
-
--- From the tree so far and what follows it, operators and operands lead to a tree and its rest.
-pub data After {Op : Type 0} (Reads : Op → List ℕ → List ℕ → Type 0) (Operand : List ℕ → Tree → List ℕ → Type 0) (join : Op → Tree → Tree → Tree) (t : Tree) (rest : List ℕ) : Tree → List ℕ → Type 0 where
-  stop : (so_far : Tree) (middle : List ℕ) → t ≡ so_far → rest ≡ middle → After Reads Operand join t rest so_far middle
-  link : (op : Op) (so_far b : Tree) (middle behind next : List ℕ) → Reads op middle behind → Operand behind b next → After Reads Operand join t rest (join op so_far b) next → After Reads Operand join t rest so_far middle
-
-abbrev pub AfterOperand : Tree → List ℕ → Tree → List ℕ → Type 0
-AfterOperand = After ReadsJoint Unary joined
-
-abbrev pub AfterConjunction : Tree → List ℕ → Tree → List ℕ → Type 0
-AfterConjunction = After ReadsOr Conjunction union
 
 -- a conjunction has a first operand, and goes on behind it
 operands_by : (text : List ℕ) (t : Tree) (rest : List ℕ) → Conjunction text t rest → (u : Tree) (end : List ℕ) → AfterOperand u end t rest
@@ -111,7 +101,7 @@ begins_not text old now level none = record {
 }
 
 -- how a reading goes on behind an operator
-goes_behind : {Op : Type 0} {Reads : Op → List ℕ → List ℕ → Type 0} {Operand : List ℕ → Tree → List ℕ → Type 0} {join : Op → Tree → Tree → Tree}
+pub goes_behind : {Op : Type 0} {Reads : Op → List ℕ → List ℕ → Type 0} {Operand : List ℕ → Tree → List ℕ → Type 0} {join : Op → Tree → Tree → Tree}
     {Ends : List ℕ → Type 0} {Stops : List ℕ → Type 0} (tree : Tree) (rest : List ℕ) (now middle : ℕ) (op : Op) (behind : List ℕ) (t : Tree) (end : List ℕ)
     → ((x : Tree) (y : List ℕ) (a : Tree) (m : List ℕ) → After Reads Operand join x y a m → Stops y → Ends m)
     → IsOperator Reads Operand Stops rest now middle op behind → After Reads Operand join t end tree rest → Stops end
@@ -156,7 +146,7 @@ goes_not text old now middle new tree op rest behind level read operator none = 
 }
 
 -- where a reading stops
-stops_at : {Op : Type 0} {Reads : Op → List ℕ → List ℕ → Type 0} {Operand : List ℕ → Tree → List ℕ → Type 0} {join : Op → Tree → Tree → Tree}
+pub stops_at : {Op : Type 0} {Reads : Op → List ℕ → List ℕ → Type 0} {Operand : List ℕ → Tree → List ℕ → Type 0} {join : Op → Tree → Tree → Tree}
     (tree : Tree) (rest : List ℕ) (t : Tree) (end : List ℕ) → ((op : Op) (behind : List ℕ) → Reads op rest behind → ⊥) → After Reads Operand join t end tree rest → (t ≡ tree) × (end ≡ rest)
 stops_at _ _ t end never (stop tree rest e f) = (e, f)
 stops_at _ _ t end never (link op tree b rest behind next reads operand more) = absurd (never op behind reads)

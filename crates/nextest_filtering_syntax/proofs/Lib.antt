@@ -6,6 +6,10 @@ pub mod Trees
 pub mod Ends
 pub mod Unsigned
 pub mod Chains
+pub mod Joins
+pub mod Waits
+pub mod Steps
+pub mod Expressions
 pub mod Closings
 pub mod Leaves
 pub mod Names

@@ -70,7 +70,7 @@ not_is_no_leaf LiteralNot it text behind rest e read = leaf_no_word it text rest
 not_is_no_leaf Exclamation it text behind rest e read = leaf_no_sign it text rest _ read e
 
 -- behind `not` stands a negation
-is_negation : (op : NotOperator) (text behind : List ℕ) (other : Tree) (end : List ℕ) → ReadsNot op text behind → Unary text other end
+pub is_negation : (op : NotOperator) (text behind : List ℕ) (other : Tree) (end : List ℕ) → ReadsNot op text behind → Unary text other end
     → (t : Tree) × (other ≡ negation op t) × Unary behind t end
 is_negation op _ behind _ _ found (a_negation op1 t text behind1 end e reads) =
     let is = one_not op op1 text behind behind1 found e in
@@ -79,7 +79,7 @@ is_negation op _ behind _ _ found (a_group t text inside middle end e reads f) =
 is_negation op _ behind _ _ found (a_predicate it text end read) = absurd (not_is_no_leaf op it text behind end found read)
 
 -- behind `(` stands an expression
-is_group : (text inside : List ℕ) (other : Tree) (end : List ℕ) → unblanked text ≡ 40 ∷ inside → Unary text other end
+pub is_group : (text inside : List ℕ) (other : Tree) (end : List ℕ) → unblanked text ≡ 40 ∷ inside → Unary text other end
     → (t : Tree) × (middle : List ℕ) × (other ≡ parens t) × Expression inside t middle × (unblanked middle ≡ 41 ∷ end)
 is_group _ inside _ _ found (a_negation op t text behind end e reads) = absurd (not_is_no_group op text behind inside e found)
 is_group _ inside _ _ found (a_group t text inside1 middle end e reads f) =

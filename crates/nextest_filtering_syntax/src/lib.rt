@@ -1,6 +1,7 @@
 //! The filterset language: trees as they are parsed and printed, and reading texts as trees, with recovery from faults.
 #![tactic(auto)]
 
+mod ahead;
 mod closing;
 mod deps;
 pub mod laws;
@@ -11,6 +12,7 @@ mod parser;
 mod reading;
 mod runtime;
 mod tree;
+mod waiting;
 mod whole;
 
 pub use deps::needs_deps;
