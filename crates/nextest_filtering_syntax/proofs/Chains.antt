@@ -6,7 +6,7 @@ use Rattle.std.proofs.Math.Path.{ap, sym, subst}
 use Rattle.nextest_filtering_ast.specs.Tree.{Tree, union}
 use Rattle.nextest_filtering_ast.specs.Grammar.{joined, ReadsOr, ReadsJoint, Unary, Conjunction, first_operand, next_operand, Expression, first_conjunction, next_conjunction}
 use Rattle.nextest_filtering_arguments.specs.Faults.{IsSuffix}
-use Rattle.nextest_filtering_syntax.specs.Parsing.{Anywhere, Closes, ClosesConjunction, IsPart, IsNoPart, IsOperator, IsNoOperator, FindsOperator}
+use Rattle.nextest_filtering_syntax.specs.Parsing.{Anywhere, Closes, ClosesConjunction, IsPart, IsOperator, IsNoOperator, FindsOperator}
 use Rattle.nextest_filtering_syntax.specs.Waiting.{After, stop, link, AfterOperand, AfterConjunction}
 use Rattle.nextest_filtering_arguments.proofs.Spans.{suffix_trans}
 
@@ -89,17 +89,6 @@ begins text old now found rest level part = record {
       (is.0, from_operand t end parts.0 found parts.1 rest is.1 is.2 parts.3);
 }
 
--- no operand, and so no whole
-pub begins_not : {Op : Type 0} {Reads : Op → List ℕ → List ℕ → Type 0} {Operand : List ℕ → Tree → List ℕ → Type 0} {join : Op → Tree → Tree → Tree}
-    {Ends : List ℕ → Type 0} {Whole : List ℕ → Tree → List ℕ → Type 0} {Stops : List ℕ → Type 0} (text : List ℕ) (old now : ℕ)
-    → Level Reads Operand join Ends Whole Stops → IsNoPart Operand Ends text old now → IsNoPart Whole Stops text old now
-begins_not text old now level none = record {
-  more = none.more;
-  never = λ t end whole stops.
-      let parts = level.split text t end whole in
-      none.never parts.0 parts.1 parts.2 (level.ends t end parts.0 parts.1 parts.3 stops);
-}
-
 -- how a reading goes on behind an operator
 pub goes_behind : {Op : Type 0} {Reads : Op → List ℕ → List ℕ → Type 0} {Operand : List ℕ → Tree → List ℕ → Type 0} {join : Op → Tree → Tree → Tree}
     {Ends : List ℕ → Type 0} {Stops : List ℕ → Type 0} (tree : Tree) (rest : List ℕ) (now middle : ℕ) (op : Op) (behind : List ℕ) (t : Tree) (end : List ℕ)
@@ -130,19 +119,6 @@ goes_on {join = join} text old now middle new tree found op rest behind next lev
       let ahead = goes_behind tree rest now middle op behind t end level.ends operator known.1 stops in
       let is = part.only ahead.1 ahead.2 ahead.3 ahead.4 in
       (Prim.omega (arith, known.0, ahead.0, is.0), from_operand t end (join op tree ahead.1) (join op tree found) ahead.2 next (ap (join op tree) is.1) is.2 ahead.5);
-}
-
--- no operand behind an operator, and so no whole
-pub goes_not : {Op : Type 0} {Reads : Op → List ℕ → List ℕ → Type 0} {Operand : List ℕ → Tree → List ℕ → Type 0} {join : Op → Tree → Tree → Tree}
-    {Ends : List ℕ → Type 0} {Whole : List ℕ → Tree → List ℕ → Type 0} {Stops : List ℕ → Type 0} (text : List ℕ) (old now middle new : ℕ) (tree : Tree) (op : Op) (rest behind : List ℕ)
-    → Level Reads Operand join Ends Whole Stops → HasRead Reads Operand join Whole Stops text old now tree rest
-    → IsOperator Reads Operand Stops rest now middle op behind → IsNoPart Operand Ends behind middle new → IsNoPart Whole Stops text old new
-goes_not text old now middle new tree op rest behind level read operator none = record {
-  more = Prim.omega (arith, read.more, operator.more, none.more);
-  never = λ t end whole stops.
-      let known = read.goes t end whole stops in
-      let ahead = goes_behind tree rest now middle op behind t end level.ends operator known.1 stops in
-      none.never ahead.1 ahead.2 ahead.3 ahead.4;
 }
 
 -- where a reading stops

@@ -1,23 +1,20 @@
 -- Reading a whole expression, one operand after another.
-use Rattle.std.specs.Prelude.{◌≡◌, refl, ℕ, ◌≤◌, ◌<◌, List, [], ◌∷◌, length, Result, Ok, Err}
+use Rattle.std.specs.Prelude.{◌≡◌, refl, ℕ, ◌<◌, List, [], length, Result, Ok}
 use Rattle.std.specs.Borrow.{Bor}
 use Rattle.std.proofs.Common.{arith}
-use Rattle.std.proofs.Math.Path.{ap, sym, subst, ◌∙◌}
-use Rattle.nextest_filtering_ast.specs.Tree.{Tree}
-use Rattle.nextest_filtering_ast.specs.Grammar.{unblanked, ReadsNot, Unary, Expression}
-use Rattle.nextest_filtering_ast.specs.declared.operators.NotOperator.{NotOperator}
+use Rattle.std.proofs.Math.Path.{sym, subst}
+use Rattle.nextest_filtering_ast.specs.Grammar.{Unary, Expression}
 use Rattle.nextest_filtering_arguments.specs.Faults.{IsSuffix}
 use Rattle.nextest_filtering_arguments.specs.declared.stop.Stop.{Stop}
-use Rattle.nextest_filtering_arguments.specs.declared.stop.Stop.TheVariants.{NoTree, Memory}
 use Rattle.nextest_filtering_arguments.proofs.Spans.{suffix_trans, suffix_len}
 use Rattle.nextest_filtering_syntax.specs.declared.tree.ParsedExpr.{ParsedExpr}
 use Rattle.nextest_filtering_syntax.specs.declared.waiting.Waiting.{Waiting}
 use Rattle.nextest_filtering_syntax.specs.Parsed.{tree_of}
 use Rattle.nextest_filtering_syntax.specs.Parsing.{Anywhere, Closes, IsPart, IsNoPart, Finds, ReadsPredicate}
 use Rattle.nextest_filtering_syntax.specs.Places.{ArePlaced, Stands}
-use Rattle.nextest_filtering_syntax.specs.Waiting.{operand, Becomes, Has, HasExpression, Awaits, OpensNothing, WaitPlaced, WaitStands, TreeStands, Descends, LeadsOn, EndsAll}
+use Rattle.nextest_filtering_syntax.specs.Waiting.{operand, Becomes, Has, HasExpression, Awaits, OpensNothing, WaitPlaced, WaitStands, Descends, LeadsOn, EndsAll}
 use Rattle.nextest_filtering_syntax.proofs.Operands.{predicate_finds}
-use Rattle.nextest_filtering_syntax.proofs.Waits.{stays, then, begins_expression, operand_read, no_operand_read}
+use Rattle.nextest_filtering_syntax.proofs.Waits.{then, begins_expression, operand_read, no_operand_read}
 
 -- so far, the text was read up to where an operand is to follow
 pub record HasRead (input text : List ℕ) (stack : List Waiting) (rest : List ℕ) (before after : ℕ) : Type 0 where

@@ -1,5 +1,5 @@
 -- How operators and operands make up what they lead to.
-use Rattle.std.specs.Prelude.{◌≡◌, refl, ℕ, List}
+use Rattle.std.specs.Prelude.{ℕ, List}
 use Rattle.std.proofs.Math.Path.{sym, subst}
 use Rattle.nextest_filtering_ast.specs.Tree.{Tree}
 use Rattle.nextest_filtering_syntax.specs.Waiting.{After, stop, link}

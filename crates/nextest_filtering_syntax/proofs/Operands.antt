@@ -153,8 +153,3 @@ pub passes : {Reads : List ℕ → Tree → List ℕ → Type 0} {Stops : List �
 passes {Whole = Whole} {Ends = Ends} part text old now new e r none found is =
     let p = err_from_is_err_and r is in
     subst (Finds Whole Ends text old new) (sym p.1) (subst (λ y. Finds Whole Ends text old new (Err y)) (sym p.2) (stops_by part text old now new e none found))
-
--- the same of a tree that is known by an equation
-pub renamed : {Reads : List ℕ → Tree → List ℕ → Type 0} {Stops : List ℕ → Type 0} (text : List ℕ) (old new : ℕ) (a b : Tree) (rest : List ℕ) → a ≡ b
-    → IsPart Reads Stops text old new b rest → IsPart Reads Stops text old new a rest
-renamed {Reads = Reads} {Stops = Stops} text old new a b rest is part = subst (λ t. IsPart Reads Stops text old new t rest) (sym is) part

@@ -1,15 +1,15 @@
 -- What the steps of reading an expression come to.
-use Rattle.std.specs.Prelude.{◌≡◌, refl, ℕ, ◌≤◌, ◌<◌, Bool, true, false, List, [], ◌∷◌, length, codes, ⊤, Box, IfOk, Result, Ok, Err}
+use Rattle.std.specs.Prelude.{◌≡◌, refl, ℕ, ◌<◌, true, false, List, [], ◌∷◌, length, codes, Box, IfOk, Result, Ok, Err}
 use Rattle.std.specs.Borrow.{Bor}
 use Rattle.std.proofs.Common.{arith}
 use Rattle.std.specs.declared.alloc.Global.{Global}
-use Rattle.std.proofs.Math.Path.{ap, sym, subst, ◌∙◌}
+use Rattle.std.proofs.Math.Path.{ap, sym, subst}
 use Rattle.std.proofs.lemmas.Bool.{false≢true}
 use Rattle.nextest_filtering_ast.specs.declared.operators.NotOperator.{NotOperator}
 use Rattle.nextest_filtering_ast.specs.declared.operators.OrOperator.{OrOperator}
 use Rattle.nextest_filtering_ast.specs.declared.operators.Joint.{Joint}
 use Rattle.nextest_filtering_ast.specs.Tree.{Tree, negation, union, parens}
-use Rattle.nextest_filtering_ast.specs.Grammar.{unblanked, Behind, joined, ReadsNot, ReadsOr, ReadsJoint, Unary, Conjunction, Expression}
+use Rattle.nextest_filtering_ast.specs.Grammar.{Behind, joined, ReadsNot, ReadsOr, ReadsJoint, Unary, Conjunction}
 use Rattle.nextest_filtering_arguments.specs.Faults.{IsSuffix}
 use Rattle.nextest_filtering_arguments.proofs.Spans.{suffix_token, suffix_trans, shorter_token}
 use Rattle.nextest_filtering_syntax.specs.declared.tree.ParsedExpr.{ParsedExpr}
@@ -20,9 +20,9 @@ use Rattle.nextest_filtering_syntax.specs.declared.ahead.Next.TheVariants as nex
 use Rattle.nextest_filtering_syntax.specs.declared.waiting.Waiting.{Waiting}
 use Rattle.nextest_filtering_syntax.specs.declared.waiting.Waiting.TheVariants as waits
 use Rattle.nextest_filtering_syntax.specs.Parsed.{tree_of}
-use Rattle.nextest_filtering_syntax.specs.Parsing.{Closes, ClosesConjunction, IsPart, IsNoPart, IsOperator, IsNoOperator, IsClosed}
+use Rattle.nextest_filtering_syntax.specs.Parsing.{Closes, ClosesConjunction, IsOperator, IsNoOperator, IsClosed}
 use Rattle.nextest_filtering_syntax.specs.Places.{ArePlaced, Stands}
-use Rattle.nextest_filtering_syntax.specs.Waiting.{operand, conjunction, expression, AsConjunction, GoesOn, Becomes, Has, HasConjunction, HasExpression, Awaits, IsOpening, TakesJoints, TakesUnions, TakesOperands, Nests, has_joint, has_union, WaitPlaced, WaitStands, TreeStands, Descends, MakesUp, LeadsOn, EndsWhole, EndsAll, Follows, Ascends}
+use Rattle.nextest_filtering_syntax.specs.Waiting.{operand, conjunction, expression, AsConjunction, GoesOn, Becomes, Has, HasConjunction, HasExpression, Awaits, IsOpening, TakesJoints, TakesUnions, has_joint, has_union, WaitPlaced, WaitStands, TreeStands, Descends, MakesUp, LeadsOn, EndsWhole, EndsAll, Follows, Ascends}
 use Rattle.nextest_filtering_syntax.proofs.Single.{not_behind}
 use Rattle.nextest_filtering_syntax.proofs.Waits.{stays, then, opening_waits, joint_waits, union_waits, conjunction_ends, expression_ends, group_ends}
 
@@ -77,14 +77,6 @@ descends_once old text stack rest waiting new inside so_far opens is = subst (λ
 }
 
 -- ---- what makes up a tree
-
-pub makes_none : (From : List Waiting → Tree → List ℕ → Tree → List ℕ → Type 0) (stack : List Waiting) (tree : ParsedExpr) → MakesUp From From stack tree stack tree
-makes_none From stack tree = record {
-  fewer = Prim.omega arith;
-  becomes = λ rest n. stays (From stack (tree_of tree) rest) n;
-  placed = λ input waiting it. (waiting, it);
-  stands = λ input text rest it. it;
-}
 
 alike : (From To : Tree → List ℕ → Type 0) (n : ℕ) → ((whole : Tree) (end : List ℕ) → (From whole end → To whole end) × (To whole end → From whole end)) → Becomes From To n n
 alike From To n same = record {

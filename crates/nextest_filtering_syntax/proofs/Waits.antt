@@ -1,18 +1,17 @@
 -- How a filterset is read on from a place within it.
-use Rattle.std.specs.Prelude.{◌≡◌, refl, ℕ, ◌≤◌, List, [], ◌∷◌, codes, ⊤}
-use Rattle.std.proofs.Common.{arith, inl, inr}
-use Rattle.std.proofs.Math.Path.{ap, sym, subst, ◌∙◌}
+use Rattle.std.specs.Prelude.{◌≡◌, refl, ℕ, List, [], ◌∷◌, codes}
+use Rattle.std.proofs.Common.{arith, inr}
+use Rattle.std.proofs.Math.Path.{sym, subst}
 use Rattle.nextest_filtering_ast.specs.declared.operators.NotOperator.{NotOperator}
 use Rattle.nextest_filtering_ast.specs.declared.operators.OrOperator.{OrOperator}
 use Rattle.nextest_filtering_ast.specs.declared.operators.Joint.{Joint}
 use Rattle.nextest_filtering_ast.specs.Tree.{Tree, negation, union, parens}
-use Rattle.nextest_filtering_ast.specs.Grammar.{unblanked, Behind, joined, ReadsNot, ReadsOr, ReadsJoint, Unary, a_negation, a_group, Conjunction, first_operand, Expression, first_conjunction}
-use Rattle.nextest_filtering_syntax.specs.declared.tree.ParsedExpr.{ParsedExpr}
+use Rattle.nextest_filtering_ast.specs.Grammar.{Behind, joined, ReadsNot, ReadsOr, ReadsJoint, Unary, a_negation, a_group, Conjunction, first_operand, Expression, first_conjunction}
 use Rattle.nextest_filtering_syntax.specs.declared.waiting.Waiting.{Waiting}
 use Rattle.nextest_filtering_syntax.specs.declared.waiting.Waiting.TheVariants as waits
 use Rattle.nextest_filtering_syntax.specs.Parsed.{tree_of}
 use Rattle.nextest_filtering_syntax.specs.Parsing.{Anywhere, Closes, ClosesConjunction, IsPart, IsNoPart, IsOperator, IsNoOperator, IsClosed}
-use Rattle.nextest_filtering_syntax.specs.Waiting.{After, stop, link, AfterOperand, AfterConjunction, AsConjunction, AsExpression, AsGroup, Part, operand, conjunction, expression, GoesOn, EndsConjunction, EndsExpression, Becomes, Has, HasConjunction, HasExpression, Awaits, IsOpening}
+use Rattle.nextest_filtering_syntax.specs.Waiting.{stop, link, AsConjunction, AsExpression, AsGroup, operand, conjunction, expression, GoesOn, EndsConjunction, EndsExpression, Becomes, Has, HasConjunction, HasExpression, Awaits, IsOpening}
 use Rattle.nextest_filtering_syntax.proofs.Chains.{conjunction_level, expression_level, operands, conjunctions, conjunction_closes, goes_behind, stops_at}
 use Rattle.nextest_filtering_syntax.proofs.Joins.{joins}
 use Rattle.nextest_filtering_syntax.proofs.Operands.{is_negation, is_group}
