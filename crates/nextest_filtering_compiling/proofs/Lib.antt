@@ -1,4 +1,5 @@
 pub mod Behind
+pub mod Stacks
 pub mod Looked
 pub mod Asked
 pub mod Kept

@@ -1,5 +1,6 @@
 pub mod Context
 pub mod Leaves
+pub mod Tasks
 pub mod Bans
 pub mod Packages
 pub mod Compiling
