@@ -4,3 +4,4 @@ pub mod Parsed
 pub mod Parsing
 pub mod Places
 pub mod Reading
+pub mod Waiting
