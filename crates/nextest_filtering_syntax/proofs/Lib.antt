@@ -14,3 +14,4 @@ pub mod Single
 pub mod Told
 pub mod Wholes
 pub mod Places
+pub mod Waiting

@@ -1,11 +1,12 @@
 -- What waits while a tree is walked without recursion.
-use Rattle.std.specs.Prelude.{◌≡◌, ℕ, ◌+◌, ◌*◌, Option, Some, None, List, [], ◌∷◌, ◌++◌}
+use Rattle.std.specs.Prelude.{◌≡◌, ℕ, ◌+◌, ◌*◌, Option, Some, None, List, [], ◌∷◌, ◌++◌, map}
 use Rattle.std.specs.Borrow.{Bor}
 use Rattle.std.specs.declared.alloc.Global.{Global}
 use Rattle.std.specs.declared.boxed.Box.{Box}
 use Rattle.nextest_filtering_ast.specs.declared.operators.OrOperator.TheVariants.{Pipe}
+use Rattle.nextest_filtering_ast.specs.declared.leaf.ParsedLeaf.{ParsedLeaf}
 use Rattle.nextest_filtering_ast.specs.Tree.{Leaf}
-use Rattle.nextest_filtering_ast.specs.Runtime.{runtime_leaves}
+use Rattle.nextest_filtering_ast.specs.Runtime.{runtime_leaves, leaf_behind}
 use Rattle.nextest_filtering_syntax.specs.declared.tree.ParsedExpr.{ParsedExpr}
 use Rattle.nextest_filtering_syntax.specs.declared.tree.ParsedExpr.TheVariants as tree
 use Rattle.nextest_filtering_syntax.specs.Parsed.{tree_of}
@@ -38,3 +39,7 @@ waiting_weight (t ∷ rest) = waiting_weight rest + weight t.now
 abbrev pub waiting_leaves : List (Bor ParsedExpr) → List Leaf
 waiting_leaves [] = []
 waiting_leaves (t ∷ rest) = waiting_leaves rest ++ runtime_leaves (tree_of t.now)
+
+-- the predicates that were found, and then those of the trees that wait
+abbrev pub all_leaves : List (Bor ParsedLeaf) → List (Bor ParsedExpr) → List Leaf
+all_leaves found waiting = map leaf_behind found ++ waiting_leaves waiting
