@@ -15,3 +15,4 @@ pub mod Told
 pub mod Wholes
 pub mod Places
 pub mod Waiting
+pub mod Pieces

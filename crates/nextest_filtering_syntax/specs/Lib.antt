@@ -5,3 +5,4 @@ pub mod Parsing
 pub mod Places
 pub mod Reading
 pub mod Waiting
+pub mod Pieces

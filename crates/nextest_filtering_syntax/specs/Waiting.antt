@@ -11,8 +11,11 @@ use Rattle.nextest_filtering_syntax.specs.declared.tree.ParsedExpr.{ParsedExpr}
 use Rattle.nextest_filtering_syntax.specs.declared.tree.ParsedExpr.TheVariants as tree
 use Rattle.nextest_filtering_syntax.specs.Parsed.{tree_of}
 
+abbrev pub Boxed : Type 0
+Boxed = Box ParsedExpr Global
+
 -- what waits behind a left operand: the right one, which is joined with what waited before
-abbrev pub IsPutOff : Box ParsedExpr Global → Option (Box ParsedExpr Global) → Box ParsedExpr Global → Type 0
+abbrev pub IsPutOff : Boxed → Option Boxed → Boxed → Type 0
 IsPutOff right None behind = behind.value ≡ right.value
 IsPutOff right (Some waiting) behind = behind.value ≡ tree.Union Pipe right waiting
 
@@ -26,7 +29,7 @@ weight (tree.Parens' p t) = weight t + 1
 weight (tree.Set it) = 1
 
 -- that of a tree and what waits behind it
-abbrev pub weight_with : ParsedExpr → Option (Box ParsedExpr Global) → ℕ
+abbrev pub weight_with : ParsedExpr → Option Boxed → ℕ
 weight_with t None = weight t
 weight_with t (Some behind) = 2 * weight t + weight behind.value
 

@@ -10,6 +10,7 @@ mod operators;
 mod parser;
 mod reading;
 mod runtime;
+mod text;
 mod tree;
 mod whole;
 

@@ -22,7 +22,7 @@ pub enum ParsedExpr {
     Set(ParsedLeaf),
 }
 
-// It takes constant stack and linear time, and no memory: what waits stands in the boxes of what is gone.
+// It takes linear time, constant stack and no memory: what waits stands in boxes whose own trees are gone.
 impl Drop for ParsedExpr {
     fn drop(mut self) {
         let mut waiting = None;
@@ -69,6 +69,7 @@ fn put_off(
     }
 }
 
+/// The filterset as it was written. Printing it takes stack by the tree's depth; `to_text` takes constant stack.
 impl fmt::Display for ParsedExpr {
     ghost use Rattle.std.specs.Prelude.{Some};
     ghost use Rattle.nextest_filtering_syntax.specs.Parsed.{tree_of};
