@@ -8,7 +8,7 @@ use crate::tree::ParsedExpr;
 use nextest_filtering_ast::{AndOperator, DifferenceOperator, NotOperator, OrOperator};
 use std::alloc::{AllocError, Global};
 
-// What waits to be printed.
+// What waits to be printed: a tree, an operator with the spaces round it, or `)`.
 #[derive(Drop)]
 enum Piece<'t> {
     Tree(&'t ParsedExpr),
