@@ -14,5 +14,5 @@ pub mod Single
 pub mod Told
 pub mod Wholes
 pub mod Places
-pub mod Waiting
+pub mod Walking
 pub mod Pieces

@@ -4,5 +4,5 @@ pub mod Parsed
 pub mod Parsing
 pub mod Places
 pub mod Reading
-pub mod Waiting
+pub mod Walking
 pub mod Pieces

@@ -6,7 +6,7 @@ use Rattle.nextest_filtering_ast.specs.Printing.{printed}
 use Rattle.nextest_filtering_syntax.specs.declared.text.Piece.{Piece}
 use Rattle.nextest_filtering_syntax.specs.declared.text.Piece.TheVariants as piece
 use Rattle.nextest_filtering_syntax.specs.Parsed.{tree_of}
-use Rattle.nextest_filtering_syntax.specs.Waiting.{weight}
+use Rattle.nextest_filtering_syntax.specs.Walking.{weight}
 
 -- an operator's word between spaces
 abbrev pub spaced : List ℕ → List ℕ

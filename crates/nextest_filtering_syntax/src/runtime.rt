@@ -2,7 +2,7 @@
 ghost use Rattle.std.specs.Prelude.{◌≡◌, [], ◌∷◌, ◌++◌, ◌<◌, IfOk, OnOk, map};
 ghost use Rattle.nextest_filtering_ast.specs.Runtime.{runtime_leaves, leaf_behind};
 ghost use Rattle.nextest_filtering_syntax.specs.Parsed.{tree_of};
-ghost use Rattle.nextest_filtering_syntax.specs.Waiting.{all_leaves, waiting_weight};
+ghost use Rattle.nextest_filtering_syntax.specs.Walking.{all_leaves, waiting_weight};
 
 use crate::tree::ParsedExpr;
 use nextest_filtering_ast::ParsedLeaf;
@@ -25,7 +25,7 @@ impl ParsedExpr {
 }
 
 // Adds a predicate that only a test answers, or lets the operands of a tree wait, the left one on top.
-#[tactic(auto, using(crate::proofs::Waiting::waiting_leaves_more, crate::proofs::Waiting::waiting_weight_more, std::proofs::lemmas::Grind::common_steps))]
+#[tactic(auto, using(crate::proofs::Walking::waiting_leaves_more, crate::proofs::Walking::waiting_weight_more, std::proofs::lemmas::Grind::common_steps))]
 fn visit<'t>(
     tree: &'t ParsedExpr,
     waiting: &mut Vec<&'t ParsedExpr>,

@@ -1,6 +1,6 @@
 // The tree of a filterset.
 ghost use Rattle.std.specs.Prelude.{◌≡◌};
-ghost use Rattle.nextest_filtering_syntax.specs.Waiting.{IsPutOff};
+ghost use Rattle.nextest_filtering_syntax.specs.Walking.{IsPutOff};
 
 use nextest_filtering_ast::{AndOperator, DifferenceOperator, NotOperator, OrOperator, ParsedLeaf};
 use std::fmt;

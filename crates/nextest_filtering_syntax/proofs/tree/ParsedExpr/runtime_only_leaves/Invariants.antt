@@ -1,7 +1,7 @@
 use Rattle.std.proofs.Common.{◌≡◌}
 use Rattle.nextest_filtering_ast.specs.Runtime.{runtime_leaves}
 use Rattle.nextest_filtering_syntax.specs.Parsed.{tree_of}
-use Rattle.nextest_filtering_syntax.specs.Waiting.{all_leaves, waiting_weight}
+use Rattle.nextest_filtering_syntax.specs.Walking.{all_leaves, waiting_weight}
 use Rattle.nextest_filtering_syntax.proofs.tree.ParsedExpr.runtime_only_leaves.Given as goal
 
 -- what was found and what waits make up the whole

@@ -6,7 +6,7 @@ use Rattle.nextest_filtering_ast.specs.Tree.{Leaf}
 use Rattle.nextest_filtering_ast.specs.Runtime.{runtime_leaves}
 use Rattle.nextest_filtering_syntax.specs.declared.tree.ParsedExpr.{ParsedExpr}
 use Rattle.nextest_filtering_syntax.specs.Parsed.{tree_of}
-use Rattle.nextest_filtering_syntax.specs.Waiting.{weight, waiting_leaves, waiting_weight}
+use Rattle.nextest_filtering_syntax.specs.Walking.{weight, waiting_leaves, waiting_weight}
 
 pub waiting_leaves_more : (rest : List (Bor ParsedExpr)) (t : Bor ParsedExpr) → waiting_leaves (rest ++ t ∷ []) ≡ runtime_leaves (tree_of t.now) ++ waiting_leaves rest
 waiting_leaves_more [] t = simp append-nil
