@@ -18,3 +18,5 @@ pub mod Single
 pub mod Told
 pub mod Wholes
 pub mod Places
+pub mod Walking
+pub mod Pieces

@@ -5,3 +5,5 @@ pub mod Parsing
 pub mod Places
 pub mod Reading
 pub mod Waiting
+pub mod Walking
+pub mod Pieces

@@ -11,6 +11,7 @@ mod operators;
 mod parser;
 mod reading;
 mod runtime;
+mod text;
 mod tree;
 mod waiting;
 mod whole;

@@ -1,4 +1,7 @@
 // The tree of a filterset.
+ghost use Rattle.std.specs.Prelude.{◌≡◌};
+ghost use Rattle.nextest_filtering_syntax.specs.Walking.{IsPutOff};
+
 use nextest_filtering_ast::{AndOperator, DifferenceOperator, NotOperator, OrOperator, ParsedLeaf};
 use std::fmt;
 
@@ -19,22 +22,54 @@ pub enum ParsedExpr {
     Set(ParsedLeaf),
 }
 
-// A chain of operators leans to the left, and is dropped without recursion.
+// It takes linear time, constant stack and no memory: what waits stands in boxes whose own trees are gone.
 impl Drop for ParsedExpr {
     fn drop(mut self) {
+        let mut waiting = None;
         loop {
             match self {
-                ParsedExpr::Not(_, inside) => self = Box::into_inner(inside),
-                ParsedExpr::Parens(inside) => self = Box::into_inner(inside),
-                ParsedExpr::Union(_, left, _) => self = Box::into_inner(left),
-                ParsedExpr::Intersection(_, left, _) => self = Box::into_inner(left),
-                ParsedExpr::Difference(_, left, _) => self = Box::into_inner(left),
-                ParsedExpr::Set(_) => return,
+                ParsedExpr::Not(_, inside) | ParsedExpr::Parens(inside) => {
+                    self = Box::into_inner(inside);
+                }
+                ParsedExpr::Union(_, left, right)
+                | ParsedExpr::Intersection(_, left, right)
+                | ParsedExpr::Difference(_, left, right) => {
+                    let (first, behind) = put_off(left, right, waiting);
+                    self = first;
+                    waiting = Some(behind);
+                }
+                ParsedExpr::Set(_) => match waiting {
+                    Some(next) => {
+                        self = Box::into_inner(next);
+                        waiting = None;
+                    }
+                    None => return,
+                },
             }
         }
     }
 }
 
+// The left operand, and what waits behind it: the right one, joined in the left one's box with what waited before.
+// Which operator joins them doesn't matter.
+fn put_off(
+    mut left: Box<ParsedExpr>,
+    right: Box<ParsedExpr>,
+    waiting: Option<Box<ParsedExpr>>,
+) -> (ParsedExpr, Box<ParsedExpr>)
+    ensures first { result.0 ≡ left.value }
+    ensures behind { IsPutOff right waiting result.1 }
+{
+    match waiting {
+        Some(behind) => {
+            let joined = ParsedExpr::Union(OrOperator::Pipe, right, behind);
+            (Box::replace(&mut left, joined), left)
+        }
+        None => (Box::into_inner(left), right),
+    }
+}
+
+/// The filterset as it was written. Printing it takes stack by the tree's depth; `to_text` takes constant stack.
 impl fmt::Display for ParsedExpr {
     ghost use Rattle.std.specs.Prelude.{Some};
     ghost use Rattle.nextest_filtering_syntax.specs.Parsed.{tree_of};
