@@ -100,7 +100,9 @@ def rows():
 # What documents print of the sources, without regard to how it is laid out: the document, the first words of the block, and the source.
 PRINTED = (
     ("docs/CLAIMS.md", "record Headline", "crates/test_runner_core/specs/Headline.antt"),
-    ("README.md", "pub fn replay", "crates/faces_tests/src/runs.rt"),
+    ("README.md", "/// The plan of inputs", "crates/faces_tests/src/plans.rt"),
+    ("README.md", "/// An attempt of a test", "crates/faces_tests/src/sessions.rt"),
+    ("README.md", "/// Judges a recorded run", "crates/faces_tests/src/runs.rt"),
 )
 
 
@@ -108,7 +110,7 @@ def differing():
     """The blocks of documents that don't stand so in the source that they are of."""
     for document, begins, source in PRINTED:
         text = (ROOT / document).read_text()
-        block = re.search(rf"^    {begins}.*?(?=^\S|\Z)", text, re.M | re.S)
+        block = re.search(rf"^    {begins}.*?(?=^\S|^    ///|\Z)", text, re.M | re.S)
         if not block or "".join(block.group(0).split()) not in "".join((ROOT / source).read_text().split()):
             yield f"{document}: `{begins}` isn't as in {source}"
 
