@@ -20,7 +20,7 @@ use Rattle.test_runner_core_reporter.specs.Parts.{Part, Said}
 use Rattle.test_runner_core_reporter.specs.RunEnd.{end_of, end_text}
 use Rattle.test_runner_core_reporter.specs.Steps.{all_done, done, done_at, parts_after, progress}
 use Rattle.test_runner_core_reporter.specs.declared.final_text.ShownTest.{ShownTest}
-use Rattle.test_runner_core.specs.Judging.{Finds, Refuses, TellsEvents, event_of}
+use Rattle.test_runner_core.specs.Judging.{Finds, Refuses, SpellEvents, event_of}
 use Rattle.test_runner_core.specs.Report.{Judged, ending}
 use Rattle.test_runner_core.specs.declared.refused_line.LineRefusal.{LineRefusal}
 use Rattle.test_runner_core.specs.declared.refused_line.LineRefusal.TheVariants as refused
@@ -34,12 +34,12 @@ event_aside warnings plan (lines.Start binary name) = refl
 event_aside warnings plan (lines.End binary name told) = refl
 event_aside warnings plan (lines.Stop reason) = refl
 
-tells_aside : (warnings : List (List ℕ)) (plan : Plan) (front : List (List ℕ)) (told : List Event) → TellsEvents (with_warnings warnings plan) front told → TellsEvents plan front told
-tells_aside warnings plan [] [] tells = tells
-tells_aside warnings plan [] (event ∷ told) tells = absurd tells
-tells_aside warnings plan (bytes ∷ more) told (inl (empty, tells)) = inl (empty, tells_aside warnings plan more told tells)
-tells_aside warnings plan (bytes ∷ more) told (inr (line, spells, (rest, is, tells))) =
-    inr (line, spells, (rest, is ∙ ap (λ (event : Event). event ∷ rest) (event_aside warnings plan line), tells_aside warnings plan more rest tells))
+tells_aside : (warnings : List (List ℕ)) (plan : Plan) (front : List (List ℕ)) (told : List Event) → SpellEvents (with_warnings warnings plan) front told → SpellEvents plan front told
+tells_aside warnings plan [] [] writes = writes
+tells_aside warnings plan [] (event ∷ told) writes = absurd writes
+tells_aside warnings plan (bytes ∷ more) told (inl (empty, writes)) = inl (empty, tells_aside warnings plan more told writes)
+tells_aside warnings plan (bytes ∷ more) told (inr (line, spells, (rest, is, writes))) =
+    inr (line, spells, (rest, is ∙ ap (λ (event : Event). event ∷ rest) (event_aside warnings plan line), tells_aside warnings plan more rest writes))
 
 refuses_aside : (warnings : List (List ℕ)) (plan : Plan) (state : State) (bytes : List ℕ) (refusal : LineRefusal) → Refuses (with_warnings warnings plan) state bytes refusal → Refuses plan state bytes refusal
 refuses_aside warnings plan state bytes refused.LineTooLong refuses = refuses
@@ -56,7 +56,7 @@ finds_aside warnings plan state number [] found finds = finds
 finds_aside warnings plan state number (Line bytes ∷ more) found (refusal, refuses, is) = (refusal, refuses_aside warnings plan state bytes refusal refuses, is)
 finds_aside warnings plan state number (Refused fault ∷ more) found finds = finds
 
--- ---- what is told
+-- ---- what is reported
 
 shows_aside : (warnings : List (List ℕ)) (plan : Plan) (test : PlanTest) → shows_of (with_warnings warnings plan) test ≡ shows_of plan test
 unfolding shows_of

@@ -14,19 +14,19 @@ use Rattle.test_runner_core_session.specs.Session.{run_plan}
 use Rattle.test_runner_core_reporter.specs.Opening.{opening}
 use Rattle.test_runner_core_reporter.specs.Parts.{Part}
 use Rattle.test_runner_core_reporter.specs.Steps.{parts_after, progress, step_parts}
-use Rattle.test_runner_core.specs.Judging.{TellsEvents, event_of}
+use Rattle.test_runner_core.specs.Judging.{SpellEvents, event_of}
 use Rattle.test_runner_core.specs.Report.{SoFar}
 
 -- one line more
-pub events_more : (plan : Plan) (front : List (List ℕ)) (told : List Event) (bytes : List ℕ) (line : LogLine) → TellsEvents plan front told → Spells line bytes
-    → TellsEvents plan (front ++ bytes ∷ []) (told ++ event_of plan line ∷ [])
+pub events_more : (plan : Plan) (front : List (List ℕ)) (told : List Event) (bytes : List ℕ) (line : LogLine) → SpellEvents plan front told → Spells line bytes
+    → SpellEvents plan (front ++ bytes ∷ []) (told ++ event_of plan line ∷ [])
 events_more plan [] [] bytes line so_far spells = inr (line, spells, ([], refl, tt))
 events_more plan [] (event ∷ told) bytes line so_far spells = absurd so_far
 events_more plan (first ∷ front) told bytes line (inl (empty, so_far)) spells = inl (empty, events_more plan front told bytes line so_far spells)
 events_more plan (first ∷ front) told bytes line (inr (here, spelled, (rest, is, so_far))) spells =
     inr (here, spelled, (rest ++ event_of plan line ∷ [], ap (λ (t : List Event). t ++ event_of plan line ∷ []) is, events_more plan front rest bytes line so_far spells))
 
-pub events_same : (plan : Plan) (front : List (List ℕ)) (told : List Event) (bytes : List ℕ) → TellsEvents plan front told → bytes ≡ [] → TellsEvents plan (front ++ bytes ∷ []) told
+pub events_same : (plan : Plan) (front : List (List ℕ)) (told : List Event) (bytes : List ℕ) → SpellEvents plan front told → bytes ≡ [] → SpellEvents plan (front ++ bytes ∷ []) told
 events_same plan [] [] bytes so_far empty = inl (empty, tt)
 events_same plan [] (event ∷ told) bytes so_far empty = absurd so_far
 events_same plan (first ∷ front) told bytes (inl (none, so_far)) empty = inl (none, events_same plan front told bytes so_far empty)
@@ -36,7 +36,7 @@ pub run_more : (old : State) (told : List Event) (mid new : State) (event : Even
 run_more old [] mid new event same taken = (new, ap (λ (s : State). step s event) (sym same) ∙ taken, refl)
 run_more old (first ∷ told) mid new event (next, here, run) taken = (next, here, run_more next told mid new event run taken)
 
--- what is told of one event more
+-- what is reported of one event more
 pub progress_more : (plan : Plan) (old : State) (told : List Event) (mid new : State) (event : Event) → Run old told mid → step mid event ≡ Ok new
     → progress plan (Ok old) (told ++ event ∷ []) ≡ progress plan (Ok old) told ++ step_parts plan event mid new
 progress_more plan old [] mid new event same taken =

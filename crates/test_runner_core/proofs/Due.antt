@@ -22,7 +22,7 @@ use Rattle.test_runner_core.specs.Report.{Composed, Judged}
 use Rattle.test_runner_core.proofs.Built.{built_is_plan}
 use Rattle.test_runner_core.proofs.OneReport.{composed_once}
 
--- what a run tells before its end
+-- what a run reports before its end
 abbrev pub told_of : {answer : Binary → Answer} {inputs : Inputs} {log : List Item} → IsRun answer inputs log → List Part
 told_of run = opening run.plan ++ progress run.plan (Ok (initial (run_plan run.plan))) run.events
 

@@ -1,4 +1,4 @@
--- A report has one text and one exit status, and what is told of it first is a front of it.
+-- A report has one text and one exit status, and what is reported of it first is a prefix of it.
 use Rattle.std.proofs.Common.{◌≡◌, ℕ, ◌+◌, List, [], ◌∷◌, ◌++◌, codes, map, length, Option, Ok, Err, refl, sym, ap, ◌∙◌, subst, inl, inr, append_assoc, append-nil}
 use Rattle.test_runner_core_inputs.specs.declared.inputs.Inputs.{Inputs}
 use Rattle.test_runner_core_log_reader.specs.Items.{Item, Line}
@@ -13,7 +13,7 @@ use Rattle.test_runner_core_reporter.specs.RunEnd.{LF, TAB}
 use Rattle.test_runner_core_workspace.specs.Lister.{Answer}
 use Rattle.test_runner_core_workspace.specs.declared.record.Binary.{Binary}
 use Rattle.test_runner_core.specs.Judging.{Finds}
-use Rattle.test_runner_core.specs.Laws.{EndsWithOneText, ToldFirst}
+use Rattle.test_runner_core.specs.Laws.{EndsWithOneText, NothingTakenBack}
 use Rattle.test_runner_core.specs.Report.{Begun, Composed, Judged, SoFar, ending, exit_status}
 use Rattle.test_runner_core.specs.declared.refused_line.RefusedLine.{RefusedLine}
 use Rattle.test_runner_core_planning.proofs.Once.{plans_once}
@@ -42,7 +42,7 @@ parted (part ∷ parts) more text (head, (tail, (is, behind, whole))) =
       whole = whole ∙ ap (λ (t : List ℕ). head ++ t) there.whole ∙ sym (append_assoc head there.told there.more);
     }
 
--- the text of the first parts is a front of the text of all
+-- the text of the first parts is a prefix of the text of all
 pub early_text : (parts more : List Part) (told text : List ℕ) → IsText parts told → IsText (parts ++ more) text → (behind : List ℕ) × (text ≡ told ++ behind)
 early_text parts more told text first whole =
     let there = parted parts more text whole in
@@ -50,7 +50,7 @@ early_text parts more told text first whole =
 
 -- ---- the run of a plan
 
--- how a report ends goes by what is told before, the last state and the refused line
+-- how a report ends goes by what is reported before, the last state and the refused line
 same_ending : (plan : Plan) (told same : List Part) (a b : State) (one other : Option RefusedLine) → told ≡ same → a ≡ b → one ≡ other
     → (told ++ ending plan a one ≡ same ++ ending plan b other) × (exit_status a one ≡ exit_status b other)
 same_ending plan told same a b one other parts lasts founds = (
@@ -87,7 +87,7 @@ judged_once plan log parts others code other first second =
     let same = same_ending plan first.told second.told first.last second.last first.found second.found so_far.1 so_far.0 founds in
     (first.composed ∙ same.0 ∙ sym second.composed, first.status ∙ same.1 ∙ sym second.status)
 
--- what a log's first lines tell is told first of all that is told of its run
+-- what a log's first lines report is reported first of all that is reported of its run
 pub first_lines_first : (plan : Plan) (log : List Item) (front : List (List ℕ)) (rest : List Item) (last : State) (parts whole : List Part) (code : ℕ)
     → log ≡ map Line front ++ rest → SoFar plan front last parts → Judged plan log whole code → (more : List Part) × (whole ≡ parts ++ more)
 first_lines_first plan log front rest last parts whole code is so_far judged =
@@ -139,8 +139,8 @@ begun_first answer inputs log parts whole code (inr (inl (front, (rest, (is, (pl
 begun_first answer inputs log parts whole code (inr (inr (other, begun))) composed =
     ([], (composed_once answer inputs log whole parts code other composed begun).0 ∙ sym (append-nil parts))
 
-pub told_first : ToldFirst
-told_first answer inputs log parts front rest whole code told text begun parted_at is composed is_whole =
+pub nothing_taken_back : NothingTakenBack
+nothing_taken_back answer inputs log parts front rest whole code told text begun parted_at is composed is_whole =
     let behind = begun_first answer inputs log parts whole code begun composed in
     early_text front (rest ++ behind.0) told text is
     (subst (λ (p : List Part). IsText p text) (behind.1 ∙ ap (λ (p : List Part). p ++ behind.0) parted_at ∙ append_assoc front rest behind.0) is_whole)

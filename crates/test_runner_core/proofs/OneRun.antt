@@ -17,7 +17,7 @@ use Rattle.test_runner_core_session.specs.Session.{run_plan}
 use Rattle.test_runner_core_reporter.specs.Opening.{opening}
 use Rattle.test_runner_core_reporter.specs.Parts.{Part}
 use Rattle.test_runner_core_reporter.specs.Steps.{parts_after, progress}
-use Rattle.test_runner_core.specs.Judging.{Finds, Leads, Refuses, TellsEvents, event_of}
+use Rattle.test_runner_core.specs.Judging.{Finds, Leads, Refuses, SpellEvents, event_of}
 use Rattle.test_runner_core.specs.Report.{SoFar}
 use Rattle.test_runner_core.specs.declared.refused_line.LineRefusal.{LineRefusal}
 use Rattle.test_runner_core.specs.declared.refused_line.LineRefusal.TheVariants as refused
@@ -35,8 +35,8 @@ never_ok_and_err to_x to_y = absurd (let e = sym to_x ∙ to_y in cc)
 
 -- ---- lines
 
--- lines tell one list of events
-pub tells_once : (plan : Plan) (front : List (List ℕ)) (one other : List Event) → TellsEvents plan front one → TellsEvents plan front other → one ≡ other
+-- lines report one list of events
+pub tells_once : (plan : Plan) (front : List (List ℕ)) (one other : List Event) → SpellEvents plan front one → SpellEvents plan front other → one ≡ other
 tells_once plan [] [] [] first second = refl
 tells_once plan [] [] (event ∷ told) first second = absurd second
 tells_once plan [] (event ∷ told) other first second = absurd first
@@ -61,7 +61,7 @@ leads_once plan front one other a b first second =
       run_once (initial (run_plan plan)) a b one first.run (subst (λ (told : List Event). Run (initial (run_plan plan)) told b) (sym same) second.run),
     )
 
--- so lines tell one progress
+-- so lines report one progress
 pub so_far_once : (plan : Plan) (front : List (List ℕ)) (a b : State) (one other : List Part) → SoFar plan front a one → SoFar plan front b other
     → (a ≡ b) × (one ≡ other)
 so_far_once plan front a b one other first second =
@@ -134,13 +134,13 @@ same_rest (bytes ∷ front) one other whole = same_rest front one other (let e =
 
 -- no line is taken that is the first refused one
 not_taken : (plan : Plan) (state b : State) (number : ℕ) (rest : List Item) (found : Option RefusedLine) (bytes : List ℕ) (more : List (List ℕ)) (behind : List Item) (told : List Event)
-    → rest ≡ Line bytes ∷ behind → Finds plan state number rest found → TellsEvents plan (bytes ∷ more) told → Run state told b → ⊥
-not_taken plan state b number rest found bytes more behind told is finds tells run =
-    by_line tells run (subst (λ (items : List Item). Finds plan state number items found) is finds)
+    → rest ≡ Line bytes ∷ behind → Finds plan state number rest found → SpellEvents plan (bytes ∷ more) told → Run state told b → ⊥
+not_taken plan state b number rest found bytes more behind told is finds writes run =
+    by_line writes run (subst (λ (items : List Item). Finds plan state number items found) is finds)
   where
-    by_line : TellsEvents plan (bytes ∷ more) told → Run state told b → Finds plan state number (Line bytes ∷ behind) found → ⊥
-    by_line (inl (empty, tells)) run (refusal, refuses, is) = refuses_some plan state bytes refusal refuses empty
-    by_line (inr (line, spells, (late, is_told, tells))) run (refusal, refuses, is) =
+    by_line : SpellEvents plan (bytes ∷ more) told → Run state told b → Finds plan state number (Line bytes ∷ behind) found → ⊥
+    by_line (inl (empty, writes)) run (refusal, refuses, is) = refuses_some plan state bytes refusal refuses empty
+    by_line (inr (line, spells, (late, is_told, writes))) run (refusal, refuses, is) =
         let run_late = subst (λ (events : List Event). Run state events b) is_told run in
         never_both plan state run_late.0 bytes line refusal refuses spells run_late.1
 
@@ -148,19 +148,19 @@ not_taken plan state b number rest found bytes more behind told is finds tells r
 record GoOn (plan : Plan) (a b : State) (front early : List (List ℕ)) : Type 0 where
   mid : State
   late : List Event
-  tells : TellsEvents plan front late
+  writes : SpellEvents plan front late
   run : Run mid late a
   late_other : List Event
-  tells_other : TellsEvents plan early late_other
+  tells_other : SpellEvents plan early late_other
   run_other : Run mid late_other b
 
 go_on : (plan : Plan) (state a b : State) (line : List ℕ) (front early : List (List ℕ)) (one other : List Event)
-    → TellsEvents plan (line ∷ front) one → Run state one a → TellsEvents plan (line ∷ early) other → Run state other b → GoOn plan a b front early
-go_on plan state a b line front early one other (inl (empty, tells)) run (inl (also, tells_other)) run_other =
-    record { mid = state; late = one; tells = tells; run = run; late_other = other; tells_other = tells_other; run_other = run_other }
-go_on plan state a b line front early one other (inl (empty, tells)) run (inr (spelled, spells, tells_other)) run_other = absurd (nothing_empty spelled line empty spells)
-go_on plan state a b line front early one other (inr (spelled, spells, tells)) run (inl (empty, tells_other)) run_other = absurd (nothing_empty spelled line empty spells)
-go_on plan state a b line front early one other (inr (spelled, spells, (late, is, tells))) run (inr (again, spells_again, (late_other, also, tells_other))) run_other =
+    → SpellEvents plan (line ∷ front) one → Run state one a → SpellEvents plan (line ∷ early) other → Run state other b → GoOn plan a b front early
+go_on plan state a b line front early one other (inl (empty, writes)) run (inl (also, tells_other)) run_other =
+    record { mid = state; late = one; writes = writes; run = run; late_other = other; tells_other = tells_other; run_other = run_other }
+go_on plan state a b line front early one other (inl (empty, writes)) run (inr (spelled, spells, tells_other)) run_other = absurd (nothing_empty spelled line empty spells)
+go_on plan state a b line front early one other (inr (spelled, spells, writes)) run (inl (empty, tells_other)) run_other = absurd (nothing_empty spelled line empty spells)
+go_on plan state a b line front early one other (inr (spelled, spells, (late, is, writes))) run (inr (again, spells_again, (late_other, also, tells_other))) run_other =
     let run_late = subst (λ (events : List Event). Run state events a) is run in
     let run_again = subst (λ (events : List Event). Run state events b) also run_other in
     let taken : step state (event_of plan spelled) ≡ Ok run_again.0 =
@@ -168,7 +168,7 @@ go_on plan state a b line front early one other (inr (spelled, spells, (late, is
     record {
       mid = run_late.0;
       late = late;
-      tells = tells;
+      writes = writes;
       run = run_late.2;
       late_other = late_other;
       tells_other = tells_other;
@@ -180,17 +180,17 @@ one_more line bytes front lines same rest = ap (λ (l : List ℕ). l ∷ front) 
 
 -- lines that lead a run on stand before the first refused line
 pub stands_before : (plan : Plan) (state a b : State) (number : ℕ) (rest behind : List Item) (found : Option RefusedLine) (front early : List (List ℕ)) (one other : List Event)
-    → map Line front ++ rest ≡ map Line early ++ behind → TellsEvents plan front one → Run state one a → Finds plan a number rest found
-    → TellsEvents plan early other → Run state other b → (more : List (List ℕ)) × (front ≡ early ++ more)
-stands_before plan state a b number rest behind found front [] one other whole tells run finds tells_other run_other = (front, refl)
-stands_before plan state a b number rest behind found [] (bytes ∷ early) [] other whole tells run finds tells_other run_other =
+    → map Line front ++ rest ≡ map Line early ++ behind → SpellEvents plan front one → Run state one a → Finds plan a number rest found
+    → SpellEvents plan early other → Run state other b → (more : List (List ℕ)) × (front ≡ early ++ more)
+stands_before plan state a b number rest behind found front [] one other whole writes run finds tells_other run_other = (front, refl)
+stands_before plan state a b number rest behind found [] (bytes ∷ early) [] other whole writes run finds tells_other run_other =
     absurd (not_taken plan state b number rest found bytes early (map Line early ++ behind) other whole (subst (λ (s : State). Finds plan s number rest found) run finds) tells_other run_other)
-stands_before plan state a b number rest behind found [] (bytes ∷ early) (event ∷ told) other whole tells run finds tells_other run_other = absurd tells
-stands_before plan state a b number rest behind found (line ∷ front) (bytes ∷ early) one other whole tells run finds tells_other run_other =
+stands_before plan state a b number rest behind found [] (bytes ∷ early) (event ∷ told) other whole writes run finds tells_other run_other = absurd writes
+stands_before plan state a b number rest behind found (line ∷ front) (bytes ∷ early) one other whole writes run finds tells_other run_other =
     let same : bytes ≡ line = (let e = whole in cc) in
     let rests : map Line front ++ rest ≡ map Line early ++ behind = (let e = whole in cc) in
-    let on = go_on plan state a b line front early one other tells run (subst (λ (l : List ℕ). TellsEvents plan (l ∷ early) other) same tells_other) run_other in
-    let there = stands_before plan on.mid a b number rest behind found front early on.late on.late_other rests on.tells on.run finds on.tells_other on.run_other in
+    let on = go_on plan state a b line front early one other writes run (subst (λ (l : List ℕ). SpellEvents plan (l ∷ early) other) same tells_other) run_other in
+    let there = stands_before plan on.mid a b number rest behind found front early on.late on.late_other rests on.writes on.run finds on.tells_other on.run_other in
     (there.0, one_more line bytes front (early ++ there.0) same there.1)
 
 -- where each of two fronts has the other in front of it, they are the same
@@ -207,28 +207,28 @@ fronts_same one other more behind first second =
 
 -- ---- fronts of a run
 
--- the events that the first of these lines tell come first
+-- the events that the first of these lines report come first
 record TellsEarly (plan : Plan) (front : List (List ℕ)) (told : List Event) : Type 0 where
   early : List Event
   late : List Event
   whole : told ≡ early ++ late
-  tells : TellsEvents plan front early
+  writes : SpellEvents plan front early
 
-early_events : (plan : Plan) (front more : List (List ℕ)) (told : List Event) → TellsEvents plan (front ++ more) told → TellsEarly plan front told
-early_events plan [] more told tells = record { early = []; late = told; whole = refl; tells = tt }
-early_events plan (bytes ∷ front) more told (inl (empty, tells)) =
-    let there = early_events plan front more told tells in
-    record { early = there.early; late = there.late; whole = there.whole; tells = inl (empty, there.tells) }
-early_events plan (bytes ∷ front) more told (inr (line, spells, (rest, is, tells))) =
-    let there = early_events plan front more rest tells in
+early_events : (plan : Plan) (front more : List (List ℕ)) (told : List Event) → SpellEvents plan (front ++ more) told → TellsEarly plan front told
+early_events plan [] more told writes = record { early = []; late = told; whole = refl; writes = tt }
+early_events plan (bytes ∷ front) more told (inl (empty, writes)) =
+    let there = early_events plan front more told writes in
+    record { early = there.early; late = there.late; whole = there.whole; writes = inl (empty, there.writes) }
+early_events plan (bytes ∷ front) more told (inr (line, spells, (rest, is, writes))) =
+    let there = early_events plan front more rest writes in
     record {
       early = event_of plan line ∷ there.early;
       late = there.late;
       whole = is ∙ ap (λ (events : List Event). event_of plan line ∷ events) there.whole;
-      tells = inr (line, spells, (there.early, refl, there.tells));
+      writes = inr (line, spells, (there.early, refl, there.writes));
     }
 
--- what the first events tell comes first
+-- what the first events report comes first
 early_progress : (plan : Plan) (early late : List Event) (state : Result State StepRefusal)
     → (more : List Part) × (progress plan state (early ++ late) ≡ progress plan state early ++ more)
 early_progress plan early late (Err refusal) = ([], refl)
@@ -240,12 +240,12 @@ early_progress plan (event ∷ early) late (Ok state) =
           ∙ sym (append_assoc (parts_after plan event state (step state event)) (progress plan (step state event) early) there.0),
     )
 
--- what the first lines tell comes first
+-- what the first lines report comes first
 pub early_parts : (plan : Plan) (front more : List (List ℕ)) (a b : State) (parts whole : List Part) → SoFar plan front a parts → SoFar plan (front ++ more) b whole
     → (behind : List Part) × (whole ≡ parts ++ behind)
 early_parts plan front more a b parts whole so_far to_end =
     let early = early_events plan front more to_end.events to_end.leads.events in
-    let same : early.early ≡ so_far.events = tells_once plan front early.early so_far.events early.tells so_far.leads.events in
+    let same : early.early ≡ so_far.events = tells_once plan front early.early so_far.events early.writes so_far.leads.events in
     let begin : Result State StepRefusal = Ok (initial (run_plan plan)) in
     let behind = early_progress plan early.early early.late begin in (
       behind.0,

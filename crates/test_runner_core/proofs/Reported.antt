@@ -1,4 +1,4 @@
--- From what was told, to what a call of `judge` reports.
+-- From what was reported, to what a call of `judge` reports.
 use Rattle.std.proofs.Common.{◌≡◌, ℕ, Bool, true, false, List, [], ◌++◌, Option, Some, None, IfSome, Result, Ok, Err, refl, sym, ap, ◌∙◌, subst, inl, inr, append-nil}
 use Rattle.std.specs.Io.KnownBytes.{Appends}
 use Rattle.std.specs.Result.{IsErrAnd}
@@ -16,36 +16,36 @@ use Rattle.test_runner_core_planning.specs.Texts.{status_of}
 use Rattle.test_runner_core_plan.specs.declared.plan.Plan.{Plan}
 use Rattle.test_runner_core_planning.specs.declared.plan_fault.PlanFault.{PlanFault}
 use Rattle.test_runner_core_reporter.specs.Parts.{Part}
-use Rattle.test_runner_core_reporter.specs.Telling.{TellsAll, TellsFront}
-use Rattle.test_runner_core_reporter.specs.declared.fault.TellFault.{TellFault}
-use Rattle.test_runner_core_reporter.specs.declared.fault.TellFault.TheVariants as untold
+use Rattle.test_runner_core_reporter.specs.Writes.{WritesAll, WritesPrefix}
+use Rattle.test_runner_core_reporter.specs.declared.fault.ReportFault.{ReportFault}
+use Rattle.test_runner_core_reporter.specs.declared.fault.ReportFault.TheVariants as untold
 use Rattle.test_runner_core_workspace.specs.Lister.{Answer}
 use Rattle.test_runner_core_workspace.specs.declared.record.Binary.{Binary}
-use Rattle.test_runner_core.specs.Faults.{fault_of_telling, lacks_memory}
+use Rattle.test_runner_core.specs.Faults.{fault_of_reporting, lacks_memory}
 use Rattle.test_runner_core.specs.Inside.{IsBegun, IsGot, IsGotOf, IsJudged}
-use Rattle.test_runner_core.specs.Report.{Begun, Composed, GotTo, IsWritten, Reports, TellsSoFar, refused_plan}
+use Rattle.test_runner_core.specs.Report.{Begun, Composed, GotTo, IsWritten, Reports, HasSoFar, refused_plan}
 use Rattle.test_runner_core.specs.declared.judge_fault.JudgeFault.{JudgeFault}
 use Rattle.test_runner_core.specs.declared.judge_fault.JudgeFault.TheVariants as fault
 
--- what is told and doesn't wait is written
-pub all_is_written : (parts : List Part) (before after : Option (List ℕ)) → TellsAll parts before [] after [] → IsWritten parts before after
+-- what is reported and doesn't wait is written
+pub all_is_written : (parts : List Part) (before after : Option (List ℕ)) → WritesAll parts before [] after [] → IsWritten parts before after
 all_is_written parts before after told =
     (told.told, told.text, subst (λ (t : List ℕ). Appends before after t) (sym (append-nil told.moved.written) ∙ told.moved.whole) told.moved.taken)
 
--- a report that is told
+-- a report that is reported
 pub reports_told : (code : ℕ) (parts : List Part) (IsReport : List Part → ℕ → Type 0) (IsHad IsStarted : List Part → Type 0) (before after : Option (List ℕ))
-    → IsReport parts code → TellsAll parts before [] after [] → Reports (Ok code) IsReport IsHad IsStarted before after
+    → IsReport parts code → WritesAll parts before [] after [] → Reports (Ok code) IsReport IsHad IsStarted before after
 reports_told code parts IsReport IsHad IsStarted before after is told = (parts, is, all_is_written parts before after told)
 
--- one that is told in part
-pub reports_front : (result : Result ℕ JudgeFault) (cause : TellFault) (parts : List Part) (IsReport : List Part → ℕ → Type 0) (IsHad IsStarted : List Part → Type 0) (before after : Option (List ℕ))
-    → IsErrAnd result (λ gives. gives ≡ fault_of_telling cause) → IsStarted parts → TellsFront parts before [] after → Reports result IsReport IsHad IsStarted before after
+-- one that is reported in part
+pub reports_front : (result : Result ℕ JudgeFault) (cause : ReportFault) (parts : List Part) (IsReport : List Part → ℕ → Type 0) (IsHad IsStarted : List Part → Type 0) (before after : Option (List ℕ))
+    → IsErrAnd result (λ gives. gives ≡ fault_of_reporting cause) → IsStarted parts → WritesPrefix parts before [] after → Reports result IsReport IsHad IsStarted before after
 reports_front result cause parts IsReport IsHad IsStarted before after is started front =
     let gives = err_from_is_err_and result is in
     subst (λ (r : Result ℕ JudgeFault). Reports r IsReport IsHad IsStarted before after) (sym gives.1)
     (subst (λ (f : JudgeFault). Reports (Err f) IsReport IsHad IsStarted before after) (sym gives.2) (by_cause cause))
   where
-    by_cause : (c : TellFault) → Reports (Err (fault_of_telling c)) IsReport IsHad IsStarted before after
+    by_cause : (c : ReportFault) → Reports (Err (fault_of_reporting c)) IsReport IsHad IsStarted before after
     by_cause untold.Memory = (parts, started, front)
     by_cause (untold.Write error) = (parts, started, front)
 
@@ -72,17 +72,17 @@ begun_of answer inputs plan begin (Some bytes) built parts (inr (inl (front, (re
 begun_of answer inputs plan begin (Some bytes) built parts (inr (inr (code, judged))) = inr (inr (code, inr (plan, built, judged)))
 
 pub got_of : (answer : Binary → Answer) (inputs : Inputs) (plan : Plan) (begin : Cursor) (known left : Option (List ℕ)) → Builds answer inputs (Ok plan) → (parts : List Part) → IsGot plan begin known left parts
-    → (front : List (List ℕ)) × IsGotOf begin known left front × TellsSoFar answer inputs front parts
+    → (front : List (List ℕ)) × IsGotOf begin known left front × HasSoFar answer inputs front parts
 got_of answer inputs plan begin known left built parts (front, got, (last, so_far)) = (front, got, (plan, built, (last, so_far)))
 
 -- what was got of a log from its beginning
 pub got_from_beginning : (answer : Binary → Answer) (inputs : Inputs) (begin : Cursor) (known left : Option (List ℕ)) → begin ≡ record { line = []; waiting = []; handed = 0 } → (parts : List Part)
-    → (front : List (List ℕ)) × IsGotOf begin known left front × TellsSoFar answer inputs front parts
+    → (front : List (List ℕ)) × IsGotOf begin known left front × HasSoFar answer inputs front parts
     → IfSome known (λ bytes. IfSome left (λ rest. GotTo answer inputs bytes rest parts))
 got_from_beginning answer inputs begin None left fresh parts had = tt
 got_from_beginning answer inputs begin (Some bytes) None fresh parts had = tt
 got_from_beginning answer inputs begin (Some bytes) (Some rest) fresh parts (front, got, told) =
-    (got.0, ap (λ (c : Cursor). c.waiting ++ bytes) (sym fresh) ∙ got.1, subst (λ (lines : List (List ℕ)). TellsSoFar answer inputs lines parts) (sym got.2) told)
+    (got.0, ap (λ (c : Cursor). c.waiting ++ bytes) (sym fresh) ∙ got.1, subst (λ (lines : List (List ℕ)). HasSoFar answer inputs lines parts) (sym got.2) told)
 
 -- inputs that have no plan
 pub refused_composed : (answer : Binary → Answer) (inputs : Inputs) (refusal : PlanFault) (log : List Item) (code : ℕ) → Plans answer inputs (Err refusal) → code ≡ status_of refusal

@@ -24,7 +24,7 @@ use Rattle.test_runner_core_reporter.specs.Steps.{progress}
 use Rattle.test_runner_core_reporter.proofs.Texts.{some_text}
 use Rattle.test_runner_core_workspace.specs.Lister.{Answer}
 use Rattle.test_runner_core_workspace.specs.declared.record.Binary.{Binary}
-use Rattle.test_runner_core.specs.Judging.{Finds, Refuses, TellsEvents, event_of, refusal_of}
+use Rattle.test_runner_core.specs.Judging.{Finds, Refuses, SpellEvents, event_of, refusal_of}
 use Rattle.test_runner_core.specs.Laws.{EndsWithSomeText}
 use Rattle.test_runner_core.specs.Report.{Composed, Judged, ending, exit_status, refused_plan}
 use Rattle.test_runner_core.specs.declared.refused_line.LineRefusal.{LineRefusal}
@@ -39,7 +39,7 @@ record Walked (plan : Plan) (state : State) (number : ℕ) (log : List Item) : T
   whole : log ≡ map Line front ++ rest
   events : List Event
   last : State
-  tells : TellsEvents plan front events
+  writes : SpellEvents plan front events
   run : Run state events last
   found : Option RefusedLine
   finds : Finds plan last (number + length front) rest found
@@ -53,7 +53,7 @@ module _ (plan : Plan) where
     whole = refl;
     events = [];
     last = state;
-    tells = tt;
+    writes = tt;
     run = refl;
     found = found;
     finds = subst (λ (n : ℕ). Finds plan state n log found) {x = number} {y = number + 0} (omega arith) finds;
@@ -63,15 +63,15 @@ module _ (plan : Plan) where
   refuses state number bytes more refusal is = stops state number (Line bytes ∷ more) (Some (record { line = number; refusal = refusal })) (refusal, is, refl)
 
   -- behind one line more
-  onward : (state mid : State) (number : ℕ) (bytes : List ℕ) (more : List Item) (it : Walked plan mid (number + 1) more) (events : List Event) → TellsEvents plan (bytes ∷ it.front) events → Run state events it.last
+  onward : (state mid : State) (number : ℕ) (bytes : List ℕ) (more : List Item) (it : Walked plan mid (number + 1) more) (events : List Event) → SpellEvents plan (bytes ∷ it.front) events → Run state events it.last
       → Walked plan state number (Line bytes ∷ more)
-  onward state mid number bytes more it events tells run = record {
+  onward state mid number bytes more it events writes run = record {
     front = bytes ∷ it.front;
     rest = it.rest;
     whole = ap (λ (items : List Item). Line bytes ∷ items) it.whole;
     events = events;
     last = it.last;
-    tells = tells;
+    writes = writes;
     run = run;
     found = it.found;
     finds = subst (λ (n : ℕ). Finds plan it.last n it.rest it.found) {x = number + 1 + length it.front} {y = number + length (bytes ∷ it.front)} (omega arith) it.finds;
@@ -80,10 +80,10 @@ module _ (plan : Plan) where
   walk : (log : List Item) (state : State) (number : ℕ) → ¬ ¬ Walked plan state number log
   walk [] state number never = never (stops state number [] None refl)
   walk (Refused fault ∷ more) state number never = never (stops state number (Refused fault ∷ more) (Some (record { line = number; refusal = refusal_of fault })) refl)
-  walk (Line [] ∷ more) state number never = walk more state (number + 1) (λ it. never (onward state state number [] more it it.events (inl (refl, it.tells)) it.run))
+  walk (Line [] ∷ more) state number never = walk more state (number + 1) (λ it. never (onward state state number [] more it it.events (inl (refl, it.writes)) it.run))
   walk (Line (byte ∷ bytes) ∷ more) state number never =
       either_way ((line : LogLine) × Spells line (byte ∷ bytes)) (by_line (λ line spells mid is. walk more mid (number + 1) (λ it.
-      never (onward state mid number (byte ∷ bytes) more it (event_of plan line ∷ it.events) (inr (line, spells, (it.events, refl, it.tells))) (mid, is, it.run)))))
+      never (onward state mid number (byte ∷ bytes) more it (event_of plan line ∷ it.events) (inr (line, spells, (it.events, refl, it.writes))) (mid, is, it.run)))))
     where
       by_step : (line : LogLine) → Spells line (byte ∷ bytes) → ((mid : State) → step state (event_of plan line) ≡ Ok mid → ⊥) → (given : Result State StepRefusal) → step state (event_of plan line) ≡ given → ⊥
       by_step line spells goes_on (Ok mid) e = goes_on mid e
@@ -108,7 +108,7 @@ judged_of plan log it = record {
   whole = it.whole;
   last = it.last;
   told = opening plan ++ progress plan (Ok (initial (run_plan plan))) it.events;
-  so_far = record { events = it.events; leads = record { events = it.tells; run = it.run }; told = refl };
+  so_far = record { events = it.events; leads = record { events = it.writes; run = it.run }; told = refl };
   found = it.found;
   finds = subst (λ (n : ℕ). Finds plan it.last n it.rest it.found) {x = 1 + length it.front} {y = length it.front + 1} (omega arith) it.finds;
   composed = refl;

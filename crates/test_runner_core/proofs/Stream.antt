@@ -21,7 +21,7 @@ use Rattle.test_runner_core.specs.Faults.{fault_of}
 use Rattle.test_runner_core.specs.Inside.{IsGotOf}
 use Rattle.test_runner_core.specs.declared.judge_fault.JudgeFault.{JudgeFault}
 use Rattle.test_runner_core.specs.Outcome.{HasNoPlan, LineBegun, LineComposed, StreamBegun, StreamComposed, StreamGotTo, table_of}
-use Rattle.test_runner_core.specs.Report.{Begun, Composed, Reports, TellsSoFar, refused_inputs}
+use Rattle.test_runner_core.specs.Report.{Begun, Composed, Reports, HasSoFar, refused_inputs}
 
 -- what a stream is, where its first line was read
 log_behind : (bytes behind : List ℕ) (lines : Cursor) → PartsAtFirst bytes (Some lines) (Some behind) → lines.handed ≡ 0 → items_ahead lines behind ≡ items 0 (behind_feed bytes)
@@ -51,15 +51,15 @@ both_none (byte ∷ one) other none = absurd (cc)
 
 -- what was got of a stream behind its first line
 pub stream_got : (inputs : Inputs) (left rest last : Option (List ℕ)) (lines : Cursor) → IfSome left (λ bytes. PartsAtFirst bytes (Some lines) rest) → read_inputs lines.line ≡ Ok inputs
-    → (parts : List Part) → (front : List (List ℕ)) × IsGotOf lines rest last front × TellsSoFar (table_of inputs) inputs front parts
+    → (parts : List Part) → (front : List (List ℕ)) × IsGotOf lines rest last front × HasSoFar (table_of inputs) inputs front parts
     → IfSome left (λ bytes. IfSome last (λ behind. StreamGotTo bytes behind parts))
 stream_got inputs None rest last lines at read parts had = tt
 stream_got inputs (Some bytes) rest None lines at read parts had = tt
 stream_got inputs (Some bytes) None (Some behind) lines at read parts had = absurd at
 stream_got inputs (Some bytes) (Some log) (Some behind) lines at read parts (front, got, told) = by_feed (divides bytes)
   where
-    tells : TellsSoFar (table_of inputs) inputs (whole_lines got.0) parts
-    tells = subst (λ (lines : List (List ℕ)). TellsSoFar (table_of inputs) inputs lines parts) (sym got.2) told
+    writes : HasSoFar (table_of inputs) inputs (whole_lines got.0) parts
+    writes = subst (λ (lines : List (List ℕ)). HasSoFar (table_of inputs) inputs lines parts) (sym got.2) told
 
     log_is : got.0 ++ behind ≡ behind_feed bytes
     log_is = sym got.1 ∙ at.2
@@ -70,7 +70,7 @@ stream_got inputs (Some bytes) (Some log) (Some behind) lines at read parts (fro
         let nothing = both_none got.0 behind empty in (
           bytes,
           sym (append-nil bytes) ∙ ap (λ (t : List ℕ). bytes ++ t) (sym nothing.1),
-          inr (inputs, ap read_inputs (sym at.0) ∙ read, subst (λ (t : List ℕ). TellsSoFar (table_of inputs) inputs (whole_lines t) parts) (nothing.0 ∙ sym none) tells),
+          inr (inputs, ap read_inputs (sym at.0) ∙ read, subst (λ (t : List ℕ). HasSoFar (table_of inputs) inputs (whole_lines t) parts) (nothing.0 ∙ sym none) writes),
         )
     by_feed (inr (plain, whole)) =
         let first = before_feed bytes in (
@@ -79,7 +79,7 @@ stream_got inputs (Some bytes) (Some log) (Some behind) lines at read parts (fro
           inr (
             inputs,
             ap read_inputs (before_line first got.0 plain ∙ sym at.0) ∙ read,
-            subst (λ (t : List ℕ). TellsSoFar (table_of inputs) inputs (whole_lines t) parts) (sym (behind_line first got.0 plain)) tells,
+            subst (λ (t : List ℕ). HasSoFar (table_of inputs) inputs (whole_lines t) parts) (sym (behind_line first got.0 plain)) writes,
           ),
         )
 
@@ -95,7 +95,7 @@ refused_parts refusal None rest lines at read = tt
 refused_parts refusal (Some bytes) None lines at read = absurd at
 refused_parts refusal (Some bytes) (Some behind) lines at read = ap read_inputs (sym at.0) ∙ read
 
--- where the first line can't be got, or there is no memory for it, nothing is told
+-- where the first line can't be got, or there is no memory for it, nothing is reported
 pub got_nothing : (left rest : Option (List ℕ)) → GetsPlain left rest → IfSome left (λ bytes. IfSome rest (λ behind. StreamGotTo bytes behind []))
 got_nothing None rest plain = tt
 got_nothing (Some bytes) None plain = tt

@@ -18,11 +18,11 @@ use Rattle.test_runner_core_session.specs.Session.{SessionState, run_plan}
 use Rattle.test_runner_core_reporter.specs.Opening.{opening}
 use Rattle.test_runner_core_reporter.specs.Parts.{Part}
 use Rattle.test_runner_core_reporter.specs.Steps.{step_parts}
-use Rattle.test_runner_core_reporter.specs.Telling.{MovesOn, TellsAll, TellsFront}
-use Rattle.test_runner_core_reporter.specs.declared.fault.TellFault.{TellFault}
-use Rattle.test_runner_core_reporter.specs.declared.fault.TellFault.TheVariants as untold
+use Rattle.test_runner_core_reporter.specs.Writes.{MovesOn, WritesAll, WritesPrefix}
+use Rattle.test_runner_core_reporter.specs.declared.fault.ReportFault.{ReportFault}
+use Rattle.test_runner_core_reporter.specs.declared.fault.ReportFault.TheVariants as untold
 use Rattle.test_runner_core_reporter.proofs.Told.{all_then, front_then, moves_then}
-use Rattle.test_runner_core.specs.Faults.{fault_of_telling}
+use Rattle.test_runner_core.specs.Faults.{fault_of_reporting}
 use Rattle.test_runner_core.specs.Inside.{BegunLines, GotLines, HandsNext, IsGotOf, IsLogOf, JudgedLines, JudgesLine, JudgesLines}
 use Rattle.test_runner_core.specs.declared.judge_fault.JudgeFault.{JudgeFault}
 use Rattle.test_runner_core.specs.declared.judge_fault.JudgeFault.TheVariants as fault
@@ -42,13 +42,13 @@ pub nothing_ahead : (begin : Cursor) (known : Option (List ℕ)) → LeavesAhead
 nothing_ahead begin None = tt
 nothing_ahead begin (Some log) = refl
 
--- where the judging of a log is: these lines are judged, and what they tell is told
+-- where the judging of a log is: these lines are judged, and what they report is reported
 pub record Where (plan : Plan) (begin : Cursor) (known before : Option (List ℕ)) (session : SessionState) (cursor : Cursor) (left after : Option (List ℕ)) (waits : List ℕ) (number : ℕ) : Type 0 where
   pub front : List (List ℕ)
   pub parts : List Part
   pub planned : session.plan ≡ plan
   pub so_far : SoFar plan front session.run parts
-  pub told : TellsAll parts before [] after waits
+  pub told : WritesAll parts before [] after waits
   pub items : LeavesAhead begin known front cursor left
   pub bytes : TakesLines begin known front cursor left
   pub numbered : number ≡ length front + 1
@@ -114,14 +114,14 @@ log_somewhere begin cursor None left front ahead = tt
 log_somewhere begin cursor (Some log) None front ahead = absurd ahead
 log_somewhere begin cursor (Some log) (Some left) front ahead = ahead
 
--- the opening of a plan is told, where nothing waited before
-pub told_from_nothing : (plan lent : Plan) (before after : Option (List ℕ)) (waited waits : List ℕ) → lent ≡ plan → waited ≡ [] → TellsAll (opening lent) before waited after waits
-    → TellsAll (opening plan) before [] after waits
+-- the opening of a plan is reported, where nothing waited before
+pub told_from_nothing : (plan lent : Plan) (before after : Option (List ℕ)) (waited waits : List ℕ) → lent ≡ plan → waited ≡ [] → WritesAll (opening lent) before waited after waits
+    → WritesAll (opening plan) before [] after waits
 told_from_nothing plan lent before after waited waits same none told =
-    subst (λ (p : Plan). TellsAll (opening p) before [] after waits) same (subst (λ (w : List ℕ). TellsAll (opening lent) before w after waits) none told)
+    subst (λ (p : Plan). WritesAll (opening p) before [] after waits) same (subst (λ (w : List ℕ). WritesAll (opening lent) before w after waits) none told)
 
--- or it fails to be told
-pub opening_failed : (plan lent : Plan) (begin : Cursor) (known before after : Option (List ℕ)) (waited : List ℕ) → lent ≡ plan → waited ≡ [] → TellsFront (opening lent) before waited after
+-- or it fails to be reported
+pub opening_failed : (plan lent : Plan) (begin : Cursor) (known before after : Option (List ℕ)) (waited : List ℕ) → lent ≡ plan → waited ≡ [] → WritesPrefix (opening lent) before waited after
     → BegunLines plan begin known before after
 opening_failed plan lent begin known before after waited same none failed =
     record {
@@ -131,18 +131,18 @@ opening_failed plan lent begin known before after waited same none failed =
       last = initial (run_plan plan);
       parts = opening plan;
       so_far = so_far_none plan;
-      told = subst (λ (p : Plan). TellsFront (opening p) before [] after) same (subst (λ (w : List ℕ). TellsFront (opening lent) before w after) none failed);
+      told = subst (λ (p : Plan). WritesPrefix (opening p) before [] after) same (subst (λ (w : List ℕ). WritesPrefix (opening lent) before w after) none failed);
     }
 
--- told so far, and nothing more
-told_still : (parts : List Part) (before middle after : Option (List ℕ)) (mid waits : List ℕ) → TellsAll parts before [] middle mid → TellsAll [] middle mid after waits → TellsAll parts before [] after waits
+-- reported so far, and nothing more
+told_still : (parts : List Part) (before middle after : Option (List ℕ)) (mid waits : List ℕ) → WritesAll parts before [] middle mid → WritesAll [] middle mid after waits → WritesAll parts before [] after waits
 told_still parts before middle after mid waits first second =
-    subst (λ (p : List Part). TellsAll p before [] after waits) (append-nil parts) (all_then parts [] before middle after [] mid waits first second)
+    subst (λ (p : List Part). WritesAll p before [] after waits) (append-nil parts) (all_then parts [] before middle after [] mid waits first second)
 
 -- behind a line that is accepted
 pub line_accepted : (plan : Plan) (begin : Cursor) (known before : Option (List ℕ)) (old new : SessionState) (cursor next : Cursor) (left rest middle later after : Option (List ℕ)) (mid later_waits waits : List ℕ) (number : ℕ)
     → Where plan begin known before old cursor left middle mid number → Hands cursor left next rest (Ok found_is.Line) → HandsAhead cursor left next rest (Ok found_is.Line)
-    → TellsAll [] middle mid later later_waits → JudgesLine (Ok None) old next.line new later later_waits after waits
+    → WritesAll [] middle mid later later_waits → JudgesLine (Ok None) old next.line new later later_waits after waits
     → Where plan begin known before new next rest after waits (number + 1)
 line_accepted plan begin known before old new cursor next left rest middle later after mid later_waits waits number here hands ahead still (inl (empty, same, nothing)) =
     record {
@@ -172,7 +172,7 @@ line_accepted plan begin known before old new cursor next left rest middle later
 -- at a line that is refused
 pub line_refused : (plan : Plan) (begin : Cursor) (known before : Option (List ℕ)) (old new : SessionState) (cursor next : Cursor) (left rest middle later after : Option (List ℕ)) (mid later_waits waits : List ℕ) (number : ℕ) (refusal : LineRefusal)
     → Where plan begin known before old cursor left middle mid number → Hands cursor left next rest (Ok found_is.Line)
-    → TellsAll [] middle mid later later_waits → JudgesLine (Ok (Some refusal)) old next.line new later later_waits after waits
+    → WritesAll [] middle mid later later_waits → JudgesLine (Ok (Some refusal)) old next.line new later later_waits after waits
     → JudgedLines plan new.run (Some (record { line = number; refusal = refusal })) begin known before after waits
 line_refused plan begin known before old new cursor next left rest middle later after mid later_waits waits number refusal here hands still (refuses, same, nothing) =
     record {
@@ -191,7 +191,7 @@ line_refused plan begin known before old new cursor next left rest middle later 
 
 -- at the log's end, or where it is too long or cut
 pub log_faulty : (plan : Plan) (begin : Cursor) (known before : Option (List ℕ)) (session : SessionState) (cursor next : Cursor) (left rest middle after : Option (List ℕ)) (mid waits : List ℕ) (number : ℕ) (fault : LineFault)
-    → Where plan begin known before session cursor left middle mid number → Hands cursor left next rest (Ok (found_is.Refused fault)) → TellsAll [] middle mid after waits
+    → Where plan begin known before session cursor left middle mid number → Hands cursor left next rest (Ok (found_is.Refused fault)) → WritesAll [] middle mid after waits
     → JudgedLines plan session.run (Some (record { line = number; refusal = refusal_of fault })) begin known before after waits
 log_faulty plan begin known before session cursor next left rest middle after mid waits number fault here hands still =
     record {
@@ -205,7 +205,7 @@ log_faulty plan begin known before session cursor next left rest middle after mi
     }
 
 pub log_over : (plan : Plan) (begin : Cursor) (known before : Option (List ℕ)) (session : SessionState) (cursor next : Cursor) (left rest middle after : Option (List ℕ)) (mid waits : List ℕ) (number : ℕ)
-    → Where plan begin known before session cursor left middle mid number → Hands cursor left next rest (Ok found_is.End) → TellsAll [] middle mid after waits
+    → Where plan begin known before session cursor left middle mid number → Hands cursor left next rest (Ok found_is.End) → WritesAll [] middle mid after waits
     → JudgedLines plan session.run None begin known before after waits
 log_over plan begin known before session cursor next left rest middle after mid waits number here hands still =
     record {
@@ -244,7 +244,7 @@ read_failed plan begin known before session cursor next left rest middle after m
 
 -- where a write fails, or there is no memory
 pub next_failed : (plan : Plan) (begin : Cursor) (known before : Option (List ℕ)) (session : SessionState) (cursor : Cursor) (left middle after : Option (List ℕ)) (mid : List ℕ) (number : ℕ)
-    → Where plan begin known before session cursor left middle mid number → TellsFront [] middle mid after → BegunLines plan begin known before after
+    → Where plan begin known before session cursor left middle mid number → WritesPrefix [] middle mid after → BegunLines plan begin known before after
 next_failed plan begin known before session cursor left middle after mid number here front =
     record {
       front = here.front;
@@ -253,12 +253,12 @@ next_failed plan begin known before session cursor left middle after mid number 
       last = session.run;
       parts = here.parts;
       so_far = here.so_far;
-      told = subst (λ (p : List Part). TellsFront p before [] after) (append-nil here.parts) (front_then here.parts [] before middle after [] mid here.told front);
+      told = subst (λ (p : List Part). WritesPrefix p before [] after) (append-nil here.parts) (front_then here.parts [] before middle after [] mid here.told front);
     }
 
-pub line_failed : (plan : Plan) (begin : Cursor) (known before : Option (List ℕ)) (old new : SessionState) (cursor next : Cursor) (left rest middle later after : Option (List ℕ)) (mid later_waits waits : List ℕ) (number : ℕ) (fault : TellFault)
+pub line_failed : (plan : Plan) (begin : Cursor) (known before : Option (List ℕ)) (old new : SessionState) (cursor next : Cursor) (left rest middle later after : Option (List ℕ)) (mid later_waits waits : List ℕ) (number : ℕ) (fault : ReportFault)
     → Where plan begin known before old cursor left middle mid number → Hands cursor left next rest (Ok found_is.Line)
-    → TellsAll [] middle mid later later_waits → JudgesLine (Err fault) old next.line new later later_waits after waits
+    → WritesAll [] middle mid later later_waits → JudgesLine (Err fault) old next.line new later later_waits after waits
     → BegunLines plan begin known before after
 line_failed plan begin known before old new cursor next left rest middle later after mid later_waits waits number fault here hands still (line, spells, inl front) =
     record {
@@ -268,7 +268,7 @@ line_failed plan begin known before old new cursor next left rest middle later a
       last = old.run;
       parts = here.parts;
       so_far = here.so_far;
-      told = subst (λ (p : List Part). TellsFront p before [] after) (append-nil here.parts)
+      told = subst (λ (p : List Part). WritesPrefix p before [] after) (append-nil here.parts)
           (front_then here.parts [] before later after [] later_waits (told_still here.parts before middle later mid later_waits here.told still) front);
     }
 line_failed plan begin known before old new cursor next left rest middle later after mid later_waits waits number fault here hands still (line, spells, inr (state, taken, front)) =
@@ -299,13 +299,13 @@ judges_next_fails result cause plan last begin known before session cursor next 
     by_cause (fault.Write error) h = next_failed plan begin known before session cursor left middle after mid number here h
     by_cause fault.Memory h = next_failed plan begin known before session cursor left middle after mid number here h
 
-pub judges_line_fails : (result : Result (Option RefusedLine) JudgeFault) (cause : TellFault) (plan : Plan) (last : State) (begin : Cursor) (known before rest after : Option (List ℕ)) (later : List ℕ)
-    → IsErrAnd result (λ gives. gives ≡ fault_of_telling cause) → BegunLines plan begin known before after → JudgesLines result plan last begin known rest before after later
+pub judges_line_fails : (result : Result (Option RefusedLine) JudgeFault) (cause : ReportFault) (plan : Plan) (last : State) (begin : Cursor) (known before rest after : Option (List ℕ)) (later : List ℕ)
+    → IsErrAnd result (λ gives. gives ≡ fault_of_reporting cause) → BegunLines plan begin known before after → JudgesLines result plan last begin known rest before after later
 judges_line_fails result cause plan last begin known before rest after later is begun =
     let gives = err_from_is_err_and result is in
     subst (λ (r : Result (Option RefusedLine) JudgeFault). JudgesLines r plan last begin known rest before after later) (sym gives.1)
     (subst (λ (f : JudgeFault). JudgesLines (Err f) plan last begin known rest before after later) (sym gives.2) (by_cause cause))
   where
-    by_cause : (c : TellFault) → JudgesLines (Err (fault_of_telling c)) plan last begin known rest before after later
+    by_cause : (c : ReportFault) → JudgesLines (Err (fault_of_reporting c)) plan last begin known rest before after later
     by_cause (untold.Write error) = begun
     by_cause untold.Memory = begun

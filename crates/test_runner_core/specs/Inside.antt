@@ -15,8 +15,8 @@ use Rattle.test_runner_core_run_model.specs.Step.{step}
 use Rattle.test_runner_core_session.specs.Session.{SessionState}
 use Rattle.test_runner_core_reporter.specs.Parts.{Part}
 use Rattle.test_runner_core_reporter.specs.Steps.{step_parts}
-use Rattle.test_runner_core_reporter.specs.Telling.{MovesOn, TellsAll, TellsFront}
-use Rattle.test_runner_core_reporter.specs.declared.fault.TellFault.{TellFault}
+use Rattle.test_runner_core_reporter.specs.Writes.{MovesOn, WritesAll, WritesPrefix}
+use Rattle.test_runner_core_reporter.specs.declared.fault.ReportFault.{ReportFault}
 use Rattle.test_runner_core.specs.Judging.{Finds, Refuses, event_of}
 use Rattle.test_runner_core.specs.Report.{IsWritten, Judged, SoFar}
 use Rattle.test_runner_core.specs.declared.judge_fault.JudgeFault.{JudgeFault}
@@ -32,36 +32,36 @@ abbrev pub Steps : Step → SessionState → LogLine → SessionState → Type 0
 Steps (it.Taken finished) old line new = (new.plan ≡ old.plan) × TakesStep old.run (event_of old.plan line) finished new.run
 Steps (it.Refused refusal) old line new = (step old.run (event_of old.plan line) ≡ Err refusal) × (new ≡ old)
 
--- what a line's event does, and what is told of it
-abbrev pub StepsLine : Result (Option LineRefusal) TellFault → SessionState → LogLine → SessionState → Option (List ℕ) → List ℕ → Option (List ℕ) → List ℕ → Type 0
+-- what a line's event does, and what is reported of it
+abbrev pub StepsLine : Result (Option LineRefusal) ReportFault → SessionState → LogLine → SessionState → Option (List ℕ) → List ℕ → Option (List ℕ) → List ℕ → Type 0
 StepsLine (Ok None) old line new before waited after waits =
     (new.plan ≡ old.plan) × (step old.run (event_of old.plan line) ≡ Ok new.run)
-    × TellsAll (step_parts old.plan (event_of old.plan line) old.run new.run) before waited after waits
+    × WritesAll (step_parts old.plan (event_of old.plan line) old.run new.run) before waited after waits
 StepsLine (Ok (Some (refused.Step refusal))) old line new before waited after waits =
-    (step old.run (event_of old.plan line) ≡ Err refusal) × (new ≡ old) × TellsAll [] before waited after waits
+    (step old.run (event_of old.plan line) ≡ Err refusal) × (new ≡ old) × WritesAll [] before waited after waits
 StepsLine (Ok (Some other)) old line new before waited after waits = ⊥
 StepsLine (Err fault) old line new before waited after waits =
-    TellsFront [] before waited after
-    ⊎ ((next : State) × (step old.run (event_of old.plan line) ≡ Ok next) × TellsFront (step_parts old.plan (event_of old.plan line) old.run next) before waited after)
+    WritesPrefix [] before waited after
+    ⊎ ((next : State) × (step old.run (event_of old.plan line) ≡ Ok next) × WritesPrefix (step_parts old.plan (event_of old.plan line) old.run next) before waited after)
 
 -- what the bytes of a whole line do
-abbrev pub JudgesLine : Result (Option LineRefusal) TellFault → SessionState → List ℕ → SessionState → Option (List ℕ) → List ℕ → Option (List ℕ) → List ℕ → Type 0
+abbrev pub JudgesLine : Result (Option LineRefusal) ReportFault → SessionState → List ℕ → SessionState → Option (List ℕ) → List ℕ → Option (List ℕ) → List ℕ → Type 0
 JudgesLine (Ok None) old bytes new before waited after waits =
-    ((bytes ≡ []) × (new ≡ old) × TellsAll [] before waited after waits)
+    ((bytes ≡ []) × (new ≡ old) × WritesAll [] before waited after waits)
     ⊎ ((line : LogLine) × Spells line bytes × StepsLine (Ok None) old line new before waited after waits)
 JudgesLine (Ok (Some refusal)) old bytes new before waited after waits =
-    Refuses old.plan old.run bytes refusal × (new ≡ old) × TellsAll [] before waited after waits
+    Refuses old.plan old.run bytes refusal × (new ≡ old) × WritesAll [] before waited after waits
 JudgesLine (Err fault) old bytes new before waited after waits =
     (line : LogLine) × Spells line bytes × StepsLine (Err fault) old line new before waited after waits
 
--- what looking for the next line hands out, and what is written: all that was told, where a read fails
+-- what looking for the next line hands out, and what is written: all that was reported, where a read fails
 abbrev pub HandsNext : Result Next JudgeFault → Cursor → Option (List ℕ) → Cursor → Option (List ℕ) → Option (List ℕ) → List ℕ → Option (List ℕ) → List ℕ → Type 0
 HandsNext (Ok next) old left new rest before waited after waits =
-    Hands old left new rest (Ok next) × HandsAhead old left new rest (Ok next) × HandsBytes (Ok next) old new × TellsAll [] before waited after waits
+    Hands old left new rest (Ok next) × HandsAhead old left new rest (Ok next) × HandsBytes (Ok next) old new × WritesAll [] before waited after waits
 HandsNext (Err (fault.Read cause)) old left new rest before waited after waits =
     KeepsAhead old left new rest × IsPlain new.waiting × MovesOn before waited after [] []
-HandsNext (Err (fault.Write cause)) old left new rest before waited after waits = TellsFront [] before waited after
-HandsNext (Err fault.Memory) old left new rest before waited after waits = TellsFront [] before waited after
+HandsNext (Err (fault.Write cause)) old left new rest before waited after waits = WritesPrefix [] before waited after
+HandsNext (Err fault.Memory) old left new rest before waited after waits = WritesPrefix [] before waited after
 
 -- how often the reader is called for it
 abbrev pub ReadsNext : Result Next JudgeFault → Cursor → ℕ → Cursor → ℕ → Type 0
@@ -83,7 +83,7 @@ IsGotOf begin None left front = ⊤
 IsGotOf begin (Some bytes) None front = ⊥
 IsGotOf begin (Some bytes) (Some left) front = (got : List ℕ) × (begin.waiting ++ bytes ≡ got ++ left) × (whole_lines got ≡ front)
 
--- the lines up to the first that is refused were judged, and what they tell was told
+-- the lines up to the first that is refused were judged, and what they report was reported
 pub record JudgedLines (plan : Plan) (last : State) (found : Option RefusedLine) (begin : Cursor) (known before after : Option (List ℕ)) (waits : List ℕ) : Type 0 where
   pub front : List (List ℕ)
   pub rest : List Item
@@ -91,9 +91,9 @@ pub record JudgedLines (plan : Plan) (last : State) (found : Option RefusedLine)
   pub parts : List Part
   pub so_far : SoFar plan front last parts
   pub finds : Finds plan last (length front + 1) rest found
-  pub told : TellsAll parts before [] after waits
+  pub told : WritesAll parts before [] after waits
 
--- the whole lines that were got were judged, and what they tell was written
+-- the whole lines that were got were judged, and what they report was written
 pub record GotLines (plan : Plan) (begin : Cursor) (known left before after : Option (List ℕ)) : Type 0 where
   pub front : List (List ℕ)
   pub rest : List Item
@@ -104,7 +104,7 @@ pub record GotLines (plan : Plan) (begin : Cursor) (known left before after : Op
   pub so_far : SoFar plan front last parts
   pub written : IsWritten parts before after
 
--- some lines were judged, and a front of what they tell was written
+-- some lines were judged, and a prefix of what they report was written
 pub record BegunLines (plan : Plan) (begin : Cursor) (known before after : Option (List ℕ)) : Type 0 where
   pub front : List (List ℕ)
   pub rest : List Item
@@ -112,7 +112,7 @@ pub record BegunLines (plan : Plan) (begin : Cursor) (known before after : Optio
   pub last : State
   pub parts : List Part
   pub so_far : SoFar plan front last parts
-  pub told : TellsFront parts before [] after
+  pub told : WritesPrefix parts before [] after
 
 abbrev pub JudgesLines : Result (Option RefusedLine) JudgeFault → Plan → State → Cursor → Option (List ℕ) → Option (List ℕ) → Option (List ℕ) → Option (List ℕ) → List ℕ → Type 0
 JudgesLines (Ok found) plan last begin known left before after waits = JudgedLines plan last found begin known before after waits

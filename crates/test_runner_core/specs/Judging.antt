@@ -27,17 +27,17 @@ event_of plan (lines.Start binary name) = events.Started (place_in plan binary n
 event_of plan (lines.End binary name told) = events.Ended (place_in plan binary name) told
 event_of plan (lines.Stop reason) = events.Stopped reason
 
--- lines tell events: each of them is empty, or spells the next event
-abbrev pub TellsEvents : Plan → List (List ℕ) → List Event → Type 0
-TellsEvents plan [] [] = ⊤
-TellsEvents plan [] (event ∷ told) = ⊥
-TellsEvents plan (bytes ∷ more) told =
-    ((bytes ≡ []) × TellsEvents plan more told)
-    ⊎ ((line : LogLine) × Spells line bytes × ((rest : List Event) × (told ≡ event_of plan line ∷ rest) × TellsEvents plan more rest))
+-- lines report events: each of them is empty, or spells the next event
+abbrev pub SpellEvents : Plan → List (List ℕ) → List Event → Type 0
+SpellEvents plan [] [] = ⊤
+SpellEvents plan [] (event ∷ told) = ⊥
+SpellEvents plan (bytes ∷ more) told =
+    ((bytes ≡ []) × SpellEvents plan more told)
+    ⊎ ((line : LogLine) × Spells line bytes × ((rest : List Event) × (told ≡ event_of plan line ∷ rest) × SpellEvents plan more rest))
 
 -- lines lead the run of a plan by these events to a state
 pub record Leads (plan : Plan) (front : List (List ℕ)) (told : List Event) (last : State) : Type 0 where
-  pub events : TellsEvents plan front told
+  pub events : SpellEvents plan front told
   pub run : Run (initial (run_plan plan)) told last
 
 -- the refusal of a line or a log that is too long, or that is cut

@@ -1,4 +1,4 @@
--- What holds of every run that a log tells.
+-- What holds of every run of a log.
 use Rattle.std.specs.Prelude.{◌≡◌, ◌↔◌, ℕ, List, ◌++◌, Option, None, Result, Ok, ⊤}
 use Rattle.std.specs.Io.KnownBytes.{Appends}
 use Rattle.test_runner_core_inputs.specs.declared.inputs.Inputs.{Inputs}
@@ -37,14 +37,14 @@ pub record Reported (answer : Binary → Answer) (inputs : Inputs) (log : List I
 abbrev pub EndsWithSomeText : Type 0
 EndsWithSomeText = (answer : Binary → Answer) (inputs : Inputs) (log : List Item) → ¬ ¬ Reported answer inputs log
 
--- what was told of a report that was begun is a front of the whole report
-abbrev pub ToldFirst : Type 0
-ToldFirst =
+-- what was reported of a report that was begun is a prefix of the whole report
+abbrev pub NothingTakenBack : Type 0
+NothingTakenBack =
     (answer : Binary → Answer) (inputs : Inputs) (log : List Item) (parts front rest whole : List Part) (code : ℕ) (told text : List ℕ)
     → Begun answer inputs log parts → parts ≡ front ++ rest → IsText front told → Composed answer inputs log whole code → IsText whole text
     → (more : List ℕ) × (text ≡ told ++ more)
 
--- whatever a call answers, what it wrote is a front of the whole report
+-- whatever a call answers, what it wrote is a prefix of the whole report
 abbrev pub WrittenFirst : Type 0
 WrittenFirst =
     (answer : Binary → Answer) (inputs : Inputs) (log : List Item) (result : Result ℕ JudgeFault) (before after : Option (List ℕ))
@@ -58,7 +58,7 @@ EndsWithDueStatus =
     (answer : Binary → Answer) (inputs : Inputs) (log : List Item) (parts : List Part) (code : ℕ) → Composed answer inputs log parts code
     → IsDue answer inputs log code
 
--- and no milder than what is due, where the log is cut or tells the run to stop
+-- and no milder than what is due, where the log is cut or reports the run to stop
 abbrev pub EndsNoMilder : Type 0
 EndsNoMilder =
     (answer : Binary → Answer) (inputs : Inputs) (log : List Item) (parts : List Part) (code : ℕ) → Composed answer inputs log parts code

@@ -8,9 +8,9 @@ pub mod Faults
 pub mod Check
 pub mod Laws
 pub mod Inside
--- how a run is told
+-- how a run is reported
 pub use Rattle.test_runner_core_reporter.specs.Parts
-pub use Rattle.test_runner_core_reporter.specs.Telling
+pub use Rattle.test_runner_core_reporter.specs.Writes
 pub use Rattle.test_runner_core_reporter.specs.RunEnd
 pub use Rattle.test_runner_core_reporter.specs.Opening
 pub use Rattle.test_runner_core_reporter.specs.Final

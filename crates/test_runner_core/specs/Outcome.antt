@@ -1,4 +1,4 @@
--- What exit status and final text say of the run that a log tells, and the report of a stream.
+-- What exit status and final text say of the run that a log reports, and the report of a stream.
 use Rattle.std.specs.Prelude.{◌≡◌, ◌⊎◌, ◌↔◌, ℕ, true, List, [], ◌++◌, map, Option, Result, Ok, Err, ⊤}
 use Rattle.std.specs.Io.KnownBytes.{Appends}
 use Rattle.std.specs.List.{AllByRecursion}
@@ -21,7 +21,7 @@ use Rattle.test_runner_core_reporter.specs.Parts.{IsText, Part}
 use Rattle.test_runner_core_workspace.specs.Lister.{Answer, table_answer}
 use Rattle.test_runner_core_workspace.specs.declared.record.Binary.{Binary}
 use Rattle.test_runner_core.specs.Judging.{Leads}
-use Rattle.test_runner_core.specs.Report.{Begun, Composed, TellsSoFar, refused_inputs}
+use Rattle.test_runner_core.specs.Report.{Begun, Composed, HasSoFar, refused_inputs}
 
 -- the run of these inputs by a log: no line of the log is refused
 pub record IsRun (answer : Binary → Answer) (inputs : Inputs) (log : List Item) : Type 0 where
@@ -38,7 +38,7 @@ abbrev pub RunAgrees : {answer : Binary → Answer} {inputs : Inputs} {log : Lis
 RunAgrees run assigned = Agrees assigned (initial (run_plan run.plan)) run.events
 
 -- a log runs these inputs to their end as it is assigned: no line is refused, the run agrees with the assignment, it is
--- complete, and nobody tells it to stop
+-- complete, and nobody asks it to stop
 pub record IsWholeRun (answer : Binary → Answer) (inputs : Inputs) (log : List Item) (assigned : Assignment) : Type 0 where
   pub run : IsRun answer inputs log
   pub agrees : RunAgrees run assigned
@@ -50,7 +50,7 @@ abbrev pub IsDue : (Binary → Answer) → Inputs → List Item → ℕ → Type
 IsDue answer inputs log code =
     (assigned : Assignment) (whole : IsWholeRun answer inputs log assigned) → code ≡ due_status (run_plan whole.run.plan) assigned
 
--- an exit status is no milder than what is due: wherever the log is cut and whoever told the run to stop, it is the status that
+-- an exit status is no milder than what is due: wherever the log is cut and whoever asked the run to stop, it is the status that
 -- is due to the assignment or a graver one, and 4 exactly where 4 is due
 abbrev pub IsNoMilderThanDue : (Binary → Answer) → Inputs → List Item → ℕ → Type 0
 IsNoMilderThanDue answer inputs log code =
@@ -96,12 +96,12 @@ StreamComposed bytes = LineComposed (read_inputs (before_feed bytes)) (items 0 (
 abbrev pub StreamBegun : List ℕ → List Part → Type 0
 StreamBegun bytes = LineBegun (read_inputs (before_feed bytes)) (items 0 (behind_feed bytes))
 
--- what the bytes that were got of a stream tell: nothing while the first line isn't whole, and then its plan's warnings and the whole
+-- what the bytes that were got of a stream report: nothing while the first line isn't whole, and then its plan's warnings and the whole
 -- lines behind it
-abbrev pub StreamTells : List ℕ → List Part → Type 0
-StreamTells got parts =
+abbrev pub StreamHasSoFar : List ℕ → List Part → Type 0
+StreamHasSoFar got parts =
     (IsPlain got × (parts ≡ []))
-    ⊎ ((inputs : Inputs) × (read_inputs (before_feed got) ≡ Ok inputs) × TellsSoFar (table_of inputs) inputs (whole_lines (behind_feed got)) parts)
+    ⊎ ((inputs : Inputs) × (read_inputs (before_feed got) ≡ Ok inputs) × HasSoFar (table_of inputs) inputs (whole_lines (behind_feed got)) parts)
 
 abbrev pub StreamGotTo : List ℕ → List ℕ → List Part → Type 0
-StreamGotTo bytes rest parts = (got : List ℕ) × (bytes ≡ got ++ rest) × StreamTells got parts
+StreamGotTo bytes rest parts = (got : List ℕ) × (bytes ≡ got ++ rest) × StreamHasSoFar got parts

@@ -18,7 +18,7 @@ use Rattle.test_runner_core_reporter.specs.Opening.{opening}
 use Rattle.test_runner_core_reporter.specs.Parts.{IsText, Part, Said}
 use Rattle.test_runner_core_reporter.specs.RunEnd.{LF, TAB}
 use Rattle.test_runner_core_reporter.specs.Steps.{progress}
-use Rattle.test_runner_core_reporter.specs.Telling.{TellsFront}
+use Rattle.test_runner_core_reporter.specs.Writes.{WritesPrefix}
 use Rattle.test_runner_core_workspace.specs.Lister.{Answer}
 use Rattle.test_runner_core_workspace.specs.declared.record.Binary.{Binary}
 use Rattle.test_runner_core.specs.Judging.{Finds, Leads}
@@ -54,7 +54,7 @@ abbrev pub exit_status : State → Option RefusedLine → ℕ
 exit_status last None = status last
 exit_status last (Some found) = 96
 
--- what lines tell: the warnings of the plan, and the progress of the run that they lead
+-- what lines report: the warnings of the plan, and the progress of the run that they lead
 pub record SoFar (plan : Plan) (front : List (List ℕ)) (last : State) (parts : List Part) : Type 0 where
   pub events : List Event
   pub leads : Leads plan front events last
@@ -79,29 +79,29 @@ Composed answer inputs log parts code =
     ((refusal : PlanFault) × Plans answer inputs (Err refusal) × (parts ≡ refused_plan refusal) × (code ≡ status_of refusal))
     ⊎ ((plan : Plan) × Builds answer inputs (Ok plan) × Judged plan log parts code)
 
--- what lines tell of the run of these inputs
-abbrev pub TellsSoFar : (Binary → Answer) → Inputs → List (List ℕ) → List Part → Type 0
-TellsSoFar answer inputs front parts = (plan : Plan) × Builds answer inputs (Ok plan) × ((last : State) × SoFar plan front last parts)
+-- what lines report of the run of these inputs
+abbrev pub HasSoFar : (Binary → Answer) → Inputs → List (List ℕ) → List Part → Type 0
+HasSoFar answer inputs front parts = (plan : Plan) × Builds answer inputs (Ok plan) × ((last : State) × SoFar plan front last parts)
 
--- a report, or what its first lines tell, or nothing
+-- a report, or what its first lines report, or nothing
 abbrev pub Begun : (Binary → Answer) → Inputs → List Item → List Part → Type 0
 Begun answer inputs log parts =
     (parts ≡ [])
-    ⊎ (((front : List (List ℕ)) × ((rest : List Item) × ((log ≡ map Line front ++ rest) × TellsSoFar answer inputs front parts)))
+    ⊎ (((front : List (List ℕ)) × ((rest : List Item) × ((log ≡ map Line front ++ rest) × HasSoFar answer inputs front parts)))
     ⊎ ((code : ℕ) × Composed answer inputs log parts code))
 
--- what the whole lines tell that were got of these bytes, where the rest was not
+-- what the whole lines come to that were got of these bytes, where the rest was not
 abbrev pub GotTo : (Binary → Answer) → Inputs → List ℕ → List ℕ → List Part → Type 0
-GotTo answer inputs bytes rest parts = (got : List ℕ) × (bytes ≡ got ++ rest) × TellsSoFar answer inputs (whole_lines got) parts
+GotTo answer inputs bytes rest parts = (got : List ℕ) × (bytes ≡ got ++ rest) × HasSoFar answer inputs (whole_lines got) parts
 
 -- these parts were written, and nothing else
 abbrev pub IsWritten : List Part → Option (List ℕ) → Option (List ℕ) → Type 0
 IsWritten parts before after = (text : List ℕ) × IsText parts text × Appends before after text
 
 -- a whole report is written, and its exit status answered; where reading fails, what was begun by the whole lines got is
--- written, and where writing fails or there is no memory a front of what was begun
+-- written, and where writing fails or there is no memory a prefix of what was begun
 abbrev pub Reports : Result ℕ JudgeFault → (List Part → ℕ → Type 0) → (List Part → Type 0) → (List Part → Type 0) → Option (List ℕ) → Option (List ℕ) → Type 0
 Reports (Ok code) IsReport IsGot IsBegun before after = (parts : List Part) × IsReport parts code × IsWritten parts before after
 Reports (Err (fault.Read cause)) IsReport IsGot IsBegun before after = (parts : List Part) × IsGot parts × IsBegun parts × IsWritten parts before after
-Reports (Err (fault.Write cause)) IsReport IsGot IsBegun before after = (parts : List Part) × IsBegun parts × TellsFront parts before [] after
-Reports (Err fault.Memory) IsReport IsGot IsBegun before after = (parts : List Part) × IsBegun parts × TellsFront parts before [] after
+Reports (Err (fault.Write cause)) IsReport IsGot IsBegun before after = (parts : List Part) × IsBegun parts × WritesPrefix parts before [] after
+Reports (Err fault.Memory) IsReport IsGot IsBegun before after = (parts : List Part) × IsBegun parts × WritesPrefix parts before [] after

@@ -4,11 +4,11 @@ ghost use Rattle.test_runner_core_log_reader.specs.Limits.{first_line_reads, log
 ghost use Rattle.test_runner_core_inputs.specs.Reading.{read_inputs};
 ghost use Rattle.test_runner_core_log_reader.specs.Feeds.{before_feed};
 ghost use Rattle.test_runner_core_log_reader.specs.Items.{items};
-ghost use Rattle.test_runner_core.specs.Faults.{TellsRead, TellsWrite, lacks_memory};
+ghost use Rattle.test_runner_core.specs.Faults.{CountsReadFailures, CountsWriteFailures, lacks_memory};
 ghost use Rattle.test_runner_core.specs.Headline.{Headline, StreamHeadline};
 ghost use Rattle.test_runner_core.specs.Outcome.{HasNoPlan, StreamBegun, StreamComposed, StreamGotTo, table_of};
 ghost use Rattle.test_runner_core.specs.Inside.{IsGotOf};
-ghost use Rattle.test_runner_core.specs.Report.{Begun, Composed, GotTo, Reports, TellsSoFar};
+ghost use Rattle.test_runner_core.specs.Report.{Begun, Composed, GotTo, Reports, HasSoFar};
 ghost use Rattle.test_runner_core_log_reader.specs.Cursor.{items_ahead};
 ghost use Rattle.test_runner_core_planning.specs.Plan.{AsksWith, Builds, Plans};
 ghost use Rattle.test_runner_core_planning.specs.declared.plan_fault.PlanFault.{PlanFault};
@@ -27,13 +27,13 @@ use test_runner_core_workspace::{Lister, TableLister};
 /// Judges the run of inputs by a log, writes its report and answers its exit status. The lister is asked once for each
 /// listed binary, in the workspace's order, up to the first whose answer is refused, and for none where the inputs are
 /// refused before; nothing of the log is read where the inputs have no plan. Whenever the log is asked for more, all is
-/// written that the whole lines so far tell. A failed read or write is never tried again. Where no line is refused, the
-/// log agrees with an assignment and tells no stop, and the run is complete, the status is that assignment's due
+/// written that the whole lines so far come to. A failed read or write is never tried again. Where no line is refused, the
+/// log agrees with an assignment and has no stop, and the run is complete, the status is that assignment's due
 /// status, and where no script of the assignment stops the run and its failing tests don't reach the limit the report
-/// ends with the final text of plan and assignment, in whatever order the tests ran; where the log is cut, or tells a
-/// stop, the status is that or a graver one. After a failed read the report has what the whole lines tell that were
-/// got; after a failed write, or where there is no memory, a front of what it would have been. Where there is no memory
-/// the lister was asked for a front of the listed binaries.
+/// ends with the final text of plan and assignment, in whatever order the tests ran; where the log is cut, or has a
+/// stop, the status is that or a more severe one. After a failed read the report has what the whole lines come to that were
+/// got; after a failed write, or where there is no memory, a prefix of what it would have been. Where there is no memory
+/// the lister was asked for a prefix of the listed binaries.
 pub fn judge<L: Lister, R: LogReader, W: ReportWriter>(
     alloc: Global,
     inputs: &Inputs,
@@ -54,8 +54,8 @@ pub fn judge<L: Lister, R: LogReader, W: ReportWriter>(
     ensures asks { AsksWith (L.answer lister.old) inputs.now (lacks_memory result) (L.asked lister.old) (L.asked lister.new) }
     ensures unread { (refusal : PlanFault) → Plans (L.answer lister.old) inputs.now (Err refusal) → R.calls log.new ≡ R.calls log.old }
     ensures reads { R.calls log.new ≤ R.calls log.old + log_reads }
-    ensures read_failures { TellsRead result (R.failures log.old) (R.failures log.new) (R.last_failed log.new) }
-    ensures write_failures { TellsWrite result (W.failures report.old) (W.failures report.new) (W.last_failed report.new) }
+    ensures read_failures { CountsReadFailures result (R.failures log.old) (R.failures log.new) (R.last_failed log.new) }
+    ensures write_failures { CountsWriteFailures result (W.failures report.old) (W.failures report.new) (W.last_failed report.new) }
 {
     reported(alloc, inputs, lister, log, report)
 }
@@ -80,8 +80,8 @@ fn reported<L: Lister, R: LogReader, W: ReportWriter>(
     ensures asks { AsksWith (L.answer lister.old) inputs.now (lacks_memory result) (L.asked lister.old) (L.asked lister.new) }
     ensures unread { (refusal : PlanFault) → Plans (L.answer lister.old) inputs.now (Err refusal) → R.calls log.new ≡ R.calls log.old }
     ensures reads { R.calls log.new ≤ R.calls log.old + log_reads }
-    ensures read_failures { TellsRead result (R.failures log.old) (R.failures log.new) (R.last_failed log.new) }
-    ensures write_failures { TellsWrite result (W.failures report.old) (W.failures report.new) (W.last_failed report.new) }
+    ensures read_failures { CountsReadFailures result (R.failures log.old) (R.failures log.new) (R.last_failed log.new) }
+    ensures write_failures { CountsWriteFailures result (W.failures report.old) (W.failures report.new) (W.last_failed report.new) }
 {
     match Plan::build(alloc, inputs, lister) {
         Ok(plan) => judge_plan(alloc, &plan, &mut LogLines::new(alloc), log, report),
@@ -90,7 +90,7 @@ fn reported<L: Lister, R: LogReader, W: ReportWriter>(
     }
 }
 
-/// Judges the run that one stream tells: its bytes up to the first line feed, or to its end, are the JSON inputs, with
+/// Judges the run of one stream: its bytes up to the first line feed, or to its end, are the JSON inputs, with
 /// the tests of each binary, and the rest is the log. A first line of more than 16,777,216 bytes is no inputs. Where the
 /// first line is no inputs or they have no plan, the reader is called for that line alone.
 pub fn judge_stream<R: LogReader, W: ReportWriter>(
@@ -109,8 +109,8 @@ pub fn judge_stream<R: LogReader, W: ReportWriter>(
     ensures headline { IfOk result (λ code. IfSome (R.left input.old) (λ bytes. StreamHeadline bytes code (W.taken report.old) (W.taken report.new))) }
     ensures unread { IfSome (R.left input.old) (λ bytes. HasNoPlan (read_inputs (before_feed bytes)) → R.calls input.new ≤ R.calls input.old + first_line_reads) }
     ensures reads { R.calls input.new ≤ R.calls input.old + first_line_reads + log_reads }
-    ensures read_failures { TellsRead result (R.failures input.old) (R.failures input.new) (R.last_failed input.new) }
-    ensures write_failures { TellsWrite result (W.failures report.old) (W.failures report.new) (W.last_failed report.new) }
+    ensures read_failures { CountsReadFailures result (R.failures input.old) (R.failures input.new) (R.last_failed input.new) }
+    ensures write_failures { CountsWriteFailures result (W.failures report.old) (W.failures report.new) (W.last_failed report.new) }
 {
     stream_reported(alloc, input, report)
 }
@@ -131,8 +131,8 @@ fn stream_reported<R: LogReader, W: ReportWriter>(
         (W.taken report.old) (W.taken report.new) }
     ensures unread { IfSome (R.left input.old) (λ bytes. HasNoPlan (read_inputs (before_feed bytes)) → R.calls input.new ≤ R.calls input.old + first_line_reads) }
     ensures reads { R.calls input.new ≤ R.calls input.old + first_line_reads + log_reads }
-    ensures read_failures { TellsRead result (R.failures input.old) (R.failures input.new) (R.last_failed input.new) }
-    ensures write_failures { TellsWrite result (W.failures report.old) (W.failures report.new) (W.last_failed report.new) }
+    ensures read_failures { CountsReadFailures result (R.failures input.old) (R.failures input.new) (R.last_failed input.new) }
+    ensures write_failures { CountsWriteFailures result (W.failures report.old) (W.failures report.new) (W.last_failed report.new) }
 {
     let Some(mut lines) = LogLines::behind_first_line(alloc, input)? else {
         return refuse_inputs(alloc, &InputsRefusal::Syntax, report);
@@ -157,13 +157,13 @@ fn judge_by_table<R: LogReader, W: ReportWriter>(
     requires writes_fit { W.failures report.old < 2 ^ 62 }
     ensures reports { Reports result
         (λ parts code. IfSome (R.left log.old) (λ bytes. Composed (table_of inputs) inputs (items_ahead lines.old bytes) parts code))
-        (λ parts. (front : List (List ℕ)) × IsGotOf lines.old (R.left log.old) (R.left log.new) front × TellsSoFar (table_of inputs) inputs front parts)
+        (λ parts. (front : List (List ℕ)) × IsGotOf lines.old (R.left log.old) (R.left log.new) front × HasSoFar (table_of inputs) inputs front parts)
         (λ parts. IfSome (R.left log.old) (λ bytes. Begun (table_of inputs) inputs (items_ahead lines.old bytes) parts))
         (W.taken report.old) (W.taken report.new) }
     ensures unread { (refusal : PlanFault) → Plans (table_of inputs) inputs (Err refusal) → R.calls log.new ≡ R.calls log.old }
     ensures reads { R.calls log.new ≤ R.calls log.old + log_reads }
-    ensures read_failures { TellsRead result (R.failures log.old) (R.failures log.new) (R.last_failed log.new) }
-    ensures write_failures { TellsWrite result (W.failures report.old) (W.failures report.new) (W.last_failed report.new) }
+    ensures read_failures { CountsReadFailures result (R.failures log.old) (R.failures log.new) (R.last_failed log.new) }
+    ensures write_failures { CountsWriteFailures result (W.failures report.old) (W.failures report.new) (W.last_failed report.new) }
 {
     match plan_by_table(alloc, inputs) {
         Ok(plan) => judge_plan(alloc, &plan, lines, log, report),

@@ -4,10 +4,10 @@ ghost use Rattle.std.specs.Prelude.{◌≡◌};
 use std::alloc::{AllocError, AllocFailed};
 use std::io;
 use test_runner_core_log_reader::LogFault;
-use test_runner_core_reporter::TellFault;
+use test_runner_core_reporter::ReportFault;
 use thiserror::Error;
 
-/// Why a run can't be judged to its end. What the report took until then is a front of it.
+/// Why a run can't be judged to its end. What the report took until then is a prefix of it.
 #[derive(Debug, Drop, Error)]
 pub enum JudgeFault {
     /// There was no memory.
@@ -35,16 +35,16 @@ impl From<LogFault> for JudgeFault {
     }
 }
 
-impl From<TellFault> for JudgeFault {
+impl From<ReportFault> for JudgeFault {
     ghost use Rattle.std.specs.Prelude.{◌≡◌};
-    ghost use Rattle.test_runner_core.specs.Faults.{fault_of_telling};
+    ghost use Rattle.test_runner_core.specs.Faults.{fault_of_reporting};
 
-    ghost from_gives = { λ fault gives. gives ≡ fault_of_telling fault };
+    ghost from_gives = { λ fault gives. gives ≡ fault_of_reporting fault };
 
-    fn from(fault: TellFault) -> JudgeFault {
+    fn from(fault: ReportFault) -> JudgeFault {
         match fault {
-            TellFault::Memory => JudgeFault::Memory,
-            TellFault::Write(cause) => JudgeFault::Write(cause),
+            ReportFault::Memory => JudgeFault::Memory,
+            ReportFault::Write(cause) => JudgeFault::Write(cause),
         }
     }
 }

@@ -1,7 +1,7 @@
 // What one line of a log does to a run.
 ghost use Rattle.std.specs.Prelude.{◌≡◌, ◌^◌, ◌<◌, IfOk, MatchResult, OnErr, string_bytes};
 ghost use Rattle.test_runner_core_run_model.specs.Finishing.{KeepsReasons};
-ghost use Rattle.test_runner_core_reporter.specs.Telling.{TellsWrite};
+ghost use Rattle.test_runner_core_reporter.specs.Writes.{CountsWriteFailures};
 ghost use Rattle.test_runner_core_line_syntax.specs.Lent.{line_meant, record_meant};
 ghost use Rattle.test_runner_core_line_syntax.specs.declared.log_line.LogLine.TheVariants as lines;
 ghost use Rattle.test_runner_core.specs.declared.judging_line.Step.TheVariants as it;
@@ -11,7 +11,7 @@ use crate::refused_line::LineRefusal;
 use nextest_run_events_results::TestInstanceId;
 use std::alloc::{AllocError, Global};
 use test_runner_core_line_syntax::{LentLine, LentRecord, SpellingError};
-use test_runner_core_reporter::{TellFault, tell_step};
+use test_runner_core_reporter::{ReportFault, report_step};
 use test_runner_core_run_model::{Finished, StepRefusal};
 use test_runner_core_run_state::StartFault;
 use test_runner_core_session::Session;
@@ -26,44 +26,44 @@ pub(crate) enum Step {
     Refused(StepRefusal),
 }
 
-// Judges the bytes of one line, and tells what its step finishes: why they are refused, if they are.
+// Judges the bytes of one line, and reports what its step finishes: why they are refused, if they are.
 pub(crate) fn judge_line<W: ReportWriter>(
     alloc: Global,
     session: &mut Session<'_>,
     bytes: &[u8],
     text: &mut String,
     report: &mut W,
-) -> Result<Option<LineRefusal>, TellFault>
+) -> Result<Option<LineRefusal>, ReportFault>
     requires writes_fit { W.failures report.old < 2 ^ 63 }
     requires reached { KeepsReasons session.old.run }
     ensures judged { JudgesLine result session.old bytes.now session.new (W.taken report.old) (string_bytes text.old) (W.taken report.new) (string_bytes text.new) }
-    ensures failures { TellsWrite result (W.failures report.old) (W.failures report.new) (W.last_failed report.new) }
+    ensures failures { CountsWriteFailures result (W.failures report.old) (W.failures report.new) (W.last_failed report.new) }
 {
     match LentLine::parse(bytes) {
         Ok(None) => Ok(None),
-        Ok(Some(line)) => tell_line(alloc, session, line, text, report),
+        Ok(Some(line)) => report_line(alloc, session, line, text, report),
         Err(SpellingError::NotUtf8) => Ok(Some(LineRefusal::NotUtf8)),
         Err(SpellingError::BadLine) => Ok(Some(LineRefusal::BadLine)),
     }
 }
 
-// Takes the step of a line's event, and tells what it finishes: why it is refused, if it is.
-fn tell_line<W: ReportWriter>(
+// Takes the step of a line's event, and reports what it finishes: why it is refused, if it is.
+fn report_line<W: ReportWriter>(
     alloc: Global,
     session: &mut Session<'_>,
     line: LentLine<'_>,
     text: &mut String,
     report: &mut W,
-) -> Result<Option<LineRefusal>, TellFault>
+) -> Result<Option<LineRefusal>, ReportFault>
     requires writes_fit { W.failures report.old < 2 ^ 63 }
     requires reached { KeepsReasons session.old.run }
     ensures judged { StepsLine result session.old (line_meant line.entry) session.new (W.taken report.old) (string_bytes text.old) (W.taken report.new) (string_bytes text.new) }
-    ensures failures { TellsWrite result (W.failures report.old) (W.failures report.new) (W.last_failed report.new) }
+    ensures failures { CountsWriteFailures result (W.failures report.old) (W.failures report.new) (W.last_failed report.new) }
 {
     match take_step(alloc, session, line)? {
         Step::Refused(refusal) => Ok(Some(LineRefusal::Step(refusal))),
         Step::Taken(finished) => {
-            tell_step(text, report, session, finished)?;
+            report_step(text, report, session, finished)?;
             Ok(None)
         }
     }
@@ -90,7 +90,7 @@ fn take_step(
     }
 }
 
-// What an answer of the session tells.
+// What an answer of the session comes to.
 fn step_of(answer: Result<Finished, StepRefusal>) -> Step
     ensures { MatchResult answer (λ finished. result ≡ it.Taken finished) (λ refusal. result ≡ it.Refused refusal) }
 {

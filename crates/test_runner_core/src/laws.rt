@@ -1,6 +1,6 @@
-//! What holds of every run that a log tells. Each function does nothing, and its contract is the law. The laws over runs
+//! What holds of every run of a log. Each function does nothing, and its contract is the law. The laws over runs
 //! hold of the run of each plan that is built (`built_plan`).
-ghost use Rattle.test_runner_core.specs.Laws.{BuiltIsPlan, EndsNoMilder, EndsWithDueStatus, EndsWithOneText, EndsWithSomeText, HasOneReport, IsolatesReports, StopsWhereDue, SucceedsWhole, ToldFirst, WrittenFirst};
+ghost use Rattle.test_runner_core.specs.Laws.{BuiltIsPlan, EndsNoMilder, EndsWithDueStatus, EndsWithOneText, EndsWithSomeText, HasOneReport, IsolatesReports, StopsWhereDue, SucceedsWhole, NothingTakenBack, WrittenFirst};
 ghost use Rattle.test_runner_core_planning.specs.Laws.{IsolatesPlans};
 
 pub use test_runner_core_planning::laws::{
@@ -19,18 +19,18 @@ pub fn some_report()
     ensures { EndsWithSomeText }
 {}
 
-/// What is told of a report that was begun, wherever it breaks off, is a front of the whole report of the same inputs and
-/// log: nothing that is told early is ever taken back.
-pub fn told_first()
-    ensures { ToldFirst }
+/// What is written of a report that was begun, wherever it breaks off, is a prefix of the whole report of the same inputs and
+/// log: nothing that is written early is ever taken back.
+pub fn nothing_taken_back()
+    ensures { NothingTakenBack }
 {}
 
-/// Whatever a call answers, and wherever it failed, what it wrote is a front of the whole report of its inputs and its log.
+/// Whatever a call answers, and wherever it failed, what it wrote is a prefix of the whole report of its inputs and its log.
 pub fn written_first()
     ensures { WrittenFirst }
 {}
 
-/// Whatever the inputs: where no line of a log is refused, the log agrees with an assignment and tells no stop, and the
+/// Whatever the inputs: where no line of a log is refused, the log agrees with an assignment and has no stop, and the
 /// run is complete, the exit status of the report is that assignment's due status.
 pub fn due_status()
     ensures { EndsWithDueStatus }

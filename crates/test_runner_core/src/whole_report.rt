@@ -3,8 +3,8 @@ ghost use Rattle.std.specs.Prelude.{◌≡◌, ◌+◌, ◌^◌, ◌<◌, ◌≤
 ghost use Rattle.test_runner_core_log_reader.specs.Limits.{log_reads};
 ghost use Rattle.test_runner_core_planning.specs.Texts.{status_of};
 ghost use Rattle.test_runner_core_reporter.specs.Parts.{Said};
-ghost use Rattle.test_runner_core_reporter.specs.Telling as telling;
-ghost use Rattle.test_runner_core.specs.Faults.{TellsRead, TellsWrite};
+ghost use Rattle.test_runner_core_reporter.specs.Writes as reporting;
+ghost use Rattle.test_runner_core.specs.Faults.{CountsReadFailures, CountsWriteFailures};
 ghost use Rattle.test_runner_core.specs.Inside.{IsBegun, IsGot, IsJudged};
 ghost use Rattle.test_runner_core.specs.Report.{Reports, ending, exit_status, refused_inputs, refused_plan, refused_line};
 
@@ -16,7 +16,7 @@ use test_runner_core_inputs::InputsRefusal;
 use test_runner_core_log_reader::LogLines;
 use test_runner_core_plan::Plan;
 use test_runner_core_planning::PlanFault;
-use test_runner_core_reporter::{TellFault, tell_final, tell_words, write_waiting};
+use test_runner_core_reporter::{ReportFault, report_final, report_words, write_waiting};
 use test_runner_core_session::Session;
 use test_runner_core_streams::{LogReader, ReportWriter, write_all};
 
@@ -36,8 +36,8 @@ pub(crate) fn judge_plan<R: LogReader, W: ReportWriter>(
     requires writes_fit { W.failures report.old < 2 ^ 62 }
     ensures reports { Reports result (IsJudged plan.now lines.old (R.left log.old)) (IsGot plan.now lines.old (R.left log.old) (R.left log.new)) (IsBegun plan.now lines.old (R.left log.old)) (W.taken report.old) (W.taken report.new) }
     ensures reads { R.calls log.new ≤ R.calls log.old + log_reads }
-    ensures read_failures { TellsRead result (R.failures log.old) (R.failures log.new) (R.last_failed log.new) }
-    ensures write_failures { TellsWrite result (W.failures report.old) (W.failures report.new) (W.last_failed report.new) }
+    ensures read_failures { CountsReadFailures result (R.failures log.old) (R.failures log.new) (R.last_failed log.new) }
+    ensures write_failures { CountsWriteFailures result (W.failures report.old) (W.failures report.new) (W.last_failed report.new) }
 {
     let mut session = Session::new(alloc, plan)?;
     let mut text = String::new(alloc);
@@ -45,63 +45,63 @@ pub(crate) fn judge_plan<R: LogReader, W: ReportWriter>(
     Ok(end_report(alloc, &mut text, report, &session, found)?)
 }
 
-// Tells how the report of a run ends, and writes all that waits.
+// Reports how the report of a run ends, and writes all that waits.
 fn end_report<W: ReportWriter>(
     alloc: Global,
     text: &mut String,
     report: &mut W,
     session: &Session<'_>,
     found: Option<RefusedLine>,
-) -> Result<u8, TellFault>
+) -> Result<u8, ReportFault>
     requires writes_fit { W.failures report.old < 2 ^ 62 }
-    ensures tells { telling.Tells result (ending session.now.plan session.now.run found) (W.taken report.old) (string_bytes text.old) (W.taken report.new) (string_bytes text.new) }
+    ensures writes { reporting.WritesParts result (ending session.now.plan session.now.run found) (W.taken report.old) (string_bytes text.old) (W.taken report.new) (string_bytes text.new) }
     ensures empty { IfOk result (λ _. string_bytes text.new ≡ []) }
     ensures code { IfOk result (λ code. code ≡ exit_status session.now.run found) }
-    ensures failures { telling.TellsWrite result (W.failures report.old) (W.failures report.new) (W.last_failed report.new) }
+    ensures failures { reporting.CountsWriteFailures result (W.failures report.old) (W.failures report.new) (W.last_failed report.new) }
 {
-    let code = tell_ending(alloc, text, report, session, found)?;
+    let code = report_ending(alloc, text, report, session, found)?;
     write_waiting(text, report)?;
     Ok(code)
 }
 
-// Tells how the report of a run ends.
-fn tell_ending<W: ReportWriter>(
+// Reports how the report of a run ends.
+fn report_ending<W: ReportWriter>(
     alloc: Global,
     text: &mut String,
     report: &mut W,
     session: &Session<'_>,
     found: Option<RefusedLine>,
-) -> Result<u8, TellFault>
+) -> Result<u8, ReportFault>
     requires writes_fit { W.failures report.old < 2 ^ 62 }
-    ensures tells { telling.Tells result (ending session.now.plan session.now.run found) (W.taken report.old) (string_bytes text.old) (W.taken report.new) (string_bytes text.new) }
+    ensures writes { reporting.WritesParts result (ending session.now.plan session.now.run found) (W.taken report.old) (string_bytes text.old) (W.taken report.new) (string_bytes text.new) }
     ensures code { IfOk result (λ code. code ≡ exit_status session.now.run found) }
-    ensures failures { telling.TellsWrite result (W.failures report.old) (W.failures report.new) (W.last_failed report.new) }
+    ensures failures { reporting.CountsWriteFailures result (W.failures report.old) (W.failures report.new) (W.last_failed report.new) }
 {
     match found {
         Some(found) => {
-            tell_refused_line(alloc, text, report, found)?;
+            report_refused_line(alloc, text, report, found)?;
             Ok(REFUSED)
         }
         None => {
-            tell_final(alloc, text, report, session)?;
+            report_final(alloc, text, report, session)?;
             Ok(session.status())
         }
     }
 }
 
-// Tells which line is refused.
-fn tell_refused_line<W: ReportWriter>(
+// Reports which line is refused.
+fn report_refused_line<W: ReportWriter>(
     alloc: Global,
     text: &mut String,
     report: &mut W,
     found: RefusedLine,
-) -> Result<(), TellFault>
+) -> Result<(), ReportFault>
     requires writes_fit { W.failures report.old < 2 ^ 62 }
-    ensures tells { telling.Tells result (refused_line found) (W.taken report.old) (string_bytes text.old) (W.taken report.new) (string_bytes text.new) }
-    ensures failures { telling.TellsWrite result (W.failures report.old) (W.failures report.new) (W.last_failed report.new) }
+    ensures writes { reporting.WritesParts result (refused_line found) (W.taken report.old) (string_bytes text.old) (W.taken report.new) (string_bytes text.new) }
+    ensures failures { reporting.CountsWriteFailures result (W.failures report.old) (W.failures report.new) (W.last_failed report.new) }
 {
     let words = format!(in alloc; "refused\tline\t{}\t{}\n", found.line, found.refusal)?;
-    tell_words(text, report, words.as_str())
+    report_words(text, report, words.as_str())
 }
 
 // Writes the report of inputs that have no plan.
@@ -109,11 +109,11 @@ pub(crate) fn refuse_plan<W: ReportWriter>(
     alloc: Global,
     refusal: &PlanFault,
     report: &mut W,
-) -> Result<u8, TellFault>
+) -> Result<u8, ReportFault>
     requires writes_fit { W.failures report.old < 2 ^ 62 }
-    ensures tells { telling.Tells result (refused_plan refusal.now) (W.taken report.old) [] (W.taken report.new) [] }
+    ensures writes { reporting.WritesParts result (refused_plan refusal.now) (W.taken report.old) [] (W.taken report.new) [] }
     ensures code { IfOk result (λ code. code ≡ status_of refusal.now) }
-    ensures failures { telling.TellsWrite result (W.failures report.old) (W.failures report.new) (W.last_failed report.new) }
+    ensures failures { reporting.CountsWriteFailures result (W.failures report.old) (W.failures report.new) (W.last_failed report.new) }
 {
     let words = format!(in alloc; "refused\t{}\n", refusal.name())?;
     write_words(report, words.as_str())?;
@@ -128,21 +128,21 @@ pub(crate) fn refuse_inputs<W: ReportWriter>(
 ) -> Result<u8, JudgeFault>
     requires writes_fit { W.failures report.old < 2 ^ 62 }
     ensures reports { Reports result (λ parts code. (parts ≡ refused_inputs refusal.now) × (code ≡ 96)) (λ _. ⊥) (λ parts. parts ≡ refused_inputs refusal.now) (W.taken report.old) (W.taken report.new) }
-    ensures failures { TellsWrite result (W.failures report.old) (W.failures report.new) (W.last_failed report.new) }
+    ensures failures { CountsWriteFailures result (W.failures report.old) (W.failures report.new) (W.last_failed report.new) }
 {
     Ok(write_refused_inputs(alloc, refusal, report)?)
 }
 
-// The same, with the fault of telling.
+// The same, with the fault of reporting.
 fn write_refused_inputs<W: ReportWriter>(
     alloc: Global,
     refusal: &InputsRefusal,
     report: &mut W,
-) -> Result<u8, TellFault>
+) -> Result<u8, ReportFault>
     requires writes_fit { W.failures report.old < 2 ^ 62 }
-    ensures tells { telling.Tells result (refused_inputs refusal.now) (W.taken report.old) [] (W.taken report.new) [] }
+    ensures writes { reporting.WritesParts result (refused_inputs refusal.now) (W.taken report.old) [] (W.taken report.new) [] }
     ensures code { IfOk result (λ code. code ≡ 96) }
-    ensures failures { telling.TellsWrite result (W.failures report.old) (W.failures report.new) (W.last_failed report.new) }
+    ensures failures { reporting.CountsWriteFailures result (W.failures report.old) (W.failures report.new) (W.last_failed report.new) }
 {
     let words = match refusal {
         InputsRefusal::Field(path) => format!(in alloc; "refused\tField\t{path}\n")?,
@@ -153,13 +153,13 @@ fn write_refused_inputs<W: ReportWriter>(
 }
 
 // Writes words.
-fn write_words<W: ReportWriter>(report: &mut W, words: &str) -> Result<(), TellFault>
+fn write_words<W: ReportWriter>(report: &mut W, words: &str) -> Result<(), ReportFault>
     requires writes_fit { W.failures report.old < 2 ^ 62 }
-    ensures tells { telling.Tells result (Said words.now ∷ []) (W.taken report.old) [] (W.taken report.new) [] }
-    ensures failures { telling.TellsWrite result (W.failures report.old) (W.failures report.new) (W.last_failed report.new) }
+    ensures writes { reporting.WritesParts result (Said words.now ∷ []) (W.taken report.old) [] (W.taken report.new) [] }
+    ensures failures { reporting.CountsWriteFailures result (W.failures report.old) (W.failures report.new) (W.last_failed report.new) }
 {
     match write_all(report, words.as_bytes()) {
         Ok(()) => Ok(()),
-        Err(cause) => Err(TellFault::Write(cause)),
+        Err(cause) => Err(ReportFault::Write(cause)),
     }
 }

@@ -1,4 +1,4 @@
--- What statuses tell of the test that has them.
+-- What statuses report of the test that has them.
 use Rattle.std.proofs.Common.{◌≡◌, ℕ, Bool, List, [], ◌∷◌, Option, Some, length, map, refl, sym, ap, ◌∙◌, None, Bor, ◌+◌}
 use Rattle.std.specs.Prelude.{◌-◌, zero, suc, slice_get, nat_lt, if◌then◌else◌}
 use Rattle.std.specs.Option.{option_map}

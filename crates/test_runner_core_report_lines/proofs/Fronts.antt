@@ -12,7 +12,7 @@ pub extends_then : (old middle new : List ℕ) → Extends old middle → Extend
 extends_then old middle new first second =
     record { more = first.more ++ second.more; grown = second.grown ∙ ap (λ (t : List ℕ). t ++ second.more) first.grown ∙ append_assoc old first.more second.more }
 
--- the front of so many bytes is the old text
+-- the prefix of so many bytes is the old text
 pub front_taken : (old new : List ℕ) (length_old : ℕ) → length_old ≡ length old → Extends old new → take length_old new ≡ old
 front_taken old new length_old count kept =
     ap (λ (n : ℕ). take n new) count ∙ ap (λ (t : List ℕ). take (length old) t) kept.grown ∙ take-append_seam old kept.more

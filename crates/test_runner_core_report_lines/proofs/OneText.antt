@@ -17,7 +17,7 @@ use Rattle.test_runner_core_run_model.specs.State.{last_record}
 use Rattle.test_runner_core_report_lines.specs.Due.{due_of}
 use Rattle.test_runner_core_report_lines.specs.Laws.{HasOneDone, HasOneShown}
 use Rattle.test_runner_core_report_lines.specs.Report.{IsDoneBy, IsShownBy, IsShownOutputs, kept_of}
-use Rattle.test_runner_core_report_lines.specs.Texts.{NamedTest, IsOutputs, IsToldSlice, err_of, line, out_of, part_line, slice_line, test_line, try_lines, written_text}
+use Rattle.test_runner_core_report_lines.specs.Texts.{NamedTest, IsOutputs, IsShownSlice, err_of, line, out_of, part_line, slice_line, test_line, try_lines, written_text}
 
 one_part : (kind : List ℕ) (one other : ByteSubslice) → IsSamePart one other → part_line kind one ≡ part_line kind other
 one_part kind one other same =
@@ -44,7 +44,7 @@ one_line None (Some (PanicMessage other)) same = absurd same
 one_line None (Some (ErrorStr other)) same = absurd same
 one_line None (Some (ShouldPanic other)) same = absurd same
 
-one_slice : (success : Bool) (output : RecordOutput) (one other : Option TestOutputErrorSlice) → IsToldSlice success output one → IsToldSlice success output other → slice_line one ≡ slice_line other
+one_slice : (success : Bool) (output : RecordOutput) (one other : Option TestOutputErrorSlice) → IsShownSlice success output one → IsShownSlice success output other → slice_line one ≡ slice_line other
 one_slice true output one other first second = ap slice_line (first ∙ sym second)
 one_slice false output one other first second = one_line one other (same_slice (captured (out_of output)) (captured (err_of output)) one other first second)
 

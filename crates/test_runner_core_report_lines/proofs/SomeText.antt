@@ -14,9 +14,9 @@ use Rattle.test_runner_core_run_model.specs.State.{last_record}
 use Rattle.test_runner_core_report_lines.specs.Due.{due_of}
 use Rattle.test_runner_core_report_lines.specs.Laws.{HasSomeDone, HasSomeShown}
 use Rattle.test_runner_core_report_lines.specs.Report.{IsDoneBy, IsShownBy, IsShownOutputs, kept_of}
-use Rattle.test_runner_core_report_lines.specs.Texts.{IsToldSlice, NamedTest, err_of, out_of, slice_line, test_line, try_lines, written_text}
+use Rattle.test_runner_core_report_lines.specs.Texts.{IsShownSlice, NamedTest, err_of, out_of, slice_line, test_line, try_lines, written_text}
 
-some_told_slice : (ok : Bool) (output : RecordOutput) → ¬ ¬ ((slice : Option TestOutputErrorSlice) × IsToldSlice ok output slice)
+some_told_slice : (ok : Bool) (output : RecordOutput) → ¬ ¬ ((slice : Option TestOutputErrorSlice) × IsShownSlice ok output slice)
 some_told_slice true output never = never (None, refl)
 some_told_slice false output never = some_slice (captured (out_of output)) (captured (err_of output)) never
 

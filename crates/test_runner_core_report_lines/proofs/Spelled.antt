@@ -1,4 +1,4 @@
--- What a log line spells is told as it is spelled.
+-- What a log line spells is reported as it is spelled.
 use Rattle.std.proofs.Common.{◌≡◌, ℕ, true, false, List, [], ◌∷◌, ◌++◌, sym, ap, subst, ◌∙◌}
 use Rattle.std.specs.Prelude.{Bool}
 use Rattle.nextest_run_events_results.specs.declared.result.AbortDescription.TheVariants as aborted_by

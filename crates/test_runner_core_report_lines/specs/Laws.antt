@@ -15,11 +15,11 @@ use Rattle.test_runner_core_report_lines.specs.Report.{IsDone, IsShown}
 use Rattle.test_runner_core_report_lines.specs.Texts.{NamedTest, result_text, end_text}
 use Rattle.test_runner_core_report_lines.specs.declared.shows.Shows.{Shows}
 
--- a result that a log line spells is told by a text that spells it
+-- a result that a log line spells is reported by a text that spells it
 abbrev pub ResultIsSpelled : Type 0
 ResultIsSpelled = (result : ExecutionResultDescription) (field : List ℕ) → SpellsResult result field → SpellsResult result (result_text result)
 
--- the end of an attempt is told by the fields that a log line spells it by
+-- the end of an attempt is reported by the fields that a log line spells it by
 abbrev pub EndIsSpelled : Type 0
 EndIsSpelled = (told : Record) (result slow nanos out err : List ℕ) → SpellsRecord told (result ∷ slow ∷ nanos ∷ out ∷ err ∷ []) → end_text told ≡ joined (result ∷ slow ∷ nanos ∷ [])
 

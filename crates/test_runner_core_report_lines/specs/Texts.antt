@@ -34,7 +34,7 @@ pub record NamedTest : Type 0 where
   pub name : OwnedTestInstanceId
   pub state : TestState
 
--- the records that attempts tell
+-- the records that attempts report
 abbrev pub records_in : Option (Bor (Attempts Status)) → List Record
 records_in None = []
 records_in (Some attempts) = map record_of attempts.now.statuses
@@ -160,14 +160,14 @@ slice_line (Some (PanicMessage part)) = part_line (codes "panic") part
 slice_line (Some (ErrorStr part)) = part_line (codes "error") part
 slice_line (Some (ShouldPanic part)) = part_line (codes "should-panic") part
 
--- the part of an output that tells of the error; none of a success
-abbrev pub IsToldSlice : Bool → RecordOutput → Option TestOutputErrorSlice → Type 0
-IsToldSlice true output slice = slice ≡ None
-IsToldSlice false output slice = IsSlice (captured (out_of output)) (captured (err_of output)) slice
+-- the part of an output that reports of the error; none of a success
+abbrev pub IsShownSlice : Bool → RecordOutput → Option TestOutputErrorSlice → Type 0
+IsShownSlice true output slice = slice ≡ None
+IsShownSlice false output slice = IsSlice (captured (out_of output)) (captured (err_of output)) slice
 
 -- the outputs of an attempt
 abbrev pub IsOutputs : Record → List ℕ → Type 0
-IsOutputs told text = (slice : Option TestOutputErrorSlice) × IsToldSlice (is_success told.result) told.output slice × (text ≡ written_text told.output ++ slice_line slice)
+IsOutputs told text = (slice : Option TestOutputErrorSlice) × IsShownSlice (is_success told.result) told.output slice × (text ≡ written_text told.output ++ slice_line slice)
 
 -- how a script ended, if it did
 abbrev pub script_end : Option Record → List ℕ

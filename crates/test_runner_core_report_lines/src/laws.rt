@@ -1,17 +1,17 @@
 //! What holds of every report of a test. Each function does nothing, and its contract is the law.
 ghost use Rattle.test_runner_core_report_lines.specs.Laws.{EndIsSpelled, HasLevels, HasOneDone, HasOneShown, HasSomeDone, HasSomeShown, ResultIsSpelled};
 
-/// A result that a log line spells is told by a text that spells it.
+/// A result that a log line spells is reported by a text that spells it.
 pub fn result_is_spelled()
     ensures { ResultIsSpelled }
 {}
 
-/// Result, slowness and time of an attempt whose end a log line spells are told as that line spells them.
+/// Result, slowness and time of an attempt whose end a log line spells are reported as that line spells them.
 pub fn end_is_spelled()
     ensures { EndIsSpelled }
 {}
 
-/// The levels by which is told what is due of a finished test are those of the description of its attempts.
+/// The levels by which what is due of a finished test is reported are those of the description of its attempts.
 pub fn levels_are_described()
     ensures { HasLevels }
 {}

@@ -14,4 +14,4 @@ mod writing;
 pub use fate::Fate;
 pub use report::{push_done, push_script, push_shown};
 pub use shows::Shows;
-pub use told_test::ToldTest;
+pub use told_test::ReportedTest;

@@ -5,7 +5,7 @@ ghost use Rattle.test_runner_core_run_state.specs.Statuses.{record_of, script_to
 ghost use Rattle.test_runner_core_report_lines.specs.Texts.{end_by, failure_text, fate_of, fate_word, result_text, script_end, script_line, slow_word, test_line, tries_text, try_line, try_lines};
 ghost use Rattle.test_runner_core_report_lines.specs.Writing.{Extends};
 
-use crate::told_test::ToldTest;
+use crate::told_test::ReportedTest;
 use crate::writing::{push_feed, push_field, push_text};
 use itoa::Buffer;
 use nextest_config_elements_choices::{LeakTimeoutResult, SlowTimeoutResult};
@@ -20,7 +20,7 @@ use std::time::Duration;
 pub(crate) fn push_test_line(
     text: &mut String,
     kind: &str,
-    test: &ToldTest<'_>,
+    test: &ReportedTest<'_>,
 ) -> Result<(), AllocError>
     ensures ok { OnOk result (string_bytes text.new ≡ string_bytes text.old ++ test_line kind.now test.now) }
     ensures kept { Extends (string_bytes text.old) (string_bytes text.new) }
@@ -32,7 +32,7 @@ pub(crate) fn push_test_line(
 }
 
 // Adds a tab, and what became of the test.
-fn push_fate(text: &mut String, test: &ToldTest<'_>) -> Result<(), AllocError>
+fn push_fate(text: &mut String, test: &ReportedTest<'_>) -> Result<(), AllocError>
     ensures ok { OnOk result (string_bytes text.new ≡ string_bytes text.old ++ 9 ∷ fate_word (fate_of test.now.state)) }
     ensures kept { Extends (string_bytes text.old) (string_bytes text.new) }
 {
@@ -40,7 +40,7 @@ fn push_fate(text: &mut String, test: &ToldTest<'_>) -> Result<(), AllocError>
 }
 
 // Adds the kind of a line on the test, and which test it is.
-fn push_test(text: &mut String, kind: &str, test: &ToldTest<'_>) -> Result<(), AllocError>
+fn push_test(text: &mut String, kind: &str, test: &ReportedTest<'_>) -> Result<(), AllocError>
     ensures ok { OnOk result (string_bytes text.new ≡ string_bytes text.old ++ (kind.now ++ 9 ∷ (test.now.name.binary_id ++ 9 ∷ test.now.name.test_name))) }
     ensures kept { Extends (string_bytes text.old) (string_bytes text.new) }
 {
@@ -50,7 +50,7 @@ fn push_test(text: &mut String, kind: &str, test: &ToldTest<'_>) -> Result<(), A
 }
 
 // Adds a tab, and how many attempts of the test ended, of how many tries.
-fn push_tries(text: &mut String, test: &ToldTest<'_>) -> Result<(), AllocError>
+fn push_tries(text: &mut String, test: &ReportedTest<'_>) -> Result<(), AllocError>
     ensures ok { OnOk result (string_bytes text.new ≡ string_bytes text.old ++ 9 ∷ tries_text test.now.state) }
     ensures kept { Extends (string_bytes text.old) (string_bytes text.new) }
 {

@@ -3,7 +3,7 @@ ghost use Rattle.std.specs.Prelude.{◌≡◌, ◌∷◌, ◌++◌, [], OnOk, de
 ghost use Rattle.hex.specs.Hex.{encode_lower};
 ghost use Rattle.nextest_run_events_results.specs.Result.{is_success};
 ghost use Rattle.test_runner_core_run_state.specs.Statuses.{record_of, script_told, told_of};
-ghost use Rattle.test_runner_core_report_lines.specs.Texts.{IsOutputs, IsToldSlice, err_of, line, message_line, out_of, part_line, script_outputs, slice_line, stream_line, written_text};
+ghost use Rattle.test_runner_core_report_lines.specs.Texts.{IsOutputs, IsShownSlice, err_of, line, message_line, out_of, part_line, script_outputs, slice_line, stream_line, written_text};
 ghost use Rattle.test_runner_core_report_lines.specs.Writing.{Adds, Extends};
 
 use crate::writing::{push_feed, push_field, push_hex, push_text};
@@ -144,9 +144,9 @@ fn push_message(
     }
 }
 
-// The part of an attempt's outputs that tells of its error; none of a success.
+// The part of an attempt's outputs that shows its error; none of a success.
 fn slice_of(status: &ExecuteStatus<LiveSpec>) -> Option<TestOutputErrorSlice<'_>>
-    ensures { IsToldSlice (is_success status.now.result) (told_of status.now.output) result }
+    ensures { IsShownSlice (is_success status.now.result) (told_of status.now.output) result }
 {
     if status.result.is_success() {
         return None;

@@ -11,7 +11,7 @@ ghost use Rattle.test_runner_core_report_lines.specs.Writing.{Adds, Extends};
 use crate::lines::{push_attempts, push_script_line, push_test_line};
 use crate::outputs::{push_outputs, push_script_outputs};
 use crate::shows::Shows;
-use crate::told_test::ToldTest;
+use crate::told_test::ReportedTest;
 use crate::writing::all_or_nothing;
 use nextest_run_events_outputs::{LiveSpec, SetupScriptExecuteStatus};
 use nextest_run_events_visibility::{OutputOnTestFinished, OutputStoreFinal};
@@ -20,7 +20,11 @@ use std::alloc::AllocError;
 /// Adds what is written as a test finishes: its line, if the line or its outputs are due at once, and then its
 /// outputs, if they are. It adds nothing where nothing is due, or where the test isn't finished. It fails only on
 /// allocation, and then the text stays as it was.
-pub fn push_done(text: &mut String, shows: &Shows, test: &ToldTest<'_>) -> Result<(), AllocError>
+pub fn push_done(
+    text: &mut String,
+    shows: &Shows,
+    test: &ReportedTest<'_>,
+) -> Result<(), AllocError>
     ensures ok { OnOk result (Adds (IsDone shows.now test.now) (string_bytes text.old) (string_bytes text.new)) }
     ensures err { OnErr result (string_bytes text.new ≡ string_bytes text.old) }
 {
@@ -32,7 +36,11 @@ pub fn push_done(text: &mut String, shows: &Shows, test: &ToldTest<'_>) -> Resul
 /// Adds the part of a test in the final text: its line, a line for each of its ended attempts and then its outputs,
 /// if they are to stand there. Of a finished test of which nothing is kept it adds nothing. It fails only on
 /// allocation, and then the text stays as it was.
-pub fn push_shown(text: &mut String, shows: &Shows, test: &ToldTest<'_>) -> Result<(), AllocError>
+pub fn push_shown(
+    text: &mut String,
+    shows: &Shows,
+    test: &ReportedTest<'_>,
+) -> Result<(), AllocError>
     ensures ok { OnOk result (Adds (IsShown shows.now test.now) (string_bytes text.old) (string_bytes text.new)) }
     ensures err { OnErr result (string_bytes text.new ≡ string_bytes text.old) }
 {
@@ -72,7 +80,7 @@ fn push_script_lines(
 }
 
 // Adds what is due of a test as it finishes, if anything is.
-fn push_if_due(text: &mut String, shows: &Shows, test: &ToldTest<'_>) -> Result<(), AllocError>
+fn push_if_due(text: &mut String, shows: &Shows, test: &ReportedTest<'_>) -> Result<(), AllocError>
     ensures ok { OnOk result (Adds (IsDone shows.now test.now) (string_bytes text.old) (string_bytes text.new)) }
     ensures kept { Extends (string_bytes text.old) (string_bytes text.new) }
 {
@@ -83,7 +91,7 @@ fn push_if_due(text: &mut String, shows: &Shows, test: &ToldTest<'_>) -> Result<
 }
 
 // Adds the part of a test in the final text, if it has one.
-fn push_if_kept(text: &mut String, shows: &Shows, test: &ToldTest<'_>) -> Result<(), AllocError>
+fn push_if_kept(text: &mut String, shows: &Shows, test: &ReportedTest<'_>) -> Result<(), AllocError>
     ensures ok { OnOk result (Adds (IsShown shows.now test.now) (string_bytes text.old) (string_bytes text.new)) }
     ensures kept { Extends (string_bytes text.old) (string_bytes text.new) }
 {
@@ -109,7 +117,7 @@ fn kept_of(due: Option<OutputOnTestFinished>) -> OutputStoreFinal
 fn push_due(
     text: &mut String,
     due: OutputOnTestFinished,
-    test: &ToldTest<'_>,
+    test: &ReportedTest<'_>,
 ) -> Result<(), AllocError>
     ensures ok { OnOk result (Adds (IsDoneBy (Some due) test.now) (string_bytes text.old) (string_bytes text.new)) }
     ensures kept { Extends (string_bytes text.old) (string_bytes text.new) }
@@ -122,7 +130,7 @@ fn push_due(
 fn push_done_line(
     text: &mut String,
     due: OutputOnTestFinished,
-    test: &ToldTest<'_>,
+    test: &ReportedTest<'_>,
 ) -> Result<(), AllocError>
     ensures ok { OnOk result (string_bytes text.new ≡ string_bytes text.old ++ (if due.write_status_line || due.show_immediate then test_line (codes "done") test.now else [])) }
     ensures kept { Extends (string_bytes text.old) (string_bytes text.new) }
@@ -135,7 +143,7 @@ fn push_done_line(
 }
 
 // Adds the lines of a test and of its attempts, and its outputs, if they are shown.
-fn push_kept(text: &mut String, is_shown: bool, test: &ToldTest<'_>) -> Result<(), AllocError>
+fn push_kept(text: &mut String, is_shown: bool, test: &ReportedTest<'_>) -> Result<(), AllocError>
     ensures ok { OnOk result (Adds (IsShownBy (Yes is_shown) test.now) (string_bytes text.old) (string_bytes text.new)) }
     ensures kept { Extends (string_bytes text.old) (string_bytes text.new) }
 {
@@ -145,7 +153,7 @@ fn push_kept(text: &mut String, is_shown: bool, test: &ToldTest<'_>) -> Result<(
 }
 
 // Adds a line for each ended attempt of a test.
-fn push_each_attempt(text: &mut String, test: &ToldTest<'_>) -> Result<(), AllocError>
+fn push_each_attempt(text: &mut String, test: &ReportedTest<'_>) -> Result<(), AllocError>
     ensures ok { OnOk result (string_bytes text.new ≡ string_bytes text.old ++ try_lines 1 test.now.state.records) }
     ensures kept { Extends (string_bytes text.old) (string_bytes text.new) }
 {
@@ -159,7 +167,7 @@ fn push_each_attempt(text: &mut String, test: &ToldTest<'_>) -> Result<(), Alloc
 fn push_shown_outputs(
     text: &mut String,
     is_shown: bool,
-    test: &ToldTest<'_>,
+    test: &ReportedTest<'_>,
 ) -> Result<(), AllocError>
     ensures ok { OnOk result (Adds (IsShownOutputs is_shown (last_record test.now.state.records)) (string_bytes text.old) (string_bytes text.new)) }
     ensures kept { Extends (string_bytes text.old) (string_bytes text.new) }
@@ -171,7 +179,7 @@ fn push_shown_outputs(
 }
 
 // Adds the outputs of a test's last attempt.
-fn push_last_outputs(text: &mut String, test: &ToldTest<'_>) -> Result<(), AllocError>
+fn push_last_outputs(text: &mut String, test: &ReportedTest<'_>) -> Result<(), AllocError>
     ensures ok { OnOk result (Adds (IsShownOutputs true (last_record test.now.state.records)) (string_bytes text.old) (string_bytes text.new)) }
     ensures kept { Extends (string_bytes text.old) (string_bytes text.new) }
 {

@@ -1,4 +1,4 @@
-// A test as a report tells of it.
+// A test as a report shows it.
 ghost use Rattle.std.specs.Prelude.{◌≡◌, Some, length, if◌then◌else◌};
 ghost use Rattle.nextest_run_events_counters.specs.Counting.{finished_as};
 ghost use Rattle.test_runner_core_run_state.specs.Statuses.{IsAttempts};
@@ -18,16 +18,16 @@ use nextest_run_events_visibility::OutputOnTestFinished;
 use std::marker::Model;
 use test_runner_core_run_model::{Mark, RunTest};
 
-/// A test as a report tells of it: its name, and how far it is. In a clause it is these two.
+/// A test as a report shows it: its name, and how far it is. In a clause it is these two.
 #[derive(Drop)]
-pub struct ToldTest<'a> {
+pub struct ReportedTest<'a> {
     name: TestInstanceId<'a>,
     plan: RunTest,
     mark: Mark,
     attempts: Option<&'a ExecutionStatuses<LiveSpec>>,
 }
 
-impl<'a> Model for ToldTest<'a> {
+impl<'a> Model for ReportedTest<'a> {
     ghost use Rattle.test_runner_core_report_lines.specs.Texts.{GoesBy, NamedTest, records_in};
 
     ghost Value = { NamedTest };
@@ -40,21 +40,21 @@ impl<'a> Model for ToldTest<'a> {
     ghost invariant = { λ t. GoesBy t.plan.flaky t.attempts };
 }
 
-impl<'a> ToldTest<'a> {
+impl<'a> ReportedTest<'a> {
     /// The test of this name with these ended attempts, which go by its flaky rule: `None` where none ended.
     pub fn new(
         name: TestInstanceId<'a>,
         plan: RunTest,
         mark: Mark,
         attempts: Option<&'a ExecutionStatuses<LiveSpec>>,
-    ) -> ToldTest<'a>
+    ) -> ReportedTest<'a>
         requires { GoesBy plan.flaky attempts }
         ensures binary { result.name.binary_id ≡ name.entry.binary_id.now }
         ensures name { result.name.test_name ≡ name.entry.test_name.now }
         ensures state { result.state ≡ record { plan = plan; records = records_in attempts.entry; mark = mark } }
         ensures told { (test : TestState) → test.plan ≡ plan → test.mark ≡ mark → IsAttempts (Some test) attempts.entry → result.state ≡ test }
     {
-        ToldTest {
+        ReportedTest {
             name,
             plan,
             mark,

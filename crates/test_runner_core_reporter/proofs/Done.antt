@@ -1,4 +1,4 @@
--- Tests that a step finished, told one after another.
+-- Tests that a step finished, reported one after another.
 use Rattle.std.proofs.Common.{◌≡◌, ℕ, zero, suc, ◌+◌, ◌-◌, ◌≤◌, Bool, true, false, cond, List, [], ◌∷◌, ◌++◌, length, Option, refl, sym, ap, ◌∙◌, subst, inl, inr, arith, append_assoc, append-nil}
 use Rattle.std.specs.Option.{option_map_or}
 use Rattle.std.proofs.lemmas.Bool.{cases_lt}
@@ -9,7 +9,7 @@ use Rattle.test_runner_core_run_model.specs.Finishing.{is_stopped_at, is_stopped
 use Rattle.test_runner_core_run_model.specs.State.{State, TestState}
 use Rattle.test_runner_core_reporter.specs.Parts.{Part}
 use Rattle.test_runner_core_reporter.specs.Steps.{all_done, done, done_at}
-use Rattle.test_runner_core_reporter.specs.Telling.{TellsAll, TellsFront}
+use Rattle.test_runner_core_reporter.specs.Writes.{WritesAll, WritesPrefix}
 use Rattle.test_runner_core_reporter.specs.declared.final_text.ShownTest.{ShownTest}
 use Rattle.test_runner_core_reporter.proofs.Named.{no_test}
 use Rattle.test_runner_core_reporter.proofs.Told.{all_then, front_more, front_then}
@@ -26,10 +26,10 @@ done_next plan state passes place =
     ap (all_done plan state) (places_more passes place) ∙ done_append plan state (places_among passes place) (cond (passes place) (place ∷ []) [])
 
 pub done_here : (plan : Plan) (state : State) (passes : ℕ → Bool) (place : ℕ) (before now after : Option (List ℕ)) (waited mid waits : List ℕ)
-    → TellsAll (all_done plan state (places_among passes place)) before waited now mid → TellsAll (all_done plan state (cond (passes place) (place ∷ []) [])) now mid after waits
-    → TellsAll (all_done plan state (places_among passes (place + 1))) before waited after waits
+    → WritesAll (all_done plan state (places_among passes place)) before waited now mid → WritesAll (all_done plan state (cond (passes place) (place ∷ []) [])) now mid after waits
+    → WritesAll (all_done plan state (places_among passes (place + 1))) before waited after waits
 done_here plan state passes place before now after waited mid waits told here =
-    subst (λ (parts : List Part). TellsAll parts before waited after waits) (sym (done_next plan state passes place))
+    subst (λ (parts : List Part). WritesAll parts before waited after waits) (sym (done_next plan state passes place))
     (all_then (all_done plan state (places_among passes place)) (all_done plan state (cond (passes place) (place ∷ []) [])) before now after waited mid waits told here)
 
 -- the places among more of the first ones begin with those among fewer
@@ -46,8 +46,8 @@ places_begin passes few (suc more) =
     )
 
 pub front_here : (plan : Plan) (state : State) (passes : ℕ → Bool) (place count : ℕ) (before now after : Option (List ℕ)) (waited mid : List ℕ) → place + 1 ≤ count
-    → TellsAll (all_done plan state (places_among passes place)) before waited now mid → TellsFront (all_done plan state (cond (passes place) (place ∷ []) [])) now mid after
-    → TellsFront (all_done plan state (places_among passes count)) before waited after
+    → WritesAll (all_done plan state (places_among passes place)) before waited now mid → WritesPrefix (all_done plan state (cond (passes place) (place ∷ []) [])) now mid after
+    → WritesPrefix (all_done plan state (places_among passes count)) before waited after
 front_here plan state passes place count before now after waited mid within told here =
     let more : ℕ = count - (place + 1) in
     let size : more + (place + 1) ≡ count = omega arith in
@@ -55,11 +55,11 @@ front_here plan state passes place count before now after waited mid within told
     let whole : all_done plan state (places_among passes count) ≡ (all_done plan state (places_among passes place) ++ all_done plan state (cond (passes place) (place ∷ []) [])) ++ all_done plan state begun.0 =
     ap (λ (n : ℕ). all_done plan state (places_among passes n)) (sym size) ∙ ap (all_done plan state) begun.1
     ∙ done_append plan state (places_among passes (place + 1)) begun.0 ∙ ap (λ (t : List Part). t ++ all_done plan state begun.0) (done_next plan state passes place) in
-    subst (λ (parts : List Part). TellsFront parts before waited after) (sym whole)
+    subst (λ (parts : List Part). WritesPrefix parts before waited after) (sym whole)
     (front_more (all_done plan state (places_among passes place) ++ all_done plan state (cond (passes place) (place ∷ []) [])) (all_done plan state begun.0) before after waited
     (front_then (all_done plan state (places_among passes place)) (all_done plan state (cond (passes place) (place ∷ []) [])) before now after waited mid told here))
 
--- places of which nothing is told, behind others
+-- places of which nothing is reported, behind others
 none_behind : (plan : Plan) (state : State) (passes : ℕ → Bool) (few more : ℕ)
     → ((place : ℕ) → few ≤ place → all_done plan state (cond (passes place) (place ∷ []) []) ≡ [])
     → all_done plan state (places_among passes (more + few)) ≡ all_done plan state (places_among passes few)
@@ -74,7 +74,7 @@ none_behind plan state passes few (suc more) none =
     ∙ append-nil (all_done plan state (places_among passes (more + few)))
     ∙ none_behind plan state passes few more none
 
--- nothing is told of a place that the plan doesn't have
+-- nothing is reported of a place that the plan doesn't have
 past_plan : (plan : Plan) (state : State) (place : ℕ) → length plan.tests ≤ place → (passes : Bool) → all_done plan state (cond passes (place ∷ []) []) ≡ []
 past_plan plan state place past true =
     ap (λ (found : Option ShownTest). done found ++ []) (no_test plan plan.tests state.tests place (slice_get_past plan.tests place past))
@@ -86,7 +86,7 @@ past_run plan state place past =
     ap (λ (found : Option TestState). all_done plan state (cond (option_map_or (λ test. is_stopped_mark test.mark) found false) (place ∷ []) []))
     (slice_get_past state.tests place past)
 
--- so of the tests that are over under a reason as much is told by the places of the plan as by those of the run
+-- so of the tests that are over under a reason as much is reported by the places of the plan as by those of the run
 pub stopped_told : (plan : Plan) (state : State) → all_done plan state (places_among (is_stopped_at state.tests) (length plan.tests)) ≡ all_done plan state (stopped_places state)
 stopped_told plan state =
     elim (cases_lt (length plan.tests) (length state.tests)) [

@@ -1,10 +1,10 @@
--- What is told of the items of a list, one after another.
+-- What is reported of the items of a list, one after another.
 use Rattle.std.proofs.Common.{◌≡◌, ℕ, zero, suc, ◌+◌, ◌<◌, List, [], ◌∷◌, ◌++◌, Option, Some, length, map, take, drop, get_or, refl, sym, ap, ◌∙◌, subst, arith}
 use Rattle.std.proofs.lemmas.List.{map-append, take-append-drop}
 use Rattle.std.proofs.lemmas.Option.{slice_get_read}
 use Rattle.std.specs.Prelude.{slice_get}
 use Rattle.test_runner_core_reporter.specs.Parts.{Part}
-use Rattle.test_runner_core_reporter.specs.Telling.{TellsAll, TellsFront}
+use Rattle.test_runner_core_reporter.specs.Writes.{WritesAll, WritesPrefix}
 use Rattle.test_runner_core_reporter.proofs.Told.{all_then, front_more, front_then}
 
 -- the first items, and one more
@@ -26,22 +26,22 @@ parts_rest part xs place x here =
     ∙ map-append part (take (suc place) xs) (drop (suc place) xs)
     ∙ ap (λ (ys : List Part). ys ++ map part (drop (suc place) xs)) (parts_next part xs place x here)
 
--- the next one is told
+-- the next one is reported
 pub next_told : {X : Type 0} (part : X → Part) (xs : List X) (place : ℕ) (x : X) (before middle after : Option (List ℕ)) (waited mid waits : List ℕ) → slice_get xs place ≡ Some x
-    → TellsAll (map part (take place xs)) before waited middle mid → TellsAll (part x ∷ []) middle mid after waits
-    → TellsAll (map part (take (place + 1) xs)) before waited after waits
+    → WritesAll (map part (take place xs)) before waited middle mid → WritesAll (part x ∷ []) middle mid after waits
+    → WritesAll (map part (take (place + 1) xs)) before waited after waits
 next_told part xs place x before middle after waited mid waits here told now =
     let next : suc place ≡ place + 1 = omega arith in
-    subst (λ (n : ℕ). TellsAll (map part (take n xs)) before waited after waits) next
-    (subst (λ (parts : List Part). TellsAll parts before waited after waits) (sym (parts_next part xs place x here))
+    subst (λ (n : ℕ). WritesAll (map part (take n xs)) before waited after waits) next
+    (subst (λ (parts : List Part). WritesAll parts before waited after waits) (sym (parts_next part xs place x here))
     (all_then (map part (take place xs)) (part x ∷ []) before middle after waited mid waits told now))
 
--- or it fails to be told
+-- or it fails to be reported
 pub next_fails : {X : Type 0} (part : X → Part) (xs : List X) (place : ℕ) (x : X) (before middle after : Option (List ℕ)) (waited mid : List ℕ) → slice_get xs place ≡ Some x
-    → TellsAll (map part (take place xs)) before waited middle mid → TellsFront (part x ∷ []) middle mid after
-    → TellsFront (map part xs) before waited after
+    → WritesAll (map part (take place xs)) before waited middle mid → WritesPrefix (part x ∷ []) middle mid after
+    → WritesPrefix (map part xs) before waited after
 next_fails part xs place x before middle after waited mid here told failed =
-    subst (λ (parts : List Part). TellsFront parts before waited after) (sym (parts_rest part xs place x here))
+    subst (λ (parts : List Part). WritesPrefix parts before waited after) (sym (parts_rest part xs place x here))
     (front_more (map part (take place xs) ++ part x ∷ []) (map part (drop (suc place) xs)) before after waited
     (front_then (map part (take place xs)) (part x ∷ []) before middle after waited mid told failed))
 

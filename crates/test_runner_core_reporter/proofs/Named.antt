@@ -12,7 +12,7 @@ use Rattle.test_runner_core_session.specs.Session.{IsFate}
 use Rattle.test_runner_core_session.specs.declared.session.Fate.{Fate}
 use Rattle.test_runner_core_reporter.specs.Final.{shown, shown_part, shown_tests, shows_of}
 use Rattle.test_runner_core_reporter.specs.Parts.{Part}
-use Rattle.test_runner_core_reporter.specs.Telling.{TellsAll, TellsFront}
+use Rattle.test_runner_core_reporter.specs.Writes.{WritesAll, WritesPrefix}
 use Rattle.test_runner_core_reporter.specs.declared.final_text.ShownTest.{ShownTest}
 use Rattle.test_runner_core_reporter.proofs.Each.{take_next}
 use Rattle.test_runner_core_reporter.proofs.Told.{all_then, front_more, front_then}
@@ -46,7 +46,7 @@ no_state plan (first ∷ tests) [] place none = refl
 no_state plan (first ∷ tests) (one ∷ states) zero none = absurd (let e = none in cc)
 no_state plan (first ∷ tests) (one ∷ states) (suc place) none = no_state plan tests states place none
 
--- by how far a test is told to be
+-- by how far a test is reported to be
 pub fate_none : (plan : Plan) (tests : List PlanTest) (states : List TestState) (place : ℕ) → IsFate (slice_get states place) None → slice_get (shown_tests plan tests states) place ≡ None
 fate_none plan tests states place is = by_state (slice_get states place) refl is
   where
@@ -108,27 +108,27 @@ shown_rest xs place =
     ∙ map-append shown_part (take (suc place) xs) (drop (suc place) xs)
     ∙ ap (λ (ys : List Part). ys ++ map shown_part (drop (suc place) xs)) (shown_next xs place)
 
--- telling them one after another
+-- reporting them one after another
 pub all_next : (xs : List ShownTest) (place : ℕ) (before now after : Option (List ℕ)) (waited mid waits : List ℕ)
-    → TellsAll (map shown_part (take place xs)) before waited now mid → TellsAll (shown (slice_get xs place)) now mid after waits
-    → TellsAll (map shown_part (take (place + 1) xs)) before waited after waits
+    → WritesAll (map shown_part (take place xs)) before waited now mid → WritesAll (shown (slice_get xs place)) now mid after waits
+    → WritesAll (map shown_part (take (place + 1) xs)) before waited after waits
 all_next xs place before now after waited mid waits told here =
     let next : suc place ≡ place + 1 = omega arith in
-    subst (λ (n : ℕ). TellsAll (map shown_part (take n xs)) before waited after waits) next
-    (subst (λ (parts : List Part). TellsAll parts before waited after waits) (sym (shown_next xs place))
+    subst (λ (n : ℕ). WritesAll (map shown_part (take n xs)) before waited after waits) next
+    (subst (λ (parts : List Part). WritesAll parts before waited after waits) (sym (shown_next xs place))
     (all_then (map shown_part (take place xs)) (shown (slice_get xs place)) before now after waited mid waits told here))
 
 pub front_here : (xs : List ShownTest) (place : ℕ) (before now after : Option (List ℕ)) (waited mid : List ℕ)
-    → TellsAll (map shown_part (take place xs)) before waited now mid → TellsFront (shown (slice_get xs place)) now mid after
-    → TellsFront (map shown_part xs) before waited after
+    → WritesAll (map shown_part (take place xs)) before waited now mid → WritesPrefix (shown (slice_get xs place)) now mid after
+    → WritesPrefix (map shown_part xs) before waited after
 front_here xs place before now after waited mid told here =
-    subst (λ (parts : List Part). TellsFront parts before waited after) (sym (shown_rest xs place))
+    subst (λ (parts : List Part). WritesPrefix parts before waited after) (sym (shown_rest xs place))
     (front_more (map shown_part (take place xs) ++ shown (slice_get xs place)) (map shown_part (drop (suc place) xs)) before after waited
     (front_then (map shown_part (take place xs)) (shown (slice_get xs place)) before now after waited mid told here))
 
-pub all_told : (plan : Plan) (tests : List PlanTest) (states : List TestState) (place : ℕ) (before after : Option (List ℕ)) (waited waits : List ℕ) → length tests ≤ place
-    → TellsAll (map shown_part (take place (shown_tests plan tests states))) before waited after waits
-    → TellsAll (map shown_part (shown_tests plan tests states)) before waited after waits
-all_told plan tests states place before after waited waits over told =
+pub all_written : (plan : Plan) (tests : List PlanTest) (states : List TestState) (place : ℕ) (before after : Option (List ℕ)) (waited waits : List ℕ) → length tests ≤ place
+    → WritesAll (map shown_part (take place (shown_tests plan tests states))) before waited after waits
+    → WritesAll (map shown_part (shown_tests plan tests states)) before waited after waits
+all_written plan tests states place before after waited waits over told =
     let within = shown_within plan tests states in
-    subst (λ (xs : List ShownTest). TellsAll (map shown_part xs) before waited after waits) (take_all place (shown_tests plan tests states) (omega arith)) told
+    subst (λ (xs : List ShownTest). WritesAll (map shown_part xs) before waited after waits) (take_all place (shown_tests plan tests states) (omega arith)) told

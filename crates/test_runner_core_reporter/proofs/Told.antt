@@ -1,10 +1,10 @@
--- What is told in a row.
+-- What is reported in a row.
 use Rattle.std.proofs.Common.{◌≡◌, ℕ, List, [], ◌∷◌, ◌++◌, Option, Some, None, Result, Ok, Err, take, drop, refl, sym, ap, ◌∙◌, subst, append_assoc, append-nil}
 use Rattle.std.specs.Result.{IsErr}
 use Rattle.std.specs.Io.KnownBytes.{Appends}
 use Rattle.std.proofs.lemmas.List.{take-append-drop}
 use Rattle.test_runner_core_reporter.specs.Parts.{Part, IsPart, IsText}
-use Rattle.test_runner_core_reporter.specs.Telling.{MovesOn, Tells, TellsAll, TellsFront}
+use Rattle.test_runner_core_reporter.specs.Writes.{MovesOn, WritesParts, WritesAll, WritesPrefix}
 
 -- nothing is taken by no call
 pub appends_none : (before : Option (List ℕ)) → Appends before before []
@@ -37,16 +37,16 @@ moves_then before middle after waited mid waits one other first second =
           ∙ append_assoc waited one other;
     }
 
--- nothing was told
+-- nothing was reported
 pub moves_none : (before : Option (List ℕ)) (waits : List ℕ) → MovesOn before waits before waits []
 moves_none before waits = record { written = []; taken = appends_none before; whole = sym (append-nil waits) }
 
-pub all_none : (before : Option (List ℕ)) (waits : List ℕ) → TellsAll [] before waits before waits
+pub all_none : (before : Option (List ℕ)) (waits : List ℕ) → WritesAll [] before waits before waits
 all_none before waits = record { told = []; text = refl; moved = moves_none before waits }
 
--- parts that are told behind others
+-- parts that are reported behind others
 pub all_then : (parts more : List Part) (before middle after : Option (List ℕ)) (waited mid waits : List ℕ)
-    → TellsAll parts before waited middle mid → TellsAll more middle mid after waits → TellsAll (parts ++ more) before waited after waits
+    → WritesAll parts before waited middle mid → WritesAll more middle mid after waits → WritesAll (parts ++ more) before waited after waits
 all_then parts more before middle after waited mid waits first second =
     record {
       told = first.told ++ second.told;
@@ -55,7 +55,7 @@ all_then parts more before middle after waited mid waits first second =
     }
 
 pub front_then : (parts more : List Part) (before middle after : Option (List ℕ)) (waited mid : List ℕ)
-    → TellsAll parts before waited middle mid → TellsFront more middle mid after → TellsFront (parts ++ more) before waited after
+    → WritesAll parts before waited middle mid → WritesPrefix more middle mid after → WritesPrefix (parts ++ more) before waited after
 front_then parts more before middle after waited mid first second =
     record {
       front = parts ++ second.front;
@@ -68,12 +68,12 @@ front_then parts more before middle after waited mid first second =
     }
 
 pub tells_then : {T E : Type 0} (result : Result T E) (parts more : List Part) (before middle after : Option (List ℕ)) (waited mid waits : List ℕ)
-    → TellsAll parts before waited middle mid → Tells result more middle mid after waits → Tells result (parts ++ more) before waited after waits
+    → WritesAll parts before waited middle mid → WritesParts result more middle mid after waits → WritesParts result (parts ++ more) before waited after waits
 tells_then (Ok done) parts more before middle after waited mid waits first second = all_then parts more before middle after waited mid waits first second
 tells_then (Err fault) parts more before middle after waited mid waits first second = front_then parts more before middle after waited mid first second
 
--- where parts fail to be told, so do they with others behind them
-pub front_more : (parts more : List Part) (before after : Option (List ℕ)) (waited : List ℕ) → TellsFront parts before waited after → TellsFront (parts ++ more) before waited after
+-- where parts fail to be reported, so do they with others behind them
+pub front_more : (parts more : List Part) (before after : Option (List ℕ)) (waited : List ℕ) → WritesPrefix parts before waited after → WritesPrefix (parts ++ more) before waited after
 front_more parts more before after waited failed =
     record {
       front = failed.front;
@@ -85,32 +85,32 @@ front_more parts more before after waited failed =
       moved = failed.moved;
     }
 
--- where nothing was told
-pub front_none : (parts : List Part) (before : Option (List ℕ)) (waited : List ℕ) → TellsFront parts before waited before
+-- where nothing was reported
+pub front_none : (parts : List Part) (before : Option (List ℕ)) (waited : List ℕ) → WritesPrefix parts before waited before
 front_none parts before waited =
     record { front = []; rest = parts; whole = refl; told = []; text = refl; lost = waited; moved = moves_none before waited }
 
 -- what an exit by `?` answers
 pub fails : {T E : Type 0} (result : Result T E) (parts : List Part) (before after : Option (List ℕ)) (waited waits : List ℕ) → IsErr result
-    → TellsFront parts before waited after → Tells result parts before waited after waits
+    → WritesPrefix parts before waited after → WritesParts result parts before waited after waits
 fails (Ok value) parts before after waited waits is front = absurd (cc)
 fails (Err fault) parts before after waited waits is front = front
 
--- a text that is put behind what waits is told
-pub pushed : (parts : List Part) (before : Option (List ℕ)) (waited told waits : List ℕ) → IsText parts told → waits ≡ waited ++ told → TellsAll parts before waited before waits
+-- a text that is put behind what waits is reported
+pub pushed : (parts : List Part) (before : Option (List ℕ)) (waited told waits : List ℕ) → IsText parts told → waits ≡ waited ++ told → WritesAll parts before waited before waits
 pushed parts before waited told waits text grown = record { told = told; text = text; moved = record { written = []; taken = appends_none before; whole = grown } }
 
 pub then_nothing : {T E : Type 0} (result : Result T E) (parts : List Part) (before middle after : Option (List ℕ)) (waited mid waits : List ℕ)
-    → TellsAll parts before waited middle mid → Tells result [] middle mid after waits → Tells result parts before waited after waits
+    → WritesAll parts before waited middle mid → WritesParts result [] middle mid after waits → WritesParts result parts before waited after waits
 then_nothing result parts before middle after waited mid waits first second =
-    subst (λ (p : List Part). Tells result p before waited after waits) (append-nil parts) (tells_then result parts [] before middle after waited mid waits first second)
+    subst (λ (p : List Part). WritesParts result p before waited after waits) (append-nil parts) (tells_then result parts [] before middle after waited mid waits first second)
 
 -- a text of one part
 pub one_text : (part : Part) (told : List ℕ) → IsPart part told → IsText (part ∷ []) told
 one_text part told is = (told, ([], (is, refl, sym (append-nil told))))
 
--- a front of what waited is written
-pub wrote_front : (before after : Option (List ℕ)) (waited : List ℕ) (count : ℕ) → Appends before after (take count waited) → TellsFront [] before waited after
+-- a prefix of what waited is written
+pub wrote_front : (before after : Option (List ℕ)) (waited : List ℕ) (count : ℕ) → Appends before after (take count waited) → WritesPrefix [] before waited after
 wrote_front before after waited count taken =
     record {
       front = [];
@@ -122,7 +122,7 @@ wrote_front before after waited count taken =
       moved = record { written = take count waited; taken = taken; whole = take-append-drop count waited ∙ sym (append-nil waited) };
     }
 
--- what stays true while parts are told one after another
-pub record Telling (parts : List Part) (before : Option (List ℕ)) (waited : List ℕ) (old_failures : ℕ) (now : Option (List ℕ)) (waits : List ℕ) (failures : ℕ) : Type 0 where
-  pub told : TellsAll parts before waited now waits
+-- what stays true while parts are reported one after another
+pub record HasWritten (parts : List Part) (before : Option (List ℕ)) (waited : List ℕ) (old_failures : ℕ) (now : Option (List ℕ)) (waits : List ℕ) (failures : ℕ) : Type 0 where
+  pub told : WritesAll parts before waited now waits
   pub unfailed : failures ≡ old_failures

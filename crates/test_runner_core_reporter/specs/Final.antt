@@ -1,4 +1,4 @@
--- What the final text of a run tells.
+-- What the final text of a run reports.
 use Rattle.std.specs.Prelude.{ℕ, List, [], ◌∷◌, ◌++◌, map, Option, None, Some}
 use Rattle.nextest_run_events_results.specs.declared.record.Record.{Record}
 use Rattle.test_runner_core_plan.specs.declared.plan.Plan.{Plan}
@@ -25,7 +25,7 @@ shown_tests plan (test ∷ tests) [] = []
 shown_tests plan (test ∷ tests) (state ∷ states) =
     record { shows = shows_of plan test; test = record { name = test.instance; state = state } } ∷ shown_tests plan tests states
 
--- what is told of such a test as it finishes, and in the final text
+-- what is reported of such a test as it finishes, and in the final text
 abbrev pub done_part : ShownTest → Part
 done_part told = Done told.shows told.test
 

@@ -1,6 +1,6 @@
 pub mod RunEnd
 pub mod Parts
-pub mod Telling
+pub mod Writes
 pub mod Final
 pub mod Steps
 pub mod Opening

@@ -1,4 +1,4 @@
--- Where a run ended, as the final text tells it.
+-- Where a run ended, as the final text reports it.
 use Rattle.std.specs.Prelude.{ℕ, List, [], ◌∷◌, ◌++◌, codes, decimal, Option, None, Some}
 use Rattle.nextest_run_events_counters.specs.declared.run_stats.RunStats.{RunStats}
 use Rattle.nextest_run_events_counters.specs.declared.summary.FinalRunStats.{FinalRunStats}

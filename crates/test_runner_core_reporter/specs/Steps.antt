@@ -1,4 +1,4 @@
--- What a run tells as it goes on: of each step the tests that it finishes.
+-- What a run reports as it goes on: of each step the tests that it finishes.
 use Rattle.std.specs.Prelude.{ℕ, List, [], ◌∷◌, ◌++◌, Option, None, Some, Result, Ok, Err, slice_get}
 use Rattle.test_runner_core_plan.specs.declared.plan.Plan.{Plan}
 use Rattle.test_runner_core_run_model.specs.Finishing.{finishing}
@@ -10,7 +10,7 @@ use Rattle.test_runner_core_reporter.specs.Final.{done_part, shown_tests}
 use Rattle.test_runner_core_reporter.specs.Parts.{Part}
 use Rattle.test_runner_core_reporter.specs.declared.final_text.ShownTest.{ShownTest}
 
--- what is told as the test at a place finishes
+-- what is reported as the test at a place finishes
 abbrev pub done : Option ShownTest → List Part
 done None = []
 done (Some told) = done_part told ∷ []
@@ -18,12 +18,12 @@ done (Some told) = done_part told ∷ []
 abbrev pub done_at : Plan → State → ℕ → List Part
 done_at plan state place = done (slice_get (shown_tests plan plan.tests state.tests) place)
 
--- what is told as the tests at places finish
+-- what is reported as the tests at places finish
 abbrev pub all_done : Plan → State → List ℕ → List Part
 all_done plan state [] = []
 all_done plan state (place ∷ places) = done_at plan state place ++ all_done plan state places
 
--- what a step tells
+-- what a step reports
 abbrev pub step_parts : Plan → Event → State → State → List Part
 step_parts plan event old new = all_done plan new (finishing event old new)
 
@@ -31,7 +31,7 @@ abbrev pub parts_after : Plan → Event → State → Result State StepRefusal �
 parts_after plan event old (Ok new) = step_parts plan event old new
 parts_after plan event old (Err refusal) = []
 
--- what a run tells as it goes on by these events
+-- what a run reports as it goes on by these events
 abbrev pub progress : Plan → Result State StepRefusal → List Event → List Part
 progress plan (Err refusal) events = []
 progress plan (Ok state) [] = []

@@ -1,11 +1,11 @@
-// Why something can't be told.
+// Why something can't be reported.
 use std::alloc::{AllocError, AllocFailed};
 use std::io;
 use thiserror::Error;
 
-/// Why something can't be told. What the report took until then is a front of it.
+/// Why something can't be reported. What the report took until then is a prefix of it.
 #[derive(Debug, Drop, Error)]
-pub enum TellFault {
+pub enum ReportFault {
     /// There was no memory.
     #[error("out of memory")]
     Memory,
@@ -14,24 +14,24 @@ pub enum TellFault {
     Write(io::Error),
 }
 
-impl From<AllocError> for TellFault {
+impl From<AllocError> for ReportFault {
     ghost use Rattle.std.specs.Prelude.{◌≡◌};
-    ghost use Rattle.test_runner_core_reporter.specs.declared.fault.TellFault.TheVariants.{Memory};
+    ghost use Rattle.test_runner_core_reporter.specs.declared.fault.ReportFault.TheVariants.{Memory};
 
     ghost from_gives = { λ _ fault. fault ≡ Memory };
 
-    fn from(_error: AllocError) -> TellFault {
-        TellFault::Memory
+    fn from(_error: AllocError) -> ReportFault {
+        ReportFault::Memory
     }
 }
 
-impl<T: Drop> From<AllocFailed<T>> for TellFault {
+impl<T: Drop> From<AllocFailed<T>> for ReportFault {
     ghost use Rattle.std.specs.Prelude.{◌≡◌};
-    ghost use Rattle.test_runner_core_reporter.specs.declared.fault.TellFault.TheVariants.{Memory};
+    ghost use Rattle.test_runner_core_reporter.specs.declared.fault.ReportFault.TheVariants.{Memory};
 
     ghost from_gives = { λ _ fault. fault ≡ Memory };
 
-    fn from(_error: AllocFailed<T>) -> TellFault {
-        TellFault::Memory
+    fn from(_error: AllocFailed<T>) -> ReportFault {
+        ReportFault::Memory
     }
 }

@@ -1,16 +1,16 @@
-// Telling the final text of a run.
+// Reporting the final text of a run.
 ghost use Rattle.std.specs.Prelude.{◌≡◌, ◌^◌, ◌<◌, [], ◌∷◌, slice_get, string_bytes};
 ghost use Rattle.test_runner_core_reporter.specs.Parts.{Said};
 ghost use Rattle.test_runner_core_reporter.specs.Final.{final_parts, script_parts, shown, shown_tests, shows_of, test_parts};
 ghost use Rattle.test_runner_core_reporter.specs.RunEnd.{end_of, end_text};
-ghost use Rattle.test_runner_core_reporter.specs.Telling.{Tells, TellsWrite};
+ghost use Rattle.test_runner_core_reporter.specs.Writes.{WritesParts, CountsWriteFailures};
 
-use crate::fault::TellFault;
+use crate::fault::ReportFault;
+use crate::reporting::{report_done, report_script, report_shown, report_words};
 use crate::run_end::RunEnd;
-use crate::telling::{tell_done, tell_script, tell_shown, tell_words};
 use std::alloc::Global;
 use test_runner_core_plan::{Plan, PlanTest};
-use test_runner_core_report_lines::{Shows, ToldTest};
+use test_runner_core_report_lines::{ReportedTest, Shows};
 use test_runner_core_session::Session;
 use test_runner_core_streams::ReportWriter;
 
@@ -20,7 +20,7 @@ pub struct ShownTest<'s> {
     /// What is set of what is shown of it.
     pub shows: Shows,
     /// The test.
-    pub test: ToldTest<'s>,
+    pub test: ReportedTest<'s>,
 }
 
 // What is set of what is shown of a test of a plan.
@@ -45,93 +45,93 @@ pub(crate) fn told_at<'s>(session: &'s Session<'_>, place: usize) -> Option<Show
     let fate = session.fate_at(place)?;
     Some(ShownTest {
         shows: shows_of(plan, test),
-        test: ToldTest::new(test.instance.as_ref(), fate.plan, fate.mark, fate.attempts),
+        test: ReportedTest::new(test.instance.as_ref(), fate.plan, fate.mark, fate.attempts),
     })
 }
 
-/// Tells the final text of a run.
-pub fn tell_final<W: ReportWriter>(
+/// Reports the final text of a run.
+pub fn report_final<W: ReportWriter>(
     alloc: Global,
     text: &mut String,
     report: &mut W,
     session: &Session<'_>,
-) -> Result<(), TellFault>
+) -> Result<(), ReportFault>
     requires writes_fit { W.failures report.old < 2 ^ 63 }
-    ensures tells { Tells result (final_parts session.now.plan session.now.run) (W.taken report.old) (string_bytes text.old) (W.taken report.new) (string_bytes text.new) }
-    ensures failures { TellsWrite result (W.failures report.old) (W.failures report.new) (W.last_failed report.new) }
+    ensures writes { WritesParts result (final_parts session.now.plan session.now.run) (W.taken report.old) (string_bytes text.old) (W.taken report.new) (string_bytes text.new) }
+    ensures failures { CountsWriteFailures result (W.failures report.old) (W.failures report.new) (W.last_failed report.new) }
 {
-    tell_end(alloc, text, report, session)?;
-    tell_scripts(text, report, session)?;
-    tell_tests(text, report, session)
+    report_end(alloc, text, report, session)?;
+    report_scripts(text, report, session)?;
+    report_tests(text, report, session)
 }
 
-// Tells where a run ended.
-fn tell_end<W: ReportWriter>(
+// Reports where a run ended.
+fn report_end<W: ReportWriter>(
     alloc: Global,
     text: &mut String,
     report: &mut W,
     session: &Session<'_>,
-) -> Result<(), TellFault>
+) -> Result<(), ReportFault>
     requires writes_fit { W.failures report.old < 2 ^ 63 }
-    ensures tells { Tells result (Said (end_text (end_of session.now.run)) ∷ []) (W.taken report.old) (string_bytes text.old) (W.taken report.new) (string_bytes text.new) }
-    ensures failures { TellsWrite result (W.failures report.old) (W.failures report.new) (W.last_failed report.new) }
+    ensures writes { WritesParts result (Said (end_text (end_of session.now.run)) ∷ []) (W.taken report.old) (string_bytes text.old) (W.taken report.new) (string_bytes text.new) }
+    ensures failures { CountsWriteFailures result (W.failures report.old) (W.failures report.new) (W.last_failed report.new) }
 {
     let end = RunEnd {
         outcome: session.summary(),
         stats: session.stats(),
     };
     let words = format!(in alloc; "{end}")?;
-    tell_words(text, report, words.as_str())
+    report_words(text, report, words.as_str())
 }
 
-// Tells the scripts in the plan's order.
-fn tell_scripts<W: ReportWriter>(
+// Reports the scripts in the plan's order.
+fn report_scripts<W: ReportWriter>(
     text: &mut String,
     report: &mut W,
     session: &Session<'_>,
-) -> Result<(), TellFault>
+) -> Result<(), ReportFault>
     requires writes_fit { W.failures report.old < 2 ^ 63 }
-    ensures tells { Tells result (script_parts session.now.plan session.now.run)
+    ensures writes { WritesParts result (script_parts session.now.plan session.now.run)
         (W.taken report.old) (string_bytes text.old) (W.taken report.new) (string_bytes text.new) }
-    ensures failures { TellsWrite result
+    ensures failures { CountsWriteFailures result
         (W.failures report.old) (W.failures report.new) (W.last_failed report.new) }
 {
     let scripts = session.plan().scripts.as_slice();
     for (place, id) in scripts.iter().enumerate() {
-        tell_script(text, report, id.as_str(), session.ended_script(place))?;
+        report_script(text, report, id.as_str(), session.ended_script(place))?;
     }
     Ok(())
 }
 
-// Tells the tests in the plan's order.
-fn tell_tests<W: ReportWriter>(
+// Reports the tests in the plan's order.
+fn report_tests<W: ReportWriter>(
     text: &mut String,
     report: &mut W,
     session: &Session<'_>,
-) -> Result<(), TellFault>
+) -> Result<(), ReportFault>
     requires writes_fit { W.failures report.old < 2 ^ 63 }
-    ensures tells { Tells result (test_parts session.now.plan session.now.run) (W.taken report.old) (string_bytes text.old) (W.taken report.new) (string_bytes text.new) }
-    ensures failures { TellsWrite result (W.failures report.old) (W.failures report.new) (W.last_failed report.new) }
+    ensures writes { WritesParts result (test_parts session.now.plan session.now.run) (W.taken report.old) (string_bytes text.old) (W.taken report.new) (string_bytes text.new) }
+    ensures failures { CountsWriteFailures result (W.failures report.old) (W.failures report.new) (W.last_failed report.new) }
 {
     for place in 0..session.plan().tests.len() {
-        tell_shown_at(text, report, session, place)?;
+        report_shown_at(text, report, session, place)?;
     }
     Ok(())
 }
 
-// Tells the part of the test at a place.
-fn tell_shown_at<W: ReportWriter>(
+// Reports the part of the test at a place.
+fn report_shown_at<W: ReportWriter>(
     text: &mut String,
     report: &mut W,
     session: &Session<'_>,
     place: usize,
-) -> Result<(), TellFault>
+) -> Result<(), ReportFault>
     requires writes_fit { W.failures report.old < 2 ^ 63 }
-    ensures tells { Tells result (shown (slice_get (shown_tests session.now.plan session.now.plan.tests session.now.run.tests) place)) (W.taken report.old) (string_bytes text.old) (W.taken report.new) (string_bytes text.new) }
-    ensures failures { TellsWrite result (W.failures report.old) (W.failures report.new) (W.last_failed report.new) }
+    ensures writes { WritesParts result (shown (slice_get (shown_tests session.now.plan session.now.plan.tests session.now.run.tests) place)) (W.taken report.old) (string_bytes text.old) (W.taken report.new) (string_bytes text.new) }
+    ensures failures { CountsWriteFailures result (W.failures report.old) (W.failures report.new) (W.last_failed report.new) }
 {
     match told_at(session, place) {
-        Some(told) => tell_shown(text, report, &told.shows, &told.test),
+        Some(told) => report_shown(text, report, &told.shows, &told.test),
         None => Ok(()),
     }
 }

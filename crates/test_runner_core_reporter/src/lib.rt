@@ -1,17 +1,17 @@
-//! How a run is told: what is written as tests finish, and the final text.
+//! How a run is reported: what is written as tests finish, and the final text.
 #![tactic(auto)]
 
 mod fault;
 mod final_text;
 pub mod laws;
 mod opening;
+mod reporting;
 mod run_end;
 mod steps;
-mod telling;
 
-pub use fault::TellFault;
-pub use final_text::{ShownTest, tell_final};
-pub use opening::tell_opening;
+pub use fault::ReportFault;
+pub use final_text::{ShownTest, report_final};
+pub use opening::report_opening;
+pub use reporting::{report_done, report_script, report_shown, report_words, write_waiting};
 pub use run_end::RunEnd;
-pub use steps::tell_step;
-pub use telling::{tell_done, tell_script, tell_shown, tell_words, write_waiting};
+pub use steps::report_step;

@@ -1,115 +1,115 @@
-// Telling what the steps of a run finish.
+// Reporting what the steps of a run finish.
 ghost use Rattle.std.specs.Prelude.{◌≡◌, ◌^◌, ◌<◌, [], ◌∷◌, slice_get, string_bytes, if◌then◌else◌};
 ghost use Rattle.std.specs.Option.{option_map, option_map_or};
 ghost use Rattle.test_runner_core_run_model.specs.Finishing.{finished_places, is_stopped_at, stopped_places};
 ghost use Rattle.test_runner_core_reporter.specs.Steps.{all_done, done_at};
-ghost use Rattle.test_runner_core_reporter.specs.Telling.{Tells, TellsWrite};
+ghost use Rattle.test_runner_core_reporter.specs.Writes.{WritesParts, CountsWriteFailures};
 
-use crate::fault::TellFault;
+use crate::fault::ReportFault;
 use crate::final_text::told_at;
-use crate::telling::tell_done;
+use crate::reporting::report_done;
 use test_runner_core_run_model::{Finished, Mark};
 use test_runner_core_session::Session;
 use test_runner_core_streams::ReportWriter;
 
-/// Tells what the step that a run took last finished: the test of its attempt, and then, in the plan's order, those that
+/// Reports what the step that a run took last finished: the test of its attempt, and then, in the plan's order, those that
 /// its stop finished.
-pub fn tell_step<W: ReportWriter>(
+pub fn report_step<W: ReportWriter>(
     text: &mut String,
     report: &mut W,
     session: &Session<'_>,
     finished: Finished,
-) -> Result<(), TellFault>
+) -> Result<(), ReportFault>
     requires writes_fit { W.failures report.old < 2 ^ 63 }
-    ensures tells { Tells result (all_done session.now.plan session.now.run (finished_places finished session.now.run)) (W.taken report.old) (string_bytes text.old) (W.taken report.new) (string_bytes text.new) }
-    ensures failures { TellsWrite result (W.failures report.old) (W.failures report.new) (W.last_failed report.new) }
+    ensures writes { WritesParts result (all_done session.now.plan session.now.run (finished_places finished session.now.run)) (W.taken report.old) (string_bytes text.old) (W.taken report.new) (string_bytes text.new) }
+    ensures failures { CountsWriteFailures result (W.failures report.old) (W.failures report.new) (W.last_failed report.new) }
 {
-    tell_ended(text, report, session, finished.ended)?;
-    tell_if_stopped(text, report, session, finished.stops)
+    report_ended(text, report, session, finished.ended)?;
+    report_if_stopped(text, report, session, finished.stops)
 }
 
-// Tells the tests that a stop finished, if there was one.
-fn tell_if_stopped<W: ReportWriter>(
+// Reports the tests that a stop finished, if there was one.
+fn report_if_stopped<W: ReportWriter>(
     text: &mut String,
     report: &mut W,
     session: &Session<'_>,
     stops: bool,
-) -> Result<(), TellFault>
+) -> Result<(), ReportFault>
     requires writes_fit { W.failures report.old < 2 ^ 63 }
-    ensures tells { Tells result (all_done session.now.plan session.now.run (if stops then stopped_places session.now.run else [])) (W.taken report.old) (string_bytes text.old) (W.taken report.new) (string_bytes text.new) }
-    ensures failures { TellsWrite result (W.failures report.old) (W.failures report.new) (W.last_failed report.new) }
+    ensures writes { WritesParts result (all_done session.now.plan session.now.run (if stops then stopped_places session.now.run else [])) (W.taken report.old) (string_bytes text.old) (W.taken report.new) (string_bytes text.new) }
+    ensures failures { CountsWriteFailures result (W.failures report.old) (W.failures report.new) (W.last_failed report.new) }
 {
     if !stops {
         return Ok(());
     }
-    tell_stopped(text, report, session)
+    report_stopped(text, report, session)
 }
 
-// Tells the test of an attempt that ended, where that finished it.
-fn tell_ended<W: ReportWriter>(
+// Reports the test of an attempt that ended, where that finished it.
+fn report_ended<W: ReportWriter>(
     text: &mut String,
     report: &mut W,
     session: &Session<'_>,
     ended: Option<usize>,
-) -> Result<(), TellFault>
+) -> Result<(), ReportFault>
     requires writes_fit { W.failures report.old < 2 ^ 63 }
-    ensures tells { Tells result (all_done session.now.plan session.now.run (option_map_or (λ place. place ∷ []) ended [])) (W.taken report.old) (string_bytes text.old) (W.taken report.new) (string_bytes text.new) }
-    ensures failures { TellsWrite result (W.failures report.old) (W.failures report.new) (W.last_failed report.new) }
+    ensures writes { WritesParts result (all_done session.now.plan session.now.run (option_map_or (λ place. place ∷ []) ended [])) (W.taken report.old) (string_bytes text.old) (W.taken report.new) (string_bytes text.new) }
+    ensures failures { CountsWriteFailures result (W.failures report.old) (W.failures report.new) (W.last_failed report.new) }
 {
     match ended {
-        Some(place) => tell_at(text, report, session, place),
+        Some(place) => report_at(text, report, session, place),
         None => Ok(()),
     }
 }
 
-// Tells the tests that a stop finished, in the plan's order.
-fn tell_stopped<W: ReportWriter>(
+// Reports the tests that a stop finished, in the plan's order.
+fn report_stopped<W: ReportWriter>(
     text: &mut String,
     report: &mut W,
     session: &Session<'_>,
-) -> Result<(), TellFault>
+) -> Result<(), ReportFault>
     requires writes_fit { W.failures report.old < 2 ^ 63 }
-    ensures tells { Tells result (all_done session.now.plan session.now.run (stopped_places session.now.run)) (W.taken report.old) (string_bytes text.old) (W.taken report.new) (string_bytes text.new) }
-    ensures failures { TellsWrite result (W.failures report.old) (W.failures report.new) (W.last_failed report.new) }
+    ensures writes { WritesParts result (all_done session.now.plan session.now.run (stopped_places session.now.run)) (W.taken report.old) (string_bytes text.old) (W.taken report.new) (string_bytes text.new) }
+    ensures failures { CountsWriteFailures result (W.failures report.old) (W.failures report.new) (W.last_failed report.new) }
 {
     for place in 0..session.plan().tests.len() {
         let stopped = is_stopped_at(session, place);
-        tell_if(text, report, session, place, stopped)?;
+        report_if(text, report, session, place, stopped)?;
     }
     Ok(())
 }
 
-// Tells the test at a place, where it is to be told.
-fn tell_if<W: ReportWriter>(
+// Reports the test at a place, where it is to be reported.
+fn report_if<W: ReportWriter>(
     text: &mut String,
     report: &mut W,
     session: &Session<'_>,
     place: usize,
     is_told: bool,
-) -> Result<(), TellFault>
+) -> Result<(), ReportFault>
     requires writes_fit { W.failures report.old < 2 ^ 63 }
-    ensures tells { Tells result (all_done session.now.plan session.now.run (if is_told then place ∷ [] else [])) (W.taken report.old) (string_bytes text.old) (W.taken report.new) (string_bytes text.new) }
-    ensures failures { TellsWrite result (W.failures report.old) (W.failures report.new) (W.last_failed report.new) }
+    ensures writes { WritesParts result (all_done session.now.plan session.now.run (if is_told then place ∷ [] else [])) (W.taken report.old) (string_bytes text.old) (W.taken report.new) (string_bytes text.new) }
+    ensures failures { CountsWriteFailures result (W.failures report.old) (W.failures report.new) (W.last_failed report.new) }
 {
     if !is_told {
         return Ok(());
     }
-    tell_at(text, report, session, place)
+    report_at(text, report, session, place)
 }
 
-// Tells the test at a place.
-fn tell_at<W: ReportWriter>(
+// Reports the test at a place.
+fn report_at<W: ReportWriter>(
     text: &mut String,
     report: &mut W,
     session: &Session<'_>,
     place: usize,
-) -> Result<(), TellFault>
+) -> Result<(), ReportFault>
     requires writes_fit { W.failures report.old < 2 ^ 63 }
-    ensures tells { Tells result (done_at session.now.plan session.now.run place) (W.taken report.old) (string_bytes text.old) (W.taken report.new) (string_bytes text.new) }
-    ensures failures { TellsWrite result (W.failures report.old) (W.failures report.new) (W.last_failed report.new) }
+    ensures writes { WritesParts result (done_at session.now.plan session.now.run place) (W.taken report.old) (string_bytes text.old) (W.taken report.new) (string_bytes text.new) }
+    ensures failures { CountsWriteFailures result (W.failures report.old) (W.failures report.new) (W.last_failed report.new) }
 {
     match told_at(session, place) {
-        Some(told) => tell_done(text, report, &told.shows, &told.test),
+        Some(told) => report_done(text, report, &told.shows, &told.test),
         None => Ok(()),
     }
 }

@@ -3,7 +3,7 @@ use Rattle.test_runner_core_log_reader.specs.Cursor.{items_ahead}
 use Rattle.test_runner_core_reporter.proofs.Told.{front_none}
 use Rattle.test_runner_core.specs.Inside.{IsBegun, IsGot, IsGotOf, IsJudged}
 use Rattle.test_runner_core.specs.Outcome.{table_of}
-use Rattle.test_runner_core.specs.Report.{Begun, Composed, TellsSoFar, refused_plan}
+use Rattle.test_runner_core.specs.Report.{Begun, Composed, HasSoFar, refused_plan}
 use Rattle.test_runner_core.proofs.OneReport.{never_planned}
 use Rattle.test_runner_core.proofs.Reported.{all_is_written, begun_of, got_of, if_known, judged_composed, refused_as, refused_begun, refused_composed, reports_as, reports_front}
 use Rattle.test_runner_core.proofs.entry.judge_by_table.Goals as goal
@@ -19,7 +19,7 @@ returns-in-Ok-clause-reports g c =
     let built = c.in-Ok.ensures in
     let begin = c.args.lines.now in
     reports_as c.judge_plan.result (IsJudged c.in-Ok.plan begin known) (λ parts code. IfSome known (λ bytes. Composed answer inputs (items_ahead begin bytes) parts code))
-    (IsGot c.in-Ok.plan begin known rest) (λ parts. (front : List (List ℕ)) × IsGotOf begin known rest front × TellsSoFar answer inputs front parts)
+    (IsGot c.in-Ok.plan begin known rest) (λ parts. (front : List (List ℕ)) × IsGotOf begin known rest front × HasSoFar answer inputs front parts)
     (IsBegun c.in-Ok.plan begin known) (λ parts. IfSome known (λ bytes. Begun answer inputs (items_ahead begin bytes) parts))
     (taken c.args.report.now) (taken c.judge_plan.new.report)
     (judged_composed answer inputs c.in-Ok.plan begin known built) (got_of answer inputs c.in-Ok.plan begin known rest built) (begun_of answer inputs c.in-Ok.plan begin known built)
@@ -38,7 +38,7 @@ returns-in_ok-refuse_plan-in-Err-Refused-clause-reports g c =
       refused_plan refusal,
       if_known (λ bytes. Composed (table_of inputs) inputs (items_ahead c.args.lines.now bytes) (refused_plan refusal) c.in_ok-refuse_plan-in-Err-Refused.field-0) (g.R.LogReader.left c.args.log.now)
           (λ bytes. refused_composed (table_of inputs) inputs refusal (items_ahead c.args.lines.now bytes) c.in_ok-refuse_plan-in-Err-Refused.field-0 is told.code),
-      all_is_written (refused_plan refusal) (g.W.ReportWriter.taken c.args.report.now) (g.W.ReportWriter.taken c.refuse_plan.new.report) told.tells,
+      all_is_written (refused_plan refusal) (g.W.ReportWriter.taken c.args.report.now) (g.W.ReportWriter.taken c.refuse_plan.new.report) told.writes,
     )
 
 pub returns-in_err-refuse_plan-in-Err-Refused-clause-reports : goal.returns-in_err-refuse_plan-in-Err-Refused-clause-reports
@@ -50,7 +50,7 @@ returns-in_err-refuse_plan-in-Err-Refused-clause-reports g c =
     reports_front c.from_residual.result c.in_err-refuse_plan-in-Err-Refused.field-0.0 (refused_plan refusal) _ _ (λ parts. IfSome known (λ bytes. Begun (table_of inputs) inputs (items_ahead c.args.lines.now bytes) parts))
     (g.W.ReportWriter.taken c.args.report.now) (g.W.ReportWriter.taken c.refuse_plan.new.report) c.from_residual.ensures.1
     (if_known (λ bytes. Begun (table_of inputs) inputs (items_ahead c.args.lines.now bytes) (refused_plan refusal)) known (λ bytes. refused_begun (table_of inputs) inputs refusal (items_ahead c.args.lines.now bytes) is))
-    c.in_err-refuse_plan-in-Err-Refused.ensures.tells
+    c.in_err-refuse_plan-in-Err-Refused.ensures.writes
 
 pub returns-in-Err-OutOfMemory-clause-reports : goal.returns-in-Err-OutOfMemory-clause-reports
 returns-in-Err-OutOfMemory-clause-reports g c =

@@ -39,7 +39,7 @@ returns-in_ok-refuse_plan-in-Err-Refused-clause-reports g c =
       refused_plan refusal,
       if_known (λ bytes. Composed answer inputs (items 0 bytes) (refused_plan refusal) c.in_ok-refuse_plan-in-Err-Refused.field-0) (g.R.LogReader.left c.args.log.now)
           (λ bytes. refused_composed answer inputs refusal (items 0 bytes) c.in_ok-refuse_plan-in-Err-Refused.field-0 is told.code),
-      all_is_written (refused_plan refusal) (g.W.ReportWriter.taken c.args.report.now) (g.W.ReportWriter.taken c.refuse_plan.new.report) told.tells,
+      all_is_written (refused_plan refusal) (g.W.ReportWriter.taken c.args.report.now) (g.W.ReportWriter.taken c.refuse_plan.new.report) told.writes,
     )
 
 pub returns-in_err-refuse_plan-in-Err-Refused-clause-reports : goal.returns-in_err-refuse_plan-in-Err-Refused-clause-reports
@@ -52,7 +52,7 @@ returns-in_err-refuse_plan-in-Err-Refused-clause-reports g c =
     reports_front c.from_residual.result c.in_err-refuse_plan-in-Err-Refused.field-0.0 (refused_plan refusal) _ _ (λ parts. IfSome known (λ bytes. Begun answer inputs (items 0 bytes) parts))
     (g.W.ReportWriter.taken c.args.report.now) (g.W.ReportWriter.taken c.refuse_plan.new.report) c.from_residual.ensures.1
     (if_known (λ bytes. Begun answer inputs (items 0 bytes) (refused_plan refusal)) known (λ bytes. refused_begun answer inputs refusal (items 0 bytes) is))
-    c.in_err-refuse_plan-in-Err-Refused.ensures.tells
+    c.in_err-refuse_plan-in-Err-Refused.ensures.writes
 
 pub returns-in_ok-refuse_plan-in-Err-Refused-clause-asks : goal.returns-in_ok-refuse_plan-in-Err-Refused-clause-asks
 returns-in_ok-refuse_plan-in-Err-Refused-clause-asks g c =

@@ -7,7 +7,7 @@ use Rattle.test_runner_core_log_reader.specs.Cursor.{Cursor, items_ahead}
 use Rattle.test_runner_core_reporter.proofs.Told.{front_none}
 use Rattle.test_runner_core.specs.Inside.{IsGotOf}
 use Rattle.test_runner_core.specs.Outcome.{StreamBegun, StreamComposed, StreamGotTo, table_of}
-use Rattle.test_runner_core.specs.Report.{Begun, Composed, TellsSoFar, refused_inputs}
+use Rattle.test_runner_core.specs.Report.{Begun, Composed, HasSoFar, refused_inputs}
 use Rattle.test_runner_core.proofs.Reported.{reports_as}
 use Rattle.test_runner_core.proofs.Stream.{begun_nothing, first_line_alone, first_line_fails, refused_begun, refused_parts, refused_stream, refused_ungot, stream_begun, stream_composed, stream_got}
 use Rattle.test_runner_core.proofs.entry.stream_reported.Goals as goal
@@ -28,7 +28,7 @@ returns-in-Ok-clause-reports g c =
     let fresh = subst (λ (o : Option Cursor). IfSome o (λ it. it.handed ≡ 0)) c.in-Some.is c.in_ok-lines.ensures.fresh in
     let read : read_inputs lines.line ≡ Ok inputs = ap read_inputs (sym c.line.ensures) ∙ c.in-Ok.ensures.exact in
     reports_as c.judge_by_table.result (λ parts code. IfSome rest (λ bytes. Composed (table_of inputs) inputs (items_ahead lines bytes) parts code)) (λ parts code. IfSome known (λ bytes. StreamComposed bytes parts code))
-    (λ parts. (front : List (List ℕ)) × IsGotOf lines rest last front × TellsSoFar (table_of inputs) inputs front parts) (λ parts. IfSome known (λ bytes. IfSome last (λ behind. StreamGotTo bytes behind parts)))
+    (λ parts. (front : List (List ℕ)) × IsGotOf lines rest last front × HasSoFar (table_of inputs) inputs front parts) (λ parts. IfSome known (λ bytes. IfSome last (λ behind. StreamGotTo bytes behind parts)))
     (λ parts. IfSome rest (λ bytes. Begun (table_of inputs) inputs (items_ahead lines bytes) parts)) (λ parts. IfSome known (λ bytes. StreamBegun bytes parts))
     (g.W.ReportWriter.taken c.args.report.now) (g.W.ReportWriter.taken c.judge_by_table.new.report)
     (stream_composed inputs known rest lines parts fresh read) (stream_got inputs known rest last lines parts read) (stream_begun inputs known rest lines parts fresh read)

@@ -22,8 +22,8 @@ loop-fault-init g c =
         parts = opening plan;
         planned = refl;
         so_far = subst (λ (s : SessionState). SoFar plan [] s.run (opening plan)) (sym begins) (so_far_none plan);
-        told = told_from_nothing plan c.plan.result.now (g.W.ReportWriter.taken c.args.report.now) (g.W.ReportWriter.taken c.tell_opening.new.report) (string_bytes c.args.text.now) (string_bytes c.tell_opening.new.text)
-            c.plan.ensures c.requires.empty c.in_ok-tell_opening.ensures.tells;
+        told = told_from_nothing plan c.plan.result.now (g.W.ReportWriter.taken c.args.report.now) (g.W.ReportWriter.taken c.report_opening.new.report) (string_bytes c.args.text.now) (string_bytes c.report_opening.new.text)
+            c.plan.ensures c.requires.empty c.in_ok-report_opening.ensures.writes;
         items = nothing_ahead c.args.lines.now (g.R.LogReader.left c.args.log.now);
         bytes = takes_none c.args.lines.now (g.R.LogReader.left c.args.log.now);
         numbered = refl;
@@ -31,19 +31,19 @@ loop-fault-init g c =
       reads = omega arith;
       within = omega arith;
       unfailed = refl;
-      unfailed_writes = c.in_ok-tell_opening.ensures.failures;
+      unfailed_writes = c.in_ok-report_opening.ensures.failures;
       counted = omega arith;
     }
 
-pub returns-in_err-tell_opening-clause-judged : goal.returns-in_err-tell_opening-clause-judged
-returns-in_err-tell_opening-clause-judged g c =
+pub returns-in_err-report_opening-clause-judged : goal.returns-in_err-report_opening-clause-judged
+returns-in_err-report_opening-clause-judged g c =
     let plan = c.args.session.now.plan in
     let left = g.R.LogReader.left in
     let taken = g.W.ReportWriter.taken in
-    judges_line_fails c.from_residual.result c.in_err-tell_opening.field-0.0 plan _ c.args.lines.now (left c.args.log.now) (taken c.args.report.now) (left c.args.log.now) (taken c.tell_opening.new.report) _
+    judges_line_fails c.from_residual.result c.in_err-report_opening.field-0.0 plan _ c.args.lines.now (left c.args.log.now) (taken c.args.report.now) (left c.args.log.now) (taken c.report_opening.new.report) _
     c.from_residual.ensures.1
-    (opening_failed plan c.plan.result.now c.args.lines.now (left c.args.log.now) (taken c.args.report.now) (taken c.tell_opening.new.report) (string_bytes c.args.text.now)
-    c.plan.ensures c.requires.empty c.in_err-tell_opening.ensures.tells)
+    (opening_failed plan c.plan.result.now c.args.lines.now (left c.args.log.now) (taken c.args.report.now) (taken c.report_opening.new.report) (string_bytes c.args.text.now)
+    c.plan.ensures c.requires.empty c.in_err-report_opening.ensures.writes)
 
 pub returns-in_err-next_line-clause-judged : goal.returns-in_err-next_line-clause-judged
 returns-in_err-next_line-clause-judged g c =

@@ -9,7 +9,7 @@ returns-in_err-next-clause-items g c =
     let failed = c.in_err-next.ensures in
     next_fails c.from_residual-in_err-next.result c.in_err-next.field-0.0 c.args.lines.now c.write_before_read.new.lines c.next.new.self (left c.args.log.now) (left c.next.new.reader)
     (taken c.args.report.now) (string_bytes c.args.text.now) (taken c.write_before_read.new.report) (string_bytes c.write_before_read.new.text)
-    c.from_residual-in_err-next.ensures.1 c.in_ok-write_before_read.ensures.unmoved c.in_ok-write_before_read.ensures.tells c.in_ok-write_before_read.ensures.ready failed.unread failed.bytes failed.cut
+    c.from_residual-in_err-next.ensures.1 c.in_ok-write_before_read.ensures.unmoved c.in_ok-write_before_read.ensures.writes c.in_ok-write_before_read.ensures.ready failed.unread failed.bytes failed.cut
 
 pub returns-in_err-write_before_read-clause-reads : goal.returns-in_err-write_before_read-clause-reads
 returns-in_err-write_before_read-clause-reads g c =
