@@ -15,6 +15,7 @@ import json
 import os
 import pathlib
 import re
+import resource
 import socket
 import subprocess
 import sys
@@ -30,6 +31,9 @@ BY_RATTLE = ".by-rattle"
 
 # The most seconds that a run takes, and the most characters that are shown of an answer.
 LIMIT, SHOWN = 60, 10_000
+
+# The bytes of stack that deep inputs get.
+SMALL_STACK = 256 * 1024
 
 # The pieces in which short streams are fed once more, in bytes, and which are short.
 PIECES, SHORT = (1, 7), 65_536
@@ -49,6 +53,9 @@ OF_STEPS = "UnknownScript UnknownTest Stopped ScriptsPending OutOfOrder Running 
 
 # The statuses that are no milder than one.
 NO_MILDER = {0: (0, 100, 105), 100: (100, 105)}
+
+# A log in which both tests of plan.json pass.
+BOTH_PASS = "start p a; end p a pass - 1 - -; start p b; end p b pass - 1 - -"
 
 # What a row of told_tests sets in the default profile.
 RULES = {
@@ -135,6 +142,13 @@ class Program:
 
     def run(self, stream):
         process = subprocess.run([self.path], input=as_fed(stream), capture_output=True, timeout=LIMIT)
+        return ended(process, process.stdout, process.stderr)
+
+    def run_on_small_stack(self, stream):
+        def limit():
+            resource.setrlimit(resource.RLIMIT_STACK, (SMALL_STACK, SMALL_STACK))
+
+        process = subprocess.run([self.path], input=as_fed(stream), capture_output=True, timeout=LIMIT, preexec_fn=limit)
         return ended(process, process.stdout, process.stderr)
 
     def run_in_pieces(self, stream, piece):
@@ -319,6 +333,21 @@ def roads(program, changes):
     return ", ".join(" ".join(it) for it in sorted(tests, key=lambda test: [part.encode() for part in test])) or "none"
 
 
+def deep_inputs(program, row):
+    """The status on a small stack, and why the inputs are refused, or how many tests are planned."""
+    key, text = row.split(": ", 1)
+    inputs = json.loads(PLAN(""))
+    if key == "filterset":
+        inputs["filterset"] = text
+    else:
+        rule = f"[[profile.default.overrides]]\nplatform = '{text}'\nfilter = 'all()'\n"
+        inputs["sources"] = [{"kind": "explicit", "path": "n", "text": rule}]
+    run = program.run_on_small_stack(json.dumps(inputs, ensure_ascii=False) + "\n" + with_tabs(BOTH_PASS))
+    fields = run.fields()
+    told = f"refused {fields[1]}" if fields[0] == "refused" else f"{counter('initial-run-count', run)} tests"
+    return f"status {run.status}, {told}"
+
+
 def agrees(kind, log, first):
     """Whether a log is as the first one wants it."""
     if kind != "whole":
@@ -358,7 +387,11 @@ TABLES = {
     "inputs_changed": inputs_changed,
     "inputs_other": inputs,
     "refused_lines": refused_lines,
+    "deep_inputs": deep_inputs,
 }
+
+# Those whose rows take much memory, so that one is run after another.
+LARGE = {"deep_inputs"}
 
 
 # ---- rows
@@ -380,7 +413,7 @@ class Row:
                 given = TABLES[self.table](program, self.input)
             except subprocess.TimeoutExpired:
                 given = f"no end within {LIMIT} seconds"
-            except (ValueError, IndexError, KeyError) as error:
+            except (ValueError, IndexError, KeyError, TypeError) as error:
                 given = f"none, since the input is none: {error!r}"
             if given != self.answer:
                 of = f" of {os.path.basename(program.path)}" if len(programs) > 1 else ""
@@ -425,7 +458,10 @@ def main():
     programs = [Program(it) for it in (path, path + BY_RATTLE) if it == path or os.access(it, os.X_OK)]
     passed = failed = 0
     with concurrent.futures.ThreadPoolExecutor(2 * len(os.sched_getaffinity(0))) as pool:
-        told = {table: pool.map(lambda row: row.differs(programs), rows_of(table)) for table in words.tables or TABLES}
+        told = {
+            table: (map if table in LARGE else pool.map)(lambda row: row.differs(programs), rows_of(table))
+            for table in words.tables or TABLES
+        }
         for table, answers in told.items():
             answers = list(answers)
             for it in filter(None, answers):
