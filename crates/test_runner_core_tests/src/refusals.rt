@@ -1,7 +1,6 @@
 // What refusals print.
 use nextest_text::Text;
 use std::alloc::{AllocError, Global};
-use std::fmt::Display;
 use std::io;
 use std::test::Fail;
 use test_runner_core::{
@@ -23,6 +22,9 @@ a binary's id is empty or has a tab or a line end in it
 out of memory
 two facts of a platform have the same name and the same value
 out of memory
+";
+
+const OF_LISTS: &str = "\
 gone
 out of memory
 a binary can't list its tests: gone
@@ -51,108 +53,75 @@ out of memory
 the report can't be written: full
 ";
 
-// Tells a refusal on a line.
-fn push<T: Display + Drop>(alloc: Global, told: &mut String, refusal: T) -> Result<(), AllocError> {
-    told.push_str(format!(in alloc; "{refusal}\n")?.as_str())
-}
-
-fn push_of_inputs(alloc: Global, told: &mut String) -> Result<(), AllocError> {
+// What those of inputs print, of workspaces and of settings.
+fn of_inputs(alloc: Global) -> Result<String, AllocError> {
     let path = Text::from_str(alloc, "workspace.links.0.1")?;
-    push(alloc, told, InputsError::Refused(InputsRefusal::Syntax))?;
-    push(
-        alloc,
-        told,
+    format!(in alloc;
+        "{}\n{}\n{}\n{}\n{}\n{}\n{}\n{}\n{}\n{}\n{}\n",
+        InputsError::Refused(InputsRefusal::Syntax),
         InputsError::Refused(InputsRefusal::Field(path)),
-    )?;
-    push(alloc, told, InputsError::OutOfMemory)
-}
-
-fn push_of_workspaces(alloc: Global, told: &mut String) -> Result<(), AllocError> {
-    for fault in [
-        WorkspaceFault::RepeatedPackage,
-        WorkspaceFault::UnknownLink,
-        WorkspaceFault::RepeatedBinary,
-        WorkspaceFault::UnknownPackage,
-        WorkspaceFault::BadId,
-    ] {
-        push(alloc, told, WorkspaceError::Refused(fault))?;
-    }
-    push(alloc, told, WorkspaceError::OutOfMemory)?;
-    push(
-        alloc,
-        told,
+        InputsError::OutOfMemory,
+        WorkspaceError::Refused(WorkspaceFault::RepeatedPackage),
+        WorkspaceError::Refused(WorkspaceFault::UnknownLink),
+        WorkspaceError::Refused(WorkspaceFault::RepeatedBinary),
+        WorkspaceError::Refused(WorkspaceFault::UnknownPackage),
+        WorkspaceError::Refused(WorkspaceFault::BadId),
+        WorkspaceError::OutOfMemory,
         SettingsError::Refused(SettingsFault::RepeatedFact),
-    )?;
-    push(alloc, told, SettingsError::OutOfMemory)
+        SettingsError::OutOfMemory
+    )
 }
 
-fn push_of_lists(alloc: Global, told: &mut String) -> Result<(), AllocError> {
-    push(
-        alloc,
-        told,
-        ListFault::Cause(Text::from_str(alloc, "gone")?),
-    )?;
-    push(alloc, told, ListFault::OutOfMemory)?;
-    let gone = ListingFault::ListFault(Text::from_str(alloc, "gone")?);
-    push(alloc, told, ListingError::Refused(gone))?;
-    push(
-        alloc,
-        told,
+// What those of lists of tests print.
+fn of_lists(alloc: Global) -> Result<String, AllocError> {
+    let (gone, listed) = (
+        Text::from_str(alloc, "gone")?,
+        Text::from_str(alloc, "gone")?,
+    );
+    format!(in alloc;
+        "{}\n{}\n{}\n{}\n{}\n{}\n{}\n",
+        ListFault::Cause(gone),
+        ListFault::OutOfMemory,
+        ListingError::Refused(ListingFault::ListFault(listed)),
         ListingError::Refused(ListingFault::EmptyTestName),
-    )?;
-    push(
-        alloc,
-        told,
         ListingError::Refused(ListingFault::BadTestName),
-    )?;
-    push(
-        alloc,
-        told,
         ListingError::Refused(ListingFault::RepeatedTest),
-    )?;
-    push(alloc, told, ListingError::OutOfMemory)
+        ListingError::OutOfMemory
+    )
 }
 
-fn push_of_lines(alloc: Global, told: &mut String) -> Result<(), AllocError> {
-    push(alloc, told, LineFault::LineTooLong)?;
-    push(alloc, told, LineFault::LogTooLong)?;
-    push(alloc, told, LineFault::NoLineEnd)?;
-    push(alloc, told, ParseLineError::NotUtf8)?;
-    push(alloc, told, ParseLineError::BadLine)?;
-    push(alloc, told, ParseLineError::OutOfMemory)?;
-    push(alloc, told, SpellingError::NotUtf8)?;
-    push(alloc, told, SpellingError::BadLine)
-}
-
-fn push_of_runs(alloc: Global, told: &mut String) -> Result<(), AllocError> {
-    push(alloc, told, StepRefusal::ScriptsPending)?;
-    push(alloc, told, StartFault::Refused(StepRefusal::Finished))?;
-    push(alloc, told, StartFault::OutOfMemory)?;
-    push(alloc, told, LogFault::Read(io::Error::other("gone")))?;
-    push(alloc, told, LogFault::Memory)
-}
-
-fn push_of_judging(alloc: Global, told: &mut String) -> Result<(), AllocError> {
-    push(
-        alloc,
-        told,
+// What those of logs, of steps and of judging print.
+fn of_logs(alloc: Global) -> Result<String, AllocError> {
+    format!(in alloc;
+        "{}\n{}\n{}\n{}\n{}\n{}\n{}\n{}\n{}\n{}\n{}\n{}\n{}\n{}\n{}\n{}\n",
+        LineFault::LineTooLong,
+        LineFault::LogTooLong,
+        LineFault::NoLineEnd,
+        ParseLineError::NotUtf8,
+        ParseLineError::BadLine,
+        ParseLineError::OutOfMemory,
+        SpellingError::NotUtf8,
+        SpellingError::BadLine,
+        StepRefusal::ScriptsPending,
+        StartFault::Refused(StepRefusal::Finished),
+        StartFault::OutOfMemory,
+        LogFault::Read(io::Error::other("gone")),
+        LogFault::Memory,
         JudgeFault::from(LogFault::Read(io::Error::other("gone"))),
-    )?;
-    push(alloc, told, JudgeFault::from(LogFault::Memory))?;
-    push(alloc, told, JudgeFault::Write(io::Error::other("full")))
+        JudgeFault::from(LogFault::Memory),
+        JudgeFault::Write(io::Error::other("full"))
+    )
 }
 
 #[test]
 fn refusals_print(rt: HostRuntime) -> Result<(), Fail> {
-    let mut of_inputs = String::new(rt.alloc());
-    push_of_inputs(rt.alloc(), &mut of_inputs)?;
-    push_of_workspaces(rt.alloc(), &mut of_inputs)?;
-    push_of_lists(rt.alloc(), &mut of_inputs)?;
-    assert_eq!(rt; of_inputs.as_str(), OF_INPUTS);
-    let mut of_logs = String::new(rt.alloc());
-    push_of_lines(rt.alloc(), &mut of_logs)?;
-    push_of_runs(rt.alloc(), &mut of_logs)?;
-    push_of_judging(rt.alloc(), &mut of_logs)?;
-    assert_eq!(rt; of_logs.as_str(), OF_LOGS);
+    let printed = (
+        of_inputs(rt.alloc())?,
+        of_lists(rt.alloc())?,
+        of_logs(rt.alloc())?,
+    );
+    assert_eq!(rt; printed.0.as_str(), OF_INPUTS);
+    assert_eq!(rt; printed.1.as_str(), OF_LISTS);
+    assert_eq!(rt; printed.2.as_str(), OF_LOGS);
     Ok(())
 }
