@@ -1,0 +1,121 @@
+#!/usr/bin/env python3
+"""Times the built program beside a plain program in Rust on the same loads, and prints a table of ratios.
+
+    python3 bench/compare.py [--runs N] [LOAD ..]
+
+Build the program first by `make run`. The plain one is bench/plain/plain.rs, built here by `rustc -O` alone. Each load is a file that
+both read from standard input; they run in turns, N times each (5 where nothing is said), and of each the least time and the least peak
+memory count: processor seconds, and MB as the system tells them. Their reports have to be the same, byte for byte.
+"""
+import argparse
+import dataclasses
+import os
+import pathlib
+import random
+import subprocess
+import sys
+import tempfile
+
+sys.path.insert(0, str(pathlib.Path(__file__).resolve().parent))
+import loads
+
+ROOT = pathlib.Path(__file__).resolve().parent.parent
+PROGRAM = ROOT / "crates/test_runner/out/test_runner"
+PLAIN = ROOT / "bench/plain/plain.rs"
+
+
+def passing(tests):
+    return "".join(f"start\t{binary}\t{name}\nend\t{binary}\t{name}\tpass\t-\t1\t-\t-\n" for binary, name in tests)
+
+
+def of_binaries(count, shuffled):
+    """Tests of 300 binaries, whose log has them in the plan's order or in none."""
+    binaries = [(f"b{at:03}", [f"module::case_{place:07}" for place in range(at, count, 300)]) for at in range(300)]
+    tests = [(binary, name) for binary, names in binaries for name in names]
+    if shuffled:
+        random.Random(1).shuffle(tests)
+    return loads.inputs([loads.binary(*it) for it in binaries]), passing(tests)
+
+
+def names_in_no_order(count):
+    """Tests of one binary, which lists them in no order, and whose log has them in the order of the list."""
+    names = loads.names_of(count)
+    random.Random(1).shuffle(names)
+    return loads.run_of(names, names)
+
+
+def with_outputs(count, size):
+    """Tests that pass, each of which writes so many bytes, a half to each stream."""
+    names = loads.names_of(count)
+    ended = f"pass\t-\t1\t{loads.written(size - size // 2)}\t{loads.written(size // 2)}\n"
+    return loads.inputs([loads.binary("p", names)]), "".join(f"start\tp\t{name}\nend\tp\t{name}\t{ended}" for name in names)
+
+
+# Each load: what it is, and what makes its inputs and its log.
+LOADS = {
+    "sorted": ("200,000 tests of one binary, names in order, all pass", lambda: loads.tests(200_000)),
+    "shuffled": ("the same, in the log in no order", lambda: loads.shuffled(200_000)),
+    "listed": ("the same, listed in no order, in the log as listed", lambda: names_in_no_order(200_000)),
+    "binaries": ("200,000 tests of 300 binaries, all pass", lambda: of_binaries(200_000, False)),
+    "any": ("the same, in the log in no order", lambda: of_binaries(200_000, True)),
+    "short": ("20,000 tests that pass, 4 KiB of output each", lambda: with_outputs(20_000, 4096)),
+    "long": ("2,000 tests that pass, 64 KiB of output each", lambda: with_outputs(2_000, 65_536)),
+    "failing": ("1,000 tests that fail, 64 KiB of output each, all written", lambda: loads.failing(65_536)),
+    "planned": ("300,000 tests of 300 binaries, planned, no log", lambda: (of_binaries(300_000, False)[0], "")),
+}
+
+
+@dataclasses.dataclass
+class Took:
+    """The least processor seconds and the least peak memory, in MB, of some runs."""
+
+    seconds: float = float("inf")
+    memory: float = float("inf")
+
+    def run(self, program, load, report):
+        with open(load, "rb") as given, open(report, "wb") as taken:
+            started = subprocess.Popen([program], stdin=given, stdout=taken)
+            _, _, usage = os.wait4(started.pid, 0)
+        self.seconds = min(self.seconds, usage.ru_utime + usage.ru_stime)
+        self.memory = min(self.memory, usage.ru_maxrss / 1024)
+
+
+def compare(room, plain, name, runs):
+    shown, make = LOADS[name]
+    load = room / "load"
+    inputs, log = make()
+    load.write_text(f"{inputs}\n{log}")
+    ours, other = Took(), Took()
+    for _ in range(runs):
+        ours.run(str(PROGRAM), load, room / "ours")
+        other.run(plain, load, room / "plain")
+    if (room / "ours").read_bytes() != (room / "plain").read_bytes():
+        raise SystemExit(f"{name}: the reports of the two programs differ")
+    size = load.stat().st_size / 1e6
+    print(
+        f"| {shown} ({size:.0f} MB) | {ours.seconds:.2f} s, {ours.memory:.0f} MB | {other.seconds:.2f} s, {other.memory:.0f} MB"
+        f" | {ours.seconds / other.seconds:.2f} | {ours.memory / other.memory:.2f} |",
+        flush=True,
+    )
+
+
+def main():
+    parser = argparse.ArgumentParser(description="Times the built program beside a plain one.")
+    parser.add_argument("--runs", type=int, default=5)
+    parser.add_argument("loads", nargs="*", metavar="LOAD", help=f"one of {', '.join(LOADS)}")
+    words = parser.parse_args()
+    if not set(words.loads) <= set(LOADS):
+        parser.error(f"the loads are {', '.join(LOADS)}")
+    if not os.access(PROGRAM, os.X_OK):
+        raise SystemExit(f"There is no program {PROGRAM}: `make run` builds it.")
+    with tempfile.TemporaryDirectory() as at:
+        room = pathlib.Path(at)
+        plain = str(room / "plain-program")
+        subprocess.run(["rustc", "-O", "-o", plain, str(PLAIN)], check=True)
+        print("| Load | Ours | Plain | Time | Memory |\n|---|---|---|---|---|")
+        for name in words.loads or LOADS:
+            compare(room, plain, name, words.runs)
+
+
+if __name__ == "__main__":
+    main()
