@@ -9,6 +9,7 @@ memory count: processor seconds, and MB as the system tells them. Their reports 
 """
 import argparse
 import dataclasses
+import filecmp
 import os
 import pathlib
 import random
@@ -21,7 +22,6 @@ import loads
 
 ROOT = pathlib.Path(__file__).resolve().parent.parent
 PROGRAM = ROOT / "crates/test_runner/out/test_runner"
-PLAIN = ROOT / "bench/plain/plain.rs"
 
 
 def passing(tests):
@@ -72,26 +72,24 @@ class Took:
     seconds: float = float("inf")
     memory: float = float("inf")
 
-    def run(self, program, load, report):
-        with open(load, "rb") as given, open(report, "wb") as taken:
-            started = subprocess.Popen([program], stdin=given, stdout=taken)
-            _, _, usage = os.wait4(started.pid, 0)
-        self.seconds = min(self.seconds, usage.ru_utime + usage.ru_stime)
-        self.memory = min(self.memory, usage.ru_maxrss / 1024)
+    def run(self, room, program, report):
+        told = subprocess.run([room / "measure", program, room / "load", report], capture_output=True, text=True, check=True)
+        microseconds, kibibytes = map(int, told.stdout.split())
+        self.seconds = min(self.seconds, microseconds / 1e6)
+        self.memory = min(self.memory, kibibytes / 1024)
 
 
-def compare(room, plain, name, runs):
+def compare(room, name, runs):
     shown, make = LOADS[name]
-    load = room / "load"
     inputs, log = make()
-    load.write_text(f"{inputs}\n{log}")
+    (room / "load").write_text(f"{inputs}\n{log}")
     ours, other = Took(), Took()
     for _ in range(runs):
-        ours.run(str(PROGRAM), load, room / "ours")
-        other.run(plain, load, room / "plain")
-    if (room / "ours").read_bytes() != (room / "plain").read_bytes():
+        ours.run(room, PROGRAM, room / "of-ours")
+        other.run(room, room / "plain", room / "of-plain")
+    if not filecmp.cmp(room / "of-ours", room / "of-plain", shallow=False):
         raise SystemExit(f"{name}: the reports of the two programs differ")
-    size = load.stat().st_size / 1e6
+    size = (room / "load").stat().st_size / 1e6
     print(
         f"| {shown} ({size:.0f} MB) | {ours.seconds:.2f} s, {ours.memory:.0f} MB | {other.seconds:.2f} s, {other.memory:.0f} MB"
         f" | {ours.seconds / other.seconds:.2f} | {ours.memory / other.memory:.2f} |",
@@ -110,11 +108,11 @@ def main():
         raise SystemExit(f"There is no program {PROGRAM}: `make run` builds it.")
     with tempfile.TemporaryDirectory() as at:
         room = pathlib.Path(at)
-        plain = str(room / "plain-program")
-        subprocess.run(["rustc", "-O", "-o", plain, str(PLAIN)], check=True)
+        for name in ("plain", "measure"):
+            subprocess.run(["rustc", "-O", "-o", room / name, ROOT / f"bench/plain/{name}.rs"], check=True)
         print("| Load | Ours | Plain | Time | Memory |\n|---|---|---|---|---|")
         for name in words.loads or LOADS:
-            compare(room, plain, name, words.runs)
+            compare(room, name, words.runs)
 
 
 if __name__ == "__main__":
