@@ -1,7 +1,7 @@
+pub mod Flat
+pub mod Evaluating
 pub mod Repeats
-pub mod Trees
 pub mod Lengths
 pub mod Splits
-pub mod Reading
 pub mod Values
 pub mod Whole

@@ -1,0 +1,83 @@
+-- What was read of a condition so far, and how the whole is read on from there.
+use Rattle.std.specs.Prelude.{◌≡◌, ℕ, List, [], ◌∷◌, ◌++◌, length, codes}
+use Rattle.nextest_filtering_ast.specs.Grammar.{Behind}
+use Rattle.test_runner_core_platforms.specs.Spec.{Condition, negation, Conditions, no_conditions, with_first}
+use Rattle.test_runner_core_platforms.specs.Grammar.{IsCondition, AreConditions}
+use Rattle.test_runner_core_platforms.specs.Flat.{append, joined_by, flat, flat_all}
+use Rattle.test_runner_core_platforms.specs.declared.opened.Opened.{Opened}
+use Rattle.test_runner_core_platforms.specs.declared.opened.Operation.TheVariants as op
+use Rattle.test_runner_core_platforms.specs.declared.part.Joint.{Joint}
+use Rattle.test_runner_core_platforms.specs.declared.part.Part.{Part}
+use Rattle.test_runner_core_platforms.specs.declared.parser.Place.{Place}
+use Rattle.test_runner_core_platforms.specs.declared.parser.Place.TheVariants as place
+use Rattle.test_runner_core_platforms.specs.declared.reading.Reading.{Reading}
+
+-- an operation whose `)` is still to be read, with the conditions that were read behind its `(`
+pub data Level : Type 0 where
+  in_negation : Level
+  in_joint : Joint → Conditions → Level
+
+-- ---- how the whole is read on
+
+-- behind a condition of an `all` or an `any` these follow, up to `)`, and then rest
+pub data AreBehind : List ℕ → Conditions → List ℕ → Type 0 where
+  no_others : (text rest : List ℕ) → Behind (codes ")") text rest → AreBehind text no_conditions rest
+  others : (text next rest : List ℕ) (each : Conditions) → Behind (codes ",") text next → AreConditions next each rest → AreBehind text each rest
+
+-- A condition was read within these, the innermost one first, and rest follows it: from there the whole condition is read, up to its end.
+abbrev pub GoesOn : Condition → List ℕ → List Level → Condition → List ℕ → Type 0
+GoesOn whole end [] it rest = (whole ≡ it) × (end ≡ rest)
+GoesOn whole end (in_negation ∷ more) it rest = (last : List ℕ) × Behind (codes ")") rest last × GoesOn whole end more (negation it) last
+GoesOn whole end (in_joint joint each ∷ more) it rest =
+    (behind : Conditions) × (last : List ℕ) × AreBehind rest behind last × GoesOn whole end more (joined_by joint (append each (with_first it behind))) last
+
+-- a condition is to be read there
+abbrev pub AwaitsOne : Condition → List ℕ → List Level → List ℕ → Type 0
+AwaitsOne whole end levels text = (it : Condition) × (rest : List ℕ) × IsCondition text it rest × GoesOn whole end levels it rest
+
+-- so it is, or in an `all` or an `any` their `)` is
+abbrev pub Awaits : Condition → List ℕ → List Level → List ℕ → Type 0
+Awaits whole end [] text = AwaitsOne whole end [] text
+Awaits whole end (in_negation ∷ more) text = AwaitsOne whole end (in_negation ∷ more) text
+Awaits whole end (in_joint joint each ∷ more) text =
+    (behind : Conditions) × (last : List ℕ) × AreConditions text behind last × GoesOn whole end more (joined_by joint (append each behind)) last
+
+-- Reading on from one place is reading on from another.
+pub record Becomes (From To : Condition → List ℕ → Type 0) : Type 0 where
+  pub reads : (whole : Condition) (end : List ℕ) → To whole end → From whole end
+  pub only : (whole : Condition) (end : List ℕ) → From whole end → To whole end
+
+-- ---- what is held of it
+
+-- these operations are open, and the parts are those of the conditions that were read within them
+abbrev pub AreHeld : List Level → List Opened → List Part → Type 0
+AreHeld [] [] parts = parts ≡ []
+AreHeld [] (opened ∷ opens) parts = ⊥
+AreHeld (in_negation ∷ more) [] parts = ⊥
+AreHeld (in_negation ∷ more) (opened ∷ opens) parts = (opened ≡ record { operation = op.Not; before = length parts }) × AreHeld more opens parts
+AreHeld (in_joint joint each ∷ more) [] parts = ⊥
+AreHeld (in_joint joint each ∷ more) (opened ∷ opens) parts =
+    (before : List Part) × (opened ≡ record { operation = op.Joined joint; before = length before }) × (parts ≡ before ++ flat_all each) × AreHeld more opens before
+
+-- the text was read up to the rest, where a condition is to be read
+pub record IsAhead (text : List ℕ) (opens : List Opened) (parts : List Part) (rest : List ℕ) : Type 0 where
+  pub levels : List Level
+  pub held : AreHeld levels opens parts
+  pub becomes : Becomes (λ whole end. IsCondition text whole end) (λ whole end. Awaits whole end levels rest)
+
+-- it was read up to the rest, which is behind a condition
+pub record IsBehind (text : List ℕ) (opens : List Opened) (parts : List Part) (rest : List ℕ) : Type 0 where
+  pub levels : List Level
+  pub it : Condition
+  pub before : List Part
+  pub whole : parts ≡ before ++ flat it
+  pub held : AreHeld levels opens before
+  pub becomes : Becomes (λ whole end. IsCondition text whole end) (λ whole end. GoesOn whole end levels it rest)
+
+abbrev pub IsAt : List ℕ → Reading → Place → Type 0
+IsAt text reading (place.Ahead rest) = IsAhead text reading.opened reading.parts.items rest.now
+IsAt text reading (place.Behind rest) = IsBehind text reading.opened reading.parts.items rest.now
+
+abbrev pub text_of : Place → List ℕ
+text_of (place.Ahead rest) = rest.now
+text_of (place.Behind rest) = rest.now
