@@ -64,8 +64,8 @@ FindsCondition Reads (Err (Bad left)) = (it : Condition) (rest : List ℕ) → R
 FindsCondition Reads (Err Memory) = ⊤
 
 -- the fact of that name with the value that the text begins with was read, or the text begins with none
-abbrev pub FindsFact : List ℕ → List ℕ → Result (Part × Bor (List ℕ)) Stop → Type 0
-FindsFact name text (Ok found) = (value : List ℕ) × (found.0 ≡ part.FactValue name value) × ReadsValue text value found.1.now
+abbrev pub FindsFact : List ℕ → List ℕ → Result (Start × Bor (List ℕ)) Stop → Type 0
+FindsFact name text (Ok found) = (value : List ℕ) × (found.0 ≡ begins.Whole (part.FactValue name value)) × ReadsValue text value found.1.now
 FindsFact name text (Err (Bad left)) = (value rest : List ℕ) → ReadsValue text value rest → ⊥
 FindsFact name text (Err Memory) = ⊤
 

@@ -22,25 +22,25 @@ pub data Level : Type 0 where
 -- behind a condition of an `all` or an `any` these follow, up to `)`, and then rest
 pub data AreBehind : List ℕ → Conditions → List ℕ → Type 0 where
   no_others : (text rest : List ℕ) → Behind (codes ")") text rest → AreBehind text no_conditions rest
-  others : (text next rest : List ℕ) (each : Conditions) → Behind (codes ",") text next → AreConditions next each rest → AreBehind text each rest
+  more_others : (text next rest : List ℕ) (each : Conditions) → Behind (codes ",") text next → AreConditions next each rest → AreBehind text each rest
 
 -- A condition was read within these, the innermost one first, and rest follows it: from there the whole condition is read, up to its end.
-abbrev pub GoesOn : Condition → List ℕ → List Level → Condition → List ℕ → Type 0
-GoesOn whole end [] it rest = (whole ≡ it) × (end ≡ rest)
-GoesOn whole end (in_negation ∷ more) it rest = (last : List ℕ) × Behind (codes ")") rest last × GoesOn whole end more (negation it) last
-GoesOn whole end (in_joint joint each ∷ more) it rest =
-    (behind : Conditions) × (last : List ℕ) × AreBehind rest behind last × GoesOn whole end more (joined_by joint (append each (with_first it behind))) last
+abbrev pub GoesOn : List Level → Condition → List ℕ → Condition → List ℕ → Type 0
+GoesOn [] it rest whole end = (whole ≡ it) × (end ≡ rest)
+GoesOn (in_negation ∷ more) it rest whole end = (last : List ℕ) × Behind (codes ")") rest last × GoesOn more (negation it) last whole end
+GoesOn (in_joint joint each ∷ more) it rest whole end =
+    (behind : Conditions) × (last : List ℕ) × AreBehind rest behind last × GoesOn more (joined_by joint (append each (with_first it behind))) last whole end
 
 -- a condition is to be read there
-abbrev pub AwaitsOne : Condition → List ℕ → List Level → List ℕ → Type 0
-AwaitsOne whole end levels text = (it : Condition) × (rest : List ℕ) × IsCondition text it rest × GoesOn whole end levels it rest
+abbrev pub AwaitsOne : List Level → List ℕ → Condition → List ℕ → Type 0
+AwaitsOne levels text whole end = (it : Condition) × (rest : List ℕ) × IsCondition text it rest × GoesOn levels it rest whole end
 
--- so it is, or in an `all` or an `any` their `)` is
-abbrev pub Awaits : Condition → List ℕ → List Level → List ℕ → Type 0
-Awaits whole end [] text = AwaitsOne whole end [] text
-Awaits whole end (in_negation ∷ more) text = AwaitsOne whole end (in_negation ∷ more) text
-Awaits whole end (in_joint joint each ∷ more) text =
-    (behind : Conditions) × (last : List ℕ) × AreConditions text behind last × GoesOn whole end more (joined_by joint (append each behind)) last
+-- so it is; in an `all` or an `any`, or their `)` is
+abbrev pub Awaits : List Level → List ℕ → Condition → List ℕ → Type 0
+Awaits [] text whole end = AwaitsOne [] text whole end
+Awaits (in_negation ∷ more) text whole end = AwaitsOne (in_negation ∷ more) text whole end
+Awaits (in_joint joint each ∷ more) text whole end =
+    (behind : Conditions) × (last : List ℕ) × AreConditions text behind last × GoesOn more (joined_by joint (append each behind)) last whole end
 
 -- Reading on from one place is reading on from another.
 pub record Becomes (From To : Condition → List ℕ → Type 0) : Type 0 where
@@ -63,7 +63,7 @@ AreHeld (in_joint joint each ∷ more) (opened ∷ opens) parts =
 pub record IsAhead (text : List ℕ) (opens : List Opened) (parts : List Part) (rest : List ℕ) : Type 0 where
   pub levels : List Level
   pub held : AreHeld levels opens parts
-  pub becomes : Becomes (λ whole end. IsCondition text whole end) (λ whole end. Awaits whole end levels rest)
+  pub becomes : Becomes (IsCondition text) (Awaits levels rest)
 
 -- it was read up to the rest, which is behind a condition
 pub record IsBehind (text : List ℕ) (opens : List Opened) (parts : List Part) (rest : List ℕ) : Type 0 where
@@ -72,7 +72,7 @@ pub record IsBehind (text : List ℕ) (opens : List Opened) (parts : List Part) 
   pub before : List Part
   pub whole : parts ≡ before ++ flat it
   pub held : AreHeld levels opens before
-  pub becomes : Becomes (λ whole end. IsCondition text whole end) (λ whole end. GoesOn whole end levels it rest)
+  pub becomes : Becomes (IsCondition text) (GoesOn levels it rest)
 
 abbrev pub IsAt : List ℕ → Reading → Place → Type 0
 IsAt text reading (place.Ahead rest) = IsAhead text reading.opened reading.parts.items rest.now

@@ -30,7 +30,7 @@ pub(crate) enum Place<'i> {
 }
 
 // The fact of that name with the value that comes next, and what follows it.
-fn with_value<'i>(alloc: Global, name: &str, text: &'i str) -> Result<(Part, &'i str), Stop>
+fn with_value<'i>(alloc: Global, name: &str, text: &'i str) -> Result<(Start, &'i str), Stop>
     ensures { FindsFact name.now text.now result }
 {
     let Some((value, rest)) = value(text) else {
@@ -38,7 +38,7 @@ fn with_value<'i>(alloc: Global, name: &str, text: &'i str) -> Result<(Part, &'i
     };
     let name = Text::from_str(alloc, name)?;
     let value = Text::from_str(alloc, value)?;
-    Ok((Part::FactValue(name, value), rest))
+    Ok((Start::Whole(Part::FactValue(name, value)), rest))
 }
 
 // The operation of that name.
@@ -71,8 +71,7 @@ fn begin<'i>(alloc: Global, text: &'i str) -> Result<(Start, &'i str), Stop>
         };
     }
     if let Some(ahead) = token(rest, "=") {
-        let (part, behind) = with_value(alloc, name, ahead)?;
-        return Ok((Start::Whole(part), behind));
+        return with_value(alloc, name, ahead);
     }
     Ok((Start::Whole(Part::Fact(Text::from_str(alloc, name)?)), rest))
 }
@@ -85,14 +84,15 @@ fn ahead<'i>(alloc: Global, reading: &mut Reading, text: &'i str) -> Result<Plac
         reading.close()?;
         return Ok(Place::Behind(rest));
     }
-    match begin(alloc, text)? {
-        (Start::Whole(part), rest) => {
+    let (start, rest) = begin(alloc, text)?;
+    match start {
+        Start::Whole(part) => {
             reading.push(part)?;
             Ok(Place::Behind(rest))
         }
-        (Start::Operation(operation), inside) => {
+        Start::Operation(operation) => {
             reading.enter(operation)?;
-            Ok(Place::Ahead(inside))
+            Ok(Place::Ahead(rest))
         }
     }
 }
