@@ -1,30 +1,23 @@
 -- What a condition begins with.
-use Rattle.std.proofs.Common.{◌≡◌, refl, ℕ, ◌<◌, Bool, true, false, List, [], ◌∷◌, length, ap, sym, ◌∙◌, subst, inl, inr, arith}
+use Rattle.std.proofs.Common.{◌≡◌, refl, ℕ, Bool, true, false, List, [], ◌∷◌, ap, sym, ◌∙◌, subst, inl, inr}
 use Rattle.std.specs.Prelude.{codes, ◌==◌, Result, Ok, Err}
 use Rattle.std.specs.Borrow.{Bor}
-use Rattle.std.specs.Result.{IsErrAnd}
-use Rattle.std.proofs.lemmas.Result.{err_from_is_err_and}
 use Rattle.std.proofs.lemmas.Bool.{or_cases, eqb-true}
 use Rattle.nextest_filtering_ast.specs.Grammar.{Behind, unblanked}
 use Rattle.test_runner_core_platforms.specs.Spec.{Condition, fact, fact_value, negation, all_of, any_of}
-use Rattle.test_runner_core_platforms.specs.Flat.{flat}
 use Rattle.test_runner_core_platforms.specs.Grammar.{starts, ReadsName, ReadsValue, goes_on, IsCondition, is_fact, is_value, is_negation, is_all, is_any}
 use Rattle.test_runner_core_platforms.specs.Opened.{name_of}
-use Rattle.test_runner_core_platforms.specs.Parsing.{Begins, FindsFact, FindsStart, Goes, IsOpened, ReadsFactValue, ReadsOperation}
+use Rattle.test_runner_core_platforms.specs.Parsing.{Begins, FindsFact, FindsStart, IsOpened, ReadsFactValue, ReadsOperation}
 use Rattle.test_runner_core_platforms.specs.Single.{operation_only, value_only}
-use Rattle.test_runner_core_platforms.specs.declared.opened.Opened.{Opened}
 use Rattle.test_runner_core_platforms.specs.declared.opened.Operation.{Operation}
 use Rattle.test_runner_core_platforms.specs.declared.opened.Operation.TheVariants as op
-use Rattle.test_runner_core_platforms.specs.declared.parser.Place.{Place}
 use Rattle.test_runner_core_platforms.specs.declared.parser.Start.{Start}
 use Rattle.test_runner_core_platforms.specs.declared.parser.Start.TheVariants as begins
 use Rattle.test_runner_core_platforms.specs.declared.part.Joint.TheVariants as joints
 use Rattle.test_runner_core_platforms.specs.declared.part.Part.{Part}
 use Rattle.test_runner_core_platforms.specs.declared.part.Part.TheVariants as part
-use Rattle.test_runner_core_platforms.specs.declared.reading.Reading.{Reading}
 use Rattle.test_runner_core_platforms.specs.declared.stop.Stop.{Stop}
 use Rattle.test_runner_core_platforms.specs.declared.stop.Stop.TheVariants.{Bad, Memory}
-use Rattle.test_runner_core_platforms.proofs.Lengths.{shorter_condition, shorter_opened}
 
 -- ---- names
 

@@ -1,12 +1,12 @@
 -- What the steps of an evaluation come to.
 use Rattle.std.proofs.Common.{◌≡◌, refl, ℕ, ◌<◌, ◌≤◌, Bool, true, false, List, [], ◌∷◌, ◌++◌, length, Option, None, Some, ap, sym, ◌∙◌, subst, inl, inr, arith, length-append}
-use Rattle.std.specs.Prelude.{◌⊎◌, ◌==◌, ◌≢◌, not, option_map}
+use Rattle.std.specs.Prelude.{◌==◌, ◌≢◌, not, option_map}
 use Rattle.std.proofs.lemmas.Bool.{eqb-false}
 use Rattle.std.proofs.lemmas.List.{same_from_push}
 use Rattle.test_runner_core_platforms.specs.Spec.{Condition, fact, fact_value, negation, all_of, any_of, Conditions, no_conditions, with_first}
 use Rattle.test_runner_core_platforms.specs.Evaluating.{value_in, LeadsInside, IsApart, IsEither}
 use Rattle.test_runner_core_platforms.specs.Facts.{answer_of}
-use Rattle.test_runner_core_platforms.specs.Flat.{append, with_last, joined_by, flat, flat_all, condition_of, conditions_of, IsFlat, AreFlat, IsLastChild}
+use Rattle.test_runner_core_platforms.specs.Flat.{with_last, joined_by, flat, flat_all, condition_of, conditions_of, IsFlat, AreFlat, IsLastChild}
 use Rattle.test_runner_core_platforms.specs.Joints.{join_by, none_by, outcome, value_by}
 use Rattle.test_runner_core_platforms.specs.Meaning.{both, either, condition_value}
 use Rattle.test_runner_core_platforms.specs.declared.fact.Fact.{Fact}

@@ -1,5 +1,5 @@
 -- How a condition is read on from a place within it.
-use Rattle.std.proofs.Common.{◌≡◌, refl, ℕ, ◌-◌, ◌≤◌, Bool, true, false, List, [], ◌∷◌, ◌++◌, length, ap, sym, ◌∙◌, subst, arith, length-append}
+use Rattle.std.proofs.Common.{◌≡◌, refl, ℕ, ◌-◌, ◌≤◌, true, List, [], ◌∷◌, ◌++◌, length, ap, sym, ◌∙◌, subst, arith, length-append}
 use Rattle.std.specs.Prelude.{codes, ⊤}
 use Rattle.std.specs.Borrow.{Bor}
 use Rattle.std.proofs.lemmas.Bool.{false≢true}
@@ -8,7 +8,7 @@ use Rattle.nextest_filtering_ast.specs.Grammar.{Behind}
 use Rattle.test_runner_core_platforms.specs.Spec.{Condition, fact, fact_value, negation, all_of, any_of, Conditions, no_conditions, with_first}
 use Rattle.test_runner_core_platforms.specs.Flat.{append, with_last, joined_by, flat, flat_all, condition_of, IsFlat}
 use Rattle.test_runner_core_platforms.specs.Grammar.{ReadsName, IsCondition, is_negation, is_all, is_any, AreConditions, no_more, last_one, one_more}
-use Rattle.test_runner_core_platforms.specs.Opened.{joint_name, more_go, name_of, part_of, takes_more}
+use Rattle.test_runner_core_platforms.specs.Opened.{joint_name, more_go, part_of, takes_more}
 use Rattle.test_runner_core_platforms.specs.Parsing.{ReadsOperation, IsOpened}
 use Rattle.test_runner_core_platforms.specs.Single.{one_behind, one_condition, one_conditions, operation_only, closes_or_parts, differs}
 use Rattle.test_runner_core_platforms.specs.Waiting.{Level, in_negation, in_joint, AreBehind, no_others, more_others, GoesOn, AwaitsOne, Awaits, Becomes, AreHeld, IsAhead, IsBehind, IsAt}
@@ -18,7 +18,6 @@ use Rattle.test_runner_core_platforms.specs.declared.opened.Operation.TheVariant
 use Rattle.test_runner_core_platforms.specs.declared.part.Joint.{Joint}
 use Rattle.test_runner_core_platforms.specs.declared.part.Joint.TheVariants as joints
 use Rattle.test_runner_core_platforms.specs.declared.part.Part.{Part}
-use Rattle.test_runner_core_platforms.specs.declared.part.Part.TheVariants as part
 use Rattle.test_runner_core_platforms.specs.declared.parser.Place.{Place}
 use Rattle.test_runner_core_platforms.specs.declared.parser.Place.TheVariants as place
 use Rattle.test_runner_core_platforms.specs.declared.reading.Reading.{Reading}

@@ -2,7 +2,7 @@
 use Rattle.std.specs.Prelude.{◌≡◌, ◌≤◌, ◌<◌, ℕ, Bool, false, List, [], ◌∷◌, length, ◌++◌, codes, Option, None, Some, Result, Ok, Err, ⊤}
 use Rattle.std.specs.Borrow.{Bor}
 use Rattle.nextest_filtering_ast.specs.Grammar.{Behind, unblanked}
-use Rattle.test_runner_core_platforms.specs.Spec.{Condition, fact, fact_value, negation, all_of, any_of, Conditions, Spec, triple, condition}
+use Rattle.test_runner_core_platforms.specs.Spec.{Condition, fact, fact_value, negation, all_of, any_of, Spec, triple, condition}
 use Rattle.test_runner_core_platforms.specs.Grammar.{is_of_name, is_of_triple, is_of_value, AllAre, starts, ReadsName, ReadsValue, IsCondition, AreConditions, IsTriple, IsSpec}
 use Rattle.test_runner_core_platforms.specs.Flat.{flat, condition_of}
 use Rattle.test_runner_core_platforms.specs.Opened.{name_of}

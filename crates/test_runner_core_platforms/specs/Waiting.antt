@@ -1,10 +1,13 @@
 -- What was read of a condition so far, and how the whole is read on from there.
-use Rattle.std.specs.Prelude.{◌≡◌, ℕ, List, [], ◌∷◌, ◌++◌, length, codes}
+use Rattle.std.specs.Prelude.{◌≡◌, ℕ, ◌-◌, true, List, [], ◌∷◌, ◌++◌, length, codes, Option, None, Some}
+use Rattle.std.specs.Borrow.{Bor}
 use Rattle.nextest_filtering_ast.specs.Grammar.{Behind}
 use Rattle.test_runner_core_platforms.specs.Spec.{Condition, negation, Conditions, no_conditions, with_first}
 use Rattle.test_runner_core_platforms.specs.Grammar.{IsCondition, AreConditions}
 use Rattle.test_runner_core_platforms.specs.Flat.{append, joined_by, flat, flat_all}
+use Rattle.test_runner_core_platforms.specs.Opened.{more_go, part_of}
 use Rattle.test_runner_core_platforms.specs.declared.opened.Opened.{Opened}
+use Rattle.test_runner_core_platforms.specs.declared.opened.Operation.{Operation}
 use Rattle.test_runner_core_platforms.specs.declared.opened.Operation.TheVariants as op
 use Rattle.test_runner_core_platforms.specs.declared.part.Joint.{Joint}
 use Rattle.test_runner_core_platforms.specs.declared.part.Part.{Part}
@@ -81,3 +84,24 @@ IsAt text reading (place.Behind rest) = IsBehind text reading.opened reading.par
 abbrev pub text_of : Place → List ℕ
 text_of (place.Ahead rest) = rest.now
 text_of (place.Behind rest) = rest.now
+
+-- ---- what changes what is held
+
+-- an operation was opened
+abbrev pub Enters : Operation → Reading → Reading → Type 0
+Enters operation old new = (new.opened ≡ record { operation = operation; before = length old.parts.items } ∷ old.opened) × (new.parts.items ≡ old.parts.items)
+
+-- a part was read
+abbrev pub Adds : Part → Reading → Reading → Type 0
+Adds part old new = (new.opened ≡ old.opened) × (new.parts.items ≡ old.parts.items ++ part ∷ [])
+
+-- the innermost operation was closed: its part stands behind those that belong to it
+abbrev pub Closes : Reading → Reading → Type 0
+Closes old new =
+    (innermost : Opened) (more : List Opened) → old.opened ≡ innermost ∷ more
+    → (new.opened ≡ more) × (new.parts.items ≡ old.parts.items ++ part_of innermost.operation (length old.parts.items - innermost.before) ∷ [])
+
+-- the sign comes next, and an `all` or an `any` is the innermost operation; or one of these isn't so
+abbrev pub FindsSign : List Opened → List ℕ → List ℕ → Option (Bor (List ℕ)) → Type 0
+FindsSign opens sign text (Some rest) = (more_go opens ≡ true) × Behind sign text rest.now
+FindsSign opens sign text None = more_go opens ≡ true → (rest : List ℕ) → Behind sign text rest → ⊥

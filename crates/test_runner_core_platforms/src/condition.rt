@@ -83,10 +83,9 @@ fn leads<'p>(parts: &'p [Part], facts: &PlatformFacts) -> Way<'p>
     let (part, inside) = split_last(parts);
     match part {
         Part::Fact(name) => Way::Known(facts.answer(name.as_str(), None)),
-        Part::FactValue(name, value) => Way::Known(facts.answer(
-            name.as_str(),
-            Some(value.as_str()),
-        )),
+        Part::FactValue(name, value) => {
+            Way::Known(facts.answer(name.as_str(), Some(value.as_str())))
+        }
         Part::Not(_) => Way::Inside(Outcomes::of_negation(), inside),
         Part::Joined(joint, _) => {
             if inside.is_empty() {

@@ -113,7 +113,7 @@ impl Outcomes {
 
     /// Those by a part of the part.
     pub(crate) fn through(self, inner: Outcomes) -> Outcomes
-        ensures { (value : Option Bool) → outcome result value ≡ outcome self (outcome inner value) }
+        ensures { (one : Option Bool) → outcome result one ≡ outcome self (outcome inner one) }
     {
         Outcomes {
             holds: self.at(inner.holds),

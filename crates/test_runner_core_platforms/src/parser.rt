@@ -80,7 +80,7 @@ fn begin<'i>(alloc: Global, text: &'i str) -> Result<(Start, &'i str), Stop>
 fn ahead<'i>(alloc: Global, reading: &mut Reading, text: &'i str) -> Result<Place<'i>, Stop>
     ensures { Goes IsAhead reading.old text.now reading.new result }
 {
-    if let Some(rest) = reading.token(text, ")") {
+    if let Some(rest) = reading.sign(text, ")") {
         reading.close()?;
         return Ok(Place::Behind(rest));
     }
@@ -102,7 +102,7 @@ fn behind<'i>(reading: &mut Reading, text: &'i str) -> Result<Place<'i>, Stop>
     requires some { 1 ≤ length reading.old.opened }
     ensures { Goes IsBehind reading.old text.now reading.new result }
 {
-    if let Some(next) = reading.token(text, ",") {
+    if let Some(next) = reading.sign(text, ",") {
         return Ok(Place::Ahead(next));
     }
     let Some(rest) = token(text, ")") else {

@@ -1,9 +1,7 @@
 // What was read of a condition so far.
-ghost use Rattle.std.specs.Prelude.{◌≡◌, ◌-◌, ◌≤◌, List, ℕ, true, [], ◌∷◌, ◌++◌, length, IfOk, IfSome, IfNone, IsTrue, ◌↔◌};
-ghost use Rattle.nextest_filtering_ast.specs.Grammar.{Behind};
+ghost use Rattle.std.specs.Prelude.{◌≡◌, ◌≤◌, ◌↔◌, [], length, IfOk, IsTrue};
 ghost use Rattle.test_runner_core_platforms.specs.Flat.{IsFlat};
-ghost use Rattle.test_runner_core_platforms.specs.Opened.{more_go, part_of};
-ghost use Rattle.test_runner_core_platforms.specs.declared.opened.Opened as words;
+ghost use Rattle.test_runner_core_platforms.specs.Waiting.{Adds, Closes, Enters, FindsSign};
 
 use crate::condition::Condition;
 use crate::opened::{Opened, OpenedStack, Operation};
@@ -32,8 +30,7 @@ impl Reading {
 
     /// An operation was opened, up to its `(`.
     pub(crate) fn enter(&mut self, operation: Operation) -> Result<(), AllocError>
-        ensures opened { IfOk result (λ _. self.new.opened ≡ record { operation = operation; before = length self.old.parts.items } ∷ self.old.opened) }
-        ensures parts { IfOk result (λ _. self.new.parts.items ≡ self.old.parts.items) }
+        ensures { IfOk result (λ _. Enters operation self.old self.new) }
     {
         let before = self.parts.len();
         self.opened.push(Opened { operation, before })
@@ -41,8 +38,7 @@ impl Reading {
 
     /// A part was read.
     pub(crate) fn push(&mut self, part: Part) -> Result<(), AllocError>
-        ensures opened { IfOk result (λ _. self.new.opened ≡ self.old.opened) }
-        ensures parts { IfOk result (λ _. self.new.parts.items ≡ self.old.parts.items ++ part ∷ []) }
+        ensures { IfOk result (λ _. Adds part self.old self.new) }
     {
         Ok(self.parts.push(part)?)
     }
@@ -50,7 +46,7 @@ impl Reading {
     /// The `)` of the innermost operation was read.
     pub(crate) fn close(&mut self) -> Result<(), AllocError>
         requires some { 1 ≤ length self.old.opened }
-        ensures { (innermost : words.Opened) (more : List words.Opened) → self.old.opened ≡ innermost ∷ more → IfOk result (λ _. (self.new.opened ≡ more) × (self.new.parts.items ≡ self.old.parts.items ++ part_of innermost.operation (length self.old.parts.items - innermost.before) ∷ [])) }
+        ensures { IfOk result (λ _. Closes self.old self.new) }
     {
         match self.opened.pop() {
             Some(opened) => {
@@ -68,11 +64,10 @@ impl Reading {
         self.opened.innermost().is_none()
     }
 
-    /// What follows a token that comes next, which stands behind a condition, or behind the last one, in an `all` or an `any`
-    /// alone; where one of these is the innermost.
-    pub(crate) fn token<'i>(&self, text: &'i str, sign: &str) -> Option<&'i str>
-        ensures some { IfSome result (λ rest. (more_go self.now.opened ≡ true) × Behind sign.now text.now rest.now) }
-        ensures none { IfNone result (more_go self.now.opened ≡ true → (rest : List ℕ) → Behind sign.now text.now rest → ⊥) }
+    /// What follows a sign that comes next, where an `all` or an `any` is the innermost operation: the `)` of one may follow
+    /// its `(` or a comma, and a comma a condition, and in a `not` neither may.
+    pub(crate) fn sign<'i>(&self, text: &'i str, sign: &str) -> Option<&'i str>
+        ensures { FindsSign self.now.opened sign.now text.now result }
     {
         match self.opened.innermost() {
             Some(Operation::Joined(_)) => token(text, sign),

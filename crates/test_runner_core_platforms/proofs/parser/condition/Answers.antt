@@ -1,4 +1,4 @@
-use Rattle.std.proofs.Common.{◌≡◌, [], sym, subst, rules, List, ℕ}
+use Rattle.std.proofs.Common.{◌≡◌, [], sym, subst, rules, List}
 use Rattle.test_runner_core_platforms.specs.Flat.{condition_of}
 use Rattle.test_runner_core_platforms.specs.Grammar.{IsCondition}
 use Rattle.test_runner_core_platforms.specs.declared.part.Part.{Part}
