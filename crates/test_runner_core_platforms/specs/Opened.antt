@@ -30,6 +30,7 @@ abbrev pub takes_more : Operation → Bool
 takes_more op.Not = false
 takes_more (op.Joined joint) = true
 
+-- so of the innermost one
 abbrev pub more_go : List Opened → Bool
 more_go [] = false
 more_go (opened ∷ more) = takes_more opened.operation

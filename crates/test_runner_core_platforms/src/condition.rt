@@ -9,8 +9,8 @@ use crate::outcomes::Outcomes;
 use crate::part::{Joint, Part, split_child, split_last};
 use std::marker::Model;
 
-/// What holds on a platform or doesn't. In a clause it is its parts, and what they make up is `condition_of` them. Parts
-/// that belong to a part aren't held in it, so nothing goes down into what is nested, to drop it or else.
+/// What holds on a platform or doesn't. In a clause it is its parts, and what they make up is `condition_of` them. No part
+/// holds another, so to drop it takes no more stack where it is nested deeper.
 #[derive(Drop)]
 pub(crate) struct Condition {
     parts: Vec<Part>,
@@ -53,9 +53,9 @@ enum Way<'p> {
     Inside(Outcomes, &'p [Part]),
 }
 
-// The value of a condition. It calls itself for the conditions of an `all` or an `any` but the one with the most parts,
-// with which the loop goes on: each of them has half of the parts at most. So it is at most 64 calls deep, however deep the
-// condition is nested.
+// The value of a condition. It is called again for the conditions of an `all` or an `any`, but for one with the most parts,
+// with which the loop goes on. Each of the others has at most half of the parts, so no more than 64 such calls are open at
+// a time, however deep the condition is nested.
 #[cycle(value)]
 fn value(parts: &[Part], facts: &PlatformFacts) -> Option<bool>
     requires flat { IsFlat parts.now }

@@ -64,8 +64,8 @@ impl Reading {
         self.opened.innermost().is_none()
     }
 
-    /// What follows a sign that comes next, where an `all` or an `any` is the innermost operation: the `)` of one may follow
-    /// its `(` or a comma, and a comma a condition, and in a `not` neither may.
+    /// What follows a sign that comes next and may stand only between the parentheses of an `all` or an `any`; `None` where
+    /// neither of these is the innermost operation.
     pub(crate) fn sign<'i>(&self, text: &'i str, sign: &str) -> Option<&'i str>
         ensures { FindsSign self.now.opened sign.now text.now result }
     {
