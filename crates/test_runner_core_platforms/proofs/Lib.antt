@@ -1,7 +1,9 @@
+pub mod Flat
+pub mod Evaluating
+pub mod Waits
 pub mod Repeats
-pub mod Trees
 pub mod Lengths
+pub mod Beginnings
 pub mod Splits
-pub mod Reading
 pub mod Values
 pub mod Whole

@@ -2,6 +2,11 @@ pub mod Spec
 pub mod Facts
 pub mod Grammar
 pub mod Meaning
+pub mod Flat
+pub mod Joints
+pub mod Opened
+pub mod Evaluating
+pub mod Waiting
 pub mod Trees
 pub mod Parsing
 pub mod Single

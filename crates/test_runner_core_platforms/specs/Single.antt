@@ -147,7 +147,7 @@ value_alike name t value rest (negation it) s read is = absurd is
 value_alike name t value rest (all_of each) s read is = absurd is
 value_alike name t value rest (any_of each) s read is = absurd is
 
-differs : (a b : List ℕ) → bytes_eq a b ≡ false → bytes_eq b b ≡ true → a ≡ b → ⊥
+pub differs : (a b : List ℕ) → bytes_eq a b ≡ false → bytes_eq b b ≡ true → a ≡ b → ⊥
 differs a b apart same e = false≢true (sym apart ∙ (ap (λ (l : List ℕ). bytes_eq l b) e ∙ same))
 
 negation_alike : (t : List ℕ) (it : Condition) (u rest : List ℕ) (b : Condition) (s : List ℕ) → ((other : Condition) (v : List ℕ) → IsCondition t other v → Alike it other u v)

@@ -1,109 +1,130 @@
 // Conditions on platforms.
-ghost use Rattle.std.specs.Prelude.{◌≡◌, option_map, not};
-ghost use Rattle.test_runner_core_platforms.specs.Meaning.{both, either, condition_value, value_of_all, value_of_any};
-ghost use Rattle.test_runner_core_platforms.specs.Trees.{condition_of, conditions_of};
+ghost use Rattle.std.specs.Prelude.{◌≡◌, ◌<◌, length};
+ghost use Rattle.test_runner_core_platforms.specs.Evaluating.{IsApart, IsEither, Leads};
+ghost use Rattle.test_runner_core_platforms.specs.Flat.{condition_of, AreFlat, IsFlat};
+ghost use Rattle.test_runner_core_platforms.specs.Meaning.{condition_value};
 
 use crate::fact::PlatformFacts;
-use nextest_text::Text;
+use crate::outcomes::Outcomes;
+use crate::part::{Joint, Part, split_child, split_last};
+use std::marker::Model;
 
-/// What holds on a platform or doesn't.
-pub(crate) enum Condition {
-    /// A name.
-    Fact(Text),
-    /// A name with a value.
-    FactValue(Text, Text),
-    /// `not(a)`
-    Not(Box<Condition>),
-    /// `all(a, b)`
-    All(Vec<Condition>),
-    /// `any(a, b)`
-    Any(Vec<Condition>),
+/// What holds on a platform or doesn't. In a clause it is its parts, and what they make up is `condition_of` them. No part
+/// holds another, so to drop it takes no more stack where it is nested deeper.
+#[derive(Drop)]
+pub(crate) struct Condition {
+    parts: Vec<Part>,
 }
 
-impl Drop for Condition {
-    fn drop(self) {
-        match self {
-            Condition::Fact(_) | Condition::FactValue(_, _) => {}
-            Condition::Not(_) => {}
-            Condition::All(_) | Condition::Any(_) => {}
-        }
-    }
-}
+impl Model for Condition {
+    ghost use Rattle.std.specs.Prelude.{List};
+    ghost use Rattle.test_runner_core_platforms.specs.Flat.{IsFlat};
+    ghost use Rattle.test_runner_core_platforms.specs.declared.part.Part as words;
 
-// The other answer.
-fn negated(value: Option<bool>) -> Option<bool>
-    ensures { result ≡ option_map not value }
-{
-    match value {
-        Some(value) => Some(!value),
-        None => None,
-    }
-}
+    ghost Value = { List words.Part };
 
-// Whether both hold.
-fn both(one: Option<bool>, other: Option<bool>) -> Option<bool>
-    ensures { result ≡ both one other }
-{
-    match one {
-        Some(true) => other,
-        Some(false) => Some(false),
-        None => match other {
-            Some(false) => Some(false),
-            Some(true) | None => None,
-        },
-    }
-}
+    ghost view = { λ it. it.parts.items };
 
-// Whether one of them holds.
-fn either(one: Option<bool>, other: Option<bool>) -> Option<bool>
-    ensures { result ≡ either one other }
-{
-    match one {
-        Some(true) => Some(true),
-        Some(false) => other,
-        None => match other {
-            Some(true) => Some(true),
-            Some(false) | None => None,
-        },
-    }
+    ghost invariant = { λ it. IsFlat it.parts.items };
 }
 
 impl Condition {
-    /// Whether it holds on a platform; `None` where the facts don't tell.
-    #[cycle(value)]
+    /// What these parts make up.
+    pub(crate) fn of_parts(parts: Vec<Part>) -> Condition
+        requires flat { IsFlat parts.items }
+        ensures { result ≡ parts.items }
+    {
+        Condition { parts }
+    }
+
+    /// Whether it holds on a platform; `None` where the facts don't tell. It takes no memory.
     pub(crate) fn value(&self, facts: &PlatformFacts) -> Option<bool>
         ensures { result ≡ condition_value facts.now.known (condition_of self.now) }
     {
-        match self {
-            Condition::Fact(name) => facts.answer(name.as_str(), None),
-            Condition::FactValue(name, value) => facts.answer(name.as_str(), Some(value.as_str())),
-            Condition::Not(inside) => negated(inside.value(facts)),
-            Condition::All(each) => all_value(each.as_slice(), facts),
-            Condition::Any(each) => any_value(each.as_slice(), facts),
+        value(self.parts.as_slice(), facts)
+    }
+}
+
+// Where the value of a condition comes from.
+enum Way<'p> {
+    // It is known.
+    Known(Option<bool>),
+    // It is told by that of a part of it, by these outcomes.
+    Inside(Outcomes, &'p [Part]),
+}
+
+// The value of a condition. It is called again for the conditions of an `all` or an `any`, but for one with the most parts,
+// with which the loop goes on. Each of the others has at most half of the parts, so no more than 64 such calls are open at
+// a time, however deep the condition is nested.
+#[cycle(value)]
+fn value(parts: &[Part], facts: &PlatformFacts) -> Option<bool>
+    requires flat { IsFlat parts.now }
+    ensures { result ≡ condition_value facts.now.known (condition_of parts.now) }
+{
+    let mut outcomes = Outcomes::of_itself();
+    let mut rest = parts;
+    loop {
+        match leads(rest, facts) {
+            Way::Known(value) => return outcomes.at(value),
+            Way::Inside(inner, inside) => {
+                outcomes = outcomes.through(inner);
+                rest = inside;
+            }
         }
     }
 }
 
-// Whether all of them hold; `None` where the facts don't tell.
+// Where the value of a condition comes from.
 #[cycle(value)]
-fn all_value(each: &[Condition], facts: &PlatformFacts) -> Option<bool>
-    ensures { result ≡ value_of_all facts.now.known (conditions_of each.now) }
+fn leads<'p>(parts: &'p [Part], facts: &PlatformFacts) -> Way<'p>
+    requires flat { IsFlat parts.now }
+    ensures { Leads facts.now.known parts.now result }
 {
-    let mut found = Some(true);
-    for it in each {
-        found = both(found, it.value(facts));
+    let (part, inside) = split_last(parts);
+    match part {
+        Part::Fact(name) => Way::Known(facts.answer(name.as_str(), None)),
+        Part::FactValue(name, value) => {
+            Way::Known(facts.answer(name.as_str(), Some(value.as_str())))
+        }
+        Part::Not(_) => Way::Inside(Outcomes::of_negation(), inside),
+        Part::Joined(joint, _) => {
+            if inside.is_empty() {
+                return Way::Known(joint.of_none());
+            }
+            let (others, largest) = apart(*joint, inside, facts);
+            Way::Inside(Outcomes::of_joint(*joint, others), largest)
+        }
     }
-    found
 }
 
-// Whether any of them holds; `None` where the facts don't tell.
-#[cycle(value)]
-fn any_value(each: &[Condition], facts: &PlatformFacts) -> Option<bool>
-    ensures { result ≡ value_of_any facts.now.known (conditions_of each.now) }
+// The larger one, and the other.
+fn by_len<'p>(one: &'p [Part], other: &'p [Part]) -> (&'p [Part], &'p [Part])
+    ensures { IsEither one.now other.now result.0.now result.1.now }
 {
-    let mut found = Some(false);
-    for it in each {
-        found = either(found, it.value(facts));
+    if one.len() < other.len() {
+        (other, one)
+    } else {
+        (one, other)
     }
-    found
+}
+
+// What the conditions of an `all` or an `any` come to but one with the most parts, and the parts of that one.
+#[cycle(value)]
+fn apart<'p>(joint: Joint, parts: &'p [Part], facts: &PlatformFacts) -> (Option<bool>, &'p [Part])
+    requires some { 0 < length parts.now }
+    requires flat { AreFlat parts.now }
+    ensures { IsApart joint facts.now.known parts.now result.0 result.1.now }
+{
+    let (ahead, last) = split_child(parts);
+    let mut rest = ahead;
+    let mut largest = last;
+    let mut found = joint.of_none();
+    while !rest.is_empty() {
+        let (before, child) = split_child(rest);
+        let (larger, smaller) = by_len(child, largest);
+        found = joint.join(found, value(smaller, facts));
+        largest = larger;
+        rest = before;
+    }
+    (found, largest)
 }

@@ -4,9 +4,13 @@
 mod condition;
 mod fact;
 pub mod laws;
+mod opened;
+mod outcomes;
 mod parser;
+mod part;
 mod platform_spec;
 mod platform_spec_error;
+mod reading;
 mod span;
 mod stop;
 
