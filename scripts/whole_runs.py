@@ -390,8 +390,8 @@ TABLES = {
     "deep_inputs": deep_inputs,
 }
 
-# Those whose rows take much memory, so that one is run after another.
-LARGE = {"deep_inputs"}
+# Those whose rows take up to some 2 GB of memory, so that few are run side by side.
+LARGE, SIDE_BY_SIDE = {"deep_inputs"}, 3
 
 
 # ---- rows
@@ -457,9 +457,10 @@ def main():
         return 1
     programs = [Program(it) for it in (path, path + BY_RATTLE) if it == path or os.access(it, os.X_OK)]
     passed = failed = 0
-    with concurrent.futures.ThreadPoolExecutor(2 * len(os.sched_getaffinity(0))) as pool:
+    pools = concurrent.futures.ThreadPoolExecutor
+    with pools(2 * len(os.sched_getaffinity(0))) as pool, pools(SIDE_BY_SIDE) as few:
         told = {
-            table: (map if table in LARGE else pool.map)(lambda row: row.differs(programs), rows_of(table))
+            table: (few if table in LARGE else pool).map(lambda row: row.differs(programs), rows_of(table))
             for table in words.tables or TABLES
         }
         for table, answers in told.items():
