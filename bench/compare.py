@@ -1,7 +1,7 @@
 #!/usr/bin/env python3
 """Times the built program beside a plain program in Rust on the same loads, and prints a table of ratios.
 
-    python3 bench/compare.py [--runs N] [LOAD ..]
+    python3 bench/compare.py [--runs N] [--program PATH] [LOAD ..]
 
 Build the program first by `make run`. The plain one is bench/plain/plain.rs, built here by `rustc -O` alone. Each load is a file that
 both read from standard input; they run in turns, N times each (5 where nothing is said), and of each the least time and the least peak
@@ -79,13 +79,13 @@ class Took:
         self.memory = min(self.memory, kibibytes / 1024)
 
 
-def compare(room, name, runs):
+def compare(room, program, name, runs):
     shown, make = LOADS[name]
     inputs, log = make()
     (room / "load").write_text(f"{inputs}\n{log}")
     ours, other = Took(), Took()
     for _ in range(runs):
-        ours.run(room, PROGRAM, room / "of-ours")
+        ours.run(room, program, room / "of-ours")
         other.run(room, room / "plain", room / "of-plain")
     if not filecmp.cmp(room / "of-ours", room / "of-plain", shallow=False):
         raise SystemExit(f"{name}: the reports of the two programs differ")
@@ -100,19 +100,20 @@ def compare(room, name, runs):
 def main():
     parser = argparse.ArgumentParser(description="Times the built program beside a plain one.")
     parser.add_argument("--runs", type=int, default=5)
+    parser.add_argument("--program", type=pathlib.Path, default=PROGRAM, help="the program that is timed")
     parser.add_argument("loads", nargs="*", metavar="LOAD", help=f"one of {', '.join(LOADS)}")
     words = parser.parse_args()
     if not set(words.loads) <= set(LOADS):
         parser.error(f"the loads are {', '.join(LOADS)}")
-    if not os.access(PROGRAM, os.X_OK):
-        raise SystemExit(f"There is no program {PROGRAM}: `make run` builds it.")
+    if not os.access(words.program, os.X_OK):
+        raise SystemExit(f"There is no program {words.program}: `make run` builds it.")
     with tempfile.TemporaryDirectory() as at:
         room = pathlib.Path(at)
         for name in ("plain", "measure"):
             subprocess.run(["rustc", "-O", "-o", room / name, ROOT / f"bench/plain/{name}.rs"], check=True)
         print("| Load | Ours | Plain | Time | Memory |\n|---|---|---|---|---|")
         for name in words.loads or LOADS:
-            compare(room, name, words.runs)
+            compare(room, words.program.resolve(), name, words.runs)
 
 
 if __name__ == "__main__":
