@@ -7,11 +7,11 @@ ghost use Rattle.nextest_config_resolution_settings.specs.Nearest.{seen};
 ghost use Rattle.worked_rows.specs.Configs.{AreRetriesOf, place_of};
 
 use crate::configs::{BAR, sources_of};
-use crate::page::Page;
+use crate::page::{Page, Whole};
 use crate::parts::{Word, two};
 use crate::plain_filter::PlainFilter;
 use crate::plain_spec::PlainSpec;
-use crate::show;
+use crate::{ok, show, some};
 use nextest_config_elements::{FeatureSet, NextestRunMode, RetryPolicy};
 use nextest_config_resolution::{
     BuildPlatforms, ConfigSource, FilterError, Filters, LoadError, NextestConfig, ProfileError,
@@ -126,10 +126,10 @@ fn place_of(source: SettingSource<'_>) -> Option<usize>
 // A filter and a default filter: whether the one holds on the test `slow` of a library.
 fn held_told<F: Filters>(page: &mut Page, input: &str, cx: &F::Cx) -> Option<()> {
     let (filter, default) = two(input, BAR);
-    let filter = Text::from_str(page.alloc(), filter).ok()?;
-    let default = Text::from_str(page.alloc(), default).ok()?;
+    let filter = ok!(Text::from_str(page.alloc, filter));
+    let default = ok!(Text::from_str(page.alloc, default));
     match holds::<F>(
-        page.alloc(),
+        page.alloc,
         filter,
         default,
         cx,
@@ -145,15 +145,14 @@ fn held_told<F: Filters>(page: &mut Page, input: &str, cx: &F::Cx) -> Option<()>
 
 // What a filter is asked: whether it asks for groups, whether it asks what only tests tell, and whether it serves as a default.
 fn asked_told<F: Filters>(page: &mut Page, input: &str, cx: &F::Cx) -> Option<()> {
-    let text = Text::from_str(page.alloc(), input).ok()?;
-    let filter = F::parse(
-        page.alloc(),
+    let text = ok!(Text::from_str(page.alloc, input));
+    let filter = ok!(F::parse(
+        page.alloc,
         text,
         cx,
         FiltersetKind::Test,
         &KnownGroups::Unavailable,
-    )
-    .ok()?;
+    ));
     show!(page; "groups ", filter.has_groups(), ", tests ", filter.has_runtime_leaves());
     show!(page; ", default ", filter.serves_as_default());
     Some(())
@@ -166,8 +165,8 @@ pub(crate) fn plain_filters(page: &mut Page, input: &str) -> Option<()> {
 
 // Of filtersets the same; of one alone what it asks for.
 pub(crate) fn filters(page: &mut Page, input: &str) -> Option<()> {
-    let graph = PackageGraph::new(page.alloc(), &[("a-1", "a")], &[]).ok()?;
-    let cx = ParseContext::new(page.alloc(), graph).ok()?;
+    let graph = ok!(PackageGraph::new(page.alloc, &[("a-1", "a")], &[]));
+    let cx = ok!(ParseContext::new(page.alloc, graph));
     if input.contains(BAR) {
         held_told::<Filterset>(page, input, &cx)
     } else {
@@ -178,8 +177,8 @@ pub(crate) fn filters(page: &mut Page, input: &str) -> Option<()> {
 // The names of a platform, each with a comma behind it, and a spec: whether it holds there.
 pub(crate) fn plain_specs(page: &mut Page, input: &str) -> Option<()> {
     let (words, spec) = two(input, BAR);
-    let names = Listing::of_word(page.alloc(), words)?;
-    match holds_on::<PlainSpec>(page.alloc(), spec, &names) {
+    let names = some!(Listing::of_word(page.alloc, words));
+    match holds_on::<PlainSpec>(page.alloc, spec, &names) {
         Ok(value) => page.debug(value),
         Err(SpecError::Refused) => page.show("refused"),
         Err(SpecError::OutOfMemory) => return None,
@@ -190,13 +189,13 @@ pub(crate) fn plain_specs(page: &mut Page, input: &str) -> Option<()> {
 // A profile and sources: its retries and where it takes them from, in a configuration of plain filters and plain specs.
 pub(crate) fn plain_configs(page: &mut Page, input: &str) -> Option<()> {
     let (name, sources) = two(input, BAR);
-    let sources = sources_of(page.alloc(), sources)?;
+    let sources = some!(sources_of(page.alloc, sources));
     let platforms = BuildPlatforms {
-        host: &Listing::new(page.alloc()),
+        host: &Listing::new(page.alloc),
         target: None,
     };
     let found = retries_of::<PlainFilter, PlainSpec>(
-        page.alloc(),
+        page.alloc,
         &(),
         FeatureSet::default(),
         sources.as_slice(),
@@ -204,7 +203,7 @@ pub(crate) fn plain_configs(page: &mut Page, input: &str) -> Option<()> {
         &platforms,
         &test_named("slow"),
     );
-    retries_told(page, found.ok()?);
+    retries_told(page, ok!(found));
     Some(())
 }
 
@@ -212,9 +211,8 @@ fn retries_told(page: &mut Page, found: Option<(RetryPolicy, Option<usize>)>) {
     let Some((retries, place)) = found else {
         return page.show("no such profile");
     };
-    page.debug(retries);
     match place {
-        Some(place) => show!(page; " Profile(", place, ")"),
-        None => page.show(" Default"),
+        Some(place) => show!(page; Whole(retries), " Profile(", place, ")"),
+        None => show!(page; Whole(retries), " Default"),
     }
 }

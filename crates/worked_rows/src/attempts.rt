@@ -1,9 +1,9 @@
 // Attempts of tests, and runs of setup scripts.
 use crate::ends::described_end;
-use crate::page::Page;
-use crate::parts::{Word, list_of, number, two};
-use crate::show;
+use crate::page::{Page, Whole};
+use crate::parts::{Word, list_of, two};
 use crate::values::word_as;
+use crate::{show, some};
 use nextest_config_elements::FlakyResult;
 use nextest_run_events::{
     ChildExecutionOutputDescription, ChildOutputDescription, ExecuteStatus, ExecutionStatuses,
@@ -34,7 +34,7 @@ impl Word for ExecuteStatus<NoOutput> {
                 output: (),
                 errors: None,
             },
-            result: described_end(alloc, end.unwrap_or(words))?,
+            result: some!(described_end(alloc, end.unwrap_or(words))),
             start_time: None,
             time_taken: Duration::from_nanos(1),
             is_slow: end.is_some(),
@@ -49,8 +49,8 @@ impl Word for ExecuteStatus<NoOutput> {
 // success, and the counters of a run of this test alone.
 pub(crate) fn attempts(page: &mut Page, input: &str) -> Option<()> {
     let (rule, ends) = two(input, ": ");
-    let rule = word_as::<FlakyResult>(page.alloc(), rule)?;
-    let attempts = list_of::<ExecuteStatus<NoOutput>>(page.alloc(), ends, ", ")?;
+    let rule = some!(word_as::<FlakyResult>(page.alloc, rule));
+    let attempts = some!(list_of::<ExecuteStatus<NoOutput>>(page.alloc, ends, ", "));
     match ExecutionStatuses::from_parts(Listing::from(attempts), rule) {
         Ok(attempts) => attempts_told(page, &attempts),
         Err(refusal) => page.show(refusal),
@@ -60,10 +60,12 @@ pub(crate) fn attempts(page: &mut Page, input: &str) -> Option<()> {
 
 fn attempts_told(page: &mut Page, attempts: &ExecutionStatuses<NoOutput>) {
     let described = attempts.describe();
-    page.debug(described.status_level());
-    page.show(", ");
-    page.debug(described.final_status_level());
-    show!(page; ", success ", described.is_success_for_output(), "; ");
+    show!(
+        page;
+        Whole(described.status_level()), ", ",
+        Whole(described.final_status_level()), ", success ",
+        described.is_success_for_output(), "; "
+    );
     let mut stats = RunStats::default();
     stats.on_test_finished(attempts);
     counters_told(page, &stats);
@@ -72,7 +74,7 @@ fn attempts_told(page: &mut Page, attempts: &ExecutionStatuses<NoOutput>) {
 // How a setup script ended: the counters of a run of this script alone.
 pub(crate) fn scripts(page: &mut Page, input: &str) -> Option<()> {
     let status: SetupScriptExecuteStatus<LiveSpec> = SetupScriptExecuteStatus {
-        result: described_end(page.alloc(), input)?,
+        result: some!(described_end(page.alloc, input)),
         output: ChildExecutionOutputDescription::Output {
             result: None,
             output: ChildOutputDescription::NotLoaded,
@@ -93,51 +95,43 @@ pub(crate) fn scripts(page: &mut Page, input: &str) -> Option<()> {
 // The counters above 0 with their names.
 fn counters_told(page: &mut Page, stats: &RunStats) {
     let start = page.len();
-    counter(page, start, "initial", stats.initial_run_count);
-    counter(page, start, "finished", stats.finished_count);
-    counter(
-        page,
-        start,
-        "scripts initial",
-        stats.setup_scripts_initial_count,
-    );
-    counter(
-        page,
-        start,
-        "scripts finished",
-        stats.setup_scripts_finished_count,
-    );
-    counter(page, start, "scripts passed", stats.setup_scripts_passed);
-    counter(page, start, "scripts failed", stats.setup_scripts_failed);
-    counter(
-        page,
-        start,
-        "scripts exec-failed",
-        stats.setup_scripts_exec_failed,
-    );
-    counter(
-        page,
-        start,
-        "scripts timed out",
-        stats.setup_scripts_timed_out,
-    );
-    counter(page, start, "passed", stats.passed);
-    counter(page, start, "passed slow", stats.passed_slow);
-    counter(page, start, "passed timed out", stats.passed_timed_out);
-    counter(page, start, "flaky", stats.flaky);
-    counter(page, start, "failed", stats.failed);
-    counter(page, start, "failed slow", stats.failed_slow);
-    counter(page, start, "failed timed out", stats.failed_timed_out);
-    counter(page, start, "leaky", stats.leaky);
-    counter(page, start, "leaky failed", stats.leaky_failed);
-    counter(page, start, "exec-failed", stats.exec_failed);
-    counter(page, start, "skipped", stats.skipped);
+    page.counter(start, "initial", stats.initial_run_count)
+        .counter(start, "finished", stats.finished_count)
+        .counter(start, "scripts initial", stats.setup_scripts_initial_count)
+        .counter(
+            start,
+            "scripts finished",
+            stats.setup_scripts_finished_count,
+        )
+        .counter(start, "scripts passed", stats.setup_scripts_passed)
+        .counter(start, "scripts failed", stats.setup_scripts_failed)
+        .counter(
+            start,
+            "scripts exec-failed",
+            stats.setup_scripts_exec_failed,
+        )
+        .counter(start, "scripts timed out", stats.setup_scripts_timed_out)
+        .counter(start, "passed", stats.passed)
+        .counter(start, "passed slow", stats.passed_slow)
+        .counter(start, "passed timed out", stats.passed_timed_out)
+        .counter(start, "flaky", stats.flaky)
+        .counter(start, "failed", stats.failed)
+        .counter(start, "failed slow", stats.failed_slow)
+        .counter(start, "failed timed out", stats.failed_timed_out)
+        .counter(start, "leaky", stats.leaky)
+        .counter(start, "leaky failed", stats.leaky_failed)
+        .counter(start, "exec-failed", stats.exec_failed)
+        .counter(start, "skipped", stats.skipped);
 }
 
-fn counter(page: &mut Page, start: usize, name: &str, number: usize) {
-    if number > 0 {
-        page.separate(start, ", ");
-        show!(page; name, " ", number);
+impl Page {
+    // Writes a counter above 0 with its name, behind those since the answer was so long.
+    fn counter(&mut self, start: usize, name: &str, number: usize) -> &mut Page {
+        if number > 0 {
+            self.separate(start, ", ");
+            show!(self; name, " ", number);
+        }
+        self
     }
 }
 
@@ -145,8 +139,8 @@ fn counter(page: &mut Page, start: usize, name: &str, number: usize) {
 pub(crate) fn last_attempts(page: &mut Page, input: &str) -> Option<()> {
     let (attempt, total_attempts) = two(input, " ");
     let data = RetryData {
-        attempt: number(attempt)?,
-        total_attempts: number(total_attempts)?,
+        attempt: page.number(attempt),
+        total_attempts: page.number(total_attempts),
     };
     page.show(data.is_last_attempt());
     Some(())

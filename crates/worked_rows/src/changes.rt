@@ -1,4 +1,5 @@
 // A text of which a row changes parts.
+use crate::{ok, some};
 use std::alloc::Global;
 
 const ARROW: &str = " => ";
@@ -6,13 +7,13 @@ const ARROW: &str = " => ";
 // What becomes of a text by `PART => OTHER`: the first place of a part has the other text in place of it. Further such changes of
 // what came of it follow behind another ` => `. `None` where the text doesn't have such a part, or there is no memory.
 pub(crate) fn changed(alloc: Global, text: &str, changes: &str) -> Option<String> {
-    let mut text = String::from_str(alloc, text).ok()?;
+    let mut text = ok!(String::from_str(alloc, text));
     let mut part: Option<&str> = None;
     for piece in changes.split(ARROW) {
         match part {
             None => part = Some(piece),
             Some(old) => {
-                text = with_other(alloc, text.as_str(), old, piece)?;
+                text = some!(with_other(alloc, text.as_str(), old, piece));
                 part = None;
             }
         }
@@ -21,6 +22,6 @@ pub(crate) fn changed(alloc: Global, text: &str, changes: &str) -> Option<String
 }
 
 fn with_other(alloc: Global, text: &str, part: &str, other: &str) -> Option<String> {
-    let (before, behind) = text.split_once(part)?;
+    let (before, behind) = some!(text.split_once(part));
     format!(in alloc; "{before}{other}{behind}").ok()
 }

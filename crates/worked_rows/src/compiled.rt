@@ -1,8 +1,8 @@
 // Filtersets that a workspace accepts or not, and what they are on binaries and on tests.
-use crate::page::Page;
+use crate::page::{Page, Whole};
 use crate::parts::{Word, three, two};
-use crate::show;
 use crate::workspaces::{binary, workspace};
+use crate::{ok, show, some};
 use nextest_filtering::{
     BinaryEvaluator, CompiledExpr, EvalContext, Filterset, FiltersetError, FiltersetKind,
     GroupLookup, KnownGroups, NameMatcher, ParseContext, ParseSingleError, TestQuery,
@@ -14,9 +14,9 @@ use std::alloc::{AllocError, Global};
 pub(crate) fn compiled(page: &mut Page, input: &str) -> Option<()> {
     let (name, kind, rest) = three(input);
     let (groups, text) = two(rest, " ");
-    let kind = kind_of(kind)?;
-    let known = known_groups(page.alloc(), groups)?;
-    let cx = workspace(page.alloc(), name)?;
+    let kind = some!(kind_of(kind));
+    let known = some!(known_groups(page.alloc, groups));
+    let cx = some!(workspace(page.alloc, name));
     verdict_told(page, &cx, kind, &known, text)
 }
 
@@ -27,8 +27,8 @@ fn verdict_told(
     known: &KnownGroups,
     text: &str,
 ) -> Option<()> {
-    let text = Text::from_str(page.alloc(), text).ok()?;
-    match Filterset::parse(page.alloc(), text, cx, kind, known) {
+    let text = ok!(Text::from_str(page.alloc, text));
+    match Filterset::parse(page.alloc, text, cx, kind, known) {
         Ok(_) => page.show("accepted"),
         Err(FiltersetError::Refused(refused)) => faults_told(page, refused.errors.as_slice()),
         Err(FiltersetError::OutOfMemory) => return None,
@@ -52,7 +52,7 @@ fn known_groups(alloc: Global, words: &str) -> Option<KnownGroups> {
         return Some(KnownGroups::Unavailable);
     }
     let (_, groups) = two(words, ",");
-    Some(KnownGroups::Known(Listing::of_word(alloc, groups)?))
+    Some(KnownGroups::Known(some!(Listing::of_word(alloc, groups))))
 }
 
 // The faults, each with its label, its place, and why a predicate may not stand.
@@ -62,8 +62,7 @@ fn faults_told(page: &mut Page, faults: &[ParseSingleError]) {
         page.separate(0, "; ");
         show!(page; fault.label(), " ", span.offset, " ", span.length);
         if let ParseSingleError::BannedPredicate { reason, .. } = fault {
-            page.show(" ");
-            page.debug(reason);
+            show!(page; " ", Whole(reason));
         }
     }
 }
@@ -73,12 +72,12 @@ pub(crate) fn answers(page: &mut Page, input: &str) -> Option<()> {
     let (name, default, rest) = three(input);
     let (id, test_name, rest) = three(rest);
     let (group, text) = two(rest, " ");
-    let binary_query = binary(name, id)?;
+    let binary_query = some!(binary(name, id));
     let test = TestQuery {
         binary_query,
         test_name,
     };
-    let cx = workspace(page.alloc(), name)?;
+    let cx = some!(workspace(page.alloc, name));
     asked(page, &cx, default, text, &test, group)
 }
 
@@ -91,8 +90,8 @@ fn asked(
     test: &TestQuery<'_>,
     group: &str,
 ) -> Option<()> {
-    let default = accepted(page.alloc(), cx, FiltersetKind::DefaultFilter, default)?;
-    let filterset = accepted(page.alloc(), cx, FiltersetKind::Test, text)?;
+    let default = some!(accepted(page.alloc, cx, FiltersetKind::DefaultFilter, default));
+    let filterset = some!(accepted(page.alloc, cx, FiltersetKind::Test, text));
     value_told(page, &filterset.compiled, &default.compiled, test, group)
 }
 
@@ -103,7 +102,7 @@ fn accepted(
     kind: FiltersetKind,
     text: &str,
 ) -> Option<Filterset> {
-    let text = Text::from_str(alloc, text).ok()?;
+    let text = ok!(Text::from_str(alloc, text));
     Filterset::parse(alloc, text, cx, kind, &KnownGroups::Unavailable).ok()
 }
 
@@ -118,18 +117,16 @@ fn value_told(
     if default.has_default() || default.has_group_matchers() {
         return None;
     }
-    let alloc = page.alloc();
+    let alloc = page.alloc;
     let ecx = EvalContext::new(default);
-    let mut asked = BinaryEvaluator::new(alloc, filter, &ecx, &test.binary_query).ok()?;
-    page.show(match asked.matches_binary().ok()? {
+    let mut asked = ok!(BinaryEvaluator::new(alloc, filter, &ecx, &test.binary_query));
+    page.show(match ok!(asked.matches_binary()) {
         Some(true) => "binary true",
         Some(false) => "binary false",
         None => "binary undecided",
     });
     let groups = InGroup { alloc, group };
-    let on_test = asked
-        .matches_test_with_groups(test.test_name, &groups)
-        .ok()?;
+    let on_test = ok!(asked.matches_test_with_groups(test.test_name, &groups));
     show!(page; ", test ", on_test);
     Some(())
 }

@@ -4,7 +4,7 @@ use crate::parts::{Word, list_of, three, two};
 use crate::plain_filter::PlainFilter;
 use crate::plain_spec::PlainSpec;
 use crate::settings::setting_told;
-use crate::show;
+use crate::{ok, show, some};
 use nextest_config_elements::{FeatureSet, VersionOnlyConfig, VersionOnlyError, VersionSource};
 use nextest_config_resolution::{
     BuildPlatforms, ConfigSource, ConfigSourceKind, ConfigSourceOutcome, DefaultConfigWarnings,
@@ -32,9 +32,9 @@ impl Word for ConfigSource {
     fn of_word(alloc: Global, source: &str) -> Option<ConfigSource> {
         let (kind, path, outcome) = three(source);
         Some(ConfigSource {
-            kind: kind_of(alloc, kind)?,
-            path: Text::from_str(alloc, path).ok()?,
-            outcome: outcome_of(alloc, outcome)?,
+            kind: some!(kind_of(alloc, kind)),
+            path: ok!(Text::from_str(alloc, path)),
+            outcome: some!(outcome_of(alloc, outcome)),
         })
     }
 }
@@ -42,7 +42,7 @@ impl Word for ConfigSource {
 // Where a source comes from.
 pub(crate) fn kind_of(alloc: Global, word: &str) -> Option<ConfigSourceKind> {
     match word {
-        "tool" => Some(ConfigSourceKind::Tool(ToolName::new(alloc, "t").ok()?)),
+        "tool" => Some(ConfigSourceKind::Tool(ok!(ToolName::new(alloc, "t")))),
         "explicit" => Some(ConfigSourceKind::ExplicitRepository),
         "discovered" => Some(ConfigSourceKind::DiscoveredRepository),
         _ => None,
@@ -53,8 +53,8 @@ pub(crate) fn kind_of(alloc: Global, word: &str) -> Option<ConfigSourceKind> {
 fn outcome_of(alloc: Global, outcome: &str) -> Option<ConfigSourceOutcome> {
     let (word, rest) = two(outcome, " ");
     match word {
-        "text" => Some(ConfigSourceOutcome::Text(Text::from_str(alloc, rest).ok()?)),
-        "failed" => Some(ConfigSourceOutcome::Failed(Text::from_str(alloc, rest).ok()?)),
+        "text" => Some(ConfigSourceOutcome::Text(ok!(Text::from_str(alloc, rest)))),
+        "failed" => Some(ConfigSourceOutcome::Failed(ok!(Text::from_str(alloc, rest)))),
         "missing" => Some(ConfigSourceOutcome::NotFound),
         _ => None,
     }
@@ -64,14 +64,14 @@ fn outcome_of(alloc: Global, outcome: &str) -> Option<ConfigSourceOutcome> {
 // what each setting is, or why the sources are refused. Default filters are those without a language.
 pub(crate) fn loads(page: &mut Page, input: &str) -> Option<()> {
     let (head, sources) = two(input, BAR);
-    let sources = sources_of(page.alloc(), sources)?;
+    let sources = some!(sources_of(page.alloc, sources));
     loaded(page, sources.as_slice(), head)
 }
 
 fn loaded(page: &mut Page, sources: &[ConfigSource], head: &str) -> Option<()> {
     let (name, settings, words) = three(head);
-    let features = features_of(page.alloc(), words, sources)?;
-    match PlainConfig::from_sources(page.alloc(), "/work", &(), sources, features) {
+    let features = some!(features_of(page.alloc, words, sources));
+    match PlainConfig::from_sources(page.alloc, "/work", &(), sources, features) {
         Ok(config) => settings_told(page, &config, name, settings),
         Err(LoadError::Refused(fault)) => {
             refusal_told(page, &fault);
@@ -96,8 +96,8 @@ fn features_of(alloc: Global, words: &str, sources: &[ConfigSource]) -> Option<F
 // The features that the sources ask for which count; none where one of these may not ask for what it does.
 fn features_asked(alloc: Global, sources: &[ConfigSource]) -> Option<FeatureSet> {
     let mut lent = Vec::new(alloc);
-    for source in counted(alloc, sources).ok()? {
-        lent.push(lent_by(source)).ok()?;
+    for source in ok!(counted(alloc, sources)) {
+        ok!(lent.push(lent_by(source)));
     }
     match VersionOnlyConfig::from_sources(alloc, lent.as_slice()) {
         Ok(config) => Some(config.experimental().known()),
@@ -131,10 +131,10 @@ fn refusal_told(page: &mut Page, fault: &LoadFault) {
 // What the settings of a profile are.
 fn settings_told(page: &mut Page, config: &PlainConfig, name: &str, keys: &str) -> Option<()> {
     let platforms = BuildPlatforms {
-        host: &Listing::new(page.alloc()),
+        host: &Listing::new(page.alloc),
         target: None,
     };
-    match config.profile(page.alloc(), name) {
+    match config.profile(page.alloc, name) {
         Ok(early) => each_told(page, config, &early.apply_build_platforms(&platforms), keys),
         Err(ProfileError::NotFound(_)) => {
             page.show("no such profile");
@@ -154,7 +154,7 @@ fn each_told(
     for key in keys.split(',') {
         page.separate(0, "; ");
         show!(page; key, " = ");
-        setting_told(page, config, profile, key)?;
+        some!(setting_told(page, config, profile, key));
     }
     Some(())
 }
@@ -162,9 +162,9 @@ fn each_told(
 // The path of a file and its text: what is told of it, one behind the other, or `-` where nothing is.
 pub(crate) fn warnings(page: &mut Page, input: &str) -> Option<()> {
     let (path, text) = two(input, " ");
-    let file = toml::table_from_str(page.alloc(), text).ok()?;
-    let mut warnings = DefaultConfigWarnings::new(page.alloc());
-    tell_file(page.alloc(), &mut warnings, path, &file).ok()?;
+    let file = ok!(toml::table_from_str(page.alloc, text));
+    let mut warnings = DefaultConfigWarnings::new(page.alloc);
+    ok!(tell_file(page.alloc, &mut warnings, path, &file));
     page.joined("; ", warnings.lines());
     page.or_none(0);
     Some(())

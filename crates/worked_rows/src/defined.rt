@@ -1,6 +1,6 @@
 // The scripts of a configuration, and its script rules, in words.
 use crate::configs::PlainConfig;
-use crate::page::{Page, Tell};
+use crate::page::{Page, Tell, Whole};
 use crate::plain_filter::PlainFilter;
 use crate::plain_spec::PlainSpec;
 use crate::show;
@@ -28,10 +28,7 @@ impl Tell for NamedScript<SetupScriptConfig> {
         let config = &self.config;
         show!(page; "[setup ", &self.id, ": ");
         command_told(page, &config.command);
-        page.show(", ");
-        page.debug(&config.slow_timeout);
-        page.show(", ");
-        page.debug(&config.leak_timeout);
+        show!(page; ", ", Whole(&config.slow_timeout), ", ", Whole(&config.leak_timeout));
         show!(page; ", ", config.capture_stdout, " ", config.capture_stderr, " ");
         show!(page; config.junit.store_success_output, " ", config.junit.store_failure_output, "]");
     }
@@ -48,16 +45,14 @@ impl Tell for NamedScript<WrapperScriptConfig> {
 // What a wrapper script runs, and what becomes of the runner that the target has.
 pub(crate) fn run_told(page: &mut Page, config: &WrapperScriptConfig) {
     command_told(page, &config.command);
-    page.show(", ");
-    page.debug(&config.target_runner);
+    show!(page; ", ", Whole(&config.target_runner));
 }
 
 // The program, its arguments, each in brackets, where the program is looked for, and the variables.
 fn command_told(page: &mut Page, command: &ScriptCommand) {
     page.show(&command.program);
     page.show_each("[", command.args.as_slice(), "]");
-    page.show(" ");
-    page.debug(&command.relative_to);
+    show!(page; " ", Whole(&command.relative_to));
     for (name, value) in command.env.variables.as_slice() {
         show!(page; " ", name, "=", value);
     }

@@ -1,8 +1,8 @@
 // Elements of configurations: names, numbers, limits, durations.
 use crate::page::{Page, Tell};
-use crate::parts::{number, size, three, two};
-use crate::show;
+use crate::parts::{three, two};
 use crate::values::{toml_value, word_as};
+use crate::{ok, show, some};
 use nextest_config_elements::{
     ConfigDuration, ConfigIdentifier, FlakyResult, MaxFail, NextestRunMode, TestGroup,
     TestPriority, ToolConfigFile, ToolName, deserialize_test_threads, deserialize_threads_required,
@@ -23,13 +23,13 @@ pub(crate) fn decimals(page: &mut Page, input: &str) -> Option<()> {
 
 // A text: the name of a tool that it is, or why it is none.
 pub(crate) fn tool_names(page: &mut Page, input: &str) -> Option<()> {
-    page.shown(ToolName::new(page.alloc(), input));
+    page.shown(ToolName::new(page.alloc, input));
     Some(())
 }
 
 // A text: `plain` and the identifier that it is, or `tool`, the tool and what is its own; or why it is none.
 pub(crate) fn identifiers(page: &mut Page, input: &str) -> Option<()> {
-    page.told(ConfigIdentifier::new(page.alloc(), input));
+    page.told(ConfigIdentifier::new(page.alloc, input));
     Some(())
 }
 
@@ -44,7 +44,7 @@ impl Tell for ConfigIdentifier {
 
 // A text: the tool and the file that it names, or why it names none.
 pub(crate) fn tool_config_files(page: &mut Page, input: &str) -> Option<()> {
-    page.told(ToolConfigFile::from_text(page.alloc(), input));
+    page.told(ToolConfigFile::from_text(page.alloc, input));
     Some(())
 }
 
@@ -56,7 +56,7 @@ impl Tell for ToolConfigFile {
 
 // A text: the group of tests that it names, `global`, or `custom` and its identifier; or why it names none.
 pub(crate) fn test_groups(page: &mut Page, input: &str) -> Option<()> {
-    page.told(TestGroup::from_text(page.alloc(), input));
+    page.told(TestGroup::from_text(page.alloc, input));
     Some(())
 }
 
@@ -107,8 +107,8 @@ impl Tell for MaxFail {
 // A limit and how many tests failed: how the run stops, or `-` where it goes on.
 pub(crate) fn exceeded(page: &mut Page, input: &str) -> Option<()> {
     let (limit, failed) = two(input, " ");
-    let limit = MaxFail::from_text(limit).ok()?;
-    match limit.is_exceeded(size(failed)?) {
+    let limit = ok!(MaxFail::from_text(limit));
+    match limit.is_exceeded(page.size(failed)) {
         Some(mode) => page.show(mode),
         None => page.show("-"),
     }
@@ -119,8 +119,8 @@ pub(crate) fn exceeded(page: &mut Page, input: &str) -> Option<()> {
 // it passes.
 pub(crate) fn flaky_messages(page: &mut Page, input: &str) -> Option<()> {
     let (rule, attempt, total) = three(input);
-    let rule = word_as::<FlakyResult>(page.alloc(), rule)?;
-    match rule.fail_message(page.alloc(), number(attempt)?, number(total)?) {
+    let rule = some!(word_as::<FlakyResult>(page.alloc, rule));
+    match rule.fail_message(page.alloc, page.number(attempt), page.number(total)) {
         Ok(Some(message)) => page.show(message),
         Ok(None) => page.show("-"),
         Err(_) => return None,
@@ -130,10 +130,10 @@ pub(crate) fn flaky_messages(page: &mut Page, input: &str) -> Option<()> {
 
 // Numbers: the priorities of these numbers in their order; or why the first that is none is none.
 pub(crate) fn priorities(page: &mut Page, input: &str) -> Option<()> {
-    let mut priorities = Vec::new(page.alloc());
+    let mut priorities = Vec::new(page.alloc);
     for number in input.split_terminator(' ') {
-        match TestPriority::new(number.parse::<i8>().ok()?) {
-            Ok(priority) => priorities.push(priority).ok()?,
+        match TestPriority::new(ok!(number.parse::<i8>())) {
+            Ok(priority) => ok!(priorities.push(priority)),
             Err(refusal) => {
                 page.show(refusal);
                 return Some(());
@@ -156,23 +156,29 @@ impl Tell for TestPriority {
 // threads a test takes.
 pub(crate) fn threads(page: &mut Page, input: &str) -> Option<()> {
     let (kind, setting, numbers) = three(input);
-    let value = toml_value(page.alloc(), setting)?;
+    let value = some!(toml_value(page.alloc, setting));
+    number_of_threads(page, kind, &value, numbers)
+}
+
+fn number_of_threads(page: &mut Page, kind: &str, value: &Value, numbers: &str) -> Option<()> {
     match kind {
-        "test-threads" => tests_at_a_time(page, &value, numbers),
-        "threads-required" => threads_of_a_test(page, &value, numbers),
+        "test-threads" => tests_at_a_time(page, value, numbers),
+        "threads-required" => threads_of_a_test(page, value, numbers),
         _ => None,
     }
 }
 
 fn tests_at_a_time(page: &mut Page, value: &Value, processors: &str) -> Option<()> {
-    let threads = deserialize_test_threads(page.alloc(), value, &[]).ok()?;
-    page.show(threads.compute(size(processors)?));
+    let threads = ok!(deserialize_test_threads(page.alloc, value, &[]));
+    let processors = page.size(processors);
+    page.show(threads.compute(processors));
     Some(())
 }
 
 fn threads_of_a_test(page: &mut Page, value: &Value, numbers: &str) -> Option<()> {
     let (tests, processors) = two(numbers, " ");
-    let threads = deserialize_threads_required(page.alloc(), value, &[]).ok()?;
-    page.show(threads.compute(size(tests)?, size(processors)?));
+    let threads = ok!(deserialize_threads_required(page.alloc, value, &[]));
+    let (tests, processors) = (page.size(tests), page.size(processors));
+    page.show(threads.compute(tests, processors));
     Some(())
 }

@@ -1,7 +1,7 @@
 // Whole filtersets: trees, faults, predicates.
-use crate::page::{Page, Tell};
+use crate::page::{Page, Tell, Whole};
 use crate::parts::two;
-use crate::show;
+use crate::{ok, show, some};
 use nextest_filtering::{
     FILTERSET_REFERENCE_MD, NameMatcher, NotOperator, OrOperator, ParseError, ParseSingleError,
     ParsedExpr, ParsedLeaf, SourceSpan, needs_deps, read,
@@ -11,7 +11,7 @@ use std::alloc::Global;
 
 // What a text is read as: its tree as it prints, or `-`, and its faults.
 pub(crate) fn filtersets(page: &mut Page, input: &str) -> Option<()> {
-    let reading = read(page.alloc(), input).ok()?;
+    let reading = ok!(read(page.alloc, input));
     match &reading.tree {
         Some(tree) => page.show(tree),
         None => page.show("-"),
@@ -22,7 +22,7 @@ pub(crate) fn filtersets(page: &mut Page, input: &str) -> Option<()> {
 
 // What a text is read as: its tree with all that it holds, or `-`, and its faults.
 pub(crate) fn trees(page: &mut Page, input: &str) -> Option<()> {
-    let reading = read(page.alloc(), input).ok()?;
+    let reading = ok!(read(page.alloc, input));
     match &reading.tree {
         Some(tree) => tree_told(page, tree),
         None => page.show("-"),
@@ -34,15 +34,12 @@ pub(crate) fn trees(page: &mut Page, input: &str) -> Option<()> {
 // A tree with all that it holds, up to its operands.
 fn head_told(page: &mut Page, tree: &ParsedExpr) {
     match tree {
-        ParsedExpr::Set(leaf) => {
-            page.show("Set(");
-            page.debug(leaf);
-        }
+        ParsedExpr::Set(leaf) => show!(page; "Set(", Whole(leaf)),
         ParsedExpr::Parens(_) => page.show("Parens("),
-        ParsedExpr::Not(sign, _) => page.show(format_args!("Not({sign:?}, ")),
-        ParsedExpr::Union(sign, _, _) => page.show(format_args!("Union({sign:?}, ")),
-        ParsedExpr::Intersection(sign, _, _) => page.show(format_args!("Intersection({sign:?}, ")),
-        ParsedExpr::Difference(sign, _, _) => page.show(format_args!("Difference({sign:?}, ")),
+        ParsedExpr::Not(sign, _) => show!(page; "Not(", Whole(sign), ", "),
+        ParsedExpr::Union(sign, _, _) => show!(page; "Union(", Whole(sign), ", "),
+        ParsedExpr::Intersection(sign, _, _) => show!(page; "Intersection(", Whole(sign), ", "),
+        ParsedExpr::Difference(sign, _, _) => show!(page; "Difference(", Whole(sign), ", "),
     }
 }
 
@@ -64,7 +61,7 @@ fn tree_told(page: &mut Page, tree: &ParsedExpr) {
 
 // What a text is parsed as: its tree as it prints, or `-` and its faults.
 pub(crate) fn parsed(page: &mut Page, input: &str) -> Option<()> {
-    match ParsedExpr::parse(page.alloc(), input) {
+    match ParsedExpr::parse(page.alloc, input) {
         Ok(tree) => page.show(tree),
         Err(ParseError::Faults(faults)) => {
             page.show("-");
@@ -88,8 +85,8 @@ impl Tell for ParseSingleError {
 
 // How many predicates of a text only a test answers, and these.
 pub(crate) fn leaves(page: &mut Page, input: &str) -> Option<()> {
-    let tree = ParsedExpr::parse(page.alloc(), input).ok()?;
-    let leaves = tree.runtime_only_leaves(page.alloc()).ok()?;
+    let tree = ok!(ParsedExpr::parse(page.alloc, input));
+    let leaves = ok!(tree.runtime_only_leaves(page.alloc));
     page.show(leaves.len());
     page.show_each(" ", leaves.as_slice(), "");
     Some(())
@@ -104,10 +101,10 @@ pub(crate) fn deps(page: &mut Page, input: &str) -> Option<()> {
 // Whether the matcher of a predicate on tests matches a name.
 pub(crate) fn name_matches(page: &mut Page, input: &str) -> Option<()> {
     let (filterset, name) = two(input, " | ");
-    let reading = read(page.alloc(), filterset).ok()?;
+    let reading = ok!(read(page.alloc, filterset));
     match &reading.tree {
         Some(ParsedExpr::Set(ParsedLeaf::Test(matcher, _))) => {
-            page.show(matcher.is_match(page.alloc(), name).ok()?);
+            page.show(ok!(matcher.is_match(page.alloc, name)));
             Some(())
         }
         _ => None,
@@ -116,19 +113,19 @@ pub(crate) fn name_matches(page: &mut Page, input: &str) -> Option<()> {
 
 // Whether the page of all names has just the names of these predicates, as they print, each on a line.
 pub(crate) fn page(page: &mut Page, input: &str) -> Option<()> {
-    let mut names = Page::new(page.alloc());
+    let mut names = Page::new(page.alloc);
     for text in input.split(' ') {
-        name_told(&mut names, text)?;
+        some!(name_told(&mut names, text));
     }
-    let names = names.finish()?;
+    let names = some!(names.finish());
     show!(page; "the page ", names.as_str() == FILTERSET_REFERENCE_MD);
     Some(())
 }
 
 // The name of a predicate, as it prints, on a line.
 fn name_told(page: &mut Page, text: &str) -> Option<()> {
-    let tree = ParsedExpr::parse(page.alloc(), text).ok()?;
-    let printed = format!(in page.alloc(); "{tree}").ok()?;
+    let tree = ok!(ParsedExpr::parse(page.alloc, text));
+    let printed = ok!(format!(in page.alloc; "{tree}"));
     show!(page; two(printed.as_str(), "(").0, "\n");
     Some(())
 }
@@ -140,11 +137,11 @@ pub(crate) fn tree_of_no_text(alloc: Global) -> Option<ParsedExpr> {
         length: 0,
     };
     let matcher = NameMatcher::Equal {
-        value: Text::from_str(alloc, "=").ok()?,
+        value: ok!(Text::from_str(alloc, "=")),
         implicit: true,
     };
-    let left = Box::new(alloc, ParsedExpr::Set(ParsedLeaf::Test(matcher, span))).ok()?;
-    let right = Box::new(alloc, ParsedExpr::Set(ParsedLeaf::None)).ok()?;
-    let union = Box::new(alloc, ParsedExpr::Union(OrOperator::Plus, left, right)).ok()?;
+    let left = ok!(Box::new(alloc, ParsedExpr::Set(ParsedLeaf::Test(matcher, span))));
+    let right = ok!(Box::new(alloc, ParsedExpr::Set(ParsedLeaf::None)));
+    let union = ok!(Box::new(alloc, ParsedExpr::Union(OrOperator::Plus, left, right)));
     Some(ParsedExpr::Not(NotOperator::LiteralNot, union))
 }

@@ -1,8 +1,9 @@
 // Texts that are read as inputs, and the value that each is read as: the cases of a folder.
+use crate::ok;
 use anyhow::{Context, Result};
 use std::alloc::Global;
-use std::fs;
 use std::rt::Files;
+use std::{fs, io};
 use test_runner_core_inputs::Inputs;
 
 // The folder. A case has its text in the file `CASE.in`, and the value in the file `CASE.out`.
@@ -17,10 +18,10 @@ pub(crate) fn inputs_hold<R: Files + Print + AllocGlobal + Clone + Drop>(rt: &R)
     let mut hold = true;
     for entry in fs::read_dir(rt, FOLDER)? {
         let entry = entry?;
-        let Some(name) = entry.file_name().strip_suffix(INPUT) else {
+        let Some(case) = entry.file_name().strip_suffix(INPUT) else {
             continue;
         };
-        let holds = case_holds(rt, name)?;
+        let holds = case_holds(rt, case)?;
         held = held.saturating_add(u64::from(holds));
         hold &= holds;
     }
@@ -29,25 +30,33 @@ pub(crate) fn inputs_hold<R: Files + Print + AllocGlobal + Clone + Drop>(rt: &R)
 }
 
 // Whether a case has the value that its text is read as. Prints both if not.
-fn case_holds<R: Files + Print + AllocGlobal>(rt: &R, name: &str) -> Result<bool> {
-    let file = format!(in rt.alloc(); "{FOLDER}/{name}{INPUT}")?;
-    let given = value_of(rt, file.as_str())?;
-    let file = format!(in rt.alloc(); "{FOLDER}/{name}.out")?;
-    let answer = fs::read_to_string(rt, file.as_str())?;
-    let holds = given == answer;
-    if !holds {
-        println!(rt; "{FOLDER}/{name}:\n{answer}    but the answer is:\n{given}")?;
+fn case_holds<R: Files + Print + AllocGlobal>(rt: &R, case: &str) -> Result<bool> {
+    let text = text_of(rt, case, INPUT)?;
+    let answer = text_of(rt, case, ".out")?;
+    value_holds(rt, case, text.as_str(), answer.as_str())
+}
+
+fn value_holds<R: Print + AllocGlobal>(
+    rt: &R,
+    case: &str,
+    text: &str,
+    answer: &str,
+) -> Result<bool> {
+    let given = shown(rt.alloc(), text).context("no inputs, or no memory")?;
+    if given.as_str() == answer {
+        return Ok(true);
     }
-    Ok(holds)
+    println!(rt; "{FOLDER}/{case}:\n{answer}    but the answer is:\n{given}")?;
+    Ok(false)
 }
 
-// The value that the text of a file is read as.
-fn value_of<R: Files + AllocGlobal>(rt: &R, file: &str) -> Result<String> {
-    let text = fs::read(rt, file)?;
-    shown(rt.alloc(), text.as_slice()).context("no inputs, or no memory")
+// The text of a file of a case.
+fn text_of<R: Files + AllocGlobal>(rt: &R, case: &str, ending: &str) -> io::Result<String> {
+    let file = format!(in rt.alloc(); "{FOLDER}/{case}{ending}")?;
+    fs::read_to_string(rt, file.as_str())
 }
 
-fn shown(alloc: Global, text: &[u8]) -> Option<String> {
-    let inputs = Inputs::from_json(alloc, text).ok()?;
+fn shown(alloc: Global, text: &str) -> Option<String> {
+    let inputs = ok!(Inputs::from_json(alloc, text.as_bytes()));
     format!(in alloc; "{inputs:#?}\n").ok()
 }

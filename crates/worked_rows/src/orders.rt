@@ -1,17 +1,16 @@
 // Values in their order, and how some of them print.
 use crate::filter_trees::tree_of_no_text;
-use crate::page::Page;
+use crate::page::{Page, Whole};
 use crate::parts::{Word, three, two};
-use crate::show;
-use crate::summaries::reason_of;
 use crate::values::word_as;
+use crate::{ok, show, some};
 use nextest_config_elements::{
     FinalStatusLevel, FlakyResult, InvalidIdentifier, StatusLevel, ToolName,
 };
 use nextest_filtering::{GlobConstructError, ParseError, PatternError};
 use nextest_run_events::{
-    ExecutionResultDescription, JsonError, OwnedTestInstanceId, RunFailureStep, TestInstanceId,
-    UnitState, UnitTerminateReason, UnitTerminateSignal,
+    CancelReason, ExecutionResultDescription, JsonError, OwnedTestInstanceId, RunFailureStep,
+    TestInstanceId, UnitState, UnitTerminateReason, UnitTerminateSignal,
 };
 use nextest_text::{Listing, Text};
 use std::alloc::Global;
@@ -20,28 +19,11 @@ use std::time::Duration;
 // A kind of values, and two of them: how the first compares to the second, how the second to the first, and whether they are equal.
 pub(crate) fn orders(page: &mut Page, input: &str) -> Option<()> {
     let (kind, low, high) = three(input);
-    let alloc = page.alloc();
     match kind {
-        "levels" => compared(
-            page,
-            word_as::<StatusLevel>(alloc, low)?,
-            word_as::<StatusLevel>(alloc, high)?,
-        ),
-        "final-levels" => compared(
-            page,
-            word_as::<FinalStatusLevel>(alloc, low)?,
-            word_as::<FinalStatusLevel>(alloc, high)?,
-        ),
-        "reasons" => compared(page, reason_of(low)?, reason_of(high)?),
-        "steps" => compared(page, step_of(low)?, step_of(high)?),
-        _ => return texts_compared(page, kind, low, high),
-    }
-    Some(())
-}
-
-// The same of values that are or hold texts.
-fn texts_compared(page: &mut Page, kind: &str, low: &str, high: &str) -> Option<()> {
-    match kind {
+        "levels" => words_compared::<StatusLevel>(page, low, high),
+        "final-levels" => words_compared::<FinalStatusLevel>(page, low, high),
+        "reasons" => words_compared::<CancelReason>(page, low, high),
+        "steps" => words_compared::<RunFailureStep>(page, low, high),
         "tools" => words_compared::<ToolName>(page, low, high),
         "texts" => words_compared::<Listing<Text>>(page, low, high),
         "tests" => words_compared::<OwnedTestInstanceId>(page, low, high),
@@ -50,17 +32,26 @@ fn texts_compared(page: &mut Page, kind: &str, low: &str, high: &str) -> Option<
 }
 
 fn words_compared<T: Word + Ord>(page: &mut Page, low: &str, high: &str) -> Option<()> {
-    let low = T::of_word(page.alloc(), low)?;
-    let high = T::of_word(page.alloc(), high)?;
+    let low = some!(T::of_word(page.alloc, low));
+    let high = some!(T::of_word(page.alloc, high));
     compared(page, low, high);
     Some(())
 }
 
 fn compared<T: Ord + Drop>(page: &mut Page, low: T, high: T) {
-    page.debug(low.cmp(&high));
-    page.show(" ");
-    page.debug(high.partial_cmp(&low));
-    show!(page; " ", low == high);
+    show!(page; Whole(low.cmp(&high)), " ", Whole(high.partial_cmp(&low)), " ", low == high);
+}
+
+impl Word for StatusLevel {
+    fn of_word(alloc: Global, word: &str) -> Option<StatusLevel> {
+        word_as(alloc, word)
+    }
+}
+
+impl Word for FinalStatusLevel {
+    fn of_word(alloc: Global, word: &str) -> Option<FinalStatusLevel> {
+        word_as(alloc, word)
+    }
 }
 
 impl Word for ToolName {
@@ -80,17 +71,19 @@ impl Word for OwnedTestInstanceId {
     }
 }
 
-fn step_of(word: &str) -> Option<RunFailureStep> {
-    match word {
-        "test" => Some(RunFailureStep::Test),
-        "setup-script" => Some(RunFailureStep::SetupScript),
-        _ => None,
+impl Word for RunFailureStep {
+    fn of_word(_: Global, word: &str) -> Option<RunFailureStep> {
+        match word {
+            "test" => Some(RunFailureStep::Test),
+            "setup-script" => Some(RunFailureStep::SetupScript),
+            _ => None,
+        }
     }
 }
 
 // A text: how it prints, how it fills seven places, how it prints in quotes, and its bytes.
 pub(crate) fn shown_texts(page: &mut Page, input: &str) -> Option<()> {
-    let text = Text::from_str(page.alloc(), input).ok()?;
+    let text = ok!(Text::from_str(page.alloc, input));
     page.show(format_args!("{text}|{text:>7}|{text:?}|{}", text.len()));
     Some(())
 }
@@ -98,13 +91,13 @@ pub(crate) fn shown_texts(page: &mut Page, input: &str) -> Option<()> {
 // What no row of another table gives: how it prints.
 pub(crate) fn words(page: &mut Page, input: &str) -> Option<()> {
     match input {
-        "a tree of no text" => page.show(tree_of_no_text(page.alloc())?),
+        "a tree of no text" => page.show(some!(tree_of_no_text(page.alloc))),
         "refused globs" => {
             show!(page; GlobConstructError::InvalidGlob, "; ", GlobConstructError::OutOfMemory);
         }
         "refused patterns" => show!(page; PatternError::Syntax, "; ", PatternError::OutOfMemory),
         "refused filtersets" => {
-            page.show(ParseError::Faults(Vec::new(page.alloc())));
+            page.show(ParseError::Faults(Vec::new(page.alloc)));
             show!(page; "; ", ParseError::OutOfMemory);
         }
         "the rule for flaky tests where none is set" => page.debug(FlakyResult::default()),

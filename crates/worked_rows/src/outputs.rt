@@ -3,9 +3,9 @@ ghost use Rattle.std.specs.Prelude.{IfSome};
 ghost use Rattle.nextest_run_events.specs.Collected.{IsLoaded};
 
 use crate::ends::end_of;
-use crate::page::Page;
+use crate::page::{Page, Whole};
 use crate::parts::{list_of, two};
-use crate::show;
+use crate::{ok, show, some};
 use nextest_run_events::{
     AbortDescription, Boxed, ByteSubslice, ChildError, ChildErrorDescription, ChildExecutionOutput,
     ChildExecutionOutputDescription, ChildFdError, ChildOutput, ChildOutputDescription,
@@ -19,9 +19,9 @@ use std::alloc::Global;
 // An error and its causes, the nearest first, divided by `; `.
 fn chain_of(alloc: Global, words: &str) -> Option<ErrorChain> {
     let (message, rest) = two(words, "; ");
-    let causes = list_of::<Text>(alloc, rest, "; ")?;
+    let causes = some!(list_of::<Text>(alloc, rest, "; "));
     Some(ErrorChain {
-        message: Text::from_str(alloc, message).ok()?,
+        message: ok!(Text::from_str(alloc, message)),
         causes: Listing::from(causes),
     })
 }
@@ -48,28 +48,28 @@ fn child_error_of(word: &str, chain: ErrorChain) -> ChildError {
 // An error's kind and what it came from: what its description says, with its source behind it.
 pub(crate) fn errors(page: &mut Page, input: &str) -> Option<()> {
     let (word, words) = two(input, " ");
-    match start_error_of(word, chain_of(page.alloc(), words)?) {
+    match start_error_of(word, some!(chain_of(page.alloc, words))) {
         Ok(error) => start_error_told(page, &error),
         Err(chain) => child_error_told(page, &child_error_of(word, chain)),
     }
 }
 
 fn start_error_told(page: &mut Page, error: &ChildStartError) -> Option<()> {
-    let told = ChildStartErrorDescription::from_error(page.alloc(), error).ok()?;
+    let told = ok!(ChildStartErrorDescription::from_error(page.alloc, error));
     show!(page; &told, ": ", told.source());
     Some(())
 }
 
 fn child_error_told(page: &mut Page, error: &ChildError) -> Option<()> {
-    let told = ChildErrorDescription::from_error(page.alloc(), error).ok()?;
+    let told = ok!(ChildErrorDescription::from_error(page.alloc, error));
     show!(page; &told, ": ", told.source());
     Some(())
 }
 
 // An error and its causes: how many there are, each with the nearest one behind it, and what is nearest to the error itself.
 pub(crate) fn causes(page: &mut Page, input: &str) -> Option<()> {
-    let chain = chain_of(page.alloc(), input)?;
-    let kept = SerializableError::new(page.alloc(), &chain).ok()?;
+    let chain = some!(chain_of(page.alloc, input));
+    let kept = ok!(SerializableError::new(page.alloc, &chain));
     causes_told(page, &kept);
     Some(())
 }
@@ -77,16 +77,15 @@ pub(crate) fn causes(page: &mut Page, input: &str) -> Option<()> {
 fn causes_told(page: &mut Page, kept: &SerializableError) {
     show!(page; kept, " has ", kept.causes().len());
     for source in kept.sources() {
-        show!(page; "; ", &source, " ");
-        page.debug(source.source().map(|it| it.message()));
+        let nearest = source.source().map(|it| it.message());
+        show!(page; "; ", &source, " ", Whole(nearest));
     }
-    page.show("; ");
-    page.debug(kept.source().map(|it| it.message()));
+    show!(page; "; ", Whole(kept.source().map(|it| it.message())));
 }
 
 // Some bytes of a stream.
 fn stream(alloc: Global, bytes: &[u8]) -> Option<ChildSingleOutput> {
-    let bytes = Vec::from_slice(alloc, bytes).ok()?;
+    let bytes = ok!(Vec::from_slice(alloc, bytes));
     Some(ChildSingleOutput::from(Listing::from(bytes)))
 }
 
@@ -99,7 +98,7 @@ fn left(
     Some(ChildExecutionOutput::Output {
         result: ended,
         output: ChildOutput::Split(ChildSplitOutput {
-            stdout: Some(stream(alloc, b"ab")?),
+            stdout: Some(some!(stream(alloc, b"ab"))),
             stderr: None,
         }),
         errors,
@@ -108,19 +107,18 @@ fn left(
 
 // An error's kind and what it came from: what a process left that had it, as it is described.
 pub(crate) fn described(page: &mut Page, input: &str) -> Option<()> {
-    let output = left_by_error(page.alloc(), input)?;
-    let told = ChildExecutionOutputDescription::<LiveSpec>::from_output(page.alloc(), output).ok()?;
-    show!(page; "errors ", told.has_errors(), ", ");
-    page.debug(told);
+    let output = some!(left_by_error(page.alloc, input));
+    let told = ok!(ChildExecutionOutputDescription::<LiveSpec>::from_output(page.alloc, output));
+    show!(page; "errors ", told.has_errors(), ", ", Whole(&told));
     Some(())
 }
 
 fn left_by_error(alloc: Global, input: &str) -> Option<ChildExecutionOutput> {
     let (word, words) = two(input, " ");
-    match start_error_of(word, chain_of(alloc, words)?) {
+    match start_error_of(word, some!(chain_of(alloc, words))) {
         Ok(error) => Some(ChildExecutionOutput::StartError(error)),
         Err(chain) => {
-            let errors = one_error(alloc, child_error_of(word, chain))?;
+            let errors = some!(one_error(alloc, child_error_of(word, chain)));
             left(alloc, Some(ExecutionResult::ExecFail), Some(errors))
         }
     }
@@ -129,8 +127,8 @@ fn left_by_error(alloc: Global, input: &str) -> Option<ChildExecutionOutput> {
 // A list of one error.
 fn one_error(alloc: Global, error: ChildError) -> Option<ErrorList<ChildError>> {
     let mut items = Listing::new(alloc);
-    items.push(error).ok()?;
-    let description = Text::from_str(alloc, "errors of the process").ok()?;
+    ok!(items.push(error));
+    let description = ok!(Text::from_str(alloc, "errors of the process"));
     Some(ErrorList { description, items })
 }
 
@@ -138,13 +136,13 @@ fn one_error(alloc: Global, error: ChildError) -> Option<ErrorList<ChildError>> 
 pub(crate) fn has_errors(page: &mut Page, input: &str) -> Option<()> {
     let (words, errors) = match input.strip_suffix(" listed") {
         Some(words) => {
-            let (description, items) = (Text::new(page.alloc()), Listing::new(page.alloc()));
+            let (description, items) = (Text::new(page.alloc), Listing::new(page.alloc));
             (words, Some(ErrorList { description, items }))
         }
         None => (input, None),
     };
-    let output = left(page.alloc(), end_of(words), errors)?;
-    let told = ChildExecutionOutputDescription::<LiveSpec>::from_output(page.alloc(), output).ok()?;
+    let output = some!(left(page.alloc, end_of(words), errors));
+    let told = ok!(ChildExecutionOutputDescription::<LiveSpec>::from_output(page.alloc, output));
     page.show(told.has_errors());
     Some(())
 }
@@ -152,7 +150,7 @@ pub(crate) fn has_errors(page: &mut Page, input: &str) -> Option<()> {
 // Where a stream was captured and what was written to it: the lengths of standard output and standard error.
 pub(crate) fn stream_lengths(page: &mut Page, input: &str) -> Option<()> {
     let (captured, bytes) = two(input, " ");
-    let output = stream(page.alloc(), bytes.as_bytes())?;
+    let output = some!(stream(page.alloc, bytes.as_bytes()));
     let told = ChildOutputDescription::from(match captured {
         "stdout" => ChildOutput::Split(ChildSplitOutput {
             stdout: Some(output),
@@ -178,10 +176,10 @@ fn left_by_test(alloc: Global) -> Option<ChildExecutionOutputDescription<LiveSpe
         },
         leaked: true,
     };
-    let errors = Boxed::new(alloc, unread_output(alloc)?).ok()?;
-    let stderr = stream(alloc, b"a\nError: \xff\n")?;
+    let errors = ok!(Boxed::new(alloc, some!(unread_output(alloc))));
+    let stderr = some!(stream(alloc, b"a\nError: \xff\n"));
     Some(ChildExecutionOutputDescription::Output {
-        result: Some(Boxed::new(alloc, result).ok()?),
+        result: Some(ok!(Boxed::new(alloc, result))),
         output: ChildOutputDescription::Split {
             stdout: None,
             stderr: Some(stderr),
@@ -192,11 +190,9 @@ fn left_by_test(alloc: Global) -> Option<ChildExecutionOutputDescription<LiveSpe
 
 // That standard output wasn't read.
 fn unread_output(alloc: Global) -> Option<ErrorList<ChildErrorDescription>> {
-    let source = closed(alloc)?;
+    let source = some!(closed(alloc));
     let mut items = Listing::new(alloc);
-    items
-        .push(ChildErrorDescription::ReadStdout { source })
-        .ok()?;
+    ok!(items.push(ChildErrorDescription::ReadStdout { source }));
     Some(ErrorList {
         description: Text::new(alloc),
         items,
@@ -205,16 +201,16 @@ fn unread_output(alloc: Global) -> Option<ErrorList<ChildErrorDescription>> {
 
 // Why a stream wasn't read, or a process not started.
 fn closed(alloc: Global) -> Option<SerializableError> {
-    SerializableError::new(alloc, &chain_of(alloc, "closed")?).ok()
+    SerializableError::new(alloc, &some!(chain_of(alloc, "closed"))).ok()
 }
 
 // All that went wrong: with such a test, and with a script that wasn't started.
 pub(crate) fn unit_errors(page: &mut Page, input: &str) -> Option<()> {
     if input == "test" {
-        return all_told(page, UnitKind::Test, &left_by_test(page.alloc())?);
+        return all_told(page, UnitKind::Test, &some!(left_by_test(page.alloc)));
     }
     let error = ChildStartErrorDescription::Spawn {
-        source: closed(page.alloc())?,
+        source: some!(closed(page.alloc)),
     };
     let output = ChildExecutionOutputDescription::StartError(error);
     all_told(page, UnitKind::Script, &output)
@@ -227,7 +223,7 @@ fn all_told(
 ) -> Option<()>
     requires { IsLoaded output.now }
 {
-    let list = UnitErrorDescription::new(kind, output).all_error_list()?;
+    let list = some!(UnitErrorDescription::new(kind, output).all_error_list());
     show!(page; list.description, " (", list.items.len(), ")");
     for error in list.items {
         show!(page; "; ", error);
@@ -240,9 +236,9 @@ fn bytes_of(alloc: Global, text: &str) -> Option<Vec<u8>> {
     let mut bytes = Vec::new(alloc);
     for (number, piece) in text.split('¤').enumerate() {
         if number > 0 {
-            bytes.push(0xFF).ok()?;
+            ok!(bytes.push(0xFF));
         }
-        bytes.extend_from_slice(piece.as_bytes()).ok()?;
+        ok!(bytes.extend_from_slice(piece.as_bytes()));
     }
     Some(bytes)
 }
@@ -251,8 +247,8 @@ fn bytes_of(alloc: Global, text: &str) -> Option<Vec<u8>> {
 // it starts, and its length.
 pub(crate) fn slices(page: &mut Page, input: &str) -> Option<()> {
     let (error_text, output_text) = two(input, "\t");
-    let stderr = bytes_of(page.alloc(), error_text)?;
-    let stdout = bytes_of(page.alloc(), output_text)?;
+    let stderr = some!(bytes_of(page.alloc, error_text));
+    let stdout = some!(bytes_of(page.alloc, output_text));
     let found = TestOutputErrorSlice::heuristic_extract(
         captured(output_text, stdout.as_slice()),
         captured(error_text, stderr.as_slice()),

@@ -1,10 +1,14 @@
 // The page that an answer is written on.
 use std::alloc::Global;
+use std::fmt;
 use std::fmt::{Debug, Display};
 
-/// An answer that is being written. Nothing that is written may fail: the page remembers that memory ran out, and is no answer then.
+/// An answer that is being written. Nothing that is written may fail: the page remembers that memory ran out, or that a word was
+/// no number, and is no answer then.
 #[derive(Drop)]
 pub struct Page {
+    /// Where memory is taken from.
+    pub(crate) alloc: Global,
     text: String,
     is_torn: bool,
 }
@@ -15,23 +19,51 @@ pub(crate) trait Tell {
     fn tell(&self, page: &mut Page);
 }
 
-/// Writes parts, one behind the other.
+/// A value, which prints with all that it holds.
+#[derive(Drop)]
+pub(crate) struct Whole<T>(pub(crate) T);
+
+impl<T: Debug> Display for Whole<T> {
+    fn fmt<W: fmt::Write>(&self, f: &mut fmt::Formatter<W>) -> fmt::Result {
+        self.0.fmt(f)
+    }
+}
+
+/// Writes parts as they print, one behind the other.
 #[macro_export]
 macro_rules! show {
-    ($page:expr; $($part:expr),+ $(,)?) => {{ $( $page.show($part); )+ }};
+    ($page:expr; $($part:expr),+ $(,)?) => {{ $page$(.and($part))+; }};
+}
+
+/// What an option holds; the function ends with `None` where it holds nothing. This is `?`, which costs twice as much to prove.
+#[macro_export]
+macro_rules! some {
+    ($option:expr) => {
+        match $option {
+            Some(value) => value,
+            None => return None,
+        }
+    };
+}
+
+/// What a result holds; the function ends with `None` where it is an error.
+#[macro_export]
+macro_rules! ok {
+    ($result:expr) => {
+        match $result.ok() {
+            Some(value) => value,
+            None => return None,
+        }
+    };
 }
 
 impl Page {
     pub(crate) fn new(alloc: Global) -> Self {
         Page {
+            alloc,
             text: String::new(alloc),
             is_torn: false,
         }
-    }
-
-    /// Where memory is taken from.
-    pub(crate) fn alloc(&self) -> Global {
-        *self.text.allocator()
     }
 
     /// How long the answer is so far.
@@ -44,9 +76,15 @@ impl Page {
         self.is_torn |= self.text.write(part).is_err();
     }
 
+    /// Writes a part as it prints, and hands the page on.
+    pub(crate) fn and<T: Display + Drop>(&mut self, part: T) -> &mut Page {
+        self.show(part);
+        self
+    }
+
     /// Writes a part with all that it holds.
     pub(crate) fn debug<T: Debug + Drop>(&mut self, part: T) {
-        self.show(format_args!("{part:?}"));
+        self.show(Whole(part));
     }
 
     /// Writes what stands between two parts, unless nothing was written since the answer was so long.
@@ -111,7 +149,21 @@ impl Page {
         }
     }
 
-    /// What was written; `None` where memory ran out.
+    /// The number that a word of an input is. Where it is none, the page is no answer.
+    pub(crate) fn number(&mut self, word: &str) -> u32 {
+        let number = word.parse::<u32>();
+        self.is_torn |= number.is_err();
+        number.unwrap_or(0)
+    }
+
+    /// The same as a size.
+    pub(crate) fn size(&mut self, word: &str) -> usize {
+        let size = word.parse::<usize>();
+        self.is_torn |= size.is_err();
+        size.unwrap_or(0)
+    }
+
+    /// What was written; `None` where the page is no answer.
     pub(crate) fn finish(self) -> Option<String> {
         if self.is_torn { None } else { Some(self.text) }
     }

@@ -1,4 +1,5 @@
 // Parts of inputs.
+use crate::{ok, some};
 use nextest_text::{Listing, Text};
 use std::alloc::Global;
 
@@ -17,7 +18,7 @@ impl Word for Text {
 // Texts, with a comma between them, and perhaps behind the last one.
 impl Word for Listing<Text> {
     fn of_word(alloc: Global, words: &str) -> Option<Listing<Text>> {
-        Some(Listing::from(list_of::<Text>(alloc, words, ",")?))
+        Some(Listing::from(some!(list_of::<Text>(alloc, words, ","))))
     }
 }
 
@@ -25,7 +26,7 @@ impl Word for Listing<Text> {
 pub(crate) fn list_of<T: Word>(alloc: Global, words: &str, between: &str) -> Option<Vec<T>> {
     let mut items = Vec::new(alloc);
     for word in words.split_terminator(between) {
-        items.push(T::of_word(alloc, word)?).ok()?;
+        ok!(items.push(some!(T::of_word(alloc, word))));
     }
     Some(items)
 }
@@ -45,9 +46,4 @@ pub(crate) fn three(input: &str) -> (&str, &str, &str) {
 // A number without a sign.
 pub(crate) fn number(word: &str) -> Option<u32> {
     word.parse::<u32>().ok()
-}
-
-// The same, as wide as a size.
-pub(crate) fn size(word: &str) -> Option<usize> {
-    word.parse::<usize>().ok()
 }

@@ -1,9 +1,9 @@
 // Inputs, and their plan.
 use crate::changes::changed;
 use crate::defined::run_told;
-use crate::page::Page;
-use crate::show;
+use crate::page::{Page, Whole};
 use crate::table::{Table, rows_hold};
+use crate::{ok, show, some};
 use anyhow::Result;
 use std::rt::Files;
 use test_runner_core_inputs::Inputs;
@@ -54,7 +54,7 @@ impl Table for Plans<'_> {
     fn answer(&self, page: &mut Page, input: &str) -> Option<()> {
         match self.base {
             Some(base) => {
-                let text = changed(page.alloc(), base, input)?;
+                let text = some!(changed(page.alloc, base, input));
                 planned(page, text.as_str(), self.has_settings)
             }
             None => planned(page, input, self.has_settings),
@@ -63,13 +63,13 @@ impl Table for Plans<'_> {
 }
 
 fn planned(page: &mut Page, text: &str, has_settings: bool) -> Option<()> {
-    let inputs = Inputs::from_json(page.alloc(), text.as_bytes()).ok()?;
+    let inputs = ok!(Inputs::from_json(page.alloc, text.as_bytes()));
     plan_of(page, &inputs, has_settings)
 }
 
 fn plan_of(page: &mut Page, inputs: &Inputs, has_settings: bool) -> Option<()> {
-    let mut lister = TableLister::new(page.alloc(), &inputs.workspace).ok()?;
-    match Plan::build(page.alloc(), inputs, &mut lister) {
+    let mut lister = ok!(TableLister::new(page.alloc, &inputs.workspace));
+    match Plan::build(page.alloc, inputs, &mut lister) {
         Ok(plan) => plan_told(page, &plan, has_settings),
         Err(PlanError::Refused(fault)) => page.show(fault.name()),
         Err(PlanError::OutOfMemory) => page.show("no memory"),
@@ -102,12 +102,12 @@ fn test_told(page: &mut Page, test: &PlanTest, has_settings: bool) {
     let (instance, settings) = (&test.instance, &test.settings);
     show!(page; " [", &instance.binary_id, " ", &instance.test_name, " x", test.tries);
     if has_settings {
-        page.show(" ");
-        page.debug(&settings.flaky_result);
-        page.show(" ");
-        page.debug(&settings.success_output);
-        page.show(" ");
-        page.debug(&settings.failure_output);
+        show!(
+            page;
+            " ", Whole(&settings.flaky_result),
+            " ", Whole(&settings.success_output),
+            " ", Whole(&settings.failure_output)
+        );
         if let Some(wrapper) = settings.run_wrapper.as_ref() {
             page.show(" wrapper ");
             run_told(page, wrapper);
@@ -118,13 +118,8 @@ fn test_told(page: &mut Page, test: &PlanTest, has_settings: bool) {
 
 fn settings_told(page: &mut Page, plan: &Plan) {
     let levels = plan.levels;
-    page.show("; limit ");
-    page.debug(plan.limit);
-    page.show("; levels ");
-    page.debug(levels.status_level);
-    page.show(" ");
-    page.debug(levels.final_status_level);
-    page.show("; warnings");
+    show!(page; "; limit ", Whole(plan.limit), "; levels ", Whole(levels.status_level));
+    show!(page; " ", Whole(levels.final_status_level), "; warnings");
     page.show_each(" [", plan.warnings.as_slice(), "]");
 }
 
@@ -133,8 +128,6 @@ fn selection_told(page: &mut Page, plan: &Plan) {
     for test in plan.skipped.as_slice() {
         show!(page; " [", &test.binary_id, " ", &test.test_name, "]");
     }
-    page.show("; limit ");
-    page.debug(plan.limit);
-    page.show("; listed");
+    show!(page; "; limit ", Whole(plan.limit), "; listed");
     page.show_each(" ", plan.listed.as_slice(), "");
 }

@@ -2,6 +2,7 @@
 use crate::configs::BAR;
 use crate::page::Page;
 use crate::parts::{Word, list_of, two};
+use crate::{ok, some};
 use nextest_text::{Listing, Text};
 use std::alloc::Global;
 use test_runner_core_platforms::{
@@ -12,9 +13,9 @@ use test_runner_core_platforms::{
 pub(crate) fn platform_specs(page: &mut Page, input: &str) -> Option<()> {
     let (triple, rest) = two(input, BAR);
     let (known, spec) = two(rest, BAR);
-    let facts = list_of::<Fact>(page.alloc(), known, ",")?;
-    let triple = Text::from_str(page.alloc(), triple).ok()?;
-    match PlatformFacts::new(page.alloc(), triple, Listing::from(facts)) {
+    let facts = some!(list_of::<Fact>(page.alloc, known, ","));
+    let triple = ok!(Text::from_str(page.alloc, triple));
+    match PlatformFacts::new(page.alloc, triple, Listing::from(facts)) {
         Ok(facts) => told(page, spec, &facts),
         Err(PlatformFactsError::RepeatedFact) => page.show("repeated"),
         Err(PlatformFactsError::OutOfMemory) => return None,
@@ -24,7 +25,7 @@ pub(crate) fn platform_specs(page: &mut Page, input: &str) -> Option<()> {
 
 // Whether a spec holds on a platform of which this is known.
 fn told(page: &mut Page, spec: &str, facts: &PlatformFacts) {
-    match PlatformSpec::parse(page.alloc(), spec) {
+    match PlatformSpec::parse(page.alloc, spec) {
         Ok(spec) => page.debug(spec.eval(facts)),
         Err(PlatformSpecError::BadSpec { .. }) => page.show("refused"),
         Err(PlatformSpecError::OutOfMemory) => page.show("no memory"),
@@ -34,13 +35,13 @@ fn told(page: &mut Page, spec: &str, facts: &PlatformFacts) {
 // A fact: `NAME:HOLDS`, or `NAME=VALUE:HOLDS`.
 impl Word for Fact {
     fn of_word(alloc: Global, word: &str) -> Option<Fact> {
-        let (key, holds) = word.rsplit_once(':')?;
+        let (key, holds) = some!(word.rsplit_once(':'));
         let (name, value) = match key.split_once('=') {
-            Some((name, value)) => (name, Some(Text::from_str(alloc, value).ok()?)),
+            Some((name, value)) => (name, Some(ok!(Text::from_str(alloc, value)))),
             None => (key, None),
         };
         Some(Fact {
-            name: Text::from_str(alloc, name).ok()?,
+            name: ok!(Text::from_str(alloc, name)),
             value,
             holds: holds == "true",
         })

@@ -1,7 +1,7 @@
 // The settings of a profile in words.
 use crate::configs::{PlainConfig, PlainProfile};
 use crate::defined::{rules_told, scripts_told};
-use crate::page::Page;
+use crate::page::{Page, Whole};
 use crate::plain_filter::PlainFilter;
 use crate::show;
 use nextest_config_elements::{JunitConfig, NextestRunMode};
@@ -71,7 +71,7 @@ fn how_long_or_shown(page: &mut Page, profile: &PlainProfile<'_>, key: &str) -> 
 
 // The names of all profiles, each in brackets, as they are told where no profile has a name.
 fn names_told(page: &mut Page, config: &PlainConfig) -> Option<()> {
-    let Err(ProfileError::NotFound(told)) = config.profile(page.alloc(), "\0") else {
+    let Err(ProfileError::NotFound(told)) = config.profile(page.alloc, "\0") else {
         return None;
     };
     page.show_each("[", told.known.as_slice(), "]");
@@ -85,7 +85,5 @@ fn report_told(page: &mut Page, report: Option<JunitConfig<'_>>) {
     };
     show!(page; report.path(), " ", report.report_name(), " ");
     show!(page; report.store_success_output(), " ", report.store_failure_output(), " ");
-    page.debug(report.report_skipped());
-    page.show(" ");
-    page.debug(report.flaky_fail_status());
+    show!(page; Whole(report.report_skipped()), " ", Whole(report.flaky_fail_status()));
 }

@@ -1,6 +1,7 @@
 // Stress runs, and what they still have to do.
-use crate::page::Page;
+use crate::page::{Page, Whole};
 use crate::parts::{number, three, two};
+use crate::{ok, show, some};
 use nextest_run_events::{
     FinalRunStats, NonZeroDuration, RunFinishedStats, RunStatsFailureKind, StressCount,
     StressIndex, StressProgress, StressRemaining, StressRunStats,
@@ -24,27 +25,26 @@ pub(crate) fn stress_ends(page: &mut Page, input: &str) -> Option<()> {
             total: None,
         },
         success_count: 1,
-        failed_count: number(failed_count)?,
+        failed_count: page.number(failed_count),
         last_final_stats,
     };
-    page.debug(stats.summarize_final());
-    page.show(", ");
-    page.debug(RunFinishedStats::Stress(stats).final_stats());
+    let all = stats.summarize_final();
+    show!(page; Whole(all), ", ", Whole(RunFinishedStats::Stress(stats).final_stats()));
     Some(())
 }
 
 // A number above 0; `-` and 0 are none.
 fn total_of(word: &str) -> Option<NonZeroU32> {
-    NonZeroU32::new(number(word)?)
+    NonZeroU32::new(some!(number(word)))
 }
 
 // A span of time as its seconds and nanoseconds.
 fn span_of(seconds: &str, nanos: &str) -> Option<Duration> {
-    let nanos = number(nanos)?;
+    let nanos = some!(number(nanos));
     if nanos > 999_999_999 {
         return None;
     }
-    Some(Duration::new(seconds.parse::<u64>().ok()?, nanos))
+    Some(Duration::new(ok!(seconds.parse::<u64>()), nanos))
 }
 
 // A run by its number of sub-runs, `-` where it has no end, and how many were completed; or by its seconds, and how many seconds
@@ -58,13 +58,13 @@ fn progress_of(input: &str) -> Option<StressProgress> {
                 None => StressCount::Infinite,
             },
             elapsed: Duration::ZERO,
-            completed: number(rest)?,
+            completed: some!(number(rest)),
         });
     }
     let (seconds, nanos) = two(rest, " ");
     Some(StressProgress::Time {
-        total: span_of(total, "0")?,
-        elapsed: span_of(seconds, nanos)?,
+        total: some!(span_of(total, "0")),
+        elapsed: some!(span_of(seconds, nanos)),
         completed: 3,
     })
 }
@@ -74,23 +74,25 @@ fn left_of(words: &str) -> Option<StressRemaining> {
     let (kind, amount, nanos) = three(words);
     match kind {
         "endless" => Some(StressRemaining::Infinite),
-        "sub-runs" => Some(StressRemaining::Count(total_of(amount)?)),
-        _ => Some(StressRemaining::Time(NonZeroDuration::new(span_of(amount, nanos)?)?)),
+        "sub-runs" => Some(StressRemaining::Count(some!(total_of(amount)))),
+        _ => Some(StressRemaining::Time(some!(NonZeroDuration::new(some!(span_of(
+            amount, nanos
+        )))))),
     }
 }
 
 // Such a run, and what is left of it: whether that is so.
 pub(crate) fn stress_remaining(page: &mut Page, input: &str) -> Option<()> {
     let (progress, left) = two(input, " leaves ");
-    page.show(progress_of(progress)?.remaining() == left_of(left));
+    page.show(some!(progress_of(progress)).remaining() == left_of(left));
     Some(())
 }
 
 // A run's id, and the run: the id of its next sub-run.
 pub(crate) fn stress_names(page: &mut Page, input: &str) -> Option<()> {
     let (run_id, progress) = two(input, " ");
-    let (run_id, progress) = (Uuid::parse_str(run_id).ok()?, progress_of(progress)?);
-    page.show(progress.unique_id(page.alloc(), &run_id).ok()?);
+    let (run_id, progress) = (ok!(Uuid::parse_str(run_id)), some!(progress_of(progress)));
+    page.show(ok!(progress.unique_id(page.alloc, &run_id)));
     Some(())
 }
 

@@ -1,9 +1,9 @@
 // Counters as JSON, what they come to, and what sub-runs come to.
 ghost use Rattle.std.specs.Prelude.{◌^◌, ◌<◌};
 
-use crate::page::Page;
+use crate::page::{Page, Whole};
 use crate::parts::{Word, list_of};
-use crate::show;
+use crate::{ok, show, some};
 use nextest_run_events::{CancelReason, RunFailureStep, RunFinishedStats, RunOutcome, RunStats};
 use serde_json::Value;
 use std::alloc::Global;
@@ -26,29 +26,31 @@ fn small(value: &Value) -> u32 {
 }
 
 // A reason to stop by its name.
-pub(crate) fn reason_of(word: &str) -> Option<CancelReason> {
-    match word {
-        "setup-script-failure" => Some(CancelReason::SetupScriptFailure),
-        "test-failure" => Some(CancelReason::TestFailure),
-        "report-error" => Some(CancelReason::ReportError),
-        "test-failure-immediate" => Some(CancelReason::TestFailureImmediate),
-        "global-timeout" => Some(CancelReason::GlobalTimeout),
-        "signal" => Some(CancelReason::Signal),
-        "interrupt" => Some(CancelReason::Interrupt),
-        "second-signal" => Some(CancelReason::SecondSignal),
-        _ => None,
+impl Word for CancelReason {
+    fn of_word(_: Global, word: &str) -> Option<CancelReason> {
+        match word {
+            "setup-script-failure" => Some(CancelReason::SetupScriptFailure),
+            "test-failure" => Some(CancelReason::TestFailure),
+            "report-error" => Some(CancelReason::ReportError),
+            "test-failure-immediate" => Some(CancelReason::TestFailureImmediate),
+            "global-timeout" => Some(CancelReason::GlobalTimeout),
+            "signal" => Some(CancelReason::Signal),
+            "interrupt" => Some(CancelReason::Interrupt),
+            "second-signal" => Some(CancelReason::SecondSignal),
+            _ => None,
+        }
     }
 }
 
 // Counters: what they come to, whether anything failed, and the outcome.
 pub(crate) fn summaries(page: &mut Page, input: &str) -> Option<()> {
-    let object = Value::from_str(page.alloc(), input).ok()?;
+    let object = ok!(Value::from_str(page.alloc, input));
     summary_told(page, &object)
 }
 
 fn summary_told(page: &mut Page, object: &Value) -> Option<()> {
     let cancel_reason = match object.get("reason") {
-        Some(value) => Some(reason_of(value.as_str()?)?),
+        Some(value) => Some(some!(Word::of_word(page.alloc, some!(value.as_str())))),
         None => None,
     };
     let stats = RunStats {
@@ -69,9 +71,8 @@ fn summary_told(page: &mut Page, object: &Value) -> Option<()> {
         ..RunStats::default()
     };
     let summary = RunFinishedStats::Single(stats).final_stats();
-    page.debug(summary);
-    show!(page; ", failures ", stats.has_failures(), ", ");
-    page.debug(RunOutcome::from_final_stats(summary));
+    let outcome = RunOutcome::from_final_stats(summary);
+    show!(page; Whole(summary), ", failures ", stats.has_failures(), ", ", Whole(outcome));
     Some(())
 }
 
@@ -92,7 +93,7 @@ impl Word for RunOutcome {
 
 // Outcomes of sub-runs: what these come to.
 pub(crate) fn outcomes(page: &mut Page, input: &str) -> Option<()> {
-    let outcomes = list_of::<RunOutcome>(page.alloc(), input, ", ")?;
+    let outcomes = some!(list_of::<RunOutcome>(page.alloc, input, ", "));
     page.debug(RunOutcome::of_sub_runs(outcomes.as_slice()));
     Some(())
 }

@@ -1,6 +1,7 @@
 // A table, and whether its rows hold.
 use crate::page::Page;
 use crate::signs::{read_signs, written_in_signs};
+use crate::{ok, some};
 use anyhow::{Context, Result};
 use std::alloc::Global;
 use std::fs;
@@ -53,17 +54,17 @@ fn row_holds<R: Print + AllocGlobal, T: Table>(rt: &R, table: &T, line: &str) ->
 
 // The answer that is given to the input of a row, where the row has another one.
 fn other_answer<T: Table>(alloc: Global, table: &T, line: &str) -> Option<Option<String>> {
-    let (input, answer) = line.rsplit_once(" => ")?;
-    let given = given_answer(alloc, table, input)?;
-    if given == read_signs(alloc, answer).ok()? {
+    let (input, answer) = some!(line.rsplit_once(" => "));
+    let given = some!(given_answer(alloc, table, input));
+    if given == ok!(read_signs(alloc, answer)) {
         return Some(None);
     }
-    Some(Some(written_in_signs(alloc, given.as_str()).ok()?))
+    Some(Some(ok!(written_in_signs(alloc, given.as_str()))))
 }
 
 fn given_answer<T: Table>(alloc: Global, table: &T, input: &str) -> Option<String> {
-    let input = read_signs(alloc, input).ok()?;
+    let input = ok!(read_signs(alloc, input));
     let mut page = Page::new(alloc);
-    table.answer(&mut page, input.as_str())?;
+    some!(table.answer(&mut page, input.as_str()));
     page.finish()
 }

@@ -1,10 +1,10 @@
 // What a test is run with, and where each of its settings comes from; and its scripts.
 use crate::configs::{BAR, PlainConfig, PlainProfile, sources_of};
 use crate::defined::run_told;
-use crate::page::{Page, Tell};
+use crate::page::{Page, Tell, Whole};
 use crate::parts::{Word, three, two};
 use crate::settings::filter_text;
-use crate::show;
+use crate::{ok, show, some};
 use nextest_config_elements::{FeatureSet, NextestRunMode};
 use nextest_config_resolution::{
     BuildPlatforms, EnabledScript, SettingSource, TestGroupRef, TestSettings, WrapperScriptConfig,
@@ -21,19 +21,19 @@ type Sourced<'p> = TestSettings<'p, SettingSource<'p>>;
 // settings, with commas between them; and then sources: what each setting is, and where it comes from. Features of scripts are known.
 pub(crate) fn test_settings(page: &mut Page, input: &str) -> Option<()> {
     let (head, sources) = two(input, BAR);
-    let sources = sources_of(page.alloc(), sources)?;
+    let sources = some!(sources_of(page.alloc, sources));
     let features = FeatureSet {
         setup_scripts: true,
         wrapper_scripts: true,
         benchmarks: false,
     };
-    let config = PlainConfig::from_sources(
-        page.alloc(),
+    let config = ok!(PlainConfig::from_sources(
+        page.alloc,
         "/work",
         &(),
         sources.as_slice(),
         features,
-    ).ok()?;
+    ));
     of_config(page, &config, head)
 }
 
@@ -41,14 +41,14 @@ fn of_config(page: &mut Page, config: &PlainConfig, head: &str) -> Option<()> {
     let (profile, mode, rest) = three(head);
     let (binary, host, rest) = three(rest);
     let (target, test_name, keys) = three(rest);
-    let (mode, query) = (mode_of(mode)?, query_of(binary, test_name)?);
-    let host = names_of(page.alloc(), host)?;
-    let names = names_of(page.alloc(), target)?;
+    let (mode, query) = (some!(mode_of(mode)), some!(query_of(binary, test_name)));
+    let host = some!(names_of(page.alloc, host));
+    let names = some!(names_of(page.alloc, target));
     let platforms = BuildPlatforms {
         host: &host,
         target: if target == "none" { None } else { Some(&names) },
     };
-    let early = config.profile(page.alloc(), profile).ok()?;
+    let early = ok!(config.profile(page.alloc, profile));
     of_profile(
         page,
         &early.apply_build_platforms(&platforms),
@@ -97,13 +97,11 @@ fn of_profile(
     query: &TestQuery<'_>,
     keys: &str,
 ) -> Option<()> {
-    let settings = profile
-        .settings_with_source_for(page.alloc(), mode, query)
-        .ok()?;
+    let settings = ok!(profile.settings_with_source_for(page.alloc, mode, query));
     for key in keys.split(',') {
         page.separate(0, "; ");
         show!(page; key, " = ");
-        setting_told(page, profile, &settings, query, key)?;
+        some!(setting_told(page, profile, &settings, query, key));
     }
     Some(())
 }
@@ -126,7 +124,7 @@ fn setting_told(
 // The default filter, and the key that sets it.
 fn default_told(page: &mut Page, profile: &PlainProfile<'_>) -> Option<()> {
     let found = profile.default_filter();
-    let place = found.display_config(page.alloc()).ok()?;
+    let place = ok!(found.display_config(page.alloc));
     show!(page; filter_text(found.filter), " from ", place);
     Some(())
 }
@@ -137,7 +135,7 @@ fn list_wrapper(
     profile: &PlainProfile<'_>,
     binary: &BinaryQuery<'_>,
 ) -> Option<()> {
-    let settings = profile.list_settings_for(page.alloc(), binary).ok()?;
+    let settings = ok!(profile.list_settings_for(page.alloc, binary));
     wrapper_told(page, settings.list_wrapper());
     Some(())
 }
@@ -152,7 +150,7 @@ fn wrapper_told(page: &mut Page, found: Option<&WrapperScriptConfig>) {
 // The names of the setup scripts that are enabled for a test, with commas between them; `-` where there is none.
 fn setup_scripts(page: &mut Page, profile: &PlainProfile<'_>, query: &TestQuery<'_>) -> Option<()> {
     let (matching, start) = ([*query], page.len());
-    let scripts = profile.setup_scripts(page.alloc(), &matching).ok()?;
+    let scripts = ok!(profile.setup_scripts(page.alloc, &matching));
     page.tell_each(start, ",", scripts.as_slice());
     page.or_none(start);
     Some(())
@@ -211,9 +209,7 @@ fn group_told(page: &mut Page, setting: &(TestGroupRef<'_>, SettingSource<'_>)) 
     match setting.0 {
         TestGroupRef::Global => page.show("Global"),
         TestGroupRef::Custom(name) => {
-            page.show("Custom(");
-            page.debug(name.as_str());
-            page.show(")");
+            show!(page; "Custom(", Whole(name.as_str()), ")");
         }
     }
     source_told(page, setting.1);

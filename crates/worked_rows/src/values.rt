@@ -1,6 +1,7 @@
 // Values of the configuration.
 use crate::page::Page;
 use crate::parts::two;
+use crate::{ok, some};
 use nextest_config_elements::{
     Any, ConfigValue, deserialize_config_identifier, deserialize_fail_fast,
     deserialize_final_status_level, deserialize_flaky_result, deserialize_global_timeout,
@@ -11,7 +12,7 @@ use nextest_config_elements::{
     deserialize_tool_name,
 };
 use std::alloc::Global;
-use toml::Value;
+use toml::{Table, Value};
 
 // What stands in TOML.
 pub(crate) fn toml_value(alloc: Global, text: &str) -> Option<Value> {
@@ -20,20 +21,24 @@ pub(crate) fn toml_value(alloc: Global, text: &str) -> Option<Value> {
 
 // What becomes of a flaky test, a level or a display, by its word.
 pub(crate) fn word_as<T: ConfigValue<Any>>(alloc: Global, word: &str) -> Option<T> {
-    T::from_value(&Value::String(String::from_str(alloc, word).ok()?))
+    T::from_value(&Value::String(ok!(String::from_str(alloc, word))))
 }
 
 // A kind of value and what stands in TOML behind `k = `: the value of that kind that it is, or why it is refused.
 pub(crate) fn values(page: &mut Page, input: &str) -> Option<()> {
     let (kind, text) = two(input, " ");
-    let document = format!(in page.alloc(); "k = {text}").ok()?;
-    let table = toml::table_from_str(page.alloc(), document.as_str()).ok()?;
-    value_read(page, kind, table.get("k")?)
+    let table = some!(table_with(page.alloc, text));
+    value_read(page, kind, some!(table.get("k")))
+}
+
+fn table_with(alloc: Global, text: &str) -> Option<Table> {
+    let document = ok!(format!(in alloc; "k = {text}"));
+    toml::table_from_str(alloc, document.as_str()).ok()
 }
 
 // A value of a kind.
 fn value_read(page: &mut Page, kind: &str, value: &Value) -> Option<()> {
-    let (alloc, path) = (page.alloc(), &["k"]);
+    let (alloc, path) = (page.alloc, &["k"]);
     match kind {
         "retries" => page.debugged(deserialize_retry_policy(alloc, value, path)),
         "fail-fast" => page.debugged(deserialize_fail_fast(alloc, value, path)),
@@ -49,7 +54,7 @@ fn value_read(page: &mut Page, kind: &str, value: &Value) -> Option<()> {
 
 // A value of a kind that is a name or a group's setting.
 fn name_read(page: &mut Page, kind: &str, value: &Value, path: &[&str]) -> Option<()> {
-    let alloc = page.alloc();
+    let alloc = page.alloc;
     match kind {
         "test-group-config" => page.debugged(deserialize_test_group_config(alloc, value, path)),
         "priority" => page.debugged(deserialize_test_priority(alloc, value, path)),
@@ -63,7 +68,7 @@ fn name_read(page: &mut Page, kind: &str, value: &Value, path: &[&str]) -> Optio
 
 // A value of a kind that is one of some words.
 fn word_read(page: &mut Page, kind: &str, value: &Value, path: &[&str]) -> Option<()> {
-    let alloc = page.alloc();
+    let alloc = page.alloc;
     match kind {
         "flaky-result" => page.debugged(deserialize_flaky_result(alloc, value, path)),
         "status-level" => page.debugged(deserialize_status_level(alloc, value, path)),

@@ -2,10 +2,10 @@
 use crate::configs::{BAR, kind_of};
 use crate::page::Page;
 use crate::parts::{three, two};
-use crate::show;
+use crate::{ok, show, some};
 use nextest_config_elements::{
     ConfigExperimental, ConfigSourceKind, ExperimentalConfig, NextestVersionEval, PlainVersion,
-    VersionOnlyConfig, VersionOnlyError, VersionSource,
+    VersionOnlyConfig, VersionSource,
 };
 use std::alloc::Global;
 
@@ -23,18 +23,17 @@ struct Kinds {
 pub(crate) fn verdicts(page: &mut Page, input: &str) -> Option<()> {
     let (head, sources) = two(input, BAR);
     let kinds = Kinds {
-        tool: kind_of(page.alloc(), "tool")?,
+        tool: some!(kind_of(page.alloc, "tool")),
         explicit: ConfigSourceKind::ExplicitRepository,
         discovered: ConfigSourceKind::DiscoveredRepository,
     };
-    let lent = lent_by(page.alloc(), &kinds, sources)?;
-    match VersionOnlyConfig::from_sources(page.alloc(), lent.as_slice()) {
+    let lent = some!(lent_by(page.alloc, &kinds, sources));
+    match VersionOnlyConfig::from_sources(page.alloc, lent.as_slice()) {
         Ok(config) => demands_told(page, &config, head),
-        Err(VersionOnlyError::Refused(fault)) => {
-            page.show(fault);
+        Err(refusal) => {
+            page.show(refusal);
             Some(())
         }
-        Err(VersionOnlyError::OutOfMemory) => None,
     }
 }
 
@@ -46,7 +45,7 @@ fn lent_by<'a>(
 ) -> Option<Vec<VersionSource<'a>>> {
     let mut lent = Vec::new(alloc);
     for source in sources.split(BAR) {
-        lent.push(source_of(kinds, source)).ok()?;
+        ok!(lent.push(source_of(kinds, source)));
     }
     Some(lent)
 }
@@ -65,7 +64,7 @@ fn source_of<'a>(kinds: &'a Kinds, source: &'a str) -> VersionSource<'a> {
 // What a current version is by what the sources ask for, and the features that they ask for.
 fn demands_told(page: &mut Page, config: &VersionOnlyConfig, head: &str) -> Option<()> {
     let (current, flag) = two(head, " ");
-    let current = PlainVersion::parse(page.alloc(), current).ok()?;
+    let current = ok!(PlainVersion::parse(page.alloc, current));
     let versions = config.nextest_version();
     verdict_told(page, versions.eval(current.version(), flag == "override"));
     features_told(page, config.experimental());

@@ -1,12 +1,11 @@
 // What is shown of a finished test.
 use crate::ends::described_end;
 use crate::page::Page;
-use crate::parts::three;
-use crate::show;
-use crate::summaries::reason_of;
+use crate::parts::{Word, three};
 use crate::values::word_as;
+use crate::{show, some};
 use nextest_config_elements::{FinalStatusLevel, StatusLevel, TestOutputDisplay};
-use nextest_run_events::{OutputStoreFinal, StatusLevels};
+use nextest_run_events::{CancelReason, OutputStoreFinal, StatusLevels};
 
 fn kept_words(kept: OutputStoreFinal) -> &'static str {
     match kept {
@@ -30,11 +29,11 @@ pub(crate) fn visibility(page: &mut Page, input: &str) -> Option<()> {
         final_status_level: FinalStatusLevel::Fail,
     };
     let shown = levels.compute_output_on_test_finished(
-        word_as::<TestOutputDisplay>(page.alloc(), display)?,
-        reason_of(reason),
-        word_as::<StatusLevel>(page.alloc(), level)?,
-        word_as::<FinalStatusLevel>(page.alloc(), final_level)?,
-        &described_end(page.alloc(), end)?,
+        some!(word_as::<TestOutputDisplay>(page.alloc, display)),
+        CancelReason::of_word(page.alloc, reason),
+        some!(word_as::<StatusLevel>(page.alloc, level)),
+        some!(word_as::<FinalStatusLevel>(page.alloc, final_level)),
+        &some!(described_end(page.alloc, end)),
     );
     let (line, at_once) = (shown.write_status_line, shown.show_immediate);
     page.show(if line { "line, " } else { "no line, " });
@@ -49,7 +48,7 @@ pub(crate) fn visibility(page: &mut Page, input: &str) -> Option<()> {
 
 // A display: whether output is shown at once, and whether at the end.
 pub(crate) fn displays(page: &mut Page, input: &str) -> Option<()> {
-    let display = word_as::<TestOutputDisplay>(page.alloc(), input)?;
+    let display = some!(word_as::<TestOutputDisplay>(page.alloc, input));
     show!(page; "at once ", display.is_immediate(), ", at the end ", display.is_final());
     Some(())
 }

@@ -1,5 +1,6 @@
 // The workspaces that the tables of compiled filtersets name; their heads say what is in each.
 use crate::parts::{Word, list_of, three};
+use crate::{ok, some};
 use nextest_filtering::{BinaryQuery, BuildPlatform, PackageGraph, ParseContext};
 use nextest_text::Text;
 use std::alloc::Global;
@@ -76,8 +77,8 @@ p64 p64 lib p64 target";
 
 // A workspace by its name.
 pub(crate) fn workspace(alloc: Global, name: &str) -> Option<ParseContext> {
-    let binaries = list_of::<(Text, Text)>(alloc, binary_lines(name), "\n")?;
-    let cx = ParseContext::new(alloc, graph(alloc, name)?).ok()?;
+    let binaries = some!(list_of::<(Text, Text)>(alloc, binary_lines(name), "\n"));
+    let cx = ok!(ParseContext::new(alloc, some!(graph(alloc, name))));
     Some(cx.with_binaries(binaries))
 }
 
@@ -85,8 +86,8 @@ pub(crate) fn workspace(alloc: Global, name: &str) -> Option<ParseContext> {
 impl Word for (Text, Text) {
     fn of_word(alloc: Global, line: &str) -> Option<(Text, Text)> {
         let binary = binary_of(line);
-        let id = Text::from_str(alloc, binary.binary_id).ok()?;
-        Some((id, Text::from_str(alloc, binary.binary_name).ok()?))
+        let id = ok!(Text::from_str(alloc, binary.binary_id));
+        Some((id, ok!(Text::from_str(alloc, binary.binary_name))))
     }
 }
 
@@ -117,9 +118,9 @@ fn line(alloc: Global) -> Option<PackageGraph> {
     let mut links = Vec::new(alloc);
     let mut before = "";
     for name in LINE_PACKAGES.split(' ') {
-        packages.push((name, name)).ok()?;
+        ok!(packages.push((name, name)));
         if !before.is_empty() {
-            links.push((before, name)).ok()?;
+            ok!(links.push((before, name)));
         }
         before = name;
     }
