@@ -28,7 +28,7 @@ fn verdict_told(
     text: &str,
 ) -> Option<()> {
     let text = ok!(Text::from_str(page.alloc, text));
-    match Filterset::parse(page.alloc, text, cx, kind, known) {
+    match &Filterset::parse(page.alloc, text, cx, kind, known) {
         Ok(_) => page.show("accepted"),
         Err(FiltersetError::Refused(refused)) => faults_told(page, refused.errors.as_slice()),
         Err(FiltersetError::OutOfMemory) => return None,

@@ -97,7 +97,9 @@ fn of_profile(
     query: &TestQuery<'_>,
     keys: &str,
 ) -> Option<()> {
-    let settings = ok!(profile.settings_with_source_for(page.alloc, mode, query));
+    let Ok(settings) = profile.settings_with_source_for(page.alloc, mode, query) else {
+        return None;
+    };
     for key in keys.split(',') {
         page.separate(0, "; ");
         show!(page; key, " = ");

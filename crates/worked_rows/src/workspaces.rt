@@ -116,13 +116,13 @@ fn graph(alloc: Global, name: &str) -> Option<PackageGraph> {
 fn line(alloc: Global) -> Option<PackageGraph> {
     let mut packages = Vec::new(alloc);
     let mut links = Vec::new(alloc);
-    let mut before = "";
+    let mut before: Option<&str> = None;
     for name in LINE_PACKAGES.split(' ') {
         ok!(packages.push((name, name)));
-        if !before.is_empty() {
+        if let Some(before) = before {
             ok!(links.push((before, name)));
         }
-        before = name;
+        before = Some(name);
     }
     PackageGraph::new(alloc, packages.as_slice(), links.as_slice()).ok()
 }
