@@ -1,5 +1,6 @@
 // Which function answers the rows of which table of the layers below the core: few names at a time, since a function over many
 // of them is dear to prove.
+use crate::page::Page;
 use crate::table::{Table, rows_hold};
 use crate::{
     asking, attempts, commands, compiled, configs, elements, ends, filter_texts, filter_trees,
@@ -7,7 +8,6 @@ use crate::{
     visibility,
 };
 use anyhow::Result;
-use std::alloc::Global;
 use std::rt::Files;
 
 // The tables, one name a line: lines of logs, filtersets, run events, elements of configurations, configurations.
@@ -87,8 +87,8 @@ impl Table for Named {
         self.0
     }
 
-    fn answer(&self, alloc: Global, input: &str) -> Option<String> {
-        of_layers(self.0, alloc, input)
+    fn answer(&self, page: &mut Page, input: &str) -> Option<()> {
+        of_layers(page, self.0, input)
     }
 }
 
@@ -101,123 +101,123 @@ pub(crate) fn layers_hold<R: Files + Print + AllocGlobal>(rt: &R) -> Result<bool
     Ok(hold)
 }
 
-// The answer to an input of the table of a name; `None` where the input is none of it, or there is no memory.
-fn of_layers(name: &str, alloc: Global, input: &str) -> Option<String> {
+// Writes the answer to an input of the table of a name; `None` where the input is none of it, or there is no memory.
+fn of_layers(page: &mut Page, name: &str, input: &str) -> Option<()> {
     match name {
-        "loads" => configs::loads(alloc, input),
-        "test_settings" => test_settings::test_settings(alloc, input),
-        "warnings" => configs::warnings(alloc, input),
-        "plain_filters" => asking::plain_filters(alloc, input),
-        "filters" => asking::filters(alloc, input),
-        "plain_specs" => asking::plain_specs(alloc, input),
-        "platform_specs" => platform_specs::platform_specs(alloc, input),
-        "plain_configs" => asking::plain_configs(alloc, input),
-        "log_lines" => log_lines::log_lines(alloc, input),
-        "commands" => commands::commands(alloc, input),
-        _ => of_filter_trees(name, alloc, input),
+        "loads" => configs::loads(page, input),
+        "test_settings" => test_settings::test_settings(page, input),
+        "warnings" => configs::warnings(page, input),
+        "plain_filters" => asking::plain_filters(page, input),
+        "filters" => asking::filters(page, input),
+        "plain_specs" => asking::plain_specs(page, input),
+        "platform_specs" => platform_specs::platform_specs(page, input),
+        "plain_configs" => asking::plain_configs(page, input),
+        "log_lines" => log_lines::log_lines(page, input),
+        "commands" => commands::commands(page, input),
+        _ => of_filter_trees(page, name, input),
     }
 }
 
-fn of_filter_trees(name: &str, alloc: Global, input: &str) -> Option<String> {
+fn of_filter_trees(page: &mut Page, name: &str, input: &str) -> Option<()> {
     match name {
-        "filtersets" => filter_trees::filtersets(alloc, input),
-        "parsed" => filter_trees::parsed(alloc, input),
-        "trees" => filter_trees::trees(alloc, input),
-        "leaves" => filter_trees::leaves(alloc, input),
-        "deps" => filter_trees::deps(alloc, input),
-        "name_matches" => filter_trees::name_matches(alloc, input),
-        "page" => filter_trees::page(alloc, input),
-        _ => of_filter_texts(name, alloc, input),
+        "filtersets" => filter_trees::filtersets(page, input),
+        "parsed" => filter_trees::parsed(page, input),
+        "trees" => filter_trees::trees(page, input),
+        "leaves" => filter_trees::leaves(page, input),
+        "deps" => filter_trees::deps(page, input),
+        "name_matches" => filter_trees::name_matches(page, input),
+        "page" => filter_trees::page(page, input),
+        _ => of_filter_texts(page, name, input),
     }
 }
 
-fn of_filter_texts(name: &str, alloc: Global, input: &str) -> Option<String> {
+fn of_filter_texts(page: &mut Page, name: &str, input: &str) -> Option<()> {
     match name {
-        "globs" => filter_texts::globs(alloc, input),
-        "glob_matches" => filter_texts::glob_matches(alloc, input),
-        "texts" => filter_texts::texts(alloc, input),
-        "escapes" => filter_texts::escapes(alloc, input),
-        "printed" => filter_texts::printed(alloc, input),
-        "regexes" => filter_texts::regexes(alloc, input),
-        "arguments" => filter_texts::arguments(alloc, input),
-        _ => of_ends(name, alloc, input),
+        "globs" => filter_texts::globs(page, input),
+        "glob_matches" => filter_texts::glob_matches(page, input),
+        "texts" => filter_texts::texts(page, input),
+        "escapes" => filter_texts::escapes(page, input),
+        "printed" => filter_texts::printed(page, input),
+        "regexes" => filter_texts::regexes(page, input),
+        "arguments" => filter_texts::arguments(page, input),
+        _ => of_ends(page, name, input),
     }
 }
 
-fn of_ends(name: &str, alloc: Global, input: &str) -> Option<String> {
+fn of_ends(page: &mut Page, name: &str, input: &str) -> Option<()> {
     match name {
-        "compiled" => compiled::compiled(alloc, input),
-        "answers" => compiled::answers(alloc, input),
-        "json_forms" => ends::json_forms(alloc, input),
-        "printed_forms" => ends::printed_forms(alloc, input),
-        "signals" => ends::signals(alloc, input),
-        "exits" => ends::exits(alloc, input),
-        "ends" => ends::ends(alloc, input),
-        _ => of_outputs(name, alloc, input),
+        "compiled" => compiled::compiled(page, input),
+        "answers" => compiled::answers(page, input),
+        "json_forms" => ends::json_forms(page, input),
+        "printed_forms" => ends::printed_forms(page, input),
+        "signals" => ends::signals(page, input),
+        "exits" => ends::exits(page, input),
+        "ends" => ends::ends(page, input),
+        _ => of_outputs(page, name, input),
     }
 }
 
-fn of_outputs(name: &str, alloc: Global, input: &str) -> Option<String> {
+fn of_outputs(page: &mut Page, name: &str, input: &str) -> Option<()> {
     match name {
-        "errors" => outputs::errors(alloc, input),
-        "causes" => outputs::causes(alloc, input),
-        "described" => outputs::described(alloc, input),
-        "has_errors" => outputs::has_errors(alloc, input),
-        "unit_errors" => outputs::unit_errors(alloc, input),
-        "stream_lengths" => outputs::stream_lengths(alloc, input),
-        "slices" => outputs::slices(alloc, input),
-        _ => of_runs(name, alloc, input),
+        "errors" => outputs::errors(page, input),
+        "causes" => outputs::causes(page, input),
+        "described" => outputs::described(page, input),
+        "has_errors" => outputs::has_errors(page, input),
+        "unit_errors" => outputs::unit_errors(page, input),
+        "stream_lengths" => outputs::stream_lengths(page, input),
+        "slices" => outputs::slices(page, input),
+        _ => of_runs(page, name, input),
     }
 }
 
-fn of_runs(name: &str, alloc: Global, input: &str) -> Option<String> {
+fn of_runs(page: &mut Page, name: &str, input: &str) -> Option<()> {
     match name {
-        "attempts" => attempts::attempts(alloc, input),
-        "scripts" => attempts::scripts(alloc, input),
-        "last_attempts" => attempts::last_attempts(alloc, input),
-        "summaries" => summaries::summaries(alloc, input),
-        "outcomes" => summaries::outcomes(alloc, input),
-        "visibility" => visibility::visibility(alloc, input),
-        "displays" => visibility::displays(alloc, input),
-        _ => of_stress(name, alloc, input),
+        "attempts" => attempts::attempts(page, input),
+        "scripts" => attempts::scripts(page, input),
+        "last_attempts" => attempts::last_attempts(page, input),
+        "summaries" => summaries::summaries(page, input),
+        "outcomes" => summaries::outcomes(page, input),
+        "visibility" => visibility::visibility(page, input),
+        "displays" => visibility::displays(page, input),
+        _ => of_stress(page, name, input),
     }
 }
 
-fn of_stress(name: &str, alloc: Global, input: &str) -> Option<String> {
+fn of_stress(page: &mut Page, name: &str, input: &str) -> Option<()> {
     match name {
-        "stress_ends" => stress::stress_ends(alloc, input),
-        "stress_remaining" => stress::stress_remaining(alloc, input),
-        "stress_names" => stress::stress_names(alloc, input),
-        "stress_totals" => stress::stress_totals(alloc, input),
-        "orders" => orders::orders(alloc, input),
-        "shown_texts" => orders::shown_texts(alloc, input),
-        "words" => orders::words(alloc, input),
-        _ => of_names(name, alloc, input),
+        "stress_ends" => stress::stress_ends(page, input),
+        "stress_remaining" => stress::stress_remaining(page, input),
+        "stress_names" => stress::stress_names(page, input),
+        "stress_totals" => stress::stress_totals(page, input),
+        "orders" => orders::orders(page, input),
+        "shown_texts" => orders::shown_texts(page, input),
+        "words" => orders::words(page, input),
+        _ => of_names(page, name, input),
     }
 }
 
-fn of_names(name: &str, alloc: Global, input: &str) -> Option<String> {
+fn of_names(page: &mut Page, name: &str, input: &str) -> Option<()> {
     match name {
-        "tool_names" => elements::tool_names(alloc, input),
-        "identifiers" => elements::identifiers(alloc, input),
-        "tool_config_files" => elements::tool_config_files(alloc, input),
-        "test_groups" => elements::test_groups(alloc, input),
-        "run_modes" => elements::run_modes(alloc, input),
-        "verdicts" => verdicts::verdicts(alloc, input),
-        "values" => values::values(alloc, input),
-        _ => of_numbers(name, alloc, input),
+        "tool_names" => elements::tool_names(page, input),
+        "identifiers" => elements::identifiers(page, input),
+        "tool_config_files" => elements::tool_config_files(page, input),
+        "test_groups" => elements::test_groups(page, input),
+        "run_modes" => elements::run_modes(page, input),
+        "verdicts" => verdicts::verdicts(page, input),
+        "values" => values::values(page, input),
+        _ => of_numbers(page, name, input),
     }
 }
 
-fn of_numbers(name: &str, alloc: Global, input: &str) -> Option<String> {
+fn of_numbers(page: &mut Page, name: &str, input: &str) -> Option<()> {
     match name {
-        "decimals" => elements::decimals(alloc, input),
-        "durations" => elements::durations(alloc, input),
-        "limits" => elements::limits(alloc, input),
-        "exceeded" => elements::exceeded(alloc, input),
-        "flaky_messages" => elements::flaky_messages(alloc, input),
-        "priorities" => elements::priorities(alloc, input),
-        "threads" => elements::threads(alloc, input),
+        "decimals" => elements::decimals(page, input),
+        "durations" => elements::durations(page, input),
+        "limits" => elements::limits(page, input),
+        "exceeded" => elements::exceeded(page, input),
+        "flaky_messages" => elements::flaky_messages(page, input),
+        "priorities" => elements::priorities(page, input),
+        "threads" => elements::threads(page, input),
         _ => None,
     }
 }

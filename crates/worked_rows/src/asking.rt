@@ -7,9 +7,11 @@ ghost use Rattle.nextest_config_resolution_settings.specs.Nearest.{seen};
 ghost use Rattle.worked_rows.specs.Configs.{AreRetriesOf, place_of};
 
 use crate::configs::{BAR, sources_of};
-use crate::parts::{texts_of, two};
+use crate::page::{Page, Whole};
+use crate::parts::{Word, two};
 use crate::plain_filter::PlainFilter;
 use crate::plain_spec::PlainSpec;
+use crate::{ok, show, some};
 use nextest_config_elements::{FeatureSet, NextestRunMode, RetryPolicy};
 use nextest_config_resolution::{
     BuildPlatforms, ConfigSource, FilterError, Filters, LoadError, NextestConfig, ProfileError,
@@ -122,91 +124,95 @@ fn place_of(source: SettingSource<'_>) -> Option<usize>
 }
 
 // A filter and a default filter: whether the one holds on the test `slow` of a library.
-fn held<F: Filters>(alloc: Global, input: &str, cx: &F::Cx) -> Option<String> {
+fn held_told<F: Filters>(page: &mut Page, input: &str, cx: &F::Cx) -> Option<()> {
     let (filter, default) = two(input, BAR);
-    let filter = Text::from_str(alloc, filter).ok()?;
-    let default = Text::from_str(alloc, default).ok()?;
+    let filter = ok!(Text::from_str(page.alloc, filter));
+    let default = ok!(Text::from_str(page.alloc, default));
     match holds::<F>(
-        alloc,
+        page.alloc,
         filter,
         default,
         cx,
         &KnownGroups::Unavailable,
         &test_named("slow"),
     ) {
-        Ok(value) => format!(in alloc; "{value}").ok(),
-        Err(FilterError::Refused) => String::from_str(alloc, "refused").ok(),
-        Err(FilterError::OutOfMemory) => None,
+        Ok(value) => page.show(value),
+        Err(FilterError::Refused) => page.show("refused"),
+        Err(FilterError::OutOfMemory) => return None,
     }
+    Some(())
 }
 
 // What a filter is asked: whether it asks for groups, whether it asks what only tests tell, and whether it serves as a default.
-fn told_of<F: Filters>(alloc: Global, input: &str, cx: &F::Cx) -> Option<String> {
-    let text = Text::from_str(alloc, input).ok()?;
-    let filter = F::parse(
-        alloc,
+fn asked_told<F: Filters>(page: &mut Page, input: &str, cx: &F::Cx) -> Option<()> {
+    let text = ok!(Text::from_str(page.alloc, input));
+    let filter = ok!(F::parse(
+        page.alloc,
         text,
         cx,
         FiltersetKind::Test,
         &KnownGroups::Unavailable,
-    )
-    .ok()?;
-    let (groups, leaves) = (filter.has_groups(), filter.has_runtime_leaves());
-    format!(in alloc;
-        "groups {groups}, tests {leaves}, default {}",
-        filter.serves_as_default()
-    )
-    .ok()
+    ));
+    show!(page; "groups ", filter.has_groups(), ", tests ", filter.has_runtime_leaves());
+    show!(page; ", default ", filter.serves_as_default());
+    Some(())
 }
 
 // Of filters without a language: a filter and a default filter, and whether the one holds on the test `slow`.
-pub(crate) fn plain_filters(alloc: Global, input: &str) -> Option<String> {
-    held::<PlainFilter>(alloc, input, &())
+pub(crate) fn plain_filters(page: &mut Page, input: &str) -> Option<()> {
+    held_told::<PlainFilter>(page, input, &())
 }
 
 // Of filtersets the same; of one alone what it asks for.
-pub(crate) fn filters(alloc: Global, input: &str) -> Option<String> {
-    let graph = PackageGraph::new(alloc, &[("a-1", "a")], &[]).ok()?;
-    let cx = ParseContext::new(alloc, graph).ok()?;
+pub(crate) fn filters(page: &mut Page, input: &str) -> Option<()> {
+    let graph = ok!(PackageGraph::new(page.alloc, &[("a-1", "a")], &[]));
+    let cx = ok!(ParseContext::new(page.alloc, graph));
     if input.contains(BAR) {
-        held::<Filterset>(alloc, input, &cx)
+        held_told::<Filterset>(page, input, &cx)
     } else {
-        told_of::<Filterset>(alloc, input, &cx)
+        asked_told::<Filterset>(page, input, &cx)
     }
 }
 
 // The names of a platform, each with a comma behind it, and a spec: whether it holds there.
-pub(crate) fn plain_specs(alloc: Global, input: &str) -> Option<String> {
+pub(crate) fn plain_specs(page: &mut Page, input: &str) -> Option<()> {
     let (words, spec) = two(input, BAR);
-    let names = texts_of(alloc, words, ",")?;
-    match holds_on::<PlainSpec>(alloc, spec, &names) {
-        Ok(value) => format!(in alloc; "{value:?}").ok(),
-        Err(SpecError::Refused) => String::from_str(alloc, "refused").ok(),
-        Err(SpecError::OutOfMemory) => None,
+    let names = some!(Listing::of_word(page.alloc, words));
+    match holds_on::<PlainSpec>(page.alloc, spec, &names) {
+        Ok(value) => page.debug(value),
+        Err(SpecError::Refused) => page.show("refused"),
+        Err(SpecError::OutOfMemory) => return None,
     }
+    Some(())
 }
 
 // A profile and sources: its retries and where it takes them from, in a configuration of plain filters and plain specs.
-pub(crate) fn plain_configs(alloc: Global, input: &str) -> Option<String> {
+pub(crate) fn plain_configs(page: &mut Page, input: &str) -> Option<()> {
     let (name, sources) = two(input, BAR);
-    let sources = sources_of(alloc, sources)?;
+    let sources = some!(sources_of(page.alloc, sources));
     let platforms = BuildPlatforms {
-        host: &Listing::new(alloc),
+        host: &Listing::new(page.alloc),
         target: None,
     };
-    match retries_of::<PlainFilter, PlainSpec>(
-        alloc,
+    let found = retries_of::<PlainFilter, PlainSpec>(
+        page.alloc,
         &(),
         FeatureSet::default(),
         sources.as_slice(),
         name,
         &platforms,
         &test_named("slow"),
-    )
-    .ok()?
-    {
-        Some((retries, Some(place))) => format!(in alloc; "{retries:?} Profile({place})").ok(),
-        Some((retries, None)) => format!(in alloc; "{retries:?} Default").ok(),
-        None => String::from_str(alloc, "no such profile").ok(),
+    );
+    retries_told(page, ok!(found));
+    Some(())
+}
+
+fn retries_told(page: &mut Page, found: Option<(RetryPolicy, Option<usize>)>) {
+    let Some((retries, place)) = found else {
+        return page.show("no such profile");
+    };
+    match place {
+        Some(place) => show!(page; Whole(retries), " Profile(", place, ")"),
+        None => show!(page; Whole(retries), " Default"),
     }
 }

@@ -1,7 +1,10 @@
 // Attempts of tests, and runs of setup scripts.
 use crate::ends::described_end;
-use crate::parts::{number, push_part, two};
-use crate::values::rule_of;
+use crate::page::{Page, Whole};
+use crate::parts::{Word, list_of, two};
+use crate::values::word_as;
+use crate::{show, some};
+use nextest_config_elements::FlakyResult;
 use nextest_run_events::{
     ChildExecutionOutputDescription, ChildOutputDescription, ExecuteStatus, ExecutionStatuses,
     LiveSpec, OutputSpec, RetryData, RunStats, SetupScriptExecuteStatus,
@@ -18,73 +21,65 @@ impl OutputSpec for NoOutput {
 }
 
 // An attempt that ended in these words, with `slow` behind them or not.
-fn attempt_of(alloc: Global, words: &str) -> Option<ExecuteStatus<NoOutput>> {
-    let (end, is_slow) = match words.strip_suffix(" slow") {
-        Some(end) => (end, true),
-        None => (words, false),
-    };
-    let result = described_end(alloc, end)?;
-    Some(ExecuteStatus {
-        retry_data: RetryData {
-            attempt: 1,
-            total_attempts: 1,
-        },
-        output: ChildExecutionOutputDescription::Output {
-            result: None,
-            output: (),
-            errors: None,
-        },
-        result,
-        start_time: None,
-        time_taken: Duration::from_nanos(1),
-        is_slow,
-        delay_before_start: Duration::ZERO,
-        error_summary: None,
-        output_error_slice: None,
-    })
+impl Word for ExecuteStatus<NoOutput> {
+    fn of_word(alloc: Global, words: &str) -> Option<ExecuteStatus<NoOutput>> {
+        let end = words.strip_suffix(" slow");
+        Some(ExecuteStatus {
+            retry_data: RetryData {
+                attempt: 1,
+                total_attempts: 1,
+            },
+            output: ChildExecutionOutputDescription::Output {
+                result: None,
+                output: (),
+                errors: None,
+            },
+            result: some!(described_end(alloc, end.unwrap_or(words))),
+            start_time: None,
+            time_taken: Duration::from_nanos(1),
+            is_slow: end.is_some(),
+            delay_before_start: Duration::ZERO,
+            error_summary: None,
+            output_error_slice: None,
+        })
+    }
 }
 
 // The flaky rule of a test and how its attempts ended: the two levels of what they come to, whether the last output is that of a
 // success, and the counters of a run of this test alone.
-pub(crate) fn attempts(alloc: Global, input: &str) -> Option<String> {
+pub(crate) fn attempts(page: &mut Page, input: &str) -> Option<()> {
     let (rule, ends) = two(input, ": ");
-    let rule = rule_of(alloc, rule)?;
-    match ExecutionStatuses::from_parts(attempts_of(alloc, ends)?, rule) {
-        Ok(attempts) => attempts_told(alloc, &attempts),
-        Err(refusal) => format!(in alloc; "{refusal}").ok(),
+    let rule = some!(word_as::<FlakyResult>(page.alloc, rule));
+    let attempts = some!(list_of::<ExecuteStatus<NoOutput>>(page.alloc, ends, ", "));
+    match ExecutionStatuses::from_parts(Listing::from(attempts), rule) {
+        Ok(attempts) => attempts_told(page, &attempts),
+        Err(refusal) => page.show(refusal),
     }
+    Some(())
 }
 
-// Attempts that ended in these words, with commas between them.
-fn attempts_of(alloc: Global, ends: &str) -> Option<Listing<ExecuteStatus<NoOutput>>> {
-    let mut attempts = Listing::new(alloc);
-    for words in ends.split_terminator(", ") {
-        attempts.push(attempt_of(alloc, words)?).ok()?;
-    }
-    Some(attempts)
-}
-
-fn attempts_told(alloc: Global, attempts: &ExecutionStatuses<NoOutput>) -> Option<String> {
+fn attempts_told(page: &mut Page, attempts: &ExecutionStatuses<NoOutput>) {
     let described = attempts.describe();
-    let level = described.status_level();
-    let last_level = described.final_status_level();
-    let succeeds = described.is_success_for_output();
+    show!(
+        page;
+        Whole(described.status_level()), ", ",
+        Whole(described.final_status_level()), ", success ",
+        described.is_success_for_output(), "; "
+    );
     let mut stats = RunStats::default();
     stats.on_test_finished(attempts);
-    let counters = counters_of(alloc, &stats)?;
-    format!(in alloc; "{level:?}, {last_level:?}, success {succeeds}; {counters}").ok()
+    counters_told(page, &stats);
 }
 
 // How a setup script ended: the counters of a run of this script alone.
-pub(crate) fn scripts(alloc: Global, input: &str) -> Option<String> {
-    let result = described_end(alloc, input)?;
+pub(crate) fn scripts(page: &mut Page, input: &str) -> Option<()> {
     let status: SetupScriptExecuteStatus<LiveSpec> = SetupScriptExecuteStatus {
+        result: some!(described_end(page.alloc, input)),
         output: ChildExecutionOutputDescription::Output {
             result: None,
             output: ChildOutputDescription::NotLoaded,
             errors: None,
         },
-        result,
         start_time: None,
         time_taken: Duration::from_nanos(1),
         is_slow: false,
@@ -93,55 +88,60 @@ pub(crate) fn scripts(alloc: Global, input: &str) -> Option<String> {
     };
     let mut stats = RunStats::default();
     stats.on_setup_script_finished(&status);
-    counters_of(alloc, &stats)
-}
-
-// How many counters there are.
-const COUNTERS: usize = 19;
-
-// The counter at a place, with its name.
-fn counter_at(stats: &RunStats, place: usize) -> (&'static str, usize) {
-    match place {
-        0 => ("initial", stats.initial_run_count),
-        1 => ("finished", stats.finished_count),
-        2 => ("scripts initial", stats.setup_scripts_initial_count),
-        3 => ("scripts finished", stats.setup_scripts_finished_count),
-        4 => ("scripts passed", stats.setup_scripts_passed),
-        5 => ("scripts failed", stats.setup_scripts_failed),
-        6 => ("scripts exec-failed", stats.setup_scripts_exec_failed),
-        7 => ("scripts timed out", stats.setup_scripts_timed_out),
-        8 => ("passed", stats.passed),
-        9 => ("passed slow", stats.passed_slow),
-        10 => ("passed timed out", stats.passed_timed_out),
-        11 => ("flaky", stats.flaky),
-        12 => ("failed", stats.failed),
-        13 => ("failed slow", stats.failed_slow),
-        14 => ("failed timed out", stats.failed_timed_out),
-        15 => ("leaky", stats.leaky),
-        16 => ("leaky failed", stats.leaky_failed),
-        17 => ("exec-failed", stats.exec_failed),
-        _ => ("skipped", stats.skipped),
-    }
+    counters_told(page, &stats);
+    Some(())
 }
 
 // The counters above 0 with their names.
-fn counters_of(alloc: Global, stats: &RunStats) -> Option<String> {
-    let mut text = String::new(alloc);
-    for place in 0..COUNTERS {
-        let (name, number) = counter_at(stats, place);
+fn counters_told(page: &mut Page, stats: &RunStats) {
+    let start = page.len();
+    page.counter(start, "initial", stats.initial_run_count)
+        .counter(start, "finished", stats.finished_count)
+        .counter(start, "scripts initial", stats.setup_scripts_initial_count)
+        .counter(
+            start,
+            "scripts finished",
+            stats.setup_scripts_finished_count,
+        )
+        .counter(start, "scripts passed", stats.setup_scripts_passed)
+        .counter(start, "scripts failed", stats.setup_scripts_failed)
+        .counter(
+            start,
+            "scripts exec-failed",
+            stats.setup_scripts_exec_failed,
+        )
+        .counter(start, "scripts timed out", stats.setup_scripts_timed_out)
+        .counter(start, "passed", stats.passed)
+        .counter(start, "passed slow", stats.passed_slow)
+        .counter(start, "passed timed out", stats.passed_timed_out)
+        .counter(start, "flaky", stats.flaky)
+        .counter(start, "failed", stats.failed)
+        .counter(start, "failed slow", stats.failed_slow)
+        .counter(start, "failed timed out", stats.failed_timed_out)
+        .counter(start, "leaky", stats.leaky)
+        .counter(start, "leaky failed", stats.leaky_failed)
+        .counter(start, "exec-failed", stats.exec_failed)
+        .counter(start, "skipped", stats.skipped);
+}
+
+impl Page {
+    // Writes a counter above 0 with its name, behind those since the answer was so long.
+    fn counter(&mut self, start: usize, name: &str, number: usize) -> &mut Page {
         if number > 0 {
-            push_part(&mut text, ", ", format_args!("{name} {number}"))?;
+            self.separate(start, ", ");
+            show!(self; name, " ", number);
         }
+        self
     }
-    Some(text)
 }
 
 // An attempt's number and how many there are at most: whether it is the last.
-pub(crate) fn last_attempts(alloc: Global, input: &str) -> Option<String> {
+pub(crate) fn last_attempts(page: &mut Page, input: &str) -> Option<()> {
     let (attempt, total_attempts) = two(input, " ");
     let data = RetryData {
-        attempt: number(attempt)?,
-        total_attempts: number(total_attempts)?,
+        attempt: page.number(attempt),
+        total_attempts: page.number(total_attempts),
     };
-    format!(in alloc; "{}", data.is_last_attempt()).ok()
+    page.show(data.is_last_attempt());
+    Some(())
 }

@@ -1,19 +1,21 @@
 // How a process ended, in words, what that is described as, and the JSON forms of that.
+use crate::page::{Page, Whole};
 use crate::parts::two;
+use crate::{ok, show, some};
 use nextest_run_events::{
     AbortDescription, AbortStatus, ExecutionResult, ExecutionResultDescription, ExitStatus,
-    FailureDescription, FailureStatus, JsonError, JsonForm, LeakTimeoutResult, SerializableError,
+    FailureDescription, FailureStatus, JsonForm, LeakTimeoutResult, SerializableError,
     SlowTimeoutResult, signal_name,
 };
 use nextest_text::i32_of_decimal;
 use serde_json::Value;
 use std::alloc::Global;
-use std::fmt::{Debug, Display};
+use std::fmt::Debug;
 
 // `code NUMBER` or `signal NUMBER`.
 fn exit_of(words: &str) -> Option<ExitStatus> {
     let (kind, number) = two(words, " ");
-    let number = i32_of_decimal(number)?;
+    let number = some!(i32_of_decimal(number));
     match kind {
         "code" => Some(ExitStatus::Code(number)),
         "signal" => Some(ExitStatus::Signal(number)),
@@ -23,14 +25,11 @@ fn exit_of(words: &str) -> Option<ExitStatus> {
 
 // A failure, with `leaked` behind it or not.
 fn failure_of(words: &str) -> Option<ExecutionResult> {
-    let (exit, leaked) = match words.strip_suffix(" leaked") {
-        Some(exit) => (exit, true),
-        None => (words, false),
-    };
-    let failure_status = FailureStatus::extract(exit_of(exit)?);
+    let exit = words.strip_suffix(" leaked");
+    let failure_status = FailureStatus::extract(some!(exit_of(exit.unwrap_or(words))));
     Some(ExecutionResult::Fail {
         failure_status,
-        leaked,
+        leaked: exit.is_some(),
     })
 }
 
@@ -58,76 +57,75 @@ pub(crate) fn end_of(words: &str) -> Option<ExecutionResult> {
 
 // The description of an end in these words.
 pub(crate) fn described_end(alloc: Global, words: &str) -> Option<ExecutionResultDescription> {
-    ExecutionResultDescription::from_result(alloc, end_of(words)?).ok()
+    ExecutionResultDescription::from_result(alloc, some!(end_of(words))).ok()
 }
 
 // An end: the name of its kind, whether it is a success, and its description as JSON.
-pub(crate) fn ends(alloc: Global, input: &str) -> Option<String> {
-    let ended = end_of(input)?;
-    let described = ExecutionResultDescription::from_result(alloc, ended).ok()?;
-    let json = described.to_json(alloc).ok()?.to_string(alloc).ok()?;
-    let (name, is_success) = (ended.as_static_str(), ended.is_success());
-    format!(in alloc; "{name}, success {is_success}, {json}").ok()
+pub(crate) fn ends(page: &mut Page, input: &str) -> Option<()> {
+    let ended = some!(end_of(input));
+    show!(page; ended.as_static_str(), ", success ", ended.is_success(), ", ");
+    written(page, &some!(described_end(page.alloc, input)))
+}
+
+// What is written of a value as JSON.
+fn written<T: JsonForm>(page: &mut Page, form: &T) -> Option<()> {
+    page.show(ok!(form.to_json(page.alloc)));
+    Some(())
 }
 
 // An exit: the abort that it is, if it is one, and the failure that it is.
-pub(crate) fn exits(alloc: Global, input: &str) -> Option<String> {
-    let exit = exit_of(input)?;
-    let (abort, failure) = (AbortStatus::extract(exit), FailureStatus::extract(exit));
-    format!(in alloc; "{abort:?}, {failure:?}").ok()
+pub(crate) fn exits(page: &mut Page, input: &str) -> Option<()> {
+    let exit = some!(exit_of(input));
+    show!(page; Whole(AbortStatus::extract(exit)), ", ", Whole(FailureStatus::extract(exit)));
+    Some(())
 }
 
 // The number of a signal: its name, if it has one.
-pub(crate) fn signals(alloc: Global, input: &str) -> Option<String> {
-    format!(in alloc; "{:?}", signal_name(i32_of_decimal(input)?)).ok()
+pub(crate) fn signals(page: &mut Page, input: &str) -> Option<()> {
+    page.debug(signal_name(some!(i32_of_decimal(input))));
+    Some(())
 }
 
 // A kind of value and JSON: the value that is read of it, behind the JSON that it is written as; or why nothing is read.
-pub(crate) fn json_forms(alloc: Global, input: &str) -> Option<String> {
+pub(crate) fn json_forms(page: &mut Page, input: &str) -> Option<()> {
     let (kind, text) = two(input, " ");
-    json_form(alloc, kind, &Value::from_str(alloc, text).ok()?)
+    json_form(page, kind, &ok!(Value::from_str(page.alloc, text)))
 }
 
-fn json_form(alloc: Global, kind: &str, value: &Value) -> Option<String> {
+fn json_form(page: &mut Page, kind: &str, value: &Value) -> Option<()> {
     match kind {
-        "abort" => read_back::<AbortDescription>(alloc, value),
-        "error" => read_back::<SerializableError>(alloc, value),
-        "failure" => read_back::<FailureDescription>(alloc, value),
-        "number" => read_back::<i32>(alloc, value),
-        "result" => read_back::<ExecutionResultDescription>(alloc, value),
+        "abort" => read_back::<AbortDescription>(page, value),
+        "error" => read_back::<SerializableError>(page, value),
+        "failure" => read_back::<FailureDescription>(page, value),
+        "number" => read_back::<i32>(page, value),
+        "result" => read_back::<ExecutionResultDescription>(page, value),
         _ => None,
     }
 }
 
-fn read_back<T: JsonForm + Debug>(alloc: Global, value: &Value) -> Option<String> {
-    match T::from_json(alloc, value) {
-        Ok(form) => written_as(alloc, &form),
-        Err(JsonError::OutOfMemory) => None,
-        Err(error) => format!(in alloc; "{error}").ok(),
+fn read_back<T: JsonForm + Debug>(page: &mut Page, value: &Value) -> Option<()> {
+    match T::from_json(page.alloc, value) {
+        Ok(form) => {
+            some!(written(page, &form));
+            show!(page; " for ", Whole(form));
+        }
+        Err(error) => page.show(error),
     }
-}
-
-fn written_as<T: JsonForm + Debug>(alloc: Global, form: &T) -> Option<String> {
-    let json = form.to_json(alloc).ok()?;
-    let written = json.to_string(alloc).ok()?;
-    format!(in alloc; "{written} for {form:?}").ok()
+    Some(())
 }
 
 // A kind of value and JSON: what the value that is read of it prints.
-pub(crate) fn printed_forms(alloc: Global, input: &str) -> Option<String> {
+pub(crate) fn printed_forms(page: &mut Page, input: &str) -> Option<()> {
     let (kind, text) = two(input, " ");
-    printed_as(alloc, kind, &Value::from_str(alloc, text).ok()?)
+    printed_as(page, kind, &ok!(Value::from_str(page.alloc, text)))
 }
 
-fn printed_as(alloc: Global, kind: &str, value: &Value) -> Option<String> {
+fn printed_as(page: &mut Page, kind: &str, value: &Value) -> Option<()> {
     match kind {
-        "abort" => printed_form::<AbortDescription>(alloc, value),
-        "error" => printed_form::<SerializableError>(alloc, value),
-        "failure" => printed_form::<FailureDescription>(alloc, value),
-        _ => None,
+        "abort" => page.shown(AbortDescription::from_json(page.alloc, value)),
+        "error" => page.shown(SerializableError::from_json(page.alloc, value)),
+        "failure" => page.shown(FailureDescription::from_json(page.alloc, value)),
+        _ => return None,
     }
-}
-
-fn printed_form<T: JsonForm + Display>(alloc: Global, value: &Value) -> Option<String> {
-    format!(in alloc; "{}", T::from_json(alloc, value).ok()?).ok()
+    Some(())
 }

@@ -1,26 +1,29 @@
 // Lines of a log, and the event that each is read as.
-use std::alloc::Global;
+use crate::page::Page;
+use crate::{ok, show};
 use test_runner_core_line_syntax::{LogLine, ParseLineError};
 
 // A line: its event, `no event`, or the name under which it is refused. An event's line is what it prints, or that is told behind
 // it.
-pub(crate) fn log_lines(alloc: Global, line: &str) -> Option<String> {
-    match LogLine::parse(alloc, line.as_bytes()) {
-        Ok(None) => String::from_str(alloc, "no event").ok(),
-        Ok(Some(event)) => shown(alloc, &event, line),
-        Err(ParseLineError::OutOfMemory) => None,
-        Err(refusal) => format!(in alloc; "{refusal:?}").ok(),
+pub(crate) fn log_lines(page: &mut Page, line: &str) -> Option<()> {
+    match LogLine::parse(page.alloc, line.as_bytes()) {
+        Ok(None) => page.show("no event"),
+        Ok(Some(event)) => return told(page, &event, line),
+        Err(ParseLineError::OutOfMemory) => return None,
+        Err(refusal) => page.debug(refusal),
     }
+    Some(())
 }
 
-fn shown(alloc: Global, event: &LogLine, line: &str) -> Option<String> {
+fn told(page: &mut Page, event: &LogLine, line: &str) -> Option<()> {
+    page.debug(event);
     if !event.has_spelling() {
-        return format!(in alloc; "{event:?} without a spelling").ok();
+        page.show(" without a spelling");
+        return Some(());
     }
-    let printed = event.print(alloc).ok()?;
-    if printed.as_str() == line {
-        format!(in alloc; "{event:?}").ok()
-    } else {
-        format!(in alloc; "{event:?} prints {printed}").ok()
+    let printed = ok!(event.print(page.alloc));
+    if printed.as_str() != line {
+        show!(page; " prints ", printed.as_str());
     }
+    Some(())
 }

@@ -23,6 +23,7 @@ mod inputs;
 mod log_lines;
 mod orders;
 mod outputs;
+mod page;
 mod parts;
 mod plain_filter;
 mod plain_spec;
@@ -41,32 +42,15 @@ mod workspaces;
 
 use answering::layers_hold;
 use anyhow::Result;
-use changes::Changed;
 use inputs::inputs_hold;
-use plans::Plans;
+use plans::plans_hold;
 use std::fs;
 use std::process::ExitCode;
-use table::rows_hold;
 
 fn main(rt: HostRuntime) -> Result<ExitCode> {
-    let base = Changed::of(fs::read_to_string(&rt, "plan.json")?);
-    let plans = [
-        ("plans", Some(&base), false),
-        ("selected", None, false),
-        ("in_force", None, false),
-        ("profiles_plans", Some(&base), true),
-    ];
+    let plan = fs::read_to_string(&rt, "plan.json")?;
     let mut hold = inputs_hold(&rt)?;
-    for (name, base, has_settings) in plans {
-        hold &= rows_hold(
-            &rt,
-            &Plans {
-                name,
-                base,
-                has_settings,
-            },
-        )?;
-    }
+    hold &= plans_hold(&rt, plan.as_str())?;
     hold &= layers_hold(&rt)?;
     Ok(if hold {
         ExitCode::SUCCESS

@@ -3,7 +3,9 @@ ghost use Rattle.std.specs.Prelude.{IfSome};
 ghost use Rattle.nextest_run_events.specs.Collected.{IsLoaded};
 
 use crate::ends::end_of;
-use crate::parts::{texts_of, two};
+use crate::page::{Page, Whole};
+use crate::parts::{list_of, two};
+use crate::{ok, show, some};
 use nextest_run_events::{
     AbortDescription, Boxed, ByteSubslice, ChildError, ChildErrorDescription, ChildExecutionOutput,
     ChildExecutionOutputDescription, ChildFdError, ChildOutput, ChildOutputDescription,
@@ -17,9 +19,11 @@ use std::alloc::Global;
 // An error and its causes, the nearest first, divided by `; `.
 fn chain_of(alloc: Global, words: &str) -> Option<ErrorChain> {
     let (message, rest) = two(words, "; ");
-    let message = Text::from_str(alloc, message).ok()?;
-    let causes = texts_of(alloc, rest, "; ")?;
-    Some(ErrorChain { message, causes })
+    let causes = some!(list_of::<Text>(alloc, rest, "; "));
+    Some(ErrorChain {
+        message: ok!(Text::from_str(alloc, message)),
+        causes: Listing::from(causes),
+    })
 }
 
 // Why a process wasn't started; what the error came from where its kind is another.
@@ -31,56 +35,57 @@ fn start_error_of(word: &str, chain: ErrorChain) -> Result<ChildStartError, Erro
     }
 }
 
-fn child_error_of(word: &str, chain: ErrorChain) -> Option<ChildError> {
+fn child_error_of(word: &str, chain: ErrorChain) -> ChildError {
     match word {
-        "read-stdout" => Some(ChildError::Fd(ChildFdError::ReadStdout(chain))),
-        "read-stderr" => Some(ChildError::Fd(ChildFdError::ReadStderr(chain))),
-        "read-combined" => Some(ChildError::Fd(ChildFdError::ReadCombined(chain))),
-        "wait" => Some(ChildError::Fd(ChildFdError::Wait(chain))),
-        "setup-script-output" => Some(ChildError::SetupScriptOutput(chain)),
-        _ => None,
+        "read-stdout" => ChildError::Fd(ChildFdError::ReadStdout(chain)),
+        "read-stderr" => ChildError::Fd(ChildFdError::ReadStderr(chain)),
+        "read-combined" => ChildError::Fd(ChildFdError::ReadCombined(chain)),
+        "wait" => ChildError::Fd(ChildFdError::Wait(chain)),
+        _ => ChildError::SetupScriptOutput(chain),
     }
 }
 
 // An error's kind and what it came from: what its description says, with its source behind it.
-pub(crate) fn errors(alloc: Global, input: &str) -> Option<String> {
+pub(crate) fn errors(page: &mut Page, input: &str) -> Option<()> {
     let (word, words) = two(input, " ");
-    match start_error_of(word, chain_of(alloc, words)?) {
-        Ok(error) => start_error_told(alloc, &error),
-        Err(chain) => child_error_told(alloc, &child_error_of(word, chain)?),
+    match start_error_of(word, some!(chain_of(page.alloc, words))) {
+        Ok(error) => start_error_told(page, &error),
+        Err(chain) => child_error_told(page, &child_error_of(word, chain)),
     }
 }
 
-fn start_error_told(alloc: Global, error: &ChildStartError) -> Option<String> {
-    let told = ChildStartErrorDescription::from_error(alloc, error).ok()?;
-    format!(in alloc; "{told}: {}", told.source()).ok()
+fn start_error_told(page: &mut Page, error: &ChildStartError) -> Option<()> {
+    let told = ok!(ChildStartErrorDescription::from_error(page.alloc, error));
+    show!(page; &told, ": ", told.source());
+    Some(())
 }
 
-fn child_error_told(alloc: Global, error: &ChildError) -> Option<String> {
-    let told = ChildErrorDescription::from_error(alloc, error).ok()?;
-    format!(in alloc; "{told}: {}", told.source()).ok()
+fn child_error_told(page: &mut Page, error: &ChildError) -> Option<()> {
+    let told = ok!(ChildErrorDescription::from_error(page.alloc, error));
+    show!(page; &told, ": ", told.source());
+    Some(())
 }
 
 // An error and its causes: how many there are, each with the nearest one behind it, and what is nearest to the error itself.
-pub(crate) fn causes(alloc: Global, input: &str) -> Option<String> {
-    let chain = chain_of(alloc, input)?;
-    causes_told(alloc, &SerializableError::new(alloc, &chain).ok()?)
+pub(crate) fn causes(page: &mut Page, input: &str) -> Option<()> {
+    let chain = some!(chain_of(page.alloc, input));
+    let kept = ok!(SerializableError::new(page.alloc, &chain));
+    causes_told(page, &kept);
+    Some(())
 }
 
-fn causes_told(alloc: Global, kept: &SerializableError) -> Option<String> {
-    let mut answer = format!(in alloc; "{kept} has {}", kept.causes().len()).ok()?;
+fn causes_told(page: &mut Page, kept: &SerializableError) {
+    show!(page; kept, " has ", kept.causes().len());
     for source in kept.sources() {
         let nearest = source.source().map(|it| it.message());
-        write!(answer, "; {source} {nearest:?}").ok()?;
+        show!(page; "; ", &source, " ", Whole(nearest));
     }
-    let nearest = kept.source().map(|it| it.message());
-    write!(answer, "; {nearest:?}").ok()?;
-    Some(answer)
+    show!(page; "; ", Whole(kept.source().map(|it| it.message())));
 }
 
 // Some bytes of a stream.
 fn stream(alloc: Global, bytes: &[u8]) -> Option<ChildSingleOutput> {
-    let bytes = Vec::from_slice(alloc, bytes).ok()?;
+    let bytes = ok!(Vec::from_slice(alloc, bytes));
     Some(ChildSingleOutput::from(Listing::from(bytes)))
 }
 
@@ -89,37 +94,31 @@ fn left(
     alloc: Global,
     ended: Option<ExecutionResult>,
     errors: Option<ErrorList<ChildError>>,
-) -> Option<ChildExecutionOutputDescription<LiveSpec>> {
-    let output = ChildExecutionOutput::Output {
+) -> Option<ChildExecutionOutput> {
+    Some(ChildExecutionOutput::Output {
         result: ended,
         output: ChildOutput::Split(ChildSplitOutput {
-            stdout: Some(stream(alloc, b"ab")?),
+            stdout: Some(some!(stream(alloc, b"ab"))),
             stderr: None,
         }),
         errors,
-    };
-    ChildExecutionOutputDescription::from_output(alloc, output).ok()
+    })
 }
 
 // An error's kind and what it came from: what a process left that had it, as it is described.
-pub(crate) fn described(alloc: Global, input: &str) -> Option<String> {
-    let (word, words) = two(input, " ");
-    let told = described_error(alloc, word, words)?;
-    format!(in alloc; "errors {}, {told:?}", told.has_errors()).ok()
+pub(crate) fn described(page: &mut Page, input: &str) -> Option<()> {
+    let output = some!(left_by_error(page.alloc, input));
+    let told = ok!(ChildExecutionOutputDescription::<LiveSpec>::from_output(page.alloc, output));
+    show!(page; "errors ", told.has_errors(), ", ", Whole(&told));
+    Some(())
 }
 
-fn described_error(
-    alloc: Global,
-    word: &str,
-    words: &str,
-) -> Option<ChildExecutionOutputDescription<LiveSpec>> {
-    match start_error_of(word, chain_of(alloc, words)?) {
-        Ok(error) => {
-            let output = ChildExecutionOutput::StartError(error);
-            ChildExecutionOutputDescription::from_output(alloc, output).ok()
-        }
+fn left_by_error(alloc: Global, input: &str) -> Option<ChildExecutionOutput> {
+    let (word, words) = two(input, " ");
+    match start_error_of(word, some!(chain_of(alloc, words))) {
+        Ok(error) => Some(ChildExecutionOutput::StartError(error)),
         Err(chain) => {
-            let errors = one_error(alloc, child_error_of(word, chain)?)?;
+            let errors = some!(one_error(alloc, child_error_of(word, chain)));
             left(alloc, Some(ExecutionResult::ExecFail), Some(errors))
         }
     }
@@ -128,40 +127,43 @@ fn described_error(
 // A list of one error.
 fn one_error(alloc: Global, error: ChildError) -> Option<ErrorList<ChildError>> {
     let mut items = Listing::new(alloc);
-    items.push(error).ok()?;
-    let description = Text::from_str(alloc, "errors of the process").ok()?;
+    ok!(items.push(error));
+    let description = ok!(Text::from_str(alloc, "errors of the process"));
     Some(ErrorList { description, items })
 }
 
 // How a process ended, or `-`, and whether a list of errors is there: whether something went wrong.
-pub(crate) fn has_errors(alloc: Global, input: &str) -> Option<String> {
+pub(crate) fn has_errors(page: &mut Page, input: &str) -> Option<()> {
     let (words, errors) = match input.strip_suffix(" listed") {
         Some(words) => {
-            let (description, items) = (Text::new(alloc), Listing::new(alloc));
+            let (description, items) = (Text::new(page.alloc), Listing::new(page.alloc));
             (words, Some(ErrorList { description, items }))
         }
         None => (input, None),
     };
-    let told = left(alloc, end_of(words), errors)?;
-    format!(in alloc; "{}", told.has_errors()).ok()
+    let output = some!(left(page.alloc, end_of(words), errors));
+    let told = ok!(ChildExecutionOutputDescription::<LiveSpec>::from_output(page.alloc, output));
+    page.show(told.has_errors());
+    Some(())
 }
 
 // Where a stream was captured and what was written to it: the lengths of standard output and standard error.
-pub(crate) fn stream_lengths(alloc: Global, input: &str) -> Option<String> {
+pub(crate) fn stream_lengths(page: &mut Page, input: &str) -> Option<()> {
     let (captured, bytes) = two(input, " ");
-    let output = stream(alloc, bytes.as_bytes())?;
-    let told = match captured {
-        "stdout" => ChildOutputDescription::from(ChildOutput::Split(ChildSplitOutput {
+    let output = some!(stream(page.alloc, bytes.as_bytes()));
+    let told = ChildOutputDescription::from(match captured {
+        "stdout" => ChildOutput::Split(ChildSplitOutput {
             stdout: Some(output),
             stderr: None,
-        })),
-        "stderr" => ChildOutputDescription::from(ChildOutput::Split(ChildSplitOutput {
+        }),
+        "stderr" => ChildOutput::Split(ChildSplitOutput {
             stdout: None,
             stderr: Some(output),
-        })),
-        _ => ChildOutputDescription::from(ChildOutput::Combined { output }),
-    };
-    format!(in alloc; "{:?}", told.stdout_stderr_len()).ok()
+        }),
+        _ => ChildOutput::Combined { output },
+    });
+    page.debug(told.stdout_stderr_len());
+    Some(())
 }
 
 // What is left by a test that was ended with handles left open, whose standard output wasn't read and whose error is no UTF-8.
@@ -174,10 +176,10 @@ fn left_by_test(alloc: Global) -> Option<ChildExecutionOutputDescription<LiveSpe
         },
         leaked: true,
     };
-    let errors = Boxed::new(alloc, unread_output(alloc)?).ok()?;
-    let stderr = stream(alloc, b"a\nError: \xff\n")?;
+    let errors = ok!(Boxed::new(alloc, some!(unread_output(alloc))));
+    let stderr = some!(stream(alloc, b"a\nError: \xff\n"));
     Some(ChildExecutionOutputDescription::Output {
-        result: Some(Boxed::new(alloc, result).ok()?),
+        result: Some(ok!(Boxed::new(alloc, result))),
         output: ChildOutputDescription::Split {
             stdout: None,
             stderr: Some(stderr),
@@ -188,11 +190,9 @@ fn left_by_test(alloc: Global) -> Option<ChildExecutionOutputDescription<LiveSpe
 
 // That standard output wasn't read.
 fn unread_output(alloc: Global) -> Option<ErrorList<ChildErrorDescription>> {
-    let source = closed(alloc)?;
+    let source = some!(closed(alloc));
     let mut items = Listing::new(alloc);
-    items
-        .push(ChildErrorDescription::ReadStdout { source })
-        .ok()?;
+    ok!(items.push(ChildErrorDescription::ReadStdout { source }));
     Some(ErrorList {
         description: Text::new(alloc),
         items,
@@ -201,67 +201,78 @@ fn unread_output(alloc: Global) -> Option<ErrorList<ChildErrorDescription>> {
 
 // Why a stream wasn't read, or a process not started.
 fn closed(alloc: Global) -> Option<SerializableError> {
-    SerializableError::new(alloc, &chain_of(alloc, "closed")?).ok()
+    SerializableError::new(alloc, &some!(chain_of(alloc, "closed"))).ok()
 }
 
 // All that went wrong: with such a test, and with a script that wasn't started.
-pub(crate) fn unit_errors(alloc: Global, input: &str) -> Option<String> {
+pub(crate) fn unit_errors(page: &mut Page, input: &str) -> Option<()> {
     if input == "test" {
-        return all_told(alloc, UnitKind::Test, &left_by_test(alloc)?);
+        return all_told(page, UnitKind::Test, &some!(left_by_test(page.alloc)));
     }
     let error = ChildStartErrorDescription::Spawn {
-        source: closed(alloc)?,
+        source: some!(closed(page.alloc)),
     };
     let output = ChildExecutionOutputDescription::StartError(error);
-    all_told(alloc, UnitKind::Script, &output)
+    all_told(page, UnitKind::Script, &output)
 }
 
 fn all_told(
-    alloc: Global,
+    page: &mut Page,
     kind: UnitKind,
     output: &ChildExecutionOutputDescription<LiveSpec>,
-) -> Option<String>
+) -> Option<()>
     requires { IsLoaded output.now }
 {
-    let list = UnitErrorDescription::new(kind, output).all_error_list()?;
-    let mut answer = format!(in alloc; "{} ({})", list.description, list.items.len()).ok()?;
+    let list = some!(UnitErrorDescription::new(kind, output).all_error_list());
+    show!(page; list.description, " (", list.items.len(), ")");
     for error in list.items {
-        write!(answer, "; {error}").ok()?;
+        show!(page; "; ", error);
     }
-    Some(answer)
+    Some(())
 }
 
-// The bytes of a stream that was captured: `-` for one that wasn't, and `¤` for the byte FF, which is no UTF-8.
-fn bytes_of(alloc: Global, text: &str) -> Option<Option<Vec<u8>>> {
-    if text == "-" {
-        return Some(None);
-    }
+// The bytes of a stream that was captured, with `¤` for the byte FF, which is no UTF-8.
+fn bytes_of(alloc: Global, text: &str) -> Option<Vec<u8>> {
     let mut bytes = Vec::new(alloc);
     for (number, piece) in text.split('¤').enumerate() {
         if number > 0 {
-            bytes.push(0xFF).ok()?;
+            ok!(bytes.push(0xFF));
         }
-        bytes.extend_from_slice(piece.as_bytes()).ok()?;
+        ok!(bytes.extend_from_slice(piece.as_bytes()));
     }
-    Some(Some(bytes))
+    Some(bytes)
 }
 
-// Standard error and standard output, divided by a tab: the kind of the part that is found, where it starts, and its length.
-pub(crate) fn slices(alloc: Global, input: &str) -> Option<String> {
-    let (stderr, stdout) = two(input, "\t");
-    let (stderr, stdout) = (bytes_of(alloc, stderr)?, bytes_of(alloc, stdout)?);
-    match TestOutputErrorSlice::heuristic_extract(stdout.as_deref(), stderr.as_deref()) {
-        None => String::from_str(alloc, "none").ok(),
-        Some(found) => part_told(alloc, found),
+// Standard error and standard output, divided by a tab, `-` for one that wasn't captured: the kind of the part that is found, where
+// it starts, and its length.
+pub(crate) fn slices(page: &mut Page, input: &str) -> Option<()> {
+    let (error_text, output_text) = two(input, "\t");
+    let stderr = some!(bytes_of(page.alloc, error_text));
+    let stdout = some!(bytes_of(page.alloc, output_text));
+    let found = TestOutputErrorSlice::heuristic_extract(
+        captured(output_text, stdout.as_slice()),
+        captured(error_text, stderr.as_slice()),
+    );
+    match found {
+        None => page.show("none"),
+        Some(found) => part_told(page, found),
     }
+    Some(())
 }
 
-fn part_told(alloc: Global, found: TestOutputErrorSlice<'_>) -> Option<String> {
+fn captured<'a>(text: &str, bytes: &'a [u8]) -> Option<&'a [u8]> {
+    if text == "-" {
+        return None;
+    }
+    Some(bytes)
+}
+
+fn part_told(page: &mut Page, found: TestOutputErrorSlice<'_>) {
     let (kind, part) = match found {
         TestOutputErrorSlice::PanicMessage { stderr_subslice } => ("panic", stderr_subslice),
         TestOutputErrorSlice::ErrorStr { stderr_subslice } => ("error", stderr_subslice),
         TestOutputErrorSlice::ShouldPanic { stdout_subslice } => ("should-panic", stdout_subslice),
     };
     let ByteSubslice { slice, start } = part;
-    format!(in alloc; "{kind} {start} {}", slice.len()).ok()
+    show!(page; kind, " ", start, " ", slice.len());
 }

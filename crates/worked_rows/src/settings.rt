@@ -1,120 +1,89 @@
 // The settings of a profile in words.
 use crate::configs::{PlainConfig, PlainProfile};
 use crate::defined::{rules_told, scripts_told};
+use crate::page::{Page, Whole};
 use crate::plain_filter::PlainFilter;
+use crate::show;
 use nextest_config_elements::{JunitConfig, NextestRunMode};
 use nextest_config_resolution::ProfileError;
-use nextest_text::Text;
-use std::alloc::Global;
-use std::fmt::Debug;
 
 // A setting of a profile.
-pub(crate) fn setting(
-    alloc: Global,
+pub(crate) fn setting_told(
+    page: &mut Page,
     config: &PlainConfig,
     profile: &PlainProfile<'_>,
     key: &str,
-) -> Option<String> {
+) -> Option<()> {
     match key {
-        "profiles" => names(alloc, config),
-        "parents" => debug(alloc, profile.chain().len().saturating_sub(1)),
-        "store-dir" => String::from_str(alloc, profile.store_dir()).ok(),
-        "inherits" => may_be(alloc, profile.inherits()),
-        "scripts" => scripts_told(alloc, config),
-        "script-rules" => rules_told(alloc, config),
-        "default-filter" => filter_text(alloc, profile.default_filter().filter),
-        "run-extra-args" => arguments(alloc, profile.run_extra_args()),
-        "junit" => report(alloc, profile.junit()),
-        _ => of_runs(alloc, profile, key),
+        "profiles" => return names_told(page, config),
+        "parents" => page.show(profile.chain().len().saturating_sub(1)),
+        "store-dir" => page.show(profile.store_dir()),
+        "inherits" => page.show(profile.inherits().unwrap_or("-")),
+        "scripts" => scripts_told(page, config),
+        "script-rules" => rules_told(page, config),
+        "default-filter" => page.show(filter_text(profile.default_filter().filter)),
+        "run-extra-args" => page.show_each("[", profile.run_extra_args(), "]"),
+        "junit" => report_told(page, profile.junit()),
+        _ => return how_runs_go(page, profile, key),
     }
+    Some(())
 }
 
 // The text of a filter.
-pub(crate) fn filter_text(alloc: Global, filter: &PlainFilter) -> Option<String> {
-    let text = match filter {
+pub(crate) fn filter_text(filter: &PlainFilter) -> &str {
+    match filter {
         PlainFilter::Everything => "all()",
         PlainFilter::Nothing => "none()",
         PlainFilter::Named(name) => name.as_str(),
-    };
-    String::from_str(alloc, text).ok()
+    }
 }
 
 // A setting of how runs go.
-fn of_runs(alloc: Global, profile: &PlainProfile<'_>, key: &str) -> Option<String> {
+fn how_runs_go(page: &mut Page, profile: &PlainProfile<'_>, key: &str) -> Option<()> {
     match key {
-        "retries" => debug(alloc, profile.retries()),
-        "flaky-result" => debug(alloc, profile.flaky_result()),
-        "fail-fast" => debug(alloc, profile.max_fail()),
-        "leak-timeout" => debug(alloc, profile.leak_timeout()),
-        "test-threads" => debug(alloc, profile.test_threads()),
-        "threads-required" => debug(alloc, profile.threads_required()),
-        _ => of_timeouts(alloc, profile, key),
+        "retries" => page.debug(profile.retries()),
+        "flaky-result" => page.debug(profile.flaky_result()),
+        "fail-fast" => page.debug(profile.max_fail()),
+        "leak-timeout" => page.debug(profile.leak_timeout()),
+        "test-threads" => page.debug(profile.test_threads()),
+        "threads-required" => page.debug(profile.threads_required()),
+        _ => return how_long_or_shown(page, profile, key),
     }
+    Some(())
 }
 
-// A setting of how long tests and runs may take.
-fn of_timeouts(alloc: Global, profile: &PlainProfile<'_>, key: &str) -> Option<String> {
+// A setting of how long tests and runs may take, or of what is shown.
+fn how_long_or_shown(page: &mut Page, profile: &PlainProfile<'_>, key: &str) -> Option<()> {
     let (test, benchmark) = (NextestRunMode::Test, NextestRunMode::Benchmark);
     match key {
-        "slow-timeout" => debug(alloc, profile.slow_timeout(test)),
-        "global-timeout" => debug(alloc, profile.global_timeout(test)),
-        "bench.slow-timeout" => debug(alloc, profile.slow_timeout(benchmark)),
-        "bench.global-timeout" => debug(alloc, profile.global_timeout(benchmark)),
-        _ => of_shows(alloc, profile, key),
+        "slow-timeout" => page.debug(profile.slow_timeout(test)),
+        "global-timeout" => page.debug(profile.global_timeout(test)),
+        "bench.slow-timeout" => page.debug(profile.slow_timeout(benchmark)),
+        "bench.global-timeout" => page.debug(profile.global_timeout(benchmark)),
+        "status-level" => page.debug(profile.status_level()),
+        "final-status-level" => page.debug(profile.final_status_level()),
+        "failure-output" => page.debug(profile.failure_output()),
+        "success-output" => page.debug(profile.success_output()),
+        _ => return None,
     }
-}
-
-// A setting of what is shown.
-fn of_shows(alloc: Global, profile: &PlainProfile<'_>, key: &str) -> Option<String> {
-    match key {
-        "status-level" => debug(alloc, profile.status_level()),
-        "final-status-level" => debug(alloc, profile.final_status_level()),
-        "failure-output" => debug(alloc, profile.failure_output()),
-        "success-output" => debug(alloc, profile.success_output()),
-        _ => None,
-    }
-}
-
-// A value with all that it holds.
-fn debug<T: Debug + Drop>(alloc: Global, value: T) -> Option<String> {
-    format!(in alloc; "{value:?}").ok()
+    Some(())
 }
 
 // The names of all profiles, each in brackets, as they are told where no profile has a name.
-fn names(alloc: Global, config: &PlainConfig) -> Option<String> {
-    let Err(ProfileError::NotFound(told)) = config.profile(alloc, "\0") else {
+fn names_told(page: &mut Page, config: &PlainConfig) -> Option<()> {
+    let Err(ProfileError::NotFound(told)) = config.profile(page.alloc, "\0") else {
         return None;
     };
-    arguments(alloc, told.known.as_slice())
-}
-
-// Some texts, as arguments, each in brackets.
-pub(crate) fn arguments(alloc: Global, given: &[Text]) -> Option<String> {
-    let mut answer = String::new(alloc);
-    for argument in given {
-        write!(answer, "[{argument}]").ok()?;
-    }
-    Some(answer)
-}
-
-// A text that may be there.
-fn may_be(alloc: Global, text: Option<&str>) -> Option<String> {
-    String::from_str(alloc, text.unwrap_or("-")).ok()
+    page.show_each("[", told.known.as_slice(), "]");
+    Some(())
 }
 
 // The report, if there is one.
-fn report(alloc: Global, report: Option<JunitConfig<'_>>) -> Option<String> {
+fn report_told(page: &mut Page, report: Option<JunitConfig<'_>>) {
     let Some(report) = report else {
-        return String::from_str(alloc, "-").ok();
+        return page.show("-");
     };
-    format!(in alloc;
-        "{} {} {} {} {:?} {:?}",
-        report.path(),
-        report.report_name(),
-        report.store_success_output(),
-        report.store_failure_output(),
-        report.report_skipped(),
-        report.flaky_fail_status()
-    )
-    .ok()
+    show!(page; report.path(), " ", report.report_name(), " ");
+    show!(page; report.store_success_output(), " ", report.store_failure_output(), " ");
+    show!(page; Whole(report.report_skipped()), " ", Whole(report.flaky_fail_status()));
 }

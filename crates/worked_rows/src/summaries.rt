@@ -1,6 +1,9 @@
 // Counters as JSON, what they come to, and what sub-runs come to.
 ghost use Rattle.std.specs.Prelude.{◌^◌, ◌<◌};
 
+use crate::page::{Page, Whole};
+use crate::parts::{Word, list_of};
+use crate::{ok, show, some};
 use nextest_run_events::{CancelReason, RunFailureStep, RunFinishedStats, RunOutcome, RunStats};
 use serde_json::Value;
 use std::alloc::Global;
@@ -23,67 +26,74 @@ fn small(value: &Value) -> u32 {
 }
 
 // A reason to stop by its name.
-pub(crate) fn reason_of(word: &str) -> Option<CancelReason> {
-    match word {
-        "setup-script-failure" => Some(CancelReason::SetupScriptFailure),
-        "test-failure" => Some(CancelReason::TestFailure),
-        "report-error" => Some(CancelReason::ReportError),
-        "test-failure-immediate" => Some(CancelReason::TestFailureImmediate),
-        "global-timeout" => Some(CancelReason::GlobalTimeout),
-        "signal" => Some(CancelReason::Signal),
-        "interrupt" => Some(CancelReason::Interrupt),
-        "second-signal" => Some(CancelReason::SecondSignal),
-        _ => None,
+impl Word for CancelReason {
+    fn of_word(_: Global, word: &str) -> Option<CancelReason> {
+        match word {
+            "setup-script-failure" => Some(CancelReason::SetupScriptFailure),
+            "test-failure" => Some(CancelReason::TestFailure),
+            "report-error" => Some(CancelReason::ReportError),
+            "test-failure-immediate" => Some(CancelReason::TestFailureImmediate),
+            "global-timeout" => Some(CancelReason::GlobalTimeout),
+            "signal" => Some(CancelReason::Signal),
+            "interrupt" => Some(CancelReason::Interrupt),
+            "second-signal" => Some(CancelReason::SecondSignal),
+            _ => None,
+        }
     }
 }
 
 // Counters: what they come to, whether anything failed, and the outcome.
-pub(crate) fn summaries(alloc: Global, input: &str) -> Option<String> {
-    let object = Value::from_str(alloc, input).ok()?;
+pub(crate) fn summaries(page: &mut Page, input: &str) -> Option<()> {
+    let object = ok!(Value::from_str(page.alloc, input));
+    summary_told(page, &object)
+}
+
+fn summary_told(page: &mut Page, object: &Value) -> Option<()> {
     let cancel_reason = match object.get("reason") {
-        Some(value) => Some(reason_of(value.as_str()?)?),
+        Some(value) => Some(some!(Word::of_word(page.alloc, some!(value.as_str())))),
         None => None,
     };
     let stats = RunStats {
-        initial_run_count: counter(&object, "initial"),
-        finished_count: counter(&object, "finished"),
-        setup_scripts_initial_count: counter(&object, "scripts initial"),
-        setup_scripts_finished_count: counter(&object, "scripts finished"),
-        setup_scripts_passed: counter(&object, "scripts passed"),
-        setup_scripts_failed: counter(&object, "scripts failed"),
-        setup_scripts_exec_failed: counter(&object, "scripts exec-failed"),
-        setup_scripts_timed_out: counter(&object, "scripts timed out"),
-        passed: counter(&object, "passed"),
-        failed: counter(&object, "failed"),
-        failed_timed_out: counter(&object, "failed timed out"),
-        exec_failed: counter(&object, "exec-failed"),
-        skipped: counter(&object, "skipped"),
+        initial_run_count: counter(object, "initial"),
+        finished_count: counter(object, "finished"),
+        setup_scripts_initial_count: counter(object, "scripts initial"),
+        setup_scripts_finished_count: counter(object, "scripts finished"),
+        setup_scripts_passed: counter(object, "scripts passed"),
+        setup_scripts_failed: counter(object, "scripts failed"),
+        setup_scripts_exec_failed: counter(object, "scripts exec-failed"),
+        setup_scripts_timed_out: counter(object, "scripts timed out"),
+        passed: counter(object, "passed"),
+        failed: counter(object, "failed"),
+        failed_timed_out: counter(object, "failed timed out"),
+        exec_failed: counter(object, "exec-failed"),
+        skipped: counter(object, "skipped"),
         cancel_reason,
         ..RunStats::default()
     };
     let summary = RunFinishedStats::Single(stats).final_stats();
-    let (fails, outcome) = (stats.has_failures(), RunOutcome::from_final_stats(summary));
-    format!(in alloc; "{summary:?}, failures {fails}, {outcome:?}").ok()
+    let outcome = RunOutcome::from_final_stats(summary);
+    show!(page; Whole(summary), ", failures ", stats.has_failures(), ", ", Whole(outcome));
+    Some(())
 }
 
-fn outcome_of(words: &str) -> Option<RunOutcome> {
-    let (test, script) = (RunFailureStep::Test, RunFailureStep::SetupScript);
-    match words {
-        "success" => Some(RunOutcome::Success),
-        "no tests run" => Some(RunOutcome::NoTestsRun),
-        "cancelled at a test" => Some(RunOutcome::Cancelled { step: test }),
-        "cancelled at a script" => Some(RunOutcome::Cancelled { step: script }),
-        "failed at a test" => Some(RunOutcome::Failed { step: test }),
-        "failed at a script" => Some(RunOutcome::Failed { step: script }),
-        _ => None,
+impl Word for RunOutcome {
+    fn of_word(_: Global, words: &str) -> Option<RunOutcome> {
+        let (test, script) = (RunFailureStep::Test, RunFailureStep::SetupScript);
+        match words {
+            "success" => Some(RunOutcome::Success),
+            "no tests run" => Some(RunOutcome::NoTestsRun),
+            "cancelled at a test" => Some(RunOutcome::Cancelled { step: test }),
+            "cancelled at a script" => Some(RunOutcome::Cancelled { step: script }),
+            "failed at a test" => Some(RunOutcome::Failed { step: test }),
+            "failed at a script" => Some(RunOutcome::Failed { step: script }),
+            _ => None,
+        }
     }
 }
 
 // Outcomes of sub-runs: what these come to.
-pub(crate) fn outcomes(alloc: Global, input: &str) -> Option<String> {
-    let mut outcomes = Vec::new(alloc);
-    for words in input.split_terminator(", ") {
-        outcomes.push(outcome_of(words)?).ok()?;
-    }
-    format!(in alloc; "{:?}", RunOutcome::of_sub_runs(outcomes.as_slice())).ok()
+pub(crate) fn outcomes(page: &mut Page, input: &str) -> Option<()> {
+    let outcomes = some!(list_of::<RunOutcome>(page.alloc, input, ", "));
+    page.debug(RunOutcome::of_sub_runs(outcomes.as_slice()));
+    Some(())
 }

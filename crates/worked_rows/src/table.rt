@@ -1,19 +1,19 @@
 // A table, and whether its rows hold.
+use crate::page::Page;
 use crate::signs::{read_signs, written_in_signs};
+use crate::{ok, some};
 use anyhow::{Context, Result};
 use std::alloc::Global;
 use std::fs;
 use std::rt::Files;
-
-const ARROW: &str = " => ";
 
 /// What answers the inputs of a table.
 pub trait Table {
     /// The table's name. Its rows stand in the file `NAME.txt` of the folder that the program runs in.
     fn name(&self) -> &'static str;
 
-    /// The answer to an input, as a row has it; `None` where the input is none of the table, or there is no memory.
-    fn answer(&self, alloc: Global, input: &str) -> Option<String>;
+    /// Writes the answer to an input, as a row has it; `None` where the input is none of the table, or there is no memory.
+    fn answer(&self, page: &mut Page, input: &str) -> Option<()>;
 }
 
 /// Whether each row of a table has the answer that is given to its input. Prints each row that has not, with that answer, and
@@ -54,15 +54,17 @@ fn row_holds<R: Print + AllocGlobal, T: Table>(rt: &R, table: &T, line: &str) ->
 
 // The answer that is given to the input of a row, where the row has another one.
 fn other_answer<T: Table>(alloc: Global, table: &T, line: &str) -> Option<Option<String>> {
-    let (input, answer) = line.rsplit_once(ARROW)?;
-    let given = given_answer(alloc, table, input)?;
-    if given == read_signs(alloc, answer).ok()? {
+    let (input, answer) = some!(line.rsplit_once(" => "));
+    let given = some!(given_answer(alloc, table, input));
+    if given == ok!(read_signs(alloc, answer)) {
         return Some(None);
     }
-    Some(Some(written_in_signs(alloc, given.as_str()).ok()?))
+    Some(Some(ok!(written_in_signs(alloc, given.as_str()))))
 }
 
 fn given_answer<T: Table>(alloc: Global, table: &T, input: &str) -> Option<String> {
-    let input = read_signs(alloc, input).ok()?;
-    table.answer(alloc, input.as_str())
+    let input = ok!(read_signs(alloc, input));
+    let mut page = Page::new(alloc);
+    some!(table.answer(&mut page, input.as_str()));
+    page.finish()
 }

@@ -1,11 +1,13 @@
 // What a test is run with, and where each of its settings comes from; and its scripts.
 use crate::configs::{BAR, PlainConfig, PlainProfile, sources_of};
 use crate::defined::run_told;
-use crate::parts::{push_part, texts_of, three, two};
-use crate::settings::{arguments, filter_text};
+use crate::page::{Page, Tell, Whole};
+use crate::parts::{Word, three, two};
+use crate::settings::filter_text;
+use crate::{ok, show, some};
 use nextest_config_elements::{FeatureSet, NextestRunMode};
 use nextest_config_resolution::{
-    BuildPlatforms, SettingSource, TestGroupRef, TestSettings, WrapperScriptConfig,
+    BuildPlatforms, EnabledScript, SettingSource, TestGroupRef, TestSettings, WrapperScriptConfig,
 };
 use nextest_filtering::{BinaryQuery, BuildPlatform, TestQuery};
 use nextest_text::{Listing, Text};
@@ -15,92 +17,50 @@ use std::fmt::Debug;
 // The settings of a test, each with where it comes from.
 type Sourced<'p> = TestSettings<'p, SettingSource<'p>>;
 
-// What stands in an input before its sources.
-#[derive(Drop)]
-struct Asked<'a> {
-    profile: &'a str,
-    mode: &'a str,
-    binary: &'a str,
-    host: &'a str,
-    target: &'a str,
-    test: &'a str,
-    keys: &'a str,
-}
-
-impl<'a> Asked<'a> {
-    fn read(head: &'a str) -> Asked<'a> {
-        let (profile, mode, rest) = three(head);
-        let (binary, host, rest) = three(rest);
-        let (target, test, keys) = three(rest);
-        Asked {
-            profile,
-            mode,
-            binary,
-            host,
-            target,
-            test,
-            keys,
-        }
-    }
-}
-
 // A profile, a mode, the platform of the test's binary, the names of host and target with commas between them, a test and the keys of
 // settings, with commas between them; and then sources: what each setting is, and where it comes from. Features of scripts are known.
-pub(crate) fn test_settings(alloc: Global, input: &str) -> Option<String> {
+pub(crate) fn test_settings(page: &mut Page, input: &str) -> Option<()> {
     let (head, sources) = two(input, BAR);
-    let sources = sources_of(alloc, sources)?;
+    let sources = some!(sources_of(page.alloc, sources));
     let features = FeatureSet {
         setup_scripts: true,
         wrapper_scripts: true,
         benchmarks: false,
     };
-    let config = PlainConfig::from_sources(alloc, "/work", &(), sources.as_slice(), features).ok()?;
-    of_config(alloc, &config, &Asked::read(head))
+    let config = ok!(PlainConfig::from_sources(
+        page.alloc,
+        "/work",
+        &(),
+        sources.as_slice(),
+        features,
+    ));
+    of_config(page, &config, head)
 }
 
-fn of_config(alloc: Global, config: &PlainConfig, asked: &Asked<'_>) -> Option<String> {
-    let host = names_of(alloc, asked.host)?;
-    let target = match asked.target {
-        "none" => None,
-        names => Some(names_of(alloc, names)?),
-    };
-    on_platforms(alloc, config, &Known { host, target }, asked)
-}
-
-// What is known of the platforms: their names.
-#[derive(Drop)]
-struct Known {
-    host: Listing<Text>,
-    target: Option<Listing<Text>>,
-}
-
-fn on_platforms(
-    alloc: Global,
-    config: &PlainConfig,
-    known: &Known,
-    asked: &Asked<'_>,
-) -> Option<String> {
+fn of_config(page: &mut Page, config: &PlainConfig, head: &str) -> Option<()> {
+    let (profile, mode, rest) = three(head);
+    let (binary, host, rest) = three(rest);
+    let (target, test_name, keys) = three(rest);
+    let (mode, query) = (some!(mode_of(mode)), some!(query_of(binary, test_name)));
+    let host = some!(names_of(page.alloc, host));
+    let names = some!(names_of(page.alloc, target));
     let platforms = BuildPlatforms {
-        host: &known.host,
-        target: known.target.as_ref(),
+        host: &host,
+        target: if target == "none" { None } else { Some(&names) },
     };
-    match config.profile(alloc, asked.profile) {
-        Ok(early) => of_profile(alloc, &early.apply_build_platforms(&platforms), asked),
-        Err(_) => None,
-    }
+    let early = ok!(config.profile(page.alloc, profile));
+    of_profile(
+        page,
+        &early.apply_build_platforms(&platforms),
+        mode,
+        &query,
+        keys,
+    )
 }
 
 // The names of a platform: `-` where nothing is known of it.
 fn names_of(alloc: Global, names: &str) -> Option<Listing<Text>> {
-    texts_of(alloc, names.strip_prefix('-').unwrap_or(names), ",")
-}
-
-fn of_profile(alloc: Global, profile: &PlainProfile<'_>, asked: &Asked<'_>) -> Option<String> {
-    let query = query_of(asked)?;
-    match profile.settings_with_source_for(alloc, mode_of(asked.mode)?, &query) {
-        Ok(settings) => each_told(alloc, profile, &settings, &query, asked.keys),
-        Err(_) => None,
-    }
+    Word::of_word(alloc, names.strip_prefix('-').unwrap_or(names))
 }
 
 fn mode_of(word: &str) -> Option<NextestRunMode> {
@@ -112,8 +72,8 @@ fn mode_of(word: &str) -> Option<NextestRunMode> {
 }
 
 // The test of a binary for a platform.
-fn query_of<'a>(asked: &Asked<'a>) -> Option<TestQuery<'a>> {
-    let platform = match asked.binary {
+fn query_of<'a>(platform: &str, test_name: &'a str) -> Option<TestQuery<'a>> {
+    let platform = match platform {
         "host" => BuildPlatform::Host,
         "target" => BuildPlatform::Target,
         _ => return None,
@@ -126,146 +86,147 @@ fn query_of<'a>(asked: &Asked<'a>) -> Option<TestQuery<'a>> {
             binary_name: "a",
             platform,
         },
-        test_name: asked.test,
+        test_name,
     })
 }
 
-fn each_told(
-    alloc: Global,
+fn of_profile(
+    page: &mut Page,
+    profile: &PlainProfile<'_>,
+    mode: NextestRunMode,
+    query: &TestQuery<'_>,
+    keys: &str,
+) -> Option<()> {
+    let Ok(settings) = profile.settings_with_source_for(page.alloc, mode, query) else {
+        return None;
+    };
+    for key in keys.split(',') {
+        page.separate(0, "; ");
+        show!(page; key, " = ");
+        some!(setting_told(page, profile, &settings, query, key));
+    }
+    Some(())
+}
+
+fn setting_told(
+    page: &mut Page,
     profile: &PlainProfile<'_>,
     settings: &Sourced<'_>,
     query: &TestQuery<'_>,
-    keys: &str,
-) -> Option<String> {
-    let mut answer = String::new(alloc);
-    for key in keys.split(',') {
-        let told = match key {
-            "default-filter" => default_told(alloc, profile),
-            "run-wrapper" => run_wrapper(alloc, &settings.run_wrapper),
-            "list-wrapper" => list_wrapper(alloc, profile, &query.binary_query),
-            "setup-scripts" => setup_scripts(alloc, profile, query),
-            _ => of_runs(alloc, settings, key),
-        }?;
-        push_part(&mut answer, "; ", format_args!("{key} = {told}"))?;
+    key: &str,
+) -> Option<()> {
+    match key {
+        "default-filter" => default_told(page, profile),
+        "list-wrapper" => list_wrapper(page, profile, &query.binary_query),
+        "setup-scripts" => setup_scripts(page, profile, query),
+        _ => how_it_runs(page, settings, key),
     }
-    Some(answer)
 }
 
 // The default filter, and the key that sets it.
-fn default_told(alloc: Global, profile: &PlainProfile<'_>) -> Option<String> {
+fn default_told(page: &mut Page, profile: &PlainProfile<'_>) -> Option<()> {
     let found = profile.default_filter();
-    let text = filter_text(alloc, found.filter)?;
-    let place = found.display_config(alloc).ok()?;
-    format!(in alloc; "{text} from {place}").ok()
+    let place = ok!(found.display_config(page.alloc));
+    show!(page; filter_text(found.filter), " from ", place);
+    Some(())
 }
 
 // The wrapper script with which the tests of a binary are listed.
 fn list_wrapper(
-    alloc: Global,
+    page: &mut Page,
     profile: &PlainProfile<'_>,
     binary: &BinaryQuery<'_>,
-) -> Option<String> {
-    let settings = profile.list_settings_for(alloc, binary).ok()?;
-    wrapper(alloc, settings.list_wrapper())
+) -> Option<()> {
+    let settings = ok!(profile.list_settings_for(page.alloc, binary));
+    wrapper_told(page, settings.list_wrapper());
+    Some(())
 }
 
-fn wrapper(alloc: Global, found: Option<&WrapperScriptConfig>) -> Option<String> {
+fn wrapper_told(page: &mut Page, found: Option<&WrapperScriptConfig>) {
     match found {
-        Some(config) => run_told(alloc, config),
-        None => String::from_str(alloc, "None").ok(),
+        Some(config) => run_told(page, config),
+        None => page.show("None"),
     }
 }
 
 // The names of the setup scripts that are enabled for a test, with commas between them; `-` where there is none.
-fn setup_scripts(
-    alloc: Global,
-    profile: &PlainProfile<'_>,
-    query: &TestQuery<'_>,
-) -> Option<String> {
-    let matching = [*query];
-    let scripts = profile.setup_scripts(alloc, &matching).ok()?;
-    let mut answer = String::new(alloc);
-    for script in scripts.as_slice() {
-        push_part(&mut answer, ",", format_args!("{}", script.id))?;
+fn setup_scripts(page: &mut Page, profile: &PlainProfile<'_>, query: &TestQuery<'_>) -> Option<()> {
+    let (matching, start) = ([*query], page.len());
+    let scripts = ok!(profile.setup_scripts(page.alloc, &matching));
+    page.tell_each(start, ",", scripts.as_slice());
+    page.or_none(start);
+    Some(())
+}
+
+impl Tell for EnabledScript<'_> {
+    fn tell(&self, page: &mut Page) {
+        page.show(&self.id);
     }
-    if answer.is_empty() {
-        return String::from_str(alloc, "-").ok();
-    }
-    Some(answer)
 }
 
 // A setting of how a test runs, and where it comes from.
-fn of_runs(alloc: Global, settings: &Sourced<'_>, key: &str) -> Option<String> {
+fn how_it_runs(page: &mut Page, settings: &Sourced<'_>, key: &str) -> Option<()> {
     match key {
-        "priority" => sourced(alloc, &settings.priority),
-        "threads-required" => sourced(alloc, &settings.threads_required),
-        "run-extra-args" => extra_arguments(alloc, &settings.run_extra_args),
-        "retries" => sourced(alloc, &settings.retries),
-        "slow-timeout" => sourced(alloc, &settings.slow_timeout),
-        "leak-timeout" => sourced(alloc, &settings.leak_timeout),
-        "test-group" => group(alloc, &settings.test_group),
-        _ => of_shows(alloc, settings, key),
+        "priority" => sourced(page, &settings.priority),
+        "threads-required" => sourced(page, &settings.threads_required),
+        "run-extra-args" => {
+            page.show_each("[", settings.run_extra_args.0, "]");
+            source_told(page, settings.run_extra_args.1);
+        }
+        "run-wrapper" => {
+            wrapper_told(page, settings.run_wrapper.0);
+            source_told(page, settings.run_wrapper.1);
+        }
+        "retries" => sourced(page, &settings.retries),
+        "slow-timeout" => sourced(page, &settings.slow_timeout),
+        "leak-timeout" => sourced(page, &settings.leak_timeout),
+        "test-group" => group_told(page, &settings.test_group),
+        _ => return what_is_shown(page, settings, key),
     }
+    Some(())
 }
 
 // A setting of what is shown of a test.
-fn of_shows(alloc: Global, settings: &Sourced<'_>, key: &str) -> Option<String> {
+fn what_is_shown(page: &mut Page, settings: &Sourced<'_>, key: &str) -> Option<()> {
     match key {
-        "flaky-result" => sourced(alloc, &settings.flaky_result),
-        "success-output" => sourced(alloc, &settings.success_output),
-        "failure-output" => sourced(alloc, &settings.failure_output),
-        "junit.store-success-output" => sourced(alloc, &settings.junit_store_success_output),
-        "junit.store-failure-output" => sourced(alloc, &settings.junit_store_failure_output),
-        "junit.report-skipped" => sourced(alloc, &settings.junit_report_skipped),
-        "junit.flaky-fail-status" => sourced(alloc, &settings.junit_flaky_fail_status),
-        _ => None,
+        "flaky-result" => sourced(page, &settings.flaky_result),
+        "success-output" => sourced(page, &settings.success_output),
+        "failure-output" => sourced(page, &settings.failure_output),
+        "junit.store-success-output" => sourced(page, &settings.junit_store_success_output),
+        "junit.store-failure-output" => sourced(page, &settings.junit_store_failure_output),
+        "junit.report-skipped" => sourced(page, &settings.junit_report_skipped),
+        "junit.flaky-fail-status" => sourced(page, &settings.junit_flaky_fail_status),
+        _ => return None,
     }
+    Some(())
 }
 
 // A value with all that it holds, and where it comes from.
-fn sourced<T: Debug>(alloc: Global, setting: &(T, SettingSource<'_>)) -> Option<String> {
-    let place = source_told(alloc, setting.1)?;
-    format!(in alloc; "{:?} from {place}", setting.0).ok()
+fn sourced<T: Debug>(page: &mut Page, setting: &(T, SettingSource<'_>)) {
+    page.debug(&setting.0);
+    source_told(page, setting.1);
 }
 
-// Some arguments, each in brackets.
-fn extra_arguments(alloc: Global, setting: &(&[Text], SettingSource<'_>)) -> Option<String> {
-    let given = arguments(alloc, setting.0)?;
-    let place = source_told(alloc, setting.1)?;
-    format!(in alloc; "{given} from {place}").ok()
-}
-
-// The wrapper script that a test runs under, and where it comes from.
-fn run_wrapper(
-    alloc: Global,
-    setting: &(Option<&WrapperScriptConfig>, SettingSource<'_>),
-) -> Option<String> {
-    let told = wrapper(alloc, setting.0)?;
-    let place = source_told(alloc, setting.1)?;
-    format!(in alloc; "{told} from {place}").ok()
-}
-
-fn group(alloc: Global, setting: &(TestGroupRef<'_>, SettingSource<'_>)) -> Option<String> {
-    let place = source_told(alloc, setting.1)?;
+fn group_told(page: &mut Page, setting: &(TestGroupRef<'_>, SettingSource<'_>)) {
     match setting.0 {
-        TestGroupRef::Global => format!(in alloc; "Global from {place}").ok(),
+        TestGroupRef::Global => page.show("Global"),
         TestGroupRef::Custom(name) => {
-            format!(in alloc; "Custom({:?}) from {place}", name.as_str()).ok()
+            show!(page; "Custom(", Whole(name.as_str()), ")");
         }
     }
+    source_told(page, setting.1);
 }
 
-fn source_told(alloc: Global, source: SettingSource<'_>) -> Option<String> {
+fn source_told(page: &mut Page, source: SettingSource<'_>) {
+    page.show(" from ");
     match source {
-        SettingSource::Override(id) => format!(in alloc;
-            "override {} {} {}",
-            id.file, id.profile, id.index
-        ).ok(),
-        SettingSource::Script(id) => format!(in alloc;
-            "script rule {} {} {}",
-            id.file, id.profile, id.index
-        ).ok(),
-        SettingSource::Profile(place) => format!(in alloc; "profile {place}").ok(),
-        SettingSource::Default => String::from_str(alloc, "default").ok(),
+        SettingSource::Override(id) => {
+            show!(page; "override ", &id.file, " ", &id.profile, " ", id.index);
+        }
+        SettingSource::Script(id) => {
+            show!(page; "script rule ", &id.file, " ", &id.profile, " ", id.index);
+        }
+        SettingSource::Profile(place) => show!(page; "profile ", place),
+        SettingSource::Default => page.show("default"),
     }
 }

@@ -1,70 +1,80 @@
 // What lists of sources ask for, and what a version is by them.
 use crate::configs::{BAR, kind_of};
+use crate::page::Page;
 use crate::parts::{three, two};
+use crate::{ok, show, some};
 use nextest_config_elements::{
-    ConfigExperimental, ConfigSourceKind, ExperimentalConfig, NextestVersionConfig,
-    NextestVersionEval, PlainVersion, VersionOnlyConfig, VersionOnlyError, VersionSource,
+    ConfigExperimental, ConfigSourceKind, ExperimentalConfig, NextestVersionEval, PlainVersion,
+    VersionOnlyConfig, VersionSource,
 };
 use std::alloc::Global;
+
+// Where sources come from.
+#[derive(Drop)]
+struct Kinds {
+    tool: ConfigSourceKind,
+    explicit: ConfigSourceKind,
+    discovered: ConfigSourceKind,
+}
 
 // A current version and `strict` or `override`, and then sources, the lowest first, each a kind, a path and a text: the verdict,
 // with the version and the path of the source that asks for it, and the features that are known, and those that aren't; or why
 // the first source is refused that is.
-pub(crate) fn verdicts(alloc: Global, input: &str) -> Option<String> {
+pub(crate) fn verdicts(page: &mut Page, input: &str) -> Option<()> {
     let (head, sources) = two(input, BAR);
-    let kinds = kinds_of(alloc, sources)?;
-    let lent = lent_by(alloc, kinds.as_slice(), sources)?;
-    match VersionOnlyConfig::from_sources(alloc, lent.as_slice()) {
-        Ok(config) => demands_told(alloc, &config, head),
-        Err(VersionOnlyError::Refused(fault)) => format!(in alloc; "{fault}").ok(),
-        Err(VersionOnlyError::OutOfMemory) => None,
+    let kinds = Kinds {
+        tool: some!(kind_of(page.alloc, "tool")),
+        explicit: ConfigSourceKind::ExplicitRepository,
+        discovered: ConfigSourceKind::DiscoveredRepository,
+    };
+    let lent = some!(lent_by(page.alloc, &kinds, sources));
+    match VersionOnlyConfig::from_sources(page.alloc, lent.as_slice()) {
+        Ok(config) => demands_told(page, &config, head),
+        Err(refusal) => {
+            page.show(refusal);
+            Some(())
+        }
     }
-}
-
-// What a current version is by what the sources ask for, and the features that they ask for.
-fn demands_told(alloc: Global, config: &VersionOnlyConfig, head: &str) -> Option<String> {
-    let (current, flag) = two(head, " ");
-    let current = PlainVersion::parse(alloc, current).ok()?;
-    let versions = config.nextest_version();
-    let mut answer = verdict(alloc, versions, &current, flag == "override")?;
-    push_features(&mut answer, config.experimental())?;
-    Some(answer)
-}
-
-// The kinds of sources.
-fn kinds_of(alloc: Global, sources: &str) -> Option<Vec<ConfigSourceKind>> {
-    let mut kinds = Vec::new(alloc);
-    for source in sources.split(BAR) {
-        let (word, _) = two(source, " ");
-        kinds.push(kind_of(alloc, word)?).ok()?;
-    }
-    Some(kinds)
 }
 
 // The sources, lent.
 fn lent_by<'a>(
     alloc: Global,
-    kinds: &'a [ConfigSourceKind],
+    kinds: &'a Kinds,
     sources: &'a str,
 ) -> Option<Vec<VersionSource<'a>>> {
     let mut lent = Vec::new(alloc);
-    for (kind, source) in kinds.iter().zip(sources.split(BAR)) {
-        let (_, path, text) = three(source);
-        let text = Some(text);
-        lent.push(VersionSource { kind, path, text }).ok()?;
+    for source in sources.split(BAR) {
+        ok!(lent.push(source_of(kinds, source)));
     }
     Some(lent)
 }
 
+fn source_of<'a>(kinds: &'a Kinds, source: &'a str) -> VersionSource<'a> {
+    let (kind, path, text) = three(source);
+    let kind = match kind {
+        "tool" => &kinds.tool,
+        "explicit" => &kinds.explicit,
+        _ => &kinds.discovered,
+    };
+    let text = Some(text);
+    VersionSource { kind, path, text }
+}
+
+// What a current version is by what the sources ask for, and the features that they ask for.
+fn demands_told(page: &mut Page, config: &VersionOnlyConfig, head: &str) -> Option<()> {
+    let (current, flag) = two(head, " ");
+    let current = ok!(PlainVersion::parse(page.alloc, current));
+    let versions = config.nextest_version();
+    verdict_told(page, versions.eval(current.version(), flag == "override"));
+    features_told(page, config.experimental());
+    Some(())
+}
+
 // What a version is by those that count.
-fn verdict(
-    alloc: Global,
-    versions: &NextestVersionConfig,
-    current: &PlainVersion,
-    is_overridden: bool,
-) -> Option<String> {
-    let (word, version, source) = match versions.eval(current.version(), is_overridden) {
-        NextestVersionEval::Satisfied => return String::from_str(alloc, "satisfied").ok(),
+fn verdict_told(page: &mut Page, found: NextestVersionEval<'_>) {
+    let (word, version, source) = match found {
+        NextestVersionEval::Satisfied => return page.show("satisfied"),
         NextestVersionEval::Error {
             required,
             source,
@@ -86,26 +96,19 @@ fn verdict(
             ..
         } => ("warn-override", recommended, source),
     };
-    format!(in alloc; "{word} {version} by {}", source.path).ok()
+    show!(page; word, " ", version, " by ", &source.path);
 }
 
-// Adds which features are known, and which aren't.
-fn push_features(answer: &mut String, features: &ExperimentalConfig) -> Option<()> {
-    answer.push_str("; known").ok()?;
+// Which features are known, and which aren't.
+fn features_told(page: &mut Page, features: &ExperimentalConfig) {
+    page.show("; known");
     for feature in ConfigExperimental::known_features() {
         if features.known().contains(feature) {
-            push_word(answer, feature.as_str())?;
+            show!(page; " ", feature.as_str());
         }
     }
-    answer.push_str("; unknown").ok()?;
+    page.show("; unknown");
     for source in features.source_errors() {
-        for name in source.names.as_slice() {
-            push_word(answer, name.as_str())?;
-        }
+        page.show_each(" ", source.names.as_slice(), "");
     }
-    Some(())
-}
-
-fn push_word(answer: &mut String, word: &str) -> Option<()> {
-    write!(answer, " {word}").ok()
 }

@@ -1,8 +1,9 @@
 // The workspaces that the tables of compiled filtersets name; their heads say what is in each.
-use crate::parts::three;
+use crate::parts::{Word, list_of, three};
+use crate::{ok, some};
 use nextest_filtering::{BinaryQuery, BuildPlatform, PackageGraph, ParseContext};
 use nextest_text::Text;
-use std::alloc::{AllocError, Global};
+use std::alloc::Global;
 
 const CHAIN_PACKAGES: [(&str, &str); 3] = [("a-1", "a"), ("b-1", "b"), ("c-1", "c")];
 
@@ -64,7 +65,8 @@ blue::it blue-1 test it target
 grey grey-1 lib grey target
 far_blue far-1 lib far_blue target";
 
-const LINE_LENGTH: u32 = 65;
+const LINE_PACKAGES: &str =
+    "p0 p1 p2 p3 p4 p5 p6 p7 p8 p9 p10 p11 p12 p13 p14 p15 p16 p17 p18 p19 p20 p21 p22 p23 p24 p25 p26 p27 p28 p29 p30 p31 p32 p33 p34 p35 p36 p37 p38 p39 p40 p41 p42 p43 p44 p45 p46 p47 p48 p49 p50 p51 p52 p53 p54 p55 p56 p57 p58 p59 p60 p61 p62 p63 p64";
 
 const LINE_BINARIES: &str = "p0 p0 lib p0 target
 p1 p1 lib p1 target
@@ -75,24 +77,18 @@ p64 p64 lib p64 target";
 
 // A workspace by its name.
 pub(crate) fn workspace(alloc: Global, name: &str) -> Option<ParseContext> {
-    let binaries = ids_and_names(alloc, name)?;
-    let cx = ParseContext::new(alloc, graph(alloc, name)?).ok()?;
+    let binaries = some!(list_of::<(Text, Text)>(alloc, binary_lines(name), "\n"));
+    let cx = ok!(ParseContext::new(alloc, some!(graph(alloc, name))));
     Some(cx.with_binaries(binaries))
 }
 
-// The ids of its binaries, each with the binary's name.
-fn ids_and_names(alloc: Global, name: &str) -> Option<Vec<(Text, Text)>> {
-    let mut binaries = Vec::new(alloc);
-    for line in binary_lines(name).lines() {
-        binaries.push(id_and_name(alloc, line)?).ok()?;
+// The id of a binary, and its name.
+impl Word for (Text, Text) {
+    fn of_word(alloc: Global, line: &str) -> Option<(Text, Text)> {
+        let binary = binary_of(line);
+        let id = ok!(Text::from_str(alloc, binary.binary_id));
+        Some((id, ok!(Text::from_str(alloc, binary.binary_name))))
     }
-    Some(binaries)
-}
-
-fn id_and_name(alloc: Global, line: &'static str) -> Option<(Text, Text)> {
-    let binary = binary_of(line);
-    let id = Text::from_str(alloc, binary.binary_id).ok()?;
-    Some((id, Text::from_str(alloc, binary.binary_name).ok()?))
 }
 
 // The binary of an id in the workspace of a name.
@@ -116,28 +112,19 @@ fn graph(alloc: Global, name: &str) -> Option<PackageGraph> {
     }
 }
 
-// So many packages, each linked to the next.
+// Packages, each linked to the next.
 fn line(alloc: Global) -> Option<PackageGraph> {
-    let names = line_names(alloc).ok()?;
     let mut packages = Vec::new(alloc);
     let mut links = Vec::new(alloc);
-    let mut before = "";
-    for name in &names {
-        packages.push((name.as_str(), name.as_str())).ok()?;
-        if !before.is_empty() {
-            links.push((before, name.as_str())).ok()?;
+    let mut before: Option<&str> = None;
+    for name in LINE_PACKAGES.split(' ') {
+        ok!(packages.push((name, name)));
+        if let Some(before) = before {
+            ok!(links.push((before, name)));
         }
-        before = name.as_str();
+        before = Some(name);
     }
     PackageGraph::new(alloc, packages.as_slice(), links.as_slice()).ok()
-}
-
-fn line_names(alloc: Global) -> Result<Vec<String>, AllocError> {
-    let mut names = Vec::new(alloc);
-    for place in 0..LINE_LENGTH {
-        names.push(format!(in alloc; "p{place}")?)?;
-    }
-    Ok(names)
 }
 
 // The binaries of the workspace of a name, one a line: id, package's id, kind, name, platform.
@@ -151,7 +138,7 @@ fn binary_lines(name: &str) -> &'static str {
     }
 }
 
-fn binary_of(line: &'static str) -> BinaryQuery<'static> {
+fn binary_of(line: &str) -> BinaryQuery<'_> {
     let (binary_id, package_id, rest) = three(line);
     let (kind, binary_name, platform) = three(rest);
     let platform = match platform {
