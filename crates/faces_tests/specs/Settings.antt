@@ -1,6 +1,6 @@
 -- How a test is tried again by a profile of a configuration.
 use Rattle.std.specs.Prelude.{◌≡◌, ℕ, Bool, List, Option}
-use Rattle.nextest_config_elements.specs.RetryPolicy.{RetryPolicy}
+use Rattle.nextest_config_resolution.specs.RetryPolicy.{RetryPolicy}
 use Rattle.nextest_config_resolution.specs.BuildPlatforms.{BuildPlatforms}
 use Rattle.nextest_config_resolution.specs.Config.{IsEarly}
 use Rattle.nextest_config_resolution.specs.Early.{Early}

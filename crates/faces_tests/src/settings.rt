@@ -4,10 +4,9 @@ ghost use Rattle.nextest_config_resolution.specs.Config.{IsConfig, IsFilterIn};
 ghost use Rattle.nextest_config_resolution.specs.Query.{test_of};
 ghost use Rattle.faces_tests.specs.Settings.{IsRetriedBy};
 
-use nextest_config_elements::RetryPolicy;
 use nextest_config_resolution::{
     BuildPlatforms, ConfigSource, FeatureSet, Filters, LoadError, NextestConfig, NextestRunMode,
-    ProfileError, Specs, TestQuery,
+    ProfileError, RetryPolicy, Specs, TestQuery,
 };
 use std::alloc::Global;
 

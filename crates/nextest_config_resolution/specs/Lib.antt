@@ -88,10 +88,29 @@ pub use Rattle.nextest_config_resolution_filters.specs.Specs
 -- what a filter is asked about
 pub use Rattle.nextest_filtering_filters.specs.Query
 -- types
+pub use Rattle.nextest_config_elements_choices.specs.declared.timeouts.FlakyResult
+pub use Rattle.nextest_config_elements_choices.specs.declared.timeouts.SlowTimeoutResult
+pub use Rattle.nextest_config_elements_choices.specs.declared.status_level.FinalStatusLevel
+pub use Rattle.nextest_config_elements_choices.specs.declared.status_level.StatusLevel
+pub use Rattle.nextest_config_elements_choices.specs.declared.output_display.TestOutputDisplay
+pub use Rattle.nextest_config_elements_choices.specs.declared.max_fail.MaxFail
+pub use Rattle.nextest_config_elements_identifiers.specs.declared.invalid_identifier.InvalidIdentifier
 pub use Rattle.nextest_config_elements_identifiers.specs.declared.source_kind.ConfigSourceKind
+pub use Rattle.nextest_config_elements_identifiers.specs.declared.test_group.TestGroup
 pub use Rattle.nextest_config_elements_toml.specs.declared.bad_value.BadValue
 pub use Rattle.nextest_config_elements_toml.specs.declared.key_path.KeyPath
 pub use Rattle.nextest_config_elements_toml.specs.declared.value_error.ValueError
+pub use Rattle.nextest_config_elements_values.specs.declared.config_duration.ConfigDuration
+pub use Rattle.nextest_config_elements_values.specs.declared.junit.JunitConfig
+pub use Rattle.nextest_config_elements_values.specs.declared.junit.JunitFlakyFailStatus
+pub use Rattle.nextest_config_elements_values.specs.declared.junit.ReportSkipPolicy
+pub use Rattle.nextest_config_elements_values.specs.declared.retries.RetryPolicy
+pub use Rattle.nextest_config_elements_values.specs.declared.threads.TestGroupConfig
+pub use Rattle.nextest_config_elements_values.specs.declared.threads.TestThreads
+pub use Rattle.nextest_config_elements_values.specs.declared.threads.ThreadsRequired
+pub use Rattle.nextest_config_elements_values.specs.declared.timeouts.GlobalTimeout
+pub use Rattle.nextest_config_elements_values.specs.declared.timeouts.LeakTimeout
+pub use Rattle.nextest_config_elements_values.specs.declared.timeouts.SlowTimeout
 pub use Rattle.nextest_config_resolution_commands.specs.declared.script_command.ScriptCommand
 pub use Rattle.nextest_config_resolution_commands.specs.declared.script_command.ScriptCommandEnvMap
 pub use Rattle.nextest_config_resolution_commands.specs.declared.script_command.ScriptCommandRelativeTo

@@ -5,12 +5,34 @@
 
 pub mod laws;
 
+pub use nextest_config_elements_choices::FinalStatusLevel;
+pub use nextest_config_elements_choices::FlakyResult;
+pub use nextest_config_elements_choices::MaxFail;
 pub use nextest_config_elements_choices::NextestRunMode;
+pub use nextest_config_elements_choices::SlowTimeoutResult;
+pub use nextest_config_elements_choices::StatusLevel;
+pub use nextest_config_elements_choices::TestOutputDisplay;
+pub use nextest_config_elements_identifiers::ConfigIdentifier;
 pub use nextest_config_elements_identifiers::ConfigSourceKind;
+pub use nextest_config_elements_identifiers::CustomTestGroup;
+pub use nextest_config_elements_identifiers::InvalidIdentifier;
+pub use nextest_config_elements_identifiers::TestGroup;
 pub use nextest_config_elements_identifiers::ToolName;
 pub use nextest_config_elements_toml::BadValue;
 pub use nextest_config_elements_toml::KeyPath;
 pub use nextest_config_elements_toml::ValueError;
+pub use nextest_config_elements_values::ConfigDuration;
+pub use nextest_config_elements_values::GlobalTimeout;
+pub use nextest_config_elements_values::JunitConfig;
+pub use nextest_config_elements_values::JunitFlakyFailStatus;
+pub use nextest_config_elements_values::LeakTimeout;
+pub use nextest_config_elements_values::ReportSkipPolicy;
+pub use nextest_config_elements_values::RetryPolicy;
+pub use nextest_config_elements_values::SlowTimeout;
+pub use nextest_config_elements_values::TestGroupConfig;
+pub use nextest_config_elements_values::TestPriority;
+pub use nextest_config_elements_values::TestThreads;
+pub use nextest_config_elements_values::ThreadsRequired;
 pub use nextest_config_resolution_commands::ScriptCommand;
 pub use nextest_config_resolution_commands::ScriptCommandEnvMap;
 pub use nextest_config_resolution_commands::ScriptCommandRelativeTo;
