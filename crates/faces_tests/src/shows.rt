@@ -12,7 +12,8 @@ use nextest_run_events::{
 /// Whether something is kept for the end of a run of a test that failed, where the run goes on and outputs are shown when tests
 /// end.
 pub fn keeps_failure(levels: StatusLevels, ended: &ExecutionResultDescription) -> bool
-    ensures { result ≡ is_stored display.Immediate None levels.final_status_level final_level.Fail ended.now }
+    ensures { result
+        ≡ is_stored display.Immediate None levels.final_status_level final_level.Fail ended.now }
 {
     let shown = levels.compute_output_on_test_finished(
         TestOutputDisplay::Immediate,

@@ -116,8 +116,10 @@ fn is_all(text: &str) -> bool
 
 // The limit that a text is, a number and how the run stops.
 fn limit_of(text: &str) -> Result<MaxFail, BadText>
-    ensures found { IfOk result (λ limit. (number : ℕ) × (mode : TerminateMode) × (limit ≡ Count number mode) × IsLimit text.now number mode) }
-    ensures refused { OnErr result ((number : ℕ) (mode : TerminateMode) → ¬ (IsLimit text.now number mode)) }
+    ensures found { IfOk result (λ limit. (number : ℕ) × (mode : TerminateMode)
+        × (limit ≡ Count number mode) × IsLimit text.now number mode) }
+    ensures refused { OnErr result
+        ((number : ℕ) (mode : TerminateMode) → ¬ (IsLimit text.now number mode)) }
 {
     match text.split_once(':') {
         Some((digits, word)) => counted(digits, TerminateMode::from_text(word)?),
@@ -127,7 +129,8 @@ fn limit_of(text: &str) -> Result<MaxFail, BadText>
 
 // A limit by its number, in digits.
 fn counted(digits: &str, terminate: TerminateMode) -> Result<MaxFail, BadText>
-    ensures found { IfOk result (λ limit. (number : ℕ) × (limit ≡ Count number terminate) × IsCount digits.now number) }
+    ensures found { IfOk result
+        (λ limit. (number : ℕ) × (limit ≡ Count number terminate) × IsCount digits.now number) }
     ensures refused { OnErr result ((number : ℕ) → ¬ (IsCount digits.now number)) }
 {
     match count_of(digits) {

@@ -23,7 +23,8 @@ impl FlakyResult {
         attempt: u32,
         total_attempts: u32,
     ) -> Result<Option<String>, AllocError>
-        ensures { IfOk result (λ message. option_map string_bytes message ≡ message_of self attempt total_attempts) }
+        ensures { IfOk result
+            (λ message. option_map string_bytes message ≡ message_of self attempt total_attempts) }
     {
         match self {
             FlakyResult::Fail => Ok(Some(format!(in alloc;

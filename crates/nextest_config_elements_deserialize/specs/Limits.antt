@@ -31,15 +31,15 @@ limit_in members = do
   Ok (stopped_at found mode)
 
 -- the first failing test stops a run, or none does
-abbrev pub switched : Bool → MaxFail
-switched true = Count 1 Wait
-switched false = All
+abbrev pub limit_of_switch : Bool → MaxFail
+limit_of_switch true = Count 1 Wait
+limit_of_switch false = All
 
 -- a truth value switches
 abbrev pub switch_in : Data → Reading MaxFail
 switch_in given = do
   stops ← leaf truth given
-  Ok (switched stops)
+  Ok (limit_of_switch stops)
 
 -- a table, or a truth value alone
 abbrev pub fail_fast_in : Data → Reading MaxFail

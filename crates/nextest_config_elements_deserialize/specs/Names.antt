@@ -9,13 +9,13 @@ use Rattle.nextest_config_elements_identifiers.specs.declared.test_group.TestGro
 use Rattle.nextest_config_elements_toml.specs.Reading.{Reading, leaf}
 
 -- what a text names, where it names something
-abbrev pub accepted : {A : Type 0} → Result A InvalidIdentifier → Option A
-accepted (Ok name) = Some name
-accepted (Err refusal) = None
+abbrev pub ok_of : {A : Type 0} → Result A InvalidIdentifier → Option A
+ok_of (Ok name) = Some name
+ok_of (Err refusal) = None
 
 -- a text that is the name of a tool
 abbrev pub tool : Data → Option (List ℕ)
-tool given = option_and_then (λ written. accepted (tool_name written)) (as_str given)
+tool given = option_and_then (λ written. ok_of (tool_name written)) (as_str given)
 
 -- how the name of a tool is read
 abbrev pub tool_name_in : Data → Reading (List ℕ)
@@ -23,7 +23,7 @@ tool_name_in = leaf tool
 
 -- a text that is an identifier
 abbrev pub name : Data → Option (List ℕ)
-name given = option_and_then (λ written. accepted (identifier written)) (as_str given)
+name given = option_and_then (λ written. ok_of (identifier written)) (as_str given)
 
 -- how an identifier is read
 abbrev pub config_identifier_in : Data → Reading (List ℕ)
@@ -31,8 +31,12 @@ config_identifier_in = leaf name
 
 -- a text that names a group of tests
 abbrev pub group : Data → Option TestGroup
-group given = option_and_then (λ written. accepted (group_of written)) (as_str given)
+group given = option_and_then (λ written. ok_of (group_of written)) (as_str given)
 
 -- how a group of tests is read
 abbrev pub test_group_in : Data → Reading TestGroup
 test_group_in = leaf group
+
+-- how a group that a configuration names is read: by its identifier
+abbrev pub custom_test_group_in : Data → Reading (List ℕ)
+custom_test_group_in = leaf name

@@ -74,7 +74,8 @@ pub fn defaulted<Rule, T: ConfigValue<Rule>>(
     key: &str,
     otherwise: T,
 ) -> Result<T, ValueError>
-    ensures { Gives path.now result (read.defaulted key.now T.meaning otherwise (table_view table.now)) }
+    ensures { Gives path.now result
+        (read.defaulted key.now T.meaning otherwise (table_view table.now)) }
 {
     match member(table, key) {
         None => Ok(otherwise),

@@ -6,7 +6,8 @@ ghost use Rattle.nextest_config_elements_deserialize.specs.Levels as read;
 use crate::config_value::whole;
 use crate::values::Any;
 use nextest_config_elements_choices::{
-    FinalStatusLevel, FlakyResult, StatusLevel, TestOutputDisplay,
+    FinalStatusLevel, FlakyResult, LeakTimeoutResult, SlowTimeoutResult, StatusLevel,
+    TerminateMode, TestOutputDisplay,
 };
 use nextest_config_elements_toml::ValueError;
 use std::alloc::Global;
@@ -56,4 +57,37 @@ pub fn deserialize_test_output_display(
     ensures { Gives path.now result (read.output_display_in (view value.now)) }
 {
     whole::<Any, TestOutputDisplay>(alloc, value, path)
+}
+
+/// How a run ends that is stopped by failing tests: `wait` or `immediate`. An `Err` for everything else.
+pub fn deserialize_terminate_mode(
+    alloc: Global,
+    value: &Value,
+    path: &[&str],
+) -> Result<TerminateMode, ValueError>
+    ensures { Gives path.now result (read.terminate_mode_in (view value.now)) }
+{
+    whole::<Any, TerminateMode>(alloc, value, path)
+}
+
+/// What becomes of a process that is ended since it took too long: `fail` or `pass`. An `Err` for everything else.
+pub fn deserialize_slow_timeout_result(
+    alloc: Global,
+    value: &Value,
+    path: &[&str],
+) -> Result<SlowTimeoutResult, ValueError>
+    ensures { Gives path.now result (read.slow_timeout_result_in (view value.now)) }
+{
+    whole::<Any, SlowTimeoutResult>(alloc, value, path)
+}
+
+/// What becomes of a process that leaves handles open: `pass` or `fail`. An `Err` for everything else.
+pub fn deserialize_leak_timeout_result(
+    alloc: Global,
+    value: &Value,
+    path: &[&str],
+) -> Result<LeakTimeoutResult, ValueError>
+    ensures { Gives path.now result (read.leak_timeout_result_in (view value.now)) }
+{
+    whole::<Any, LeakTimeoutResult>(alloc, value, path)
 }

@@ -26,10 +26,14 @@ pub use deserialize_value::DeserializeValue;
 pub use fail_fast::deserialize_fail_fast;
 pub use junit::{deserialize_junit_flaky_fail_status, deserialize_report_skip_policy};
 pub use levels::{
-    deserialize_final_status_level, deserialize_flaky_result, deserialize_status_level,
+    deserialize_final_status_level, deserialize_flaky_result, deserialize_leak_timeout_result,
+    deserialize_slow_timeout_result, deserialize_status_level, deserialize_terminate_mode,
     deserialize_test_output_display,
 };
-pub use names::{deserialize_config_identifier, deserialize_test_group, deserialize_tool_name};
+pub use names::{
+    deserialize_config_identifier, deserialize_custom_test_group, deserialize_test_group,
+    deserialize_tool_name,
+};
 pub use priority::deserialize_test_priority;
 pub use retries::deserialize_retry_policy;
 pub use text_values::{deserialize_texts, optional_text};

@@ -4,7 +4,7 @@ ghost use Rattle.nextest_config_elements_toml.specs.Paths.{Gives};
 ghost use Rattle.nextest_config_elements_deserialize.specs.Names as read;
 
 use nextest_config_elements_identifiers::{
-    ConfigIdentifier, InvalidIdentifier, TestGroup, ToolName,
+    ConfigIdentifier, CustomTestGroup, InvalidIdentifier, TestGroup, ToolName,
 };
 use nextest_config_elements_toml::{ValueError, refused};
 use std::alloc::Global;
@@ -61,6 +61,26 @@ pub fn deserialize_test_group(
         return Err(refused(alloc, path, Some(value), expected));
     };
     match TestGroup::from_text(alloc, text) {
+        Ok(group) => Ok(group),
+        Err(InvalidIdentifier::OutOfMemory) => Err(ValueError::OutOfMemory),
+        Err(_) => Err(refused(alloc, path, Some(value), expected)),
+    }
+}
+
+/// A group of tests that a configuration names: a text that is an identifier, plain or a tool's. An `Err` for everything else,
+/// `@global` too.
+pub fn deserialize_custom_test_group(
+    alloc: Global,
+    value: &Value,
+    path: &[&str],
+) -> Result<CustomTestGroup, ValueError>
+    ensures { Gives path.now result (read.custom_test_group_in (view value.now)) }
+{
+    let expected = "an identifier, plain or `@tool:TOOL:NAME`";
+    let Some(text) = value.as_str() else {
+        return Err(refused(alloc, path, Some(value), expected));
+    };
+    match CustomTestGroup::from_text(alloc, text) {
         Ok(group) => Ok(group),
         Err(InvalidIdentifier::OutOfMemory) => Err(ValueError::OutOfMemory),
         Err(_) => Err(refused(alloc, path, Some(value), expected)),

@@ -7,7 +7,7 @@ use Rattle.std.proofs.lemmas.Bool.{false≢true, cases_lt}
 use Rattle.std.proofs.lemmas.List.{get_or-take}
 use Rattle.std.proofs.lemmas.List.Folds.{list_any_none, length-prefix_len}
 use Rattle.std.proofs.lemmas.List.Sums.{split_at_first, fails_before_first, passes_at_first, prefix_len-le-length}
-use Rattle.nextest_config_elements_identifiers.specs.Parts.{is_colon, parted, behind}
+use Rattle.nextest_config_elements_identifiers.specs.Parts.{is_colon, division_of, behind}
 
 -- one byte more in front, where a first `:` comes before the end
 before_more : (byte : ℕ) (text : List ℕ) (test : Bool) → is_colon byte ≡ test
@@ -37,7 +37,7 @@ any_none (byte ∷ text) none = none_more byte text (is_colon byte) refl (any_no
 pub parted_once : (text : List ℕ) (lent : Option (Bor (List ℕ) × Bor (List ℕ)))
     → MatchOption lent (position_or_len is_colon text ≡ length text) (λ parts. (parts.0.now ≡ before_first is_colon text)
     × (parts.1.now ≡ after_first is_colon text) × (position_or_len is_colon text < length text))
-    → behind lent ≡ parted text
+    → behind lent ≡ division_of text
 parted_once text None none = rw (any_none text none) refl
 parted_once text (Some parts) known = rw (any_before text known.2, known.0, known.1) refl
 
@@ -62,7 +62,7 @@ divided text some =
     )
 
 -- the parts that a text is divided into make it up, with a `:` between them, and the first has none
-pub parted_whole : (text : List ℕ) (parts : List ℕ × List ℕ) → parted text ≡ Some parts
+pub parted_whole : (text : List ℕ) (parts : List ℕ × List ℕ) → division_of text ≡ Some parts
     → (text ≡ parts.0 ++ (58 ∷ parts.1)) × (list_any is_colon parts.0 ≡ false)
 parted_whole text parts is = go (list_any is_colon text) refl
   where

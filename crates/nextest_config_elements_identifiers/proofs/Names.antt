@@ -6,10 +6,10 @@ use Rattle.std.proofs.lemmas.Str.{chars_from_encodes, length-le-encodes}
 use Rattle.unicode_normalization.specs.Forms.{nfc}
 pub use Rattle.unicode_normalization.proofs.FormsLemmas.{nfc_idem}
 use Rattle.nextest_config_elements_identifiers.specs.declared.invalid_identifier.InvalidIdentifier.TheVariants as refused
-use Rattle.nextest_config_elements_identifiers.specs.Identifier.{composed, is_plain, name_of, tool_name}
+use Rattle.nextest_config_elements_identifiers.specs.Identifier.{nfc_of, is_plain, name_of, tool_name}
 
 -- the characters of an NFC
-pub chars-composed : (text name : List ℕ) → IsUtf8 name → name ≡ composed text → nfc (chars text) ≡ chars name
+pub chars-composed : (text name : List ℕ) → IsUtf8 name → name ≡ nfc_of text → nfc (chars text) ≡ chars name
 chars-composed text name utf8 is = chars_from_encodes (nfc (chars text)) name utf8 (sym is)
 
 -- each way in which characters are a name, as they stand
@@ -28,14 +28,14 @@ name_of-other [] other some = absurd (omega arith)
 name_of-other (first ∷ further) other some = cond-false _ _ _ other
 
 -- each way in which a text is read, by its NFC
-pub tool_name-empty : (text : List ℕ) → length (composed text) ≡ 0 → tool_name text ≡ Err refused.Empty
+pub tool_name-empty : (text : List ℕ) → length (nfc_of text) ≡ 0 → tool_name text ≡ Err refused.Empty
 tool_name-empty text = name_of-empty (nfc (chars text))
 
-pub tool_name-plain : (text : List ℕ) → is_plain (nfc (chars text)) ≡ true → tool_name text ≡ Ok (composed text)
+pub tool_name-plain : (text : List ℕ) → is_plain (nfc (chars text)) ≡ true → tool_name text ≡ Ok (nfc_of text)
 tool_name-plain text = name_of-plain (nfc (chars text))
 
-pub tool_name-other : (text : List ℕ) → is_plain (nfc (chars text)) ≡ false → 0 < length (composed text)
-    → tool_name text ≡ Err (refused.InvalidXid (composed text))
+pub tool_name-other : (text : List ℕ) → is_plain (nfc (chars text)) ≡ false → 0 < length (nfc_of text)
+    → tool_name text ≡ Err (refused.InvalidXid (nfc_of text))
 tool_name-other text = name_of-other (nfc (chars text))
 
 -- what reads a text; a name is read as itself, since its NFC is its own NFC

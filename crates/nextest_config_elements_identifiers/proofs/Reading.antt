@@ -3,7 +3,7 @@ use Rattle.std.proofs.Common.{◌≡◌, ℕ, Bool, true, false, List, Option, S
 use Rattle.std.specs.Prelude.{encode_utf8_all}
 use Rattle.unicode_normalization.specs.Forms.{nfc}
 use Rattle.unicode_normalization.proofs.FormsLemmas.{nfc_idem}
-use Rattle.nextest_config_elements_identifiers.specs.Identifier.{composed, is_plain}
+use Rattle.nextest_config_elements_identifiers.specs.Identifier.{nfc_of, is_plain}
 use Rattle.nextest_config_elements_identifiers.specs.Config.{IsIdentifier, identifier_of, is_empty, is_tool, named_by}
 use Rattle.nextest_config_elements_identifiers.specs.Parts.{tool_parts}
 
@@ -31,9 +31,9 @@ identifier_same text name is = go (is_empty text) (is_tool text) (is_plain (char
     go false false false e f g = let known = rw (e, f, g) at is in cc
 
 -- what an NFC is read as is an identifier, since it is its own NFC
-pub identifier_composed : (given text name : List ℕ) → text ≡ composed given → chars text ≡ nfc (chars given)
+pub identifier_composed : (given text name : List ℕ) → text ≡ nfc_of given → chars text ≡ nfc (chars given)
     → identifier_of text ≡ Ok name → IsIdentifier name
 identifier_composed given text name is characters read =
     let same : text ≡ name = identifier_same text name read in
-    let own : composed text ≡ text = ap (λ cs. encode_utf8_all (nfc cs)) characters ∙ ap encode_utf8_all (nfc_idem (chars given)) ∙ sym is in
+    let own : nfc_of text ≡ text = ap (λ cs. encode_utf8_all (nfc cs)) characters ∙ ap encode_utf8_all (nfc_idem (chars given)) ∙ sym is in
     subst IsIdentifier same (ap identifier_of own ∙ read ∙ ap Ok (sym same))

@@ -11,16 +11,16 @@ use Rattle.std.proofs.lemmas.List.Folds.{list_any_none}
 use Rattle.std.proofs.lemmas.Slice.Eq.{starts_is}
 use Rattle.std.proofs.lemmas.Str.{encodes-chars, IsUtf8-drop, IsCharBoundary-after_ascii, NoCharPasses-byte}
 use Rattle.unicode_ident.proofs.IdentLemmas.{is_xid_continue-ascii, is_xid_start-is_xid_continue}
-use Rattle.nextest_config_elements_identifiers.specs.Identifier.{composed, is_plain, is_further}
+use Rattle.nextest_config_elements_identifiers.specs.Identifier.{nfc_of, is_plain, is_further}
 use Rattle.nextest_config_elements_identifiers.specs.Config.{IsIdentifier, identifier_of, is_empty, is_tool, named_by}
-use Rattle.nextest_config_elements_identifiers.specs.Parts.{IsOfTool, is_colon, parted, tool_parts, behind}
+use Rattle.nextest_config_elements_identifiers.specs.Parts.{IsOfTool, is_colon, division_of, tool_parts, behind}
 use Rattle.nextest_config_elements_identifiers.specs.Laws.{ToolIdentifier}
 use Rattle.nextest_config_elements_identifiers.proofs.Division.{parted_whole}
 use Rattle.nextest_config_elements_identifiers.proofs.Reading.{identifier_same}
 
 -- an identifier is one as it stands
 as_it_stands : (text : List ℕ) → IsIdentifier text → identifier_of text ≡ Ok text
-as_it_stands text is = subst (λ name. identifier_of name ≡ Ok text) (identifier_same (composed text) text is) is
+as_it_stands text is = subst (λ name. identifier_of name ≡ Ok text) (identifier_same (nfc_of text) text is) is
 
 -- one that begins with `@` is read by its parts
 by_its_parts : (text : List ℕ) → identifier_of text ≡ Ok text → is_tool text ≡ true → named_by text (tool_parts text) ≡ Ok text
@@ -74,7 +74,7 @@ whole text parts is = go (starts_with eqb text (codes "@tool:")) refl
         → (text ≡ codes "@tool:" ++ (parts.0 ++ (58 ∷ parts.1))) × (list_any is_colon parts.0 ≡ false)
     go false e = let known = rw e at is in cc
     go true e =
-        let known : parted (drop 6 text) ≡ Some parts = rw e at is in
+        let known : division_of (drop 6 text) ≡ Some parts = rw e at is in
         let divided = parted_whole (drop 6 text) parts known in
         let front : text ≡ codes "@tool:" ++ drop 6 text = (starts_is Decides-eqb text (codes "@tool:") true (sym e)).0 refl in
         (front ∙ ap (λ rest. codes "@tool:" ++ rest) divided.0, divided.1)

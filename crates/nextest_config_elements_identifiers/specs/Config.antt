@@ -1,6 +1,6 @@
 -- Which texts are identifiers of a configuration.
 use Rattle.std.specs.Prelude.{◌≡◌, ℕ, ◌==◌, Bool, ◌&&◌, ◌||◌, List, length, Option, Some, None, Result, Ok, Err, chars, slice_index, if◌then◌else◌}
-use Rattle.nextest_config_elements_identifiers.specs.Identifier.{composed, is_plain}
+use Rattle.nextest_config_elements_identifiers.specs.Identifier.{nfc_of, is_plain}
 use Rattle.nextest_config_elements_identifiers.specs.Parts.{tool_parts}
 use Rattle.nextest_config_elements_identifiers.specs.declared.invalid_identifier.InvalidIdentifier.{InvalidIdentifier}
 use Rattle.nextest_config_elements_identifiers.specs.declared.invalid_identifier.InvalidIdentifier.TheVariants as refused
@@ -31,7 +31,7 @@ identifier_of text =
 
 -- what a text is as an identifier: it is taken in its NFC
 abbrev pub identifier : List ℕ → Result (List ℕ) InvalidIdentifier
-identifier text = identifier_of (composed text)
+identifier text = identifier_of (nfc_of text)
 
 -- a text is an identifier: it is what it is read as
 abbrev pub IsIdentifier : List ℕ → Type 0

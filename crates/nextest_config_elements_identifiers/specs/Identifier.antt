@@ -7,8 +7,8 @@ use Rattle.nextest_config_elements_identifiers.specs.declared.invalid_identifier
 use Rattle.nextest_config_elements_identifiers.specs.declared.invalid_identifier.InvalidIdentifier.TheVariants as refused
 
 -- the NFC of a text
-abbrev pub composed : List ℕ → List ℕ
-composed text = encode_utf8_all (nfc (chars text))
+abbrev pub nfc_of : List ℕ → List ℕ
+nfc_of text = encode_utf8_all (nfc (chars text))
 
 -- a character may stand in a plain identifier behind its first
 abbrev pub is_further : ℕ → Bool

@@ -8,12 +8,12 @@ abbrev pub is_colon : ℕ → Bool
 is_colon byte = byte == 58
 
 -- what stands before the first `:` of a text, and behind it
-abbrev pub parted : List ℕ → Option (List ℕ × List ℕ)
-parted text = if list_any is_colon text then Some (before_first is_colon text, after_first is_colon text) else None
+abbrev pub division_of : List ℕ → Option (List ℕ × List ℕ)
+division_of text = if list_any is_colon text then Some (before_first is_colon text, after_first is_colon text) else None
 
 -- the names of a tool and of what is its own, in `@tool:TOOL:OWN`
 abbrev pub tool_parts : List ℕ → Option (List ℕ × List ℕ)
-tool_parts text = if starts_with nat_eq text (codes "@tool:") then parted (drop 6 text) else None
+tool_parts text = if starts_with nat_eq text (codes "@tool:") then division_of (drop 6 text) else None
 
 -- two parts, which were lent
 abbrev pub behind : Option (Bor (List ℕ) × Bor (List ℕ)) → Option (List ℕ × List ℕ)

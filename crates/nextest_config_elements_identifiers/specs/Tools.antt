@@ -1,7 +1,7 @@
 -- Which tool, with which file of its own, a text names.
 use Rattle.std.specs.Prelude.{◌≡◌, ℕ, ◌==◌, List, Option, Some, None, Result, Ok, Err, slice_index, if◌then◌else◌}
 use Rattle.nextest_config_elements_identifiers.specs.Identifier.{tool_name}
-use Rattle.nextest_config_elements_identifiers.specs.Parts.{parted}
+use Rattle.nextest_config_elements_identifiers.specs.Parts.{division_of}
 use Rattle.nextest_config_elements_identifiers.specs.declared.invalid_identifier.InvalidIdentifier.{InvalidIdentifier}
 use Rattle.nextest_config_elements_identifiers.specs.declared.tool_config_file.ToolConfigFile.{ToolConfigFile}
 use Rattle.nextest_config_elements_identifiers.specs.declared.tool_config_file.ToolConfigFileError.{ToolConfigFileError}
@@ -19,7 +19,7 @@ file_of (Some parts) = if slice_index parts.1 0 == 47 then file_for parts.1 (too
 
 -- the tool and the file that a text names
 abbrev pub tool_config_file : List ℕ → Option ToolConfigFile
-tool_config_file text = file_of (parted text)
+tool_config_file text = file_of (division_of text)
 
 -- a read gives what the text names; running out of memory says nothing
 abbrev pub ReadsToolConfigFile : List ℕ → Result ToolConfigFile ToolConfigFileError → Type 0

@@ -4,7 +4,7 @@ use std::alloc::{AllocError, AllocFailed};
 use thiserror::Error;
 
 /// Why a text is no identifier.
-#[derive(Debug, PartialEq, Eq, Drop, Error)]
+#[derive(Clone, Debug, PartialEq, Eq, Drop, Error)]
 pub enum InvalidIdentifier {
     /// It is empty.
     #[error("identifier is empty")]

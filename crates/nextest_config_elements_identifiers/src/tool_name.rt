@@ -5,7 +5,7 @@ ghost use Rattle.std.specs.Cmp.Lexicographic.{pointwise, slice_cmp, nat_list_eq_
 ghost use Rattle.std.specs.Hash as fed;
 ghost use Rattle.std.specs.Ordering.{nat_cmp};
 ghost use Rattle.unicode_normalization.specs.Forms.{nfc};
-ghost use Rattle.nextest_config_elements_identifiers.specs.Identifier.{composed, IsToolName, ReadsToolName};
+ghost use Rattle.nextest_config_elements_identifiers.specs.Identifier.{nfc_of, IsToolName, ReadsToolName};
 
 use crate::invalid_identifier::InvalidIdentifier;
 use crate::plain::is_plain;
@@ -63,7 +63,7 @@ impl ToolName {
 
 // The NFC of a text.
 pub(crate) fn composed(alloc: Global, text: &str) -> Result<Text, AllocError>
-    ensures text { IfOk result (λ name. name ≡ composed text.now) }
+    ensures text { IfOk result (λ name. name ≡ nfc_of text.now) }
     ensures characters { IfOk result (λ name. chars name ≡ nfc (chars text.now)) }
 {
     let string = to_nfc(alloc, text)?;

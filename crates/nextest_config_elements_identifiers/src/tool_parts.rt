@@ -1,11 +1,11 @@
 // How a text is divided into the names in it.
 ghost use Rattle.std.specs.Prelude.{◌≡◌};
 ghost use Rattle.nextest_config_elements_identifiers.specs.Config.{is_tool};
-ghost use Rattle.nextest_config_elements_identifiers.specs.Parts.{behind, parted, tool_parts};
+ghost use Rattle.nextest_config_elements_identifiers.specs.Parts.{behind, division_of, tool_parts};
 
 // What stands before the first `:` of a text, and behind it.
 pub(crate) fn parted(text: &str) -> Option<(&str, &str)>
-    ensures { behind result ≡ parted text.now }
+    ensures { behind result ≡ division_of text.now }
 {
     text.split_once(':')
 }

@@ -1,6 +1,7 @@
 -- Where values stand, and what a reader answers.
-use Rattle.std.specs.Prelude.{◌≡◌, ℕ, true, false, List, [], ◌∷◌, ◌++◌, Option, None, Some, Result, Ok, Err, ⊤, codes, map}
+use Rattle.std.specs.Prelude.{◌≡◌, ℕ, true, false, List, ◌++◌, Option, None, Some, Result, Ok, Err, ⊤, codes, map}
 use Rattle.std.specs.Fmt.{signed_decimal}
+use Rattle.std.specs.List.{join_with_byte}
 use denote.Ref.{Bor}
 use Rattle.toml.specs.Data.{Data, string, integer, float, boolean, datetime, array, table}
 use Rattle.nextest_config_elements_toml.specs.Reading.{Path, Reading}
@@ -10,6 +11,10 @@ use Rattle.nextest_config_elements_toml.specs.declared.value_error.ValueError.Th
 -- the keys of a path that is lent
 abbrev pub texts : List (Bor (List ℕ)) → Path
 texts path = map (λ key. key.now) path
+
+-- how a path prints: its keys, with a dot between each two
+abbrev pub dotted_text : Path → List ℕ
+dotted_text keys = join_with_byte 46 keys
 
 -- what is refused stands at a path
 abbrev pub IsRefusedAt : Path → ValueError → Type 0

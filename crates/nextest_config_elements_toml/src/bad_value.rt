@@ -4,7 +4,7 @@ use nextest_text::Text;
 use thiserror::Error;
 
 /// A value that its key can't have.
-#[derive(Debug, PartialEq, Eq, Error)]
+#[derive(Clone, Debug, PartialEq, Eq, Error)]
 #[error("{path}: expected {expected}, found {found}")]
 pub struct BadValue {
     /// Where the value stands, or the key that is missing.

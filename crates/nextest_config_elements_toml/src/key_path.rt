@@ -36,12 +36,18 @@ fn push_keys(alloc: Global, keys: &mut Listing<Text>, more: &[&str]) -> Result<(
 }
 
 impl fmt::Display for KeyPath {
+    ghost use Rattle.std.specs.Prelude.{Some};
+    ghost use Rattle.nextest_config_elements_toml.specs.Paths.{dotted_text};
+
+    ghost output = { λ path. Some (dotted_text path.keys) };
+
     fn fmt<W: fmt::Write>(&self, f: &mut fmt::Formatter<W>) -> fmt::Result {
-        for (place, key) in self.keys.as_slice().iter().enumerate() {
-            if place > 0 {
-                f.write_str(".")?;
-            }
-            f.write_str(key.as_str())?;
+        let Some((first, more)) = self.keys.as_slice().split_first() else {
+            return Ok(());
+        };
+        f.write_str(first.as_str())?;
+        for key in more {
+            write!(f, ".{key}")?;
         }
         Ok(())
     }

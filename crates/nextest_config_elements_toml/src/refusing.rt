@@ -55,7 +55,8 @@ fn bad_value(
 ) -> Result<BadValue, AllocError>
     ensures path { IfOk result (λ bad. bad.path.keys ≡ texts path.now ++ texts further.now) }
     ensures expected { IfOk result (λ bad. bad.expected.now ≡ expected.now) }
-    ensures found { IfOk result (λ bad. IsTold (option_map (λ it. view it.now) found.entry) bad.found) }
+    ensures found { IfOk result
+        (λ bad. IsTold (option_map (λ it. view it.now) found.entry) bad.found) }
 {
     Ok(BadValue {
         path: KeyPath::of_keys(alloc, path, further)?,

@@ -6,7 +6,7 @@ use Rattle.std.specs.List.{AllByRecursion, flat_map, list_all}
 use Rattle.std.proofs.lemmas.Bool.{and_parts, eqb-true, false≢true, both_ways}
 use Rattle.std.proofs.lemmas.Bool.Decides.{nat_tests}
 use Rattle.std.proofs.lemmas.List.{append-nil}
-use Rattle.nextest_config_elements_values.specs.Duration.{is_blank, AreBlanks, Part, IsPart, written, IsZero, IsSum, IsDuration}
+use Rattle.nextest_config_elements_values.specs.Duration.{is_blank, AreBlanks, Part, IsPart, text_of_part, IsZero, IsSum, IsDuration}
 use Rattle.nextest_config_elements_values.specs.DurationLaws.{OneDuration}
 use Rattle.nextest_config_elements_values.specs.Ahead.{run, behind, from_word, StartsWith, Reads, is_zero}
 use Rattle.nextest_config_elements_values.proofs.Fronts.{starts, behind_front, run_behind, run_passes}
@@ -38,7 +38,7 @@ zero_ahead text nanos zero =
     ap is_zero rest ∙ zero.blank_after
 
 -- parts
-some_parts : (rest : List ℕ) (parts : List Part) → 0 < length rest → rest ≡ flat_map written parts → 0 < length parts
+some_parts : (rest : List ℕ) (parts : List Part) → 0 < length rest → rest ≡ flat_map text_of_part parts → 0 < length parts
 some_parts rest [] some whole = absurd (omega (arith, ap length whole))
 some_parts rest (part ∷ further) some whole = omega arith
 
@@ -55,10 +55,10 @@ is_sum_text text nanos some reads fits = record {
   fits = fits;
 }
 
-parts_ahead : (text : List ℕ) (nanos : ℕ) (sum : IsSum text nanos) → behind is_blank text ≡ flat_map written sum.parts
+parts_ahead : (text : List ℕ) (nanos : ℕ) (sum : IsSum text nanos) → behind is_blank text ≡ flat_map text_of_part sum.parts
 parts_ahead text nanos sum =
-    let end = end_no_blank (flat_map written sum.parts) (parts_end sum.parts sum.each) in
-    ap (behind is_blank) sum.whole ∙ behind_front is_blank sum.before (flat_map written sum.parts) sum.blank_before end
+    let end = end_no_blank (flat_map text_of_part sum.parts) (parts_end sum.parts sum.each) in
+    ap (behind is_blank) sum.whole ∙ behind_front is_blank sum.before (flat_map text_of_part sum.parts) sum.blank_before end
 
 pub sum_ahead : (text : List ℕ) (nanos : ℕ) → IsSum text nanos → Reads (behind is_blank text) nanos
 sum_ahead text nanos sum =
@@ -99,7 +99,7 @@ zero_no_part (first ∷ further) nanos zero start =
 pub some_left : (text : List ℕ) (nanos : ℕ) → IsSum text nanos → 0 < length (behind is_blank text)
 some_left text nanos sum = some_of (behind is_blank text) sum.parts sum.some sum.each (parts_ahead text nanos sum)
   where
-    some_of : (rest : List ℕ) (parts : List Part) → 0 < length parts → AllByRecursion IsPart parts → rest ≡ flat_map written parts → 0 < length rest
+    some_of : (rest : List ℕ) (parts : List Part) → 0 < length parts → AllByRecursion IsPart parts → rest ≡ flat_map text_of_part parts → 0 < length rest
     some_of rest [] some each whole = absurd (omega arith)
     some_of rest (part ∷ further) some each whole = part_some rest part further each whole
 

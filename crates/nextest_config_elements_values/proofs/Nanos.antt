@@ -4,10 +4,10 @@ use Rattle.std.specs.Prelude.{nat_lt, option_map, option_and_then}
 use Rattle.std.specs.Char.{is_ascii_alphabetic, is_ascii_digit}
 use Rattle.std.specs.Str.Parse.{digits_value}
 use Rattle.std.proofs.lemmas.Bool.{cond-true, cond-false, ltb-true, lt-ltb, le-ltb}
-use Rattle.nextest_config_elements_values.specs.Duration.{is_blank, unit_nanos, written, IsZero, IsSum, IsDuration}
+use Rattle.nextest_config_elements_values.specs.Duration.{is_blank, unit_nanos, text_of_part, IsZero, IsSum, IsDuration}
 use Rattle.nextest_config_elements_values.specs.Ahead.{run, behind, from_word, behind_part, StartsWith, Reads, is_zero}
 use Rattle.nextest_config_elements_values.specs.DurationLaws.{NanosOfDurations}
-use Rattle.nextest_config_elements_values.specs.Nanos.{measured, first_nanos, sum_in, fitting, parts_in, nanos_ahead, nanos_in}
+use Rattle.nextest_config_elements_values.specs.Nanos.{nanos_of_part, first_nanos, sum_in, fitting, parts_in, nanos_ahead, nanos_in}
 use Rattle.nextest_config_elements_values.proofs.Meanings.{is_zero_text, is_sum_text, zero_ahead, sum_ahead, zero_no_sum, some_left}
 use Rattle.nextest_config_elements_values.proofs.Parts.{start_is}
 use Rattle.nextest_config_elements_values.proofs.Sums.{nothing_reads, reads_none, reads_start, reads_more, reads_less}
@@ -18,7 +18,7 @@ unit_found : (unit : Option ℕ) (value nanos : ℕ) → option_map (λ it. valu
 unit_found None value nanos e = absurd (cc)
 unit_found (Some it) value nanos e = (it, refl, cc)
 
-measured_is : (digits word : List ℕ) (nanos : ℕ) → measured digits word ≡ Some nanos
+measured_is : (digits word : List ℕ) (nanos : ℕ) → nanos_of_part digits word ≡ Some nanos
     → (unit : ℕ) × (0 < length digits) × (unit_nanos word ≡ Some unit) × (nanos ≡ digits_value 10 digits * unit)
 measured_is [] word nanos e = absurd (cc)
 measured_is (digit ∷ digits) word nanos e =
@@ -26,7 +26,7 @@ measured_is (digit ∷ digits) word nanos e =
     (found.0, omega arith, found.1, found.2)
 
 is_measured : (digits word : List ℕ) (unit nanos : ℕ) → 0 < length digits → unit_nanos word ≡ Some unit
-    → nanos ≡ digits_value 10 digits * unit → measured digits word ≡ Some nanos
+    → nanos ≡ digits_value 10 digits * unit → nanos_of_part digits word ≡ Some nanos
 is_measured [] word unit nanos some named value = absurd (omega arith)
 is_measured (digit ∷ digits) word unit nanos some named value =
     ap (option_map (λ it. digits_value 10 (digit ∷ digits) * it)) named ∙ ap Some (sym value)
@@ -45,7 +45,7 @@ behind_less text nanos start =
     let first = start_is text nanos start in
     let part = first.0 in
     let some = first.1.number.0 in
-    let all = length-append (written part) (behind_part text) in
+    let all = length-append (text_of_part part) (behind_part text) in
     let front = length-append part.digits (part.gap ++ (part.word ++ part.blanks)) in
     omega (arith, ap length first.3, all, front, some)
 

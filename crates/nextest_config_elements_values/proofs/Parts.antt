@@ -6,7 +6,7 @@ use Rattle.std.specs.Str.Parse.{AllDigits, IsNumeral, digits_value}
 use Rattle.std.proofs.Math.Nat.{mul-le-mul_left}
 use Rattle.std.proofs.lemmas.Bool.{and_parts, cases_lt}
 use Rattle.std.proofs.lemmas.Bool.Decides.{nat_tests}
-use Rattle.nextest_config_elements_values.specs.Duration.{is_blank, AreBlanks, unit_nanos, Part, IsPart, written, nanos_of}
+use Rattle.nextest_config_elements_values.specs.Duration.{is_blank, AreBlanks, unit_nanos, Part, IsPart, text_of_part, nanos_of}
 use Rattle.nextest_config_elements_values.specs.Ahead.{run, behind, from_word, behind_part, StartsWith}
 use Rattle.nextest_config_elements_values.proofs.Fronts.{starts, run_front, behind_front, run_behind, run_passes}
 use Rattle.nextest_config_elements_values.proofs.Numbers.{digits_pass, passed_digits}
@@ -65,21 +65,21 @@ gap_no_digit (first ∷ further) word rest are letters some = blank_no_digit fir
 
 -- a part, and what follows it
 pub record Seen (part : Part) (rest : List ℕ) : Type 0 where
-  pub digits : run is_ascii_digit (written part ++ rest) ≡ part.digits
-  pub word : run is_ascii_alphabetic (from_word (written part ++ rest)) ≡ part.word
-  pub left : behind_part (written part ++ rest) ≡ rest
+  pub digits : run is_ascii_digit (text_of_part part ++ rest) ≡ part.digits
+  pub word : run is_ascii_alphabetic (from_word (text_of_part part ++ rest)) ≡ part.word
+  pub left : behind_part (text_of_part part ++ rest) ≡ rest
 
 pub seen : (part : Part) (rest : List ℕ) → IsPart part → ends rest ≡ true → Seen part rest
 seen part rest is end =
     let named = unit_word part.word part.unit is.named in
-    let parted : written part ++ rest ≡ part.digits ++ (part.gap ++ (part.word ++ (part.blanks ++ rest))) = simp append_assoc in
+    let parted : text_of_part part ++ rest ≡ part.digits ++ (part.gap ++ (part.word ++ (part.blanks ++ rest))) = simp append_assoc in
     let number = digits_pass part.digits is.number.1 in
     let no_digit = gap_no_digit part.gap part.word (part.blanks ++ rest) is.blank_gap named.0 named.1.0 in
     let no_blank = word_no_blank part.word (part.blanks ++ rest) named.0 named.1.0 in
     let no_letter = blanks_no_letter part.blanks rest is.blank_behind end in
-    let digits : run is_ascii_digit (written part ++ rest) ≡ part.digits
+    let digits : run is_ascii_digit (text_of_part part ++ rest) ≡ part.digits
     = ap (run is_ascii_digit) parted ∙ run_front is_ascii_digit part.digits (part.gap ++ (part.word ++ (part.blanks ++ rest))) number no_digit in
-    let word_on : from_word (written part ++ rest) ≡ part.word ++ (part.blanks ++ rest)
+    let word_on : from_word (text_of_part part ++ rest) ≡ part.word ++ (part.blanks ++ rest)
     = ap from_word parted ∙ ap (behind is_blank) (behind_front is_ascii_digit part.digits (part.gap ++ (part.word ++ (part.blanks ++ rest))) number no_digit)
     ∙ behind_front is_blank part.gap (part.word ++ (part.blanks ++ rest)) is.blank_gap no_blank in
     record {
@@ -96,17 +96,17 @@ digits_end [] rest number = absurd (omega arith)
 digits_end (first ∷ further) rest number =
     (and_parts (is_ascii_digit first) (list_all is_ascii_digit further) (digits_pass (first ∷ further) number.1)).0
 
-part_ends : (part : Part) (rest : List ℕ) → IsPart part → ends (written part ++ rest) ≡ true
+part_ends : (part : Part) (rest : List ℕ) → IsPart part → ends (text_of_part part ++ rest) ≡ true
 part_ends part rest is =
-    let parted : written part ++ rest ≡ part.digits ++ (part.gap ++ (part.word ++ (part.blanks ++ rest))) = simp append_assoc in
+    let parted : text_of_part part ++ rest ≡ part.digits ++ (part.gap ++ (part.word ++ (part.blanks ++ rest))) = simp append_assoc in
     ap ends parted ∙ digits_end part.digits (part.gap ++ (part.word ++ (part.blanks ++ rest))) is.number
 
-pub parts_end : (parts : List Part) → AllByRecursion IsPart parts → ends (flat_map written parts) ≡ true
+pub parts_end : (parts : List Part) → AllByRecursion IsPart parts → ends (flat_map text_of_part parts) ≡ true
 parts_end [] each = refl
-parts_end (part ∷ further) each = part_ends part (flat_map written further) each.0
+parts_end (part ∷ further) each = part_ends part (flat_map text_of_part further) each.0
 
 -- a text starts with its first part
-pub first_starts : (part : Part) (rest : List ℕ) → IsPart part → ends rest ≡ true → StartsWith (written part ++ rest) (nanos_of part)
+pub first_starts : (part : Part) (rest : List ℕ) → IsPart part → ends rest ≡ true → StartsWith (text_of_part part ++ rest) (nanos_of part)
 first_starts part rest is end =
     let it = seen part rest is end in
     record {
@@ -125,7 +125,7 @@ one_start text one other left right =
 
 -- a text that starts with a part is that part and what follows
 pub start_is : (text : List ℕ) (nanos : ℕ) → StartsWith text nanos
-    → (part : Part) × IsPart part × (nanos ≡ nanos_of part) × (text ≡ written part ++ behind_part text)
+    → (part : Part) × IsPart part × (nanos ≡ nanos_of part) × (text ≡ text_of_part part ++ behind_part text)
 start_is text nanos start =
     let behind_digits = behind is_ascii_digit text in
     let behind_word = behind is_ascii_alphabetic (from_word text) in
@@ -147,7 +147,7 @@ start_is text nanos start =
     ∙ ap (λ (rest : List ℕ). run is_ascii_digit text ++ rest) (run_behind is_blank behind_digits
     ∙ ap (λ (rest : List ℕ). run is_blank behind_digits ++ rest) (run_behind is_ascii_alphabetic (from_word text)
     ∙ ap (λ (rest : List ℕ). run is_ascii_alphabetic (from_word text) ++ rest) (run_behind is_blank behind_word))) in
-    let parted : written part ++ behind_part text ≡ run is_ascii_digit text ++ (run is_blank behind_digits ++ (run is_ascii_alphabetic (from_word text) ++ (run is_blank behind_word ++ behind_part text)))
+    let parted : text_of_part part ++ behind_part text ≡ run is_ascii_digit text ++ (run is_blank behind_digits ++ (run is_ascii_alphabetic (from_word text) ++ (run is_blank behind_word ++ behind_part text)))
     = simp append_assoc in
     (part, is, start.value, joined ∙ sym parted)
 

@@ -3,7 +3,7 @@ use Rattle.std.specs.Prelude.{◌≡◌, ℕ, ◌*◌, ◌==◌, Bool, false, �
 use Rattle.std.specs.Char.{is_ascii_alphabetic, is_ascii_digit}
 use Rattle.std.specs.List.{AllByRecursion, flat_map, list_all, before_first, position_or_len}
 use Rattle.std.specs.Str.Parse.{digits_value}
-use Rattle.nextest_config_elements_values.specs.Duration.{is_blank, unit_nanos, Part, IsPart, written, nanos_of}
+use Rattle.nextest_config_elements_values.specs.Duration.{is_blank, unit_nanos, Part, IsPart, text_of_part, nanos_of}
 
 -- the longest run of bytes that pass at the start of a text
 abbrev pub run : (ℕ → Bool) → List ℕ → List ℕ
@@ -32,7 +32,7 @@ pub record StartsWith (text : List ℕ) (nanos : ℕ) : Type 0 where
 pub record Reads (text : List ℕ) (nanos : ℕ) : Type 0 where
   pub parts : List Part
   pub each : AllByRecursion IsPart parts
-  pub whole : text ≡ flat_map written parts
+  pub whole : text ≡ flat_map text_of_part parts
   pub adds_up : nanos ≡ sum_by nanos_of parts
 
 -- a text is `0` and blanks

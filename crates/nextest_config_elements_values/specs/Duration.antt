@@ -50,8 +50,8 @@ pub record Part : Type 0 where
   pub unit : ℕ
 
 -- how a part is written
-abbrev pub written : Part → List ℕ
-written part = part.digits ++ (part.gap ++ (part.word ++ part.blanks))
+abbrev pub text_of_part : Part → List ℕ
+text_of_part part = part.digits ++ (part.gap ++ (part.word ++ part.blanks))
 
 -- one digit or more, blanks, the word of that unit, blanks
 pub record IsPart (part : Part) : Type 0 where
@@ -80,7 +80,7 @@ pub record IsSum (text : List ℕ) (nanos : ℕ) : Type 0 where
   pub blank_before : AreBlanks before
   pub some : 0 < length parts
   pub each : AllByRecursion IsPart parts
-  pub whole : text ≡ before ++ flat_map written parts
+  pub whole : text ≡ before ++ flat_map text_of_part parts
   pub adds_up : nanos ≡ sum_by nanos_of parts
   pub fits : nanos < 2 ^ 64
 

@@ -6,13 +6,13 @@ use Rattle.nextest_config_elements_values.specs.Ahead.{run, behind, from_word, b
 use Rattle.nextest_config_elements_values.specs.Duration.{is_blank, unit_nanos}
 
 -- the nanoseconds of a number with the unit that a word names; no digits are no number
-abbrev pub measured : List ℕ → List ℕ → Option ℕ
-measured [] word = None
-measured (digit ∷ digits) word = option_map (λ unit. digits_value 10 (digit ∷ digits) * unit) (unit_nanos word)
+abbrev pub nanos_of_part : List ℕ → List ℕ → Option ℕ
+nanos_of_part [] word = None
+nanos_of_part (digit ∷ digits) word = option_map (λ unit. digits_value 10 (digit ∷ digits) * unit) (unit_nanos word)
 
 -- the nanoseconds of the part that stands first in a text
 abbrev pub first_nanos : List ℕ → Option ℕ
-first_nanos text = measured (run is_ascii_digit text) (run is_ascii_alphabetic (from_word text))
+first_nanos text = nanos_of_part (run is_ascii_digit text) (run is_ascii_alphabetic (from_word text))
 
 -- the nanoseconds that the parts add up to which a text is, of no more than so many parts
 abbrev pub sum_in : ℕ → List ℕ → Option ℕ

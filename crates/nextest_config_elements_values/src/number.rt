@@ -7,7 +7,8 @@ ghost use Rattle.std.specs.Str.Parse.{AllDigits, IsNumeral, digits_value};
 #[tactic(auto, using(crate::proofs::Numbers::reads_digits))]
 pub(crate) fn number_of(digits: &[u8]) -> Option<u64>
     requires { AllDigits 10 digits.now }
-    ensures { SomeIff result (IsNumeral 10 digits.now × (digits_value 10 digits.now < 2 ^ 64)) (digits_value 10 digits.now) }
+    ensures { SomeIff result (IsNumeral 10 digits.now × (digits_value 10 digits.now < 2 ^ 64))
+        (digits_value 10 digits.now) }
 {
     if digits.is_empty() {
         return None;

@@ -10,8 +10,8 @@ use Rattle.nextest_config_elements_toml.specs.declared.bad_value.BadValue.{BadVa
 use Rattle.nextest_config_elements_toml.specs.declared.value_error.ValueError.{ValueError}
 use Rattle.nextest_config_elements_toml.specs.declared.value_error.ValueError.TheVariants as value_error
 use Rattle.nextest_config_elements_versions.specs.Features.{known_in, union}
-use Rattle.nextest_config_elements_versions.specs.Laws.{OneConfig, EachComes, Partition, Associative, Neutral}
-use Rattle.nextest_config_elements_versions.specs.Sources.{Asking, Comes, GivesConfig, GivesDemand, IsRefusal, Reason, bad_value, ask_of, Refusal, TellsReason, read_for, add, askings, config_in, config_of, demand_in, features_in, merged, origin_of, recommended_in, required_in, told, unknown_of, Source, seen}
+use Rattle.nextest_config_elements_versions.specs.Laws.{OneConfig, EachComes, Partition, PartitionOfSources, Associative, Neutral}
+use Rattle.nextest_config_elements_versions.specs.Sources.{Asking, Comes, GivesConfig, GivesDemand, IsRefusal, Reason, bad_value, ask_of, Refusal, TellsReason, read_for, add, askings, config_in, config_of, demand_in, features_in, merge_of, origin_of, recommended_in, required_in, unknown_features_of, unknown_of, Source, version_source_of}
 use Rattle.nextest_config_elements_versions.specs.Verdict.{Ask, IsReq, asked_by, later_of}
 use Rattle.nextest_config_elements_versions.specs.declared.demand.VersionDemand.{VersionDemand}
 use Rattle.nextest_config_elements_versions.specs.declared.experimental.UnknownFeatures.{UnknownFeatures}
@@ -111,7 +111,7 @@ none_config = config req.None req.None (set_of false false false) []
 comes_none : Comes [] none_config
 comes_none = record { required = refl; recommended = refl; known = refl; unknown = refl }
 
-neutral_one : (one : VersionOnlyConfig) → (merged none_config one ≡ one) × (merged one none_config ≡ one)
+neutral_one : (one : VersionOnlyConfig) → (merge_of none_config one ≡ one) × (merge_of one none_config ≡ one)
 neutral_one one = (
   same_configs _ _ _ _ _ _ _ _ (later_none one.nextest_version.required) (later_none one.nextest_version.recommended) refl refl,
   same_configs _ _ _ _ _ _ _ _ refl refl (union_none one.experimental.known) (append_none one.experimental.unknown),
@@ -119,7 +119,7 @@ neutral_one one = (
 
 pub neutral : Neutral
 neutral none one comes =
-    subst (λ (it : VersionOnlyConfig). (merged it one ≡ one) × (merged one it ≡ one)) (one_config [] none_config none comes_none comes)
+    subst (λ (it : VersionOnlyConfig). (merge_of it one ≡ one) × (merge_of one it ≡ one)) (one_config [] none_config none comes_none comes)
     (neutral_one one)
 
 -- lists of sources in a row
@@ -158,9 +158,27 @@ pub gives_none : (config : VersionOnlyConfig) → Comes [] config → GivesConfi
 gives_none config comes = ([], refl, comes)
 
 pub gives_more : (front rest : List Source) (one other : VersionOnlyConfig) → GivesConfig front (Ok one) → GivesConfig rest (Ok other)
-    → GivesConfig (front ++ rest) (Ok (merged one other))
+    → GivesConfig (front ++ rest) (Ok (merge_of one other))
 gives_more front rest one other a b =
     (a.0 ++ b.0, askings_append front rest a.0 a.1 ∙ ap (before a.0) b.1, partition a.0 b.0 one other a.2 b.2)
+
+add_refused : (source : Source) (asked : Result VersionDemand Reason) (here whole : Result (List Asking) Refusal) (refusal : Refusal)
+    → add source asked here ≡ Err refusal → (here ≡ Err refusal → whole ≡ Err refusal) → add source asked whole ≡ Err refusal
+add_refused source (Err why) here whole refusal is next = is
+add_refused source (Ok demand) (Err first) whole refusal is next = ap (add source (Ok demand)) (next is)
+add_refused source (Ok demand) (Ok more) whole refusal is next = cc is
+
+refused_append : (front rest : List Source) (refusal : Refusal) → askings front ≡ Err refusal → askings (front ++ rest) ≡ Err refusal
+refused_append [] rest refusal is = cc is
+refused_append (source ∷ front) rest refusal is =
+    add_refused source (demand_in source.kind source.text) (askings front) (askings (front ++ rest)) refusal is (refused_append front rest refusal)
+
+pub partition_of_sources : PartitionOfSources
+partition_of_sources = record {
+  comes = gives_more;
+  front_refused = refused_append;
+  rest_refused = λ front rest all refusal accepted refused. askings_append front rest all accepted ∙ ap (before all) refused;
+}
 
 refused_first : (source : Source) (asked : Result VersionDemand Reason) (refusal : Refusal) (more : Result (List Asking) Refusal)
     → add source asked (Ok []) ≡ Err refusal → add source asked more ≡ Err refusal
@@ -228,25 +246,25 @@ comes_in (asking ∷ more) = partition (asking ∷ []) more (config_of asking.0 
 
 -- a walk over a list of sources that are lent
 pub walk_more : (sources : List VersionSource) (place : ℕ) (source : VersionSource) (one other : VersionOnlyConfig) → place < length sources
-    → source ≡ get_or sources place source → GivesConfig (map seen (take place sources)) (Ok one) → GivesConfig (seen source ∷ []) (Ok other)
-    → GivesConfig (map seen (take (place + 1) sources)) (Ok (merged one other))
+    → source ≡ get_or sources place source → GivesConfig (map version_source_of (take place sources)) (Ok one) → GivesConfig (version_source_of source ∷ []) (Ok other)
+    → GivesConfig (map version_source_of (take (place + 1) sources)) (Ok (merge_of one other))
 walk_more sources place source one other within is a b =
     let whole : take (place + 1) sources ≡ take place sources ++ source ∷ [] =
     take_more sources place source within ∙ ap (λ (it : VersionSource). take place sources ++ it ∷ []) (sym is) in
-    let told : map seen (take (place + 1) sources) ≡ map seen (take place sources) ++ seen source ∷ [] =
-    ap (λ (l : List VersionSource). map seen l) whole ∙ map-append seen (take place sources) (source ∷ []) in
-    subst (λ (l : List Source). GivesConfig l (Ok (merged one other))) (sym told)
-    (gives_more (map seen (take place sources)) (seen source ∷ []) one other a b)
+    let told : map version_source_of (take (place + 1) sources) ≡ map version_source_of (take place sources) ++ version_source_of source ∷ [] =
+    ap (λ (l : List VersionSource). map version_source_of l) whole ∙ map-append version_source_of (take place sources) (source ∷ []) in
+    subst (λ (l : List Source). GivesConfig l (Ok (merge_of one other))) (sym told)
+    (gives_more (map version_source_of (take place sources)) (version_source_of source ∷ []) one other a b)
 
 pub walk_refused : (sources : List VersionSource) (place : ℕ) (source : VersionSource) (one : VersionOnlyConfig) (why : VersionOnlyError)
-    → place < length sources → source ≡ get_or sources place source → GivesConfig (map seen (take place sources)) (Ok one) → GivesConfig (seen source ∷ []) (Err why)
-    → GivesConfig (map seen sources) (Err why)
+    → place < length sources → source ≡ get_or sources place source → GivesConfig (map version_source_of (take place sources)) (Ok one) → GivesConfig (version_source_of source ∷ []) (Err why)
+    → GivesConfig (map version_source_of sources) (Err why)
 walk_refused sources place source one why within is a b =
     let rest : drop place sources ≡ source ∷ drop (place + 1) sources =
     drop_more sources place source within ∙ ap (λ (it : VersionSource). it ∷ drop (place + 1) sources) (sym is) in
     let whole : sources ≡ take place sources ++ source ∷ drop (place + 1) sources =
     sym (take-append-drop place sources) ∙ ap (λ (l : List VersionSource). take place sources ++ l) rest in
-    let told : map seen sources ≡ map seen (take place sources) ++ seen source ∷ map seen (drop (place + 1) sources) =
-    ap (λ (l : List VersionSource). map seen l) whole ∙ map-append seen (take place sources) (source ∷ drop (place + 1) sources) in
+    let told : map version_source_of sources ≡ map version_source_of (take place sources) ++ version_source_of source ∷ map version_source_of (drop (place + 1) sources) =
+    ap (λ (l : List VersionSource). map version_source_of l) whole ∙ map-append version_source_of (take place sources) (source ∷ drop (place + 1) sources) in
     subst (λ (l : List Source). GivesConfig l (Err why)) (sym told)
-    (gives_refusal (map seen (take place sources)) (seen source) (map seen (drop (place + 1) sources)) one why a b)
+    (gives_refusal (map version_source_of (take place sources)) (version_source_of source) (map version_source_of (drop (place + 1) sources)) one why a b)

@@ -1,3 +1,4 @@
 pub mod Comings
 pub mod Counting
 pub mod Names
+pub mod ShortVersions

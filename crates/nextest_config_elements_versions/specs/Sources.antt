@@ -29,8 +29,8 @@ pub record Source : Type 0 where
   pub text : Option (List ℕ)
 
 -- the source that is lent
-abbrev pub seen : VersionSource → Source
-seen it = record { kind = it.kind.now; path = it.path.now; text = option_map (λ text. text.now) it.text }
+abbrev pub version_source_of : VersionSource → Source
+version_source_of it = record { kind = it.kind.now; path = it.path.now; text = option_map (λ text. text.now) it.text }
 
 -- why a source is refused: its text is no TOML, a value in it is none, or a tool asks for a feature
 pub data Reason : Type 0 where
@@ -90,12 +90,12 @@ abbrev pub features_in : List Asking → List (List ℕ)
 features_in all = flat_map (λ it. it.0.features) all
 
 -- the sources that ask for features which aren't known, each with these
-abbrev pub told : VersionOrigin → List (List ℕ) → List UnknownFeatures
-told origin [] = []
-told origin (name ∷ more) = record { source = origin; names = name ∷ more } ∷ []
+abbrev pub unknown_features_of : VersionOrigin → List (List ℕ) → List UnknownFeatures
+unknown_features_of origin [] = []
+unknown_features_of origin (name ∷ more) = record { source = origin; names = name ∷ more } ∷ []
 
 abbrev pub unknown_of : List Asking → List UnknownFeatures
-unknown_of all = flat_map (λ it. told it.1 (unknown_in it.0.features)) all
+unknown_of all = flat_map (λ it. unknown_features_of it.1 (unknown_in it.0.features)) all
 
 -- what such a list comes to
 pub record Comes (all : List Asking) (config : VersionOnlyConfig) : Type 0 where
@@ -106,7 +106,7 @@ pub record Comes (all : List Asking) (config : VersionOnlyConfig) : Type 0 where
 
 -- what one source comes to, and none
 abbrev pub experimental_of : List (List ℕ) → VersionOrigin → ExperimentalConfig
-experimental_of names source = record { known = known_in names; unknown = told source (unknown_in names) }
+experimental_of names source = record { known = known_in names; unknown = unknown_features_of source (unknown_in names) }
 
 abbrev pub config_of : VersionDemand → VersionOrigin → VersionOnlyConfig
 config_of demand source = record {
@@ -121,8 +121,8 @@ no_experimental = record { known = known_in []; unknown = [] }
 abbrev pub merged_features : ExperimentalConfig → ExperimentalConfig → ExperimentalConfig
 merged_features one other = record { known = union one.known other.known; unknown = one.unknown ++ other.unknown }
 
-abbrev pub merged : VersionOnlyConfig → VersionOnlyConfig → VersionOnlyConfig
-merged one other = record {
+abbrev pub merge_of : VersionOnlyConfig → VersionOnlyConfig → VersionOnlyConfig
+merge_of one other = record {
   nextest_version = merged_versions one.nextest_version other.nextest_version;
   experimental = merged_features one.experimental other.experimental;
 }
@@ -133,7 +133,7 @@ no_config = record { nextest_version = none_asked; experimental = no_experimenta
 
 abbrev pub config_in : List Asking → VersionOnlyConfig
 config_in [] = no_config
-config_in (asking ∷ more) = merged (config_of asking.0 asking.1) (config_in more)
+config_in (asking ∷ more) = merge_of (config_of asking.0 asking.1) (config_in more)
 
 -- a fault tells a refusal
 abbrev pub TellsReason : VersionSourceReason → Reason → Type 0

@@ -28,9 +28,9 @@ IsReq asks (req.Version version source) = Counts asks (version, source)
 IsReq asks req.None = asks ≡ []
 
 -- the version that is kept
-abbrev pub kept : NextestVersionReq → Option Parts
-kept (req.Version version source) = Some version
-kept req.None = None
+abbrev pub req_version_of : NextestVersionReq → Option Parts
+req_version_of (req.Version version source) = Some version
+req_version_of req.None = None
 
 -- what counts of one source, and of none
 abbrev pub asked_by : Option Parts → VersionOrigin → NextestVersionReq
@@ -50,13 +50,13 @@ pub data Verdict : Type 0 where
   warn : Parts → VersionOrigin → Verdict
 
 -- by what is recommended, by what is required
-abbrev pub warned : NextestVersionReq → Parts → Verdict
-warned (req.Version version source) current = if is_above version current then warn version source else satisfied
-warned req.None current = satisfied
+abbrev pub recommended_verdict : NextestVersionReq → Parts → Verdict
+recommended_verdict (req.Version version source) current = if is_above version current then warn version source else satisfied
+recommended_verdict req.None current = satisfied
 
 abbrev pub verdict_by : NextestVersionReq → NextestVersionReq → Parts → Verdict
-verdict_by (req.Version version source) recommended current = if is_above version current then error version source else warned recommended current
-verdict_by req.None recommended current = warned recommended current
+verdict_by (req.Version version source) recommended current = if is_above version current then error version source else recommended_verdict recommended current
+verdict_by req.None recommended current = recommended_verdict recommended current
 
 abbrev pub verdict : NextestVersionConfig → Parts → Verdict
 verdict config current = verdict_by config.required config.recommended current

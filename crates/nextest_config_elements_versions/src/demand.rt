@@ -3,7 +3,7 @@ ghost use Rattle.std.specs.Prelude.{[], codes, option_map, Ok, ◌≡◌};
 ghost use Rattle.toml.specs.View.{table_view};
 ghost use Rattle.nextest_config_elements_toml.specs.Paths.{Gives};
 ghost use Rattle.nextest_config_elements_versions.specs.Demand.{demand_of, experimental_in, nextest_version_in};
-ghost use Rattle.nextest_config_elements_versions.specs.Sources.{GivesDemand, IsRefusal, demand_in, read_for, seen, unless_tool};
+ghost use Rattle.nextest_config_elements_versions.specs.Sources.{GivesDemand, IsRefusal, demand_in, read_for, version_source_of, unless_tool};
 
 use crate::asked_versions::{AskedVersions, deserialize_nextest_version, member};
 use crate::features::deserialize_experimental;
@@ -29,7 +29,8 @@ pub(crate) fn demand_in(
     alloc: Global,
     source: &VersionSource,
 ) -> Result<VersionDemand, VersionOnlyError>
-    ensures { GivesDemand (seen source.now) (demand_in source.now.kind.now (seen source.now).text) result }
+    ensures { GivesDemand (version_source_of source.now)
+        (demand_in source.now.kind.now (version_source_of source.now).text) result }
 {
     match source.text {
         Some(text) => demand_in_text(alloc, source, text),
@@ -49,7 +50,8 @@ fn demand_in_text(
     source: &VersionSource,
     text: &str,
 ) -> Result<VersionDemand, VersionOnlyError>
-    ensures { GivesDemand (seen source.now) (demand_in source.now.kind.now (Some text.now)) result }
+    ensures { GivesDemand (version_source_of source.now)
+        (demand_in source.now.kind.now (Some text.now)) result }
 {
     match toml::table_from_str(alloc, text) {
         Ok(top) => read_for(alloc, source, &top),
@@ -67,7 +69,8 @@ fn read_for(
     source: &VersionSource,
     top: &Table,
 ) -> Result<VersionDemand, VersionOnlyError>
-    ensures { GivesDemand (seen source.now) (read_for source.now.kind.now (demand_of (table_view top.now))) result }
+    ensures { GivesDemand (version_source_of source.now)
+        (read_for source.now.kind.now (demand_of (table_view top.now))) result }
 {
     match demand_of(alloc, top) {
         Ok(demand) => unless_tool(alloc, source, demand),
@@ -84,7 +87,8 @@ fn unless_tool(
     source: &VersionSource,
     demand: VersionDemand,
 ) -> Result<VersionDemand, VersionOnlyError>
-    ensures { GivesDemand (seen source.now) (unless_tool source.now.kind.now demand) result }
+    ensures { GivesDemand (version_source_of source.now)
+        (unless_tool source.now.kind.now demand) result }
 {
     match source.kind {
         ConfigSourceKind::Tool(_) if !demand.features.is_empty() => {

@@ -29,7 +29,7 @@ impl Drop for UnknownFeatures {
 }
 
 /// The features that a list of sources asks for.
-#[derive(Debug, PartialEq, Eq, Drop)]
+#[derive(Clone, Debug, PartialEq, Eq, Drop)]
 pub struct ExperimentalConfig {
     known: FeatureSet,
     unknown: Listing<UnknownFeatures>,

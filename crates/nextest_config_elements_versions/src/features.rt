@@ -75,7 +75,8 @@ fn push_asked(
     name: &str,
     is_asked: bool,
 ) -> Result<(), AllocError>
-    ensures { IfOk result (λ _. names.new ≡ (if is_asked then names.old ++ name.now ∷ [] else names.old)) }
+    ensures { IfOk result
+        (λ _. names.new ≡ (if is_asked then names.old ++ name.now ∷ [] else names.old)) }
 {
     if is_asked {
         push_text(alloc, names, name)

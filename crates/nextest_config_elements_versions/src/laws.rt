@@ -1,5 +1,6 @@
-//! What holds of all lists of sources. Each function does nothing, and its contract is the law.
-ghost use Rattle.nextest_config_elements_versions.specs.Laws.{OneConfig, EachComes, Partition, Associative, Neutral};
+//! What holds of all lists of sources, and of all texts that ask for a version. Each function does nothing, and its contract
+//! is the law.
+ghost use Rattle.nextest_config_elements_versions.specs.Laws.{OneConfig, EachComes, Partition, PartitionOfSources, Associative, Neutral, ShortVersion};
 
 /// A list comes to one result.
 pub fn one_config()
@@ -16,6 +17,11 @@ pub fn partition()
     ensures { Partition }
 {}
 
+/// A list of sources comes to what its two parts come to, merged, or is refused as the first part that is.
+pub fn partition_of_sources()
+    ensures { PartitionOfSources }
+{}
+
 /// Merging is associative.
 pub fn associative()
     ensures { Associative }
@@ -24,4 +30,9 @@ pub fn associative()
 /// What no sources come to changes nothing.
 pub fn neutral()
     ensures { Neutral }
+{}
+
+/// A text that is no version itself asks for one only if it is `X.Y`, and then for `X.Y.0`.
+pub fn short_version()
+    ensures { ShortVersion }
 {}

@@ -1,6 +1,6 @@
 // The sources that ask for versions and features.
 ghost use Rattle.std.specs.Prelude.{◌≡◌, IfOk};
-ghost use Rattle.nextest_config_elements_versions.specs.Sources.{origin_of, seen};
+ghost use Rattle.nextest_config_elements_versions.specs.Sources.{origin_of, version_source_of};
 
 use nextest_config_elements_identifiers::ConfigSourceKind;
 use nextest_text::Text;
@@ -39,7 +39,7 @@ impl VersionOrigin {
         alloc: Global,
         source: &VersionSource,
     ) -> Result<VersionOrigin, AllocError>
-        ensures { IfOk result (λ it. it ≡ origin_of (seen source.now)) }
+        ensures { IfOk result (λ it. it ≡ origin_of (version_source_of source.now)) }
     {
         Ok(VersionOrigin {
             kind: source.kind.clone()?,

@@ -3,7 +3,7 @@ ghost use Rattle.std.specs.Prelude.{◌≡◌};
 ghost use Rattle.semver.specs.Identifiers.{parts_of};
 ghost use Rattle.nextest_version.specs.Order.{is_above};
 ghost use Rattle.nextest_config_elements_versions.specs.Eval.{Tells};
-ghost use Rattle.nextest_config_elements_versions.specs.Verdict.{error, verdict, warn, warned};
+ghost use Rattle.nextest_config_elements_versions.specs.Verdict.{error, verdict, warn, recommended_verdict};
 
 use crate::origin::VersionOrigin;
 use crate::version_config::NextestVersionConfig;
@@ -63,7 +63,8 @@ impl NextestVersionConfig {
         current: &'a Version,
         override_version_check: bool,
     ) -> NextestVersionEval<'a>
-        ensures { Tells override_version_check current.now result (verdict self.now (parts_of current.now)) }
+        ensures { Tells override_version_check current.now result
+            (verdict self.now (parts_of current.now)) }
     {
         if let NextestVersionReq::Version { version, source } = &self.required {
             if is_above(version, current) {
@@ -128,7 +129,8 @@ fn warned<'a>(
     current: &'a Version,
     is_overridden: bool,
 ) -> NextestVersionEval<'a>
-    ensures { Tells is_overridden current.now result (warned recommended.now (parts_of current.now)) }
+    ensures { Tells is_overridden current.now result
+        (recommended_verdict recommended.now (parts_of current.now)) }
 {
     match recommended {
         NextestVersionReq::Version { version, source } if is_above(version, current) => {

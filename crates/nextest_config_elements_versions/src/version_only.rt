@@ -1,6 +1,6 @@
 // What a list of sources asks for.
 ghost use Rattle.std.specs.Prelude.{◌≡◌, [], ◌∷◌, Ok, IfOk, map};
-ghost use Rattle.nextest_config_elements_versions.specs.Sources.{Comes, GivesConfig, config_of, merged, origin_of, seen};
+ghost use Rattle.nextest_config_elements_versions.specs.Sources.{Comes, GivesConfig, config_of, merge_of, origin_of, version_source_of};
 
 use crate::demand::{VersionDemand, demand_in};
 use crate::experimental::ExperimentalConfig;
@@ -10,7 +10,7 @@ use crate::version_config::NextestVersionConfig;
 use std::alloc::{AllocError, Global};
 
 /// The versions and features that a list of sources asks for.
-#[derive(Debug, PartialEq, Eq, Drop)]
+#[derive(Clone, Debug, PartialEq, Eq, Drop)]
 pub struct VersionOnlyConfig {
     nextest_version: NextestVersionConfig,
     experimental: ExperimentalConfig,
@@ -33,7 +33,7 @@ impl VersionOnlyConfig {
         alloc: Global,
         sources: &[VersionSource],
     ) -> Result<VersionOnlyConfig, VersionOnlyError>
-        ensures exact { GivesConfig (map seen sources.now) result }
+        ensures exact { GivesConfig (map version_source_of sources.now) result }
     {
         let mut config = VersionOnlyConfig::none(alloc);
         for source in sources {
@@ -61,7 +61,7 @@ impl VersionOnlyConfig {
 
     /// What two parts of a list ask for, that of the other behind. It fails only on allocation.
     pub fn merge(self, other: VersionOnlyConfig) -> Result<VersionOnlyConfig, AllocError>
-        ensures { IfOk result (λ it. it ≡ merged self other) }
+        ensures { IfOk result (λ it. it ≡ merge_of self other) }
     {
         let VersionOnlyConfig {
             nextest_version,
@@ -80,7 +80,7 @@ impl VersionOnlyConfig {
 
 // What one source asks for.
 fn of_source(alloc: Global, source: &VersionSource) -> Result<VersionOnlyConfig, VersionOnlyError>
-    ensures { GivesConfig (seen source.now ∷ []) result }
+    ensures { GivesConfig (version_source_of source.now ∷ []) result }
 {
     let demand = match demand_in(alloc, source) {
         Ok(demand) => demand,
@@ -98,7 +98,7 @@ fn of_demand(
     source: &VersionSource,
     demand: VersionDemand,
 ) -> Result<VersionOnlyConfig, AllocError>
-    ensures { IfOk result (λ it. it ≡ config_of demand (origin_of (seen source.now))) }
+    ensures { IfOk result (λ it. it ≡ config_of demand (origin_of (version_source_of source.now))) }
 {
     let origin = VersionOrigin::of_source(alloc, source)?;
     let experimental = ExperimentalConfig::of_source(alloc, demand.features.as_slice(), &origin)?;

@@ -1,6 +1,6 @@
 // The version of a role that counts.
 ghost use Rattle.std.specs.Prelude.{◌≡◌, IfOk, option_map, if◌then◌else◌};
-ghost use Rattle.nextest_config_elements_versions.specs.Verdict.{asked_by, kept, later_of};
+ghost use Rattle.nextest_config_elements_versions.specs.Verdict.{asked_by, req_version_of, later_of};
 
 use crate::origin::VersionOrigin;
 use nextest_version::PlainVersion;
@@ -37,7 +37,7 @@ impl Drop for NextestVersionReq {
 impl NextestVersionReq {
     /// The version.
     pub fn version(&self) -> Option<&PlainVersion>
-        ensures { option_map (λ it. it.now) result ≡ kept self.now }
+        ensures { option_map (λ it. it.now) result ≡ req_version_of self.now }
     {
         match self {
             NextestVersionReq::Version { version, source: _ } => Some(version),

@@ -10,7 +10,7 @@ pub use Rattle.nextest_config_resolution_load.specs.Load
 pub use Rattle.nextest_config_resolution_load.specs.Laws as LoadLaws
 pub use Rattle.nextest_config_resolution_load.specs.Refusal as Refusals
 pub use Rattle.nextest_config_resolution_load.specs.Rules as CheckedRules
-pub use Rattle.nextest_config_resolution_load.specs.Telling as LoadTelling
+pub use Rattle.nextest_config_resolution_load.specs.Warn as LoadWarn
 -- whole configurations, and their profiles
 pub use Rattle.nextest_config_resolution_profiles.specs.Asking
 pub use Rattle.nextest_config_resolution_profiles.specs.Config
@@ -78,7 +78,7 @@ pub use Rattle.nextest_config_resolution_profiles.specs.BuiltInLaws as BuiltInLa
 -- warnings
 pub use Rattle.nextest_config_resolution_warnings.specs.Places
 pub use Rattle.nextest_config_resolution_warnings.specs.Reserved
-pub use Rattle.nextest_config_resolution_warnings.specs.Telling
+pub use Rattle.nextest_config_resolution_warnings.specs.Warn
 pub use Rattle.nextest_config_resolution_warnings.specs.Unknown
 pub use Rattle.nextest_config_resolution_warnings.specs.Warnings
 -- filters and platform specs

@@ -6,7 +6,7 @@ use Rattle.nextest_config_resolution_commands.specs.Splitting as split
 use Rattle.nextest_config_resolution_commands.specs.declared.steps.Kind.TheVariants as kind
 use Rattle.nextest_config_resolution_commands.specs.declared.steps.Place.{Place}
 use Rattle.nextest_config_resolution_commands.specs.declared.steps.Place.TheVariants as place
-use Rattle.nextest_config_resolution_commands.specs.declared.steps.Step.TheVariants as step
+use Rattle.nextest_config_resolution_commands.specs.declared.steps.SplitStep.TheVariants as step
 
 -- a byte that stands for itself wherever it isn't a comment
 pub record IsOther (byte : ℕ) : Type 0 where
@@ -85,7 +85,7 @@ takes_plain dollar e = refl
 takes_plain backtick e = refl
 takes_plain (other byte is) e = ap split.inside is.is
 
-pub takes_escaped : {byte : ℕ} → Byte byte → byte ≢ 10 → (before : Place) → split.escaped before (split.kind_of byte) ≡ step.Take place.Inside
+pub takes_escaped : {byte : ℕ} → Byte byte → byte ≢ 10 → (before : Place) → split.after_backslash before (split.kind_of byte) ≡ step.Take place.Inside
 takes_escaped line_feed isnt before = absurd (isnt refl)
 takes_escaped space isnt before = refl
 takes_escaped tab isnt before = refl
@@ -95,7 +95,7 @@ takes_escaped backslash isnt before = refl
 takes_escaped hash isnt before = refl
 takes_escaped dollar isnt before = refl
 takes_escaped backtick isnt before = refl
-takes_escaped (other byte is) isnt before = ap (split.escaped before) is.is
+takes_escaped (other byte is) isnt before = ap (split.after_backslash before) is.is
 
 pub ends_at : {byte : ℕ} → Byte byte → is_divider byte ≡ true → split.inside (split.kind_of byte) ≡ step.End
 ends_at line_feed e = refl
@@ -149,7 +149,7 @@ takes_literal dollar isnt = refl
 takes_literal backtick isnt = refl
 takes_literal (other byte is) isnt = ap split.literal is.is
 
-pub takes_quoted : {byte : ℕ} → Byte byte → byte ≢ 34 → byte ≢ 92 → split.quoted (split.kind_of byte) ≡ step.Take place.Quoted
+pub takes_quoted : {byte : ℕ} → Byte byte → byte ≢ 34 → byte ≢ 92 → split.in_double_quotes (split.kind_of byte) ≡ step.Take place.Quoted
 takes_quoted line_feed isnt nor = refl
 takes_quoted space isnt nor = refl
 takes_quoted tab isnt nor = refl
@@ -159,7 +159,7 @@ takes_quoted backslash isnt nor = absurd (nor refl)
 takes_quoted hash isnt nor = refl
 takes_quoted dollar isnt nor = refl
 takes_quoted backtick isnt nor = refl
-takes_quoted (other byte is) isnt nor = ap split.quoted is.is
+takes_quoted (other byte is) isnt nor = ap split.in_double_quotes is.is
 
 pub takes_taken : {byte : ℕ} → Byte byte → is_taken byte ≡ true → split.quoted_escaped (split.kind_of byte) ≡ step.Take place.Quoted
 takes_taken line_feed e = absurd (cc)

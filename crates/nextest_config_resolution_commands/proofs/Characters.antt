@@ -11,8 +11,8 @@ use Rattle.nextest_config_resolution_commands.specs.declared.steps.Kind.{Kind}
 use Rattle.nextest_config_resolution_commands.specs.declared.steps.Kind.TheVariants as kind
 use Rattle.nextest_config_resolution_commands.specs.declared.steps.Place.{Place}
 use Rattle.nextest_config_resolution_commands.specs.declared.steps.Place.TheVariants as place
-use Rattle.nextest_config_resolution_commands.specs.declared.steps.Step.{Step}
-use Rattle.nextest_config_resolution_commands.specs.declared.steps.Step.TheVariants as step
+use Rattle.nextest_config_resolution_commands.specs.declared.steps.SplitStep.{SplitStep}
+use Rattle.nextest_config_resolution_commands.specs.declared.steps.SplitStep.TheVariants as step
 use Rattle.nextest_config_resolution_commands.proofs.Bytes as bytes
 use Rattle.nextest_config_resolution_commands.proofs.Bytes.{Byte, byte_is}
 use Rattle.nextest_config_resolution_commands.proofs.Pieced.{Split, stepped}
@@ -103,14 +103,14 @@ character_read at character ahead word = elim (high_or character 128) [
 ]
 
 -- what a step that is known comes to
-pub read_by : (words : List (List ℕ)) (at : Place) (word : List ℕ) (character : ℕ) (it : Kind) (found known : Step)
+pub read_by : (words : List (List ℕ)) (at : Place) (word : List ℕ) (character : ℕ) (it : Kind) (found known : SplitStep)
     → it ≡ split.kind_of character → found ≡ split.step_at at it → found ≡ known → (ahead : List ℕ)
     → option_map (λ more. words ++ more) (words_from (encode_utf8 character ++ ahead) at word)
     ≡ option_map (λ more. words ++ more) (by_step (words_from ahead) known word (encode_utf8 character))
 read_by words at word character it found known kind_is found_is known_is ahead =
     let step_is : split.step_at at (split.kind_of character) ≡ known = ap (split.step_at at) (sym kind_is) ∙ sym found_is ∙ known_is in
     ap (λ (read : Split). option_map (λ more. words ++ more) read)
-    (character_read at character ahead word ∙ ap (λ (by : Step). by_step (words_from ahead) by word (encode_utf8 character)) step_is)
+    (character_read at character ahead word ∙ ap (λ (by : SplitStep). by_step (words_from ahead) by word (encode_utf8 character)) step_is)
 
 -- the word with more of it
 pub grown : (words : List (List ℕ)) (at : Place) (word longer ahead : List ℕ) → longer ≡ word

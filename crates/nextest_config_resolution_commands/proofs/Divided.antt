@@ -9,7 +9,7 @@ use Rattle.nextest_config_resolution_commands.specs.Splitting as split
 use Rattle.nextest_config_resolution_commands.specs.Splitting.{by_step, words_from, words_of}
 use Rattle.nextest_config_resolution_commands.specs.declared.steps.Place.{Place}
 use Rattle.nextest_config_resolution_commands.specs.declared.steps.Place.TheVariants as place
-use Rattle.nextest_config_resolution_commands.specs.declared.steps.Step.{Step}
+use Rattle.nextest_config_resolution_commands.specs.declared.steps.SplitStep.{SplitStep}
 use Rattle.nextest_config_resolution_commands.proofs.Bytes as bytes
 use Rattle.nextest_config_resolution_commands.proofs.Bytes.{Byte, byte_is}
 use Rattle.nextest_config_resolution_commands.proofs.Pieced.{Split, stepped}
@@ -247,7 +247,7 @@ against one byte = elim (cases_Bool (eqb byte one)) [
 ]
 
 -- what is read behind a step that is known
-known : (text word : List ℕ) (words : List (List ℕ)) (byte : ℕ) (a b : Step) → a ≡ b → by_step (words_from text) a word (byte ∷ []) ≡ Some words
+known : (text word : List ℕ) (words : List (List ℕ)) (byte : ℕ) (a b : SplitStep) → a ≡ b → by_step (words_from text) a word (byte ∷ []) ≡ Some words
     → by_step (words_from text) b word (byte ∷ []) ≡ Some words
 known text word words byte a b is e = sym (stepped text word byte a b is) ∙ e
 

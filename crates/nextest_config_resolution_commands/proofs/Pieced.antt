@@ -8,7 +8,7 @@ use Rattle.nextest_config_resolution_commands.specs.Splitting as split
 use Rattle.nextest_config_resolution_commands.specs.Splitting.{by_step, words_from, words_of}
 use Rattle.nextest_config_resolution_commands.specs.declared.steps.Place.{Place}
 use Rattle.nextest_config_resolution_commands.specs.declared.steps.Place.TheVariants as place
-use Rattle.nextest_config_resolution_commands.specs.declared.steps.Step.{Step}
+use Rattle.nextest_config_resolution_commands.specs.declared.steps.SplitStep.{SplitStep}
 use Rattle.nextest_config_resolution_commands.proofs.Bytes as bytes
 use Rattle.nextest_config_resolution_commands.proofs.Bytes.{Byte, byte_is}
 
@@ -16,8 +16,8 @@ abbrev pub Split : Type 0
 Split = Option (List (List ℕ))
 
 -- a step that is known is taken
-pub stepped : (text word : List ℕ) (byte : ℕ) (a b : Step) → a ≡ b → by_step (words_from text) a word (byte ∷ []) ≡ by_step (words_from text) b word (byte ∷ [])
-stepped text word byte a b e = ap (λ (it : Step). by_step (words_from text) it word (byte ∷ [])) e
+pub stepped : (text word : List ℕ) (byte : ℕ) (a b : SplitStep) → a ≡ b → by_step (words_from text) a word (byte ∷ []) ≡ by_step (words_from text) b word (byte ∷ [])
+stepped text word byte a b e = ap (λ (it : SplitStep). by_step (words_from text) it word (byte ∷ [])) e
 
 -- one byte more of a word, and what follows
 one_more : (at : Place) (rest word said : List ℕ) (byte : ℕ)
@@ -119,7 +119,7 @@ begun bytes.backslash (next ∷ text) e = slashed next (byte_is next) text e whe
   slashed next bytes.dollar text e = refl
   slashed next bytes.backtick text e = refl
   slashed next (bytes.other byte is) text e =
-      stepped text [] byte _ _ (ap (split.escaped place.Between) is.is) ∙ sym (stepped text [] byte _ _ (ap (split.escaped place.Inside) is.is))
+      stepped text [] byte _ _ (ap (split.after_backslash place.Between) is.is) ∙ sym (stepped text [] byte _ _ (ap (split.after_backslash place.Inside) is.is))
 begun bytes.hash [] e = absurd (cc)
 begun bytes.hash (next ∷ text) e = absurd (cc)
 begun bytes.dollar text e = refl

@@ -4,8 +4,8 @@ use Rattle.nextest_config_resolution_commands.specs.declared.steps.Kind.{Kind}
 use Rattle.nextest_config_resolution_commands.specs.declared.steps.Kind.TheVariants as kind
 use Rattle.nextest_config_resolution_commands.specs.declared.steps.Place.{Place}
 use Rattle.nextest_config_resolution_commands.specs.declared.steps.Place.TheVariants as place
-use Rattle.nextest_config_resolution_commands.specs.declared.steps.Step.{Step}
-use Rattle.nextest_config_resolution_commands.specs.declared.steps.Step.TheVariants as step
+use Rattle.nextest_config_resolution_commands.specs.declared.steps.SplitStep.{SplitStep}
+use Rattle.nextest_config_resolution_commands.specs.declared.steps.SplitStep.TheVariants as step
 
 -- what a byte is
 abbrev pub kind_of : ℕ → Kind
@@ -22,7 +22,7 @@ kind_of byte =
     else kind.Other
 
 -- what becomes of a byte before a word
-abbrev pub between : Kind → Step
+abbrev pub between : Kind → SplitStep
 between kind.LineFeed = step.Pass place.Between
 between kind.Blank = step.Pass place.Between
 between kind.Quote = step.Pass place.Literal
@@ -33,7 +33,7 @@ between kind.Taken = step.Take place.Inside
 between kind.Other = step.Take place.Inside
 
 -- in a word, outside of quotes
-abbrev pub inside : Kind → Step
+abbrev pub inside : Kind → SplitStep
 inside kind.LineFeed = step.End
 inside kind.Blank = step.End
 inside kind.Quote = step.Pass place.Literal
@@ -44,23 +44,23 @@ inside kind.Taken = step.Take place.Inside
 inside kind.Other = step.Take place.Inside
 
 -- behind a backslash there, which stood at a place
-abbrev pub escaped : Place → Kind → Step
-escaped before kind.LineFeed = step.Pass before
-escaped before it = step.Take place.Inside
+abbrev pub after_backslash : Place → Kind → SplitStep
+after_backslash before kind.LineFeed = step.Pass before
+after_backslash before it = step.Take place.Inside
 
 -- between single quotes
-abbrev pub literal : Kind → Step
+abbrev pub literal : Kind → SplitStep
 literal kind.Quote = step.Pass place.Inside
 literal it = step.Take place.Literal
 
 -- between double quotes
-abbrev pub quoted : Kind → Step
-quoted kind.DoubleQuote = step.Pass place.Inside
-quoted kind.Backslash = step.Pass place.QuotedEscaped
-quoted it = step.Take place.Quoted
+abbrev pub in_double_quotes : Kind → SplitStep
+in_double_quotes kind.DoubleQuote = step.Pass place.Inside
+in_double_quotes kind.Backslash = step.Pass place.QuotedEscaped
+in_double_quotes it = step.Take place.Quoted
 
 -- there, behind a backslash
-abbrev pub quoted_escaped : Kind → Step
+abbrev pub quoted_escaped : Kind → SplitStep
 quoted_escaped kind.LineFeed = step.Pass place.Quoted
 quoted_escaped kind.DoubleQuote = step.Take place.Quoted
 quoted_escaped kind.Backslash = step.Take place.Quoted
@@ -68,18 +68,18 @@ quoted_escaped kind.Taken = step.Take place.Quoted
 quoted_escaped it = step.Keep place.Quoted
 
 -- in a comment
-abbrev pub comment : Kind → Step
+abbrev pub comment : Kind → SplitStep
 comment kind.LineFeed = step.Pass place.Between
 comment it = step.Pass place.Comment
 
 -- at any place
-abbrev pub step_at : Place → Kind → Step
+abbrev pub step_at : Place → Kind → SplitStep
 step_at place.Between it = between it
-step_at place.BetweenEscaped it = escaped place.Between it
+step_at place.BetweenEscaped it = after_backslash place.Between it
 step_at place.Inside it = inside it
-step_at place.InsideEscaped it = escaped place.Inside it
+step_at place.InsideEscaped it = after_backslash place.Inside it
 step_at place.Literal it = literal it
-step_at place.Quoted it = quoted it
+step_at place.Quoted it = in_double_quotes it
 step_at place.QuotedEscaped it = quoted_escaped it
 step_at place.Comment it = comment it
 
@@ -95,7 +95,7 @@ at_end place.QuotedEscaped word = None
 at_end place.Comment word = Some []
 
 -- the words by what becomes of a character, of these bytes: what comes behind is read on
-abbrev pub by_step : (Place → List ℕ → Option (List (List ℕ))) → Step → List ℕ → List ℕ → Option (List (List ℕ))
+abbrev pub by_step : (Place → List ℕ → Option (List (List ℕ))) → SplitStep → List ℕ → List ℕ → Option (List (List ℕ))
 by_step further (step.Pass to) word character = further to word
 by_step further (step.Take to) word character = further to (word ++ character)
 by_step further (step.Keep to) word character = further to (word ++ 92 ∷ character)

@@ -56,7 +56,8 @@ impl ScriptCommand {
         workspace_root: &str,
         target_dir: &str,
     ) -> Result<Text, AllocError>
-        ensures { IfOk result (λ path. path ≡ program_at workspace_root.now target_dir.now self.now.relative_to self.now.program) }
+        ensures { IfOk result (λ path. path
+            ≡ program_at workspace_root.now target_dir.now self.now.relative_to self.now.program) }
     {
         let program = self.program.as_str();
         match self.relative_to {

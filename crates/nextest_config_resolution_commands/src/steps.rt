@@ -46,7 +46,7 @@ pub(crate) enum Kind {
 
 /// What becomes of a character, and where the reading stands behind it.
 #[derive(Clone, Copy)]
-pub(crate) enum Step {
+pub(crate) enum SplitStep {
     /// It stands for nothing.
     Pass(Place),
     /// It stands for itself, in the word.
@@ -74,7 +74,7 @@ pub(crate) fn kind_of(character: char) -> Kind
 }
 
 /// What becomes of a character at a place.
-pub(crate) fn step_at(place: Place, kind: Kind) -> Step
+pub(crate) fn step_at(place: Place, kind: Kind) -> SplitStep
     ensures { result ≡ split.step_at place kind }
 {
     match place {
@@ -90,80 +90,80 @@ pub(crate) fn step_at(place: Place, kind: Kind) -> Step
 }
 
 // Before a word.
-fn between(kind: Kind) -> Step
+fn between(kind: Kind) -> SplitStep
     ensures { result ≡ split.between kind }
 {
     match kind {
-        Kind::LineFeed | Kind::Blank => Step::Pass(Place::Between),
-        Kind::Quote => Step::Pass(Place::Literal),
-        Kind::DoubleQuote => Step::Pass(Place::Quoted),
-        Kind::Backslash => Step::Pass(Place::BetweenEscaped),
-        Kind::Hash => Step::Pass(Place::Comment),
-        Kind::Taken | Kind::Other => Step::Take(Place::Inside),
+        Kind::LineFeed | Kind::Blank => SplitStep::Pass(Place::Between),
+        Kind::Quote => SplitStep::Pass(Place::Literal),
+        Kind::DoubleQuote => SplitStep::Pass(Place::Quoted),
+        Kind::Backslash => SplitStep::Pass(Place::BetweenEscaped),
+        Kind::Hash => SplitStep::Pass(Place::Comment),
+        Kind::Taken | Kind::Other => SplitStep::Take(Place::Inside),
     }
 }
 
 // In a word, outside of quotes.
-fn inside(kind: Kind) -> Step
+fn inside(kind: Kind) -> SplitStep
     ensures { result ≡ split.inside kind }
 {
     match kind {
-        Kind::LineFeed | Kind::Blank => Step::End,
-        Kind::Quote => Step::Pass(Place::Literal),
-        Kind::DoubleQuote => Step::Pass(Place::Quoted),
-        Kind::Backslash => Step::Pass(Place::InsideEscaped),
-        Kind::Hash | Kind::Taken | Kind::Other => Step::Take(Place::Inside),
+        Kind::LineFeed | Kind::Blank => SplitStep::End,
+        Kind::Quote => SplitStep::Pass(Place::Literal),
+        Kind::DoubleQuote => SplitStep::Pass(Place::Quoted),
+        Kind::Backslash => SplitStep::Pass(Place::InsideEscaped),
+        Kind::Hash | Kind::Taken | Kind::Other => SplitStep::Take(Place::Inside),
     }
 }
 
 // Behind a backslash outside of quotes, which stood at a place.
-fn escaped(before: Place, kind: Kind) -> Step
-    ensures { result ≡ split.escaped before kind }
+fn escaped(before: Place, kind: Kind) -> SplitStep
+    ensures { result ≡ split.after_backslash before kind }
 {
     match kind {
-        Kind::LineFeed => Step::Pass(before),
-        _ => Step::Take(Place::Inside),
+        Kind::LineFeed => SplitStep::Pass(before),
+        _ => SplitStep::Take(Place::Inside),
     }
 }
 
 // Between single quotes.
-fn literal(kind: Kind) -> Step
+fn literal(kind: Kind) -> SplitStep
     ensures { result ≡ split.literal kind }
 {
     match kind {
-        Kind::Quote => Step::Pass(Place::Inside),
-        _ => Step::Take(Place::Literal),
+        Kind::Quote => SplitStep::Pass(Place::Inside),
+        _ => SplitStep::Take(Place::Literal),
     }
 }
 
 // Between double quotes.
-fn quoted(kind: Kind) -> Step
-    ensures { result ≡ split.quoted kind }
+fn quoted(kind: Kind) -> SplitStep
+    ensures { result ≡ split.in_double_quotes kind }
 {
     match kind {
-        Kind::DoubleQuote => Step::Pass(Place::Inside),
-        Kind::Backslash => Step::Pass(Place::QuotedEscaped),
-        _ => Step::Take(Place::Quoted),
+        Kind::DoubleQuote => SplitStep::Pass(Place::Inside),
+        Kind::Backslash => SplitStep::Pass(Place::QuotedEscaped),
+        _ => SplitStep::Take(Place::Quoted),
     }
 }
 
 // Between double quotes, behind a backslash.
-fn quoted_escaped(kind: Kind) -> Step
+fn quoted_escaped(kind: Kind) -> SplitStep
     ensures { result ≡ split.quoted_escaped kind }
 {
     match kind {
-        Kind::LineFeed => Step::Pass(Place::Quoted),
-        Kind::DoubleQuote | Kind::Backslash | Kind::Taken => Step::Take(Place::Quoted),
-        _ => Step::Keep(Place::Quoted),
+        Kind::LineFeed => SplitStep::Pass(Place::Quoted),
+        Kind::DoubleQuote | Kind::Backslash | Kind::Taken => SplitStep::Take(Place::Quoted),
+        _ => SplitStep::Keep(Place::Quoted),
     }
 }
 
 // In a comment.
-fn comment(kind: Kind) -> Step
+fn comment(kind: Kind) -> SplitStep
     ensures { result ≡ split.comment kind }
 {
     match kind {
-        Kind::LineFeed => Step::Pass(Place::Between),
-        _ => Step::Pass(Place::Comment),
+        Kind::LineFeed => SplitStep::Pass(Place::Between),
+        _ => SplitStep::Pass(Place::Comment),
     }
 }

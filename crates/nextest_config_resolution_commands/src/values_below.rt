@@ -36,7 +36,8 @@ fn path_below(
     key: &str,
     inner: &KeyPath,
 ) -> Result<KeyPath, AllocError>
-    ensures { IfOk result (λ whole. whole.keys ≡ (texts path.now ++ key.now ∷ []) ++ inner.now.keys) }
+    ensures { IfOk result
+        (λ whole. whole.keys ≡ (texts path.now ++ key.now ∷ []) ++ inner.now.keys) }
 {
     let mut whole = KeyPath::of_keys(alloc, path, &[key])?;
     for inner_key in inner.keys.as_slice() {
@@ -69,7 +70,8 @@ pub fn required_value<T: DeserializeValue>(
     expected: &'static str,
 ) -> Result<T, ValueError>
     ensures read { Gives path.now result (required_by key.now T.reading (table_view table.now)) }
-    ensures missing { get_member key.now (table_view table.now) ≡ None → IfErr result (IsExpected expected.now) }
+    ensures missing { get_member key.now (table_view table.now) ≡ None
+        → IfErr result (IsExpected expected.now) }
 {
     match member(table, key) {
         None => Err(refused_below(alloc, path, key, None, expected)),
@@ -85,7 +87,8 @@ pub fn defaulted_value<T: DeserializeValue>(
     key: &str,
     otherwise: T,
 ) -> Result<T, ValueError>
-    ensures { Gives path.now result (defaulted_by key.now T.reading otherwise (table_view table.now)) }
+    ensures { Gives path.now result
+        (defaulted_by key.now T.reading otherwise (table_view table.now)) }
 {
     match member(table, key) {
         None => Ok(otherwise),

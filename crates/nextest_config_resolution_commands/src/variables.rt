@@ -75,7 +75,8 @@ fn named_text(
     given: &Value,
     path: &[&str],
 ) -> Result<(Text, Text), ValueError>
-    ensures { Gives path.now result (under name.now (leaf (read.named_text name.now) (view given.now))) }
+    ensures { Gives path.now result
+        (under name.now (leaf (read.named_text name.now) (view given.now))) }
 {
     match given {
         Value::String(text) => {

@@ -3,7 +3,7 @@ ghost use Rattle.std.specs.Prelude.{◌≡◌, ◌++◌, [], ℕ, List, IfOk, On
 ghost use Rattle.nextest_config_resolution_commands.specs.SoFar.{so_far};
 ghost use Rattle.nextest_config_resolution_commands.specs.Splitting.{words_of};
 
-use crate::steps::{Place, Step, kind_of, step_at};
+use crate::steps::{Place, SplitStep, kind_of, step_at};
 use nextest_text::{Listing, Text};
 use std::alloc::{AllocError, Global};
 use std::mem;
@@ -41,20 +41,21 @@ struct WordsSoFar {
 impl WordsSoFar {
     // Reads one character more.
     fn take(&mut self, alloc: Global, character: char) -> Result<(), AllocError>
-        ensures { OnOk result ((ahead : List ℕ) → so_far self.old (encode_utf8 character ++ ahead) ≡ so_far self.new ahead) }
+        ensures { OnOk result ((ahead : List ℕ)
+            → so_far self.old (encode_utf8 character ++ ahead) ≡ so_far self.new ahead) }
     {
         match step_at(self.place, kind_of(character)) {
-            Step::Pass(place) => self.place = place,
-            Step::Take(place) => {
+            SplitStep::Pass(place) => self.place = place,
+            SplitStep::Take(place) => {
                 self.word.push(character)?;
                 self.place = place;
             }
-            Step::Keep(place) => {
+            SplitStep::Keep(place) => {
                 self.word.push('\\')?;
                 self.word.push(character)?;
                 self.place = place;
             }
-            Step::End => {
+            SplitStep::End => {
                 let word = mem::replace(&mut self.word, String::new(alloc));
                 self.words.push(Text::from(word))?;
                 self.place = Place::Between;

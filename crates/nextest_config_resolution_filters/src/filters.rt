@@ -84,8 +84,8 @@ pub trait Filters: Drop {
     ) -> Result<Vec<bool>, AllocError>
         requires serves { serves_as_default default.now ≡ true }
         requires no_groups { asks_groups self.now ≡ false }
-        ensures { IfOk result (λ values. AllZip (λ name value. on_test self.now default.now
-            (record { binary = binary_of binary.now; name = name.now }) value) names.now values.items) };
+        ensures { IfOk result (λ values. AllZip (λ name value. on_test self.now default.now (record
+            { binary = binary_of binary.now; name = name.now }) value) names.now values.items) };
 
     /// Whether it asks for the groups of tests.
     fn has_groups(&self) -> bool

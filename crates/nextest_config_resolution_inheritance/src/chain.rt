@@ -18,7 +18,8 @@ pub fn chain_of<P: Inherits>(
 ) -> Result<Vec<usize>, AllocError>
     requires rise { Rise (parents_in P.name_of P.parent_of profiles.now) }
     requires accepted { IsAccepted (parents_in P.name_of P.parent_of profiles.now) }
-    requires has_default { Contains (names (parents_in P.name_of P.parent_of profiles.now)) default }
+    requires has_default { Contains
+        (names (parents_in P.name_of P.parent_of profiles.now)) default }
     requires place { place < length profiles.now }
     ensures chain { let all = parents_in P.name_of P.parent_of profiles.now in
         IfOk result (λ chain. IsChain all (name_at all place) (names_at all chain.items)) }

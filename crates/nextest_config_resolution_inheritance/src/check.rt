@@ -24,7 +24,8 @@ use std::alloc::Global;
 pub fn check_inheritance<P: Inherits>(alloc: Global, profiles: &[P]) -> Result<(), InheritanceError>
     requires { Rise (parents_in P.name_of P.parent_of profiles.now) }
     ensures ok { OnOk result (IsAccepted (parents_in P.name_of P.parent_of profiles.now)) }
-    ensures err { IfErr result (λ error. IsRefusedFor error (IsFirstFault (parents_in P.name_of P.parent_of profiles.now))) }
+    ensures err { IfErr result (λ error.
+        IsRefusedFor error (IsFirstFault (parents_in P.name_of P.parent_of profiles.now))) }
 {
     check_reserved(alloc, profiles)?;
     let parents = places_of_parents(alloc, profiles)?;
@@ -38,8 +39,10 @@ pub fn check_inheritance<P: Inherits>(alloc: Global, profiles: &[P]) -> Result<(
 
 // Whether no profile with a reserved name sets a parent.
 fn check_reserved<P: Inherits>(alloc: Global, profiles: &[P]) -> Result<(), InheritanceError>
-    ensures ok { OnOk result (All SetsNoneIfReserved (parents_in P.name_of P.parent_of profiles.now)) }
-    ensures err { IfErr result (λ error. IsRefusedFor error (IsFirstFault (parents_in P.name_of P.parent_of profiles.now))) }
+    ensures ok { OnOk result
+        (All SetsNoneIfReserved (parents_in P.name_of P.parent_of profiles.now)) }
+    ensures err { IfErr result (λ error.
+        IsRefusedFor error (IsFirstFault (parents_in P.name_of P.parent_of profiles.now))) }
 {
     for profile in profiles {
         if profile.inherits().is_some() && is_reserved(profile.name()) {

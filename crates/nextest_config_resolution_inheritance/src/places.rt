@@ -18,8 +18,10 @@ use std::cmp::Ordering;
 pub(crate) fn place_of<P: Inherits>(profiles: &[P], name: &str) -> Option<usize>
     requires { Rise (parents_in P.name_of P.parent_of profiles.now) }
     ensures within { IfSome result (λ place. place < length profiles.now) }
-    ensures found { IfSome result (λ place. name_at (parents_in P.name_of P.parent_of profiles.now) place ≡ name.now) }
-    ensures missing { IfNone result (¬ Contains (names (parents_in P.name_of P.parent_of profiles.now)) name.now) }
+    ensures found { IfSome result
+        (λ place. name_at (parents_in P.name_of P.parent_of profiles.now) place ≡ name.now) }
+    ensures missing { IfNone result
+        (¬ Contains (names (parents_in P.name_of P.parent_of profiles.now)) name.now) }
 {
     profiles
         .binary_search_by(
@@ -37,9 +39,10 @@ fn place_of_parent<P: Inherits>(
     profile: &P,
 ) -> Result<usize, InheritanceError>
     requires { Rise (parents_in P.name_of P.parent_of profiles.now) }
-    ensures place { IfOk result (IsPlaceOf (parents_in P.name_of P.parent_of profiles.now) (P.parent_of profile.now)) }
-    ensures err { IfErr result (λ error. IsRefusedFor error
-        (IsUnknownParent (parents_in P.name_of P.parent_of profiles.now) (P.name_of profile.now) (P.parent_of profile.now))) }
+    ensures place { IfOk result
+        (IsPlaceOf (parents_in P.name_of P.parent_of profiles.now) (P.parent_of profile.now)) }
+    ensures err { IfErr result (λ error. IsRefusedFor error (IsUnknownParent (parents_in P.name_of
+        P.parent_of profiles.now) (P.name_of profile.now) (P.parent_of profile.now))) }
 {
     match profile.inherits() {
         None => Ok(profiles.len()),
@@ -60,8 +63,10 @@ pub(crate) fn places_of_parents<P: Inherits>(
 ) -> Result<Vec<usize>, InheritanceError>
     requires rise { Rise (parents_in P.name_of P.parent_of profiles.now) }
     requires reserved { All SetsNoneIfReserved (parents_in P.name_of P.parent_of profiles.now) }
-    ensures places { IfOk result (λ places. ArePlaces (parents_in P.name_of P.parent_of profiles.now) places.items) }
-    ensures err { IfErr result (λ error. IsRefusedFor error (IsFirstFault (parents_in P.name_of P.parent_of profiles.now))) }
+    ensures places { IfOk result
+        (λ places. ArePlaces (parents_in P.name_of P.parent_of profiles.now) places.items) }
+    ensures err { IfErr result (λ error.
+        IsRefusedFor error (IsFirstFault (parents_in P.name_of P.parent_of profiles.now))) }
 {
     let mut places = Vec::with_capacity(alloc, profiles.len())?;
     for profile in profiles {
@@ -74,11 +79,14 @@ pub(crate) fn places_of_parents<P: Inherits>(
 // The place of the profile that comes next in the chain of the one at a place.
 pub(crate) fn place_of_next<P: Inherits>(profiles: &[P], here: usize) -> usize
     requires rise { Rise (parents_in P.name_of P.parent_of profiles.now) }
-    requires known { let all = parents_in P.name_of P.parent_of profiles.now in All (KnowsParent all) all }
-    requires has_default { Contains (names (parents_in P.name_of P.parent_of profiles.now)) default }
+    requires known { let all = parents_in P.name_of P.parent_of profiles.now in All
+        (KnowsParent all) all }
+    requires has_default { Contains
+        (names (parents_in P.name_of P.parent_of profiles.now)) default }
     requires here { here < length profiles.now }
     ensures within { result < length profiles.now }
-    ensures name { let all = parents_in P.name_of P.parent_of profiles.now in name_at all result ≡ next all (name_at all here) }
+    ensures name { let all = parents_in P.name_of P.parent_of profiles.now in name_at all result
+        ≡ next all (name_at all here) }
 {
     let parent = profiles[here].inherits().unwrap_or("default");
     place_of(profiles, parent).unwrap()

@@ -19,7 +19,7 @@ use Rattle.nextest_config_resolution_load.proofs.Passing.{kept_both, refuses_bef
 use Rattle.nextest_config_resolution_overrides.specs.declared.placed_override.PlacedOverride.{PlacedOverride}
 use Rattle.nextest_config_elements_versions.specs.declared.feature.FeatureSet.{FeatureSet}
 use Rattle.nextest_config_resolution_scripts.specs.declared.script_rule.PlacedScriptRule.{PlacedScriptRule}
-use Rattle.nextest_config_resolution_sources.specs.Counting.{counted}
+use Rattle.nextest_config_resolution_sources.specs.Counting.{counting_sources}
 use Rattle.nextest_config_resolution_sources.specs.declared.source.ConfigSource.{ConfigSource}
 
 module _ {F S : Type 0} (Is : IsFilterBy F) (IsSpec : IsSpecBy S) (IsTooDeep : List ℕ → Type 0) (features : FeatureSet) (built_in : Members) (sources : List ConfigSource) where
@@ -39,7 +39,7 @@ module _ {F S : Type 0} (Is : IsFilterBy F) (IsSpec : IsSpecBy S) (IsTooDeep : L
       → IsLoaded Is IsSpec IsTooDeep features built_in sources result
   early_refused told result refuses is =
       let found = err_from_is_err_and result is in
-      let whole = refuses_whole (flat_map (source_checks features) (counted sources)) (rules_upward sources) (script_rules_upward sources) (config_in (merged_in built_in sources)) told refuses in
+      let whole = refuses_whole (flat_map (source_checks features) (counting_sources sources)) (rules_upward sources) (script_rules_upward sources) (config_in (merged_in built_in sources)) told refuses in
       subst (IsLoaded Is IsSpec IsTooDeep features built_in sources) (sym found.1)
       (loaded_error found.0 (subst (RefusesFor Is IsSpec IsTooDeep (checks_of features built_in sources)) (sym found.2) whole))
 
@@ -48,23 +48,23 @@ module _ {F S : Type 0} (Is : IsFilterBy F) (IsSpec : IsSpecBy S) (IsTooDeep : L
     same_checks : merged_checks (all_placed (overrides_of read.rules.items)) (all_placed (scripts_of read.rules.items)) (read_as read.config)
         ≡ merged_checks (rules_upward sources) (script_rules_upward sources) (config_in (merged_in built_in sources))
     same_checks =
-        ap (λ (rules : List PlacedOverride). merged_checks rules (all_placed (scripts_of read.rules.items)) (read_as read.config)) (overrides_placed Is IsSpec (counted sources) read.rules.items are.rules)
-        ∙ ap (λ (scripts : List PlacedScriptRule). merged_checks (rules_upward sources) scripts (read_as read.config)) (scripts_placed Is IsSpec (counted sources) read.rules.items are.rules)
+        ap (λ (rules : List PlacedOverride). merged_checks rules (all_placed (scripts_of read.rules.items)) (read_as read.config)) (overrides_placed Is IsSpec (counting_sources sources) read.rules.items are.rules)
+        ∙ ap (λ (scripts : List PlacedScriptRule). merged_checks (rules_upward sources) scripts (read_as read.config)) (scripts_placed Is IsSpec (counting_sources sources) read.rules.items are.rules)
         ∙ ap (merged_checks (rules_upward sources) (script_rules_upward sources)) (sym are.values)
 
-    of_sources : AllByRecursion (IsKept Is IsSpec) (flat_map (source_checks features) (counted sources))
-    of_sources = kept_before Is IsSpec (flat_map (source_checks features) (counted sources)) (value_checks bad_merged (config_in (merged_in built_in sources))) kept
+    of_sources : AllByRecursion (IsKept Is IsSpec) (flat_map (source_checks features) (counting_sources sources))
+    of_sources = kept_before Is IsSpec (flat_map (source_checks features) (counting_sources sources)) (value_checks bad_merged (config_in (merged_in built_in sources))) kept
 
     pub completed : (result : Result (LoadedConfig F S) LoadError) → Passes Is IsSpec IsTooDeep (merged_checks (all_placed (overrides_of read.rules.items)) (all_placed (scripts_of read.rules.items)) (read_as read.config)) (IsCompleted Is read.config read.rules.items) result
         → IsLoaded Is IsSpec IsTooDeep features built_in sources result
     completed (Ok config) passes = record {
-      kept = kept_both Is IsSpec IsTooDeep (flat_map (source_checks features) (counted sources)) (merged_checks (rules_upward sources) (script_rules_upward sources) (config_in (merged_in built_in sources))) of_sources
+      kept = kept_both Is IsSpec IsTooDeep (flat_map (source_checks features) (counting_sources sources)) (merged_checks (rules_upward sources) (script_rules_upward sources) (config_in (merged_in built_in sources))) of_sources
           (subst (AllByRecursion (IsKept Is IsSpec)) same_checks passes.0);
       values = are.values ∙ ap Ok (sym passes.1.same);
       filters = passes.1.filters;
-      rules = subst (AreReadRules Is IsSpec (rules_downward sources)) (sym passes.1.rules) (overrides_downward Is IsSpec (counted sources) read.rules.items are.rules);
-      script_rules = subst (AreReadScriptRules Is IsSpec (script_rules_downward sources)) (sym passes.1.script_rules) (scripts_downward Is IsSpec (counted sources) read.rules.items are.rules);
+      rules = subst (AreReadRules Is IsSpec (rules_downward sources)) (sym passes.1.rules) (overrides_downward Is IsSpec (counting_sources sources) read.rules.items are.rules);
+      script_rules = subst (AreReadScriptRules Is IsSpec (script_rules_downward sources)) (sym passes.1.script_rules) (scripts_downward Is IsSpec (counting_sources sources) read.rules.items are.rules);
     }
     completed (Err told) passes =
-        loaded_error told (refuses_behind Is IsSpec IsTooDeep (flat_map (source_checks features) (counted sources)) (merged_checks (rules_upward sources) (script_rules_upward sources) (config_in (merged_in built_in sources))) told of_sources
+        loaded_error told (refuses_behind Is IsSpec IsTooDeep (flat_map (source_checks features) (counting_sources sources)) (merged_checks (rules_upward sources) (script_rules_upward sources) (config_in (merged_in built_in sources))) told of_sources
         (subst (λ (checks : List Check). RefusesFor Is IsSpec IsTooDeep checks told) same_checks passes))

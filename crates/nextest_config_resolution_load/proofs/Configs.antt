@@ -14,8 +14,8 @@ use Rattle.nextest_config_resolution_inheritance.specs.Refusals.{IsFirstFault, I
 use Rattle.nextest_config_resolution_inheritance.specs.declared.inheritance_error.InheritanceError.{InheritanceError}
 use Rattle.nextest_config_resolution_inheritance.specs.declared.inheritance_error.InheritanceError.TheVariants as inheritance
 use Rattle.nextest_config_resolution_inheritance.specs.declared.inheritance_fault.InheritanceFault.{InheritanceFault}
-use Rattle.nextest_config_resolution_load.specs.Checks.{MergedConfig, config_in, members_of, parents_of, raised}
-use Rattle.nextest_config_resolution_load.specs.Load.{named}
+use Rattle.nextest_config_resolution_load.specs.Checks.{MergedConfig, config_in, members_of, parents_of, tree_of_files}
+use Rattle.nextest_config_resolution_load.specs.Load.{named_of}
 use Rattle.nextest_config_resolution_load.specs.Reading.{GivesSeen, values_of}
 use Rattle.nextest_config_resolution_load.specs.declared.loaded_config.NamedProfile.{NamedProfile}
 use Rattle.nextest_config_resolution_merge.specs.Nesting.{OfSorted}
@@ -29,7 +29,7 @@ use Rattle.nextest_config_resolution_values.specs.File.{Named, profiles_at, stor
 use Rattle.nextest_config_resolution_load.proofs.Profiles.{profiles_rise}
 use Rattle.nextest_config_resolution_load.proofs.Tops.{only_some}
 
-pub profiles_refused : (top : Members) (told : ValueError) → GivesSeen (map named) (Err told) (profiles_at top) → GivesSeen values_of (Err told) (config_in top)
+pub profiles_refused : (top : Members) (told : ValueError) → GivesSeen (map named_of) (Err told) (profiles_at top) → GivesSeen values_of (Err told) (config_in top)
 profiles_refused top (value_error.Refused bad) e = rw e refl
 profiles_refused top value_error.OutOfMemory e = tt
 
@@ -55,7 +55,7 @@ pub fault_is : (told : InheritanceError) (fault : InheritanceFault) (parents : P
 fault_is told fault parents e given = subst (λ it. IsRefusedFor it (IsFirstFault parents)) e given
 
 -- the parents of what is read
-pub same_parents : (all : List NamedProfile) → parents_of (map named all) ≡ map (λ it. (it.name, it.config.inherits)) all
+pub same_parents : (all : List NamedProfile) → parents_of (map named_of all) ≡ map (λ it. (it.name, it.config.inherits)) all
 same_parents [] = refl
 same_parents (it ∷ all) = ap (λ more. (it.name, it.config.inherits) ∷ more) (same_parents all)
 
@@ -64,7 +64,7 @@ same_names [] = refl
 same_names (it ∷ all) = ap (λ more. it.0 ∷ more) (same_names all)
 
 -- files over a table are one
-pub raised_table : (built_in : Members) (files : List Members) → raised (table built_in) files ≡ table (members_of (raised (table built_in) files))
+pub raised_table : (built_in : Members) (files : List Members) → tree_of_files (table built_in) files ≡ table (members_of (tree_of_files (table built_in) files))
 raised_table built_in [] = refl
 raised_table built_in (file ∷ files) = raised_table (merge file built_in) files
 

@@ -12,7 +12,7 @@ use Rattle.nextest_config_elements_toml.specs.Reading.{Reading}
 use Rattle.nextest_config_elements_versions.specs.declared.feature.FeatureSet.{FeatureSet}
 use Rattle.nextest_config_resolution_load.specs.Checks.{Check, MergedConfig, Refusal, default_checks, inheritance, merged_checks, must_hold, named_checks, parents_of, rules_of_source, rules_upward, script_rules_upward, unknown_group, unknown_script, unknown_wrapper}
 use Rattle.nextest_config_resolution_load.specs.Laws.{GroupsAreDefined, HasGroup, HasScripts, IsFound, ScriptsAreDefined}
-use Rattle.nextest_config_resolution_load.specs.Load.{AreReadBy, IsFilterBy, IsKept, IsLoadedAs, IsReadBy, IsSpecBy, seen}
+use Rattle.nextest_config_resolution_load.specs.Load.{AreReadBy, IsFilterBy, IsKept, IsLoadedAs, IsReadBy, IsSpecBy, merged_of}
 use Rattle.nextest_config_resolution_load.specs.Rules.{Conditions, conditions_of, group_checks, group_checks_of, has_script, is_defined, script_checks, script_conditions_of, setup_check, wrapper_check}
 use Rattle.nextest_config_resolution_load.specs.declared.loaded_config.LoadedConfig.{LoadedConfig}
 use Rattle.nextest_config_resolution_load.specs.declared.loaded_rule.LoadedRule.{LoadedRule}
@@ -26,7 +26,7 @@ use Rattle.nextest_config_resolution_scripts.specs.declared.script_config.Script
 use Rattle.nextest_config_resolution_scripts.specs.declared.script_config.ScriptType.TheVariants as script
 use Rattle.nextest_config_resolution_scripts.specs.declared.script_rule.PlacedScriptRule.{PlacedScriptRule}
 use Rattle.nextest_config_resolution_scripts.specs.declared.script_rule.ScriptRuleId.{ScriptRuleId}
-use Rattle.nextest_config_resolution_sources.specs.Counting.{counted}
+use Rattle.nextest_config_resolution_sources.specs.Counting.{counting_sources}
 use Rattle.nextest_config_resolution_sources.specs.declared.source.ConfigSource.{ConfigSource}
 
 -- ---- what holds of all items of lists
@@ -122,9 +122,9 @@ module _ {F S : Type 0} (Is : IsFilterBy F) (IsSpec : IsSpecBy S) where
 
 module _ {F S : Type 0} (Is : IsFilterBy F) (IsSpec : IsSpecBy S) (features : FeatureSet) (built_in : Members) (sources : List ConfigSource) (it : LoadedConfig F S)
     (loaded : IsLoadedAs Is IsSpec features built_in sources it) where
-  names_kept : AllByRecursion (IsKept Is IsSpec) (named_checks (rules_upward sources) (script_rules_upward sources) (seen it))
+  names_kept : AllByRecursion (IsKept Is IsSpec) (named_checks (rules_upward sources) (script_rules_upward sources) (merged_of it))
   names_kept =
-      kept_before Is IsSpec (named_checks (rules_upward sources) (script_rules_upward sources) (seen it)) (inheritance (parents_of (seen it).profiles) ∷ default_checks (seen it).profiles)
+      kept_before Is IsSpec (named_checks (rules_upward sources) (script_rules_upward sources) (merged_of it)) (inheritance (parents_of (merged_of it).profiles) ∷ default_checks (merged_of it).profiles)
       (subst (λ (given : Reading MergedConfig). AllByRecursion (IsKept Is IsSpec) (merged_checks (rules_upward sources) (script_rules_upward sources) given)) loaded.values
       (kept_merged Is IsSpec features built_in sources loaded.kept))
 
@@ -142,16 +142,16 @@ module _ {F S : Type 0} (Is : IsFilterBy F) (IsSpec : IsSpecBy S) (features : Fe
 
   loaded_scripts : AllByRecursion (λ rule. HasScripts it.scripts rule.placed.config) it.script_rules
   loaded_scripts =
-      all_read (λ rule. HasScripts it.scripts rule.config) script_conditions_of Is IsSpec (flat_map (λ source. (rules_of_source source).scripts) (reverse (counted sources))) it.script_rules
+      all_read (λ rule. HasScripts it.scripts rule.config) script_conditions_of Is IsSpec (flat_map (λ source. (rules_of_source source).scripts) (reverse (counting_sources sources))) it.script_rules
       loaded.script_rules
-      (all_downward (λ rule. HasScripts it.scripts rule.config) (λ source. (rules_of_source source).scripts) (counted sources)
+      (all_downward (λ rule. HasScripts it.scripts rule.config) (λ source. (rules_of_source source).scripts) (counting_sources sources)
       (rules_found Is IsSpec it.scripts (script_rules_upward sources) (kept_before Is IsSpec of_setup of_wrapper scripts_kept) (kept_behind Is IsSpec of_setup of_wrapper scripts_kept)))
 
   loaded_groups : AllByRecursion (λ rule. HasGroup it.groups rule.placed.config.test_group) it.rules
   loaded_groups =
-      all_read (λ rule. HasGroup it.groups rule.config.test_group) conditions_of Is IsSpec (flat_map (λ source. (rules_of_source source).overrides) (reverse (counted sources))) it.rules
+      all_read (λ rule. HasGroup it.groups rule.config.test_group) conditions_of Is IsSpec (flat_map (λ source. (rules_of_source source).overrides) (reverse (counting_sources sources))) it.rules
       loaded.rules
-      (all_downward (λ rule. HasGroup it.groups rule.config.test_group) (λ source. (rules_of_source source).overrides) (counted sources)
+      (all_downward (λ rule. HasGroup it.groups rule.config.test_group) (λ source. (rules_of_source source).overrides) (counting_sources sources)
       (each Is IsSpec (group_checks (is_defined it.groups)) (λ rule. HasGroup it.groups rule.config.test_group)
       (λ rule here. group_found Is IsSpec it.groups rule.id rule.config.test_group here) (rules_upward sources) (kept_before Is IsSpec of_groups (of_setup ++ of_wrapper) names_kept)))
 

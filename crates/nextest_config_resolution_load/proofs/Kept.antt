@@ -9,7 +9,7 @@ use Rattle.nextest_config_resolution_load.specs.Load.{Breaks, BreaksFirst, IsFil
 use Rattle.nextest_config_resolution_overrides.specs.declared.placed_override.PlacedOverride.{PlacedOverride}
 use Rattle.nextest_config_elements_versions.specs.declared.feature.FeatureSet.{FeatureSet}
 use Rattle.nextest_config_resolution_scripts.specs.declared.script_rule.PlacedScriptRule.{PlacedScriptRule}
-use Rattle.nextest_config_resolution_sources.specs.Counting.{counted}
+use Rattle.nextest_config_resolution_sources.specs.Counting.{counting_sources}
 use Rattle.nextest_config_resolution_sources.specs.declared.source.ConfigSource.{ConfigSource}
 
 -- ---- what is kept of all checks
@@ -25,15 +25,15 @@ module _ {F S : Type 0} (Is : IsFilterBy F) (IsSpec : IsSpecBy S) where
 
   -- those of sources
   pub kept_sources : (features : FeatureSet) (built_in : Members) (sources : List ConfigSource) → AllByRecursion (IsKept Is IsSpec) (checks_of features built_in sources)
-      → AllByRecursion (IsKept Is IsSpec) (flat_map (source_checks features) (counted sources))
+      → AllByRecursion (IsKept Is IsSpec) (flat_map (source_checks features) (counting_sources sources))
   kept_sources features built_in sources kept =
-      kept_before (flat_map (source_checks features) (counted sources)) (merged_checks (rules_upward sources) (script_rules_upward sources) (config_in (merged_in built_in sources))) kept
+      kept_before (flat_map (source_checks features) (counting_sources sources)) (merged_checks (rules_upward sources) (script_rules_upward sources) (config_in (merged_in built_in sources))) kept
 
   -- and of what they come to
   pub kept_merged : (features : FeatureSet) (built_in : Members) (sources : List ConfigSource) → AllByRecursion (IsKept Is IsSpec) (checks_of features built_in sources)
       → AllByRecursion (IsKept Is IsSpec) (merged_checks (rules_upward sources) (script_rules_upward sources) (config_in (merged_in built_in sources)))
   kept_merged features built_in sources kept =
-      kept_behind (flat_map (source_checks features) (counted sources)) (merged_checks (rules_upward sources) (script_rules_upward sources) (config_in (merged_in built_in sources))) kept
+      kept_behind (flat_map (source_checks features) (counting_sources sources)) (merged_checks (rules_upward sources) (script_rules_upward sources) (config_in (merged_in built_in sources))) kept
 
   -- behind what rules name
   pub kept_profiles : (rules : List PlacedOverride) (scripts : List PlacedScriptRule) (config : MergedConfig) → AllByRecursion (IsKept Is IsSpec) (merged_checks rules scripts (Ok config))

@@ -13,7 +13,7 @@ use Rattle.nextest_config_elements_toml.specs.Reading.{Path, Reading, under}
 use Rattle.nextest_config_elements_toml.specs.Paths.{texts}
 use Rattle.nextest_config_elements_toml.specs.declared.value_error.ValueError.{ValueError}
 use Rattle.nextest_config_elements_toml.specs.declared.value_error.ValueError.TheVariants as value_error
-use Rattle.nextest_config_resolution_load.specs.Load.{named}
+use Rattle.nextest_config_resolution_load.specs.Load.{named_of}
 use Rattle.nextest_config_resolution_load.specs.Reading.{GivesSeen, profile_at}
 use Rattle.nextest_config_resolution_load.specs.declared.loaded_config.NamedProfile.{NamedProfile}
 use Rattle.nextest_config_resolution_merge.specs.Nesting.{OfSorted}
@@ -195,7 +195,7 @@ pub profiles_there : (top all : Members) → get_path (codes "profile" ∷ []) (
 profiles_there top all at = ap (λ found. under (codes "profile") (profiles_of found)) (sym (only_some (get_member (codes "profile") top)) ∙ at)
 
 pub stops_seen : (name : List ℕ) (names : List (List ℕ)) (done : List Named) (all : Members) (it : Next name names done all) (told : ValueError)
-    → GivesSeen named (Err told) (profile_at name it.given) → GivesSeen (map named) (Err told) (under (codes "profile") (profiles_in all))
+    → GivesSeen named_of (Err told) (profile_at name it.given) → GivesSeen (map named_of) (Err told) (under (codes "profile") (profiles_in all))
 stops_seen name names done all it (value_error.Refused bad) e = stops name names done all it bad.path.keys e
 stops_seen name names done all it value_error.OutOfMemory e = tt
 
@@ -264,11 +264,11 @@ profiles_rise top all sorted e =
 -- ---- profiles by their places
 
 pub named_at : (profiles : List NamedProfile) (place : ℕ) (profile : NamedProfile) → place < length profiles → profile ≡ get_or profiles place profile
-    → named profile ≡ get_or (map named profiles) place (named profile)
-named_at profiles place profile within is = sym (get_or-map named profiles place profile (named profile) within ∙ ap named (sym is))
+    → named_of profile ≡ get_or (map named_of profiles) place (named_of profile)
+named_at profiles place profile within is = sym (get_or-map named_of profiles place profile (named_of profile) within ∙ ap named_of (sym is))
 
-pub named_within : (profiles : List NamedProfile) (place : ℕ) → place < length profiles → place < length (map named profiles)
-named_within profiles place within = omega (arith, length-map profiles named)
+pub named_within : (profiles : List NamedProfile) (place : ℕ) → place < length profiles → place < length (map named_of profiles)
+named_within profiles place within = omega (arith, length-map profiles named_of)
 
-pub named_over : (profiles : List NamedProfile) (place : ℕ) → length profiles ≤ place → length (map named profiles) ≤ place
-named_over profiles place over = omega (arith, length-map profiles named)
+pub named_over : (profiles : List NamedProfile) (place : ℕ) → length profiles ≤ place → length (map named_of profiles) ≤ place
+named_over profiles place over = omega (arith, length-map profiles named_of)

@@ -10,7 +10,7 @@ use Rattle.nextest_config_resolution_inheritance.proofs.Verdict.{one_verdict}
 use Rattle.nextest_config_resolution_load.specs.Checks.{Check, broken, is_filter, is_spec, inheritance, Refusal, unread, no_toml, bad_value, both_script_tables, feature_not_enabled, bad_name, repeated_script, no_constraint, filter_and_default_filter, bad_spec, bad_rule_filter, bad_merged, unknown_group, unknown_script, unknown_wrapper, inherits_badly, bad_filter, MergedConfig, checks_of, config_in, default_check, default_checks, defined_checks, file_checks, merged_checks, document_checks, document_of, merged_in, no_rules, outcome_checks, rules_in, rules_in_file, rules_of_source, rules_upward, script_rules_upward, source_checks}
 use Rattle.nextest_config_resolution_load.specs.File.{file_in}
 use Rattle.nextest_config_resolution_load.specs.Laws.{SomeLoad}
-use Rattle.nextest_config_resolution_load.specs.Load.{AreReadBy, Breaks, BreaksFirst, IsFilterBy, IsKept, IsLoaded, IsReadAs, IsReadBy, IsSpecBy, LoadedOverride, LoadedScriptRule, named, reason_of}
+use Rattle.nextest_config_resolution_load.specs.Load.{AreReadBy, Breaks, BreaksFirst, IsFilterBy, IsKept, IsLoaded, IsReadAs, IsReadBy, IsSpecBy, LoadedOverride, LoadedScriptRule, named_of, reason_of}
 use Rattle.nextest_config_resolution_load.specs.Reading.{AreReadDefaults, AreReadInFile, AreRulesOf, downward}
 use Rattle.nextest_config_resolution_load.specs.RuleTexts.{checks_by}
 use Rattle.nextest_config_resolution_load.specs.Rules.{Conditions, both_checks, conditions_of, constraint_checks, filter_checks, listing_checks, placed_in, profile_checks, rule_checks, rules_at, script_conditions_of, script_placed_in, script_rule_checks, script_rules_at, spec_checks, text_checks, wraps_lists}
@@ -34,7 +34,7 @@ use Rattle.nextest_config_resolution_load.proofs.Passing.{zip_both}
 use Rattle.nextest_config_elements_versions.specs.declared.feature.FeatureSet.{FeatureSet}
 use Rattle.nextest_config_resolution_overrides.specs.declared.placed_override.PlacedOverride.{PlacedOverride}
 use Rattle.nextest_config_resolution_scripts.specs.declared.script_rule.PlacedScriptRule.{PlacedScriptRule}
-use Rattle.nextest_config_resolution_sources.specs.Counting.{counted}
+use Rattle.nextest_config_resolution_sources.specs.Counting.{counting_sources}
 use Rattle.nextest_config_resolution_sources.specs.declared.source.ConfigSource.{ConfigSource}
 use Rattle.nextest_config_resolution_sources.specs.declared.source.ConfigSourceOutcome.{ConfigSourceOutcome}
 use Rattle.nextest_config_resolution_sources.specs.declared.source.ConfigSourceOutcome.TheVariants as outcome
@@ -46,31 +46,31 @@ use Rattle.nextest_config_resolution_values.specs.File.{Named}
 abbrev bad_at : Path → BadValue
 bad_at keys = record { path = record { keys = keys }; expected = record { ref_ptr = (0, 0); now = [] }; found = [] }
 
-told_of : (refusal : Refusal) → (told : LoadFault) × (reason_of told ≡ refusal)
-told_of (unread path) = (fault.Unread path [], refl)
-told_of (no_toml path) = (fault.Toml path [], refl)
-told_of (bad_value path keys) = (fault.BadValue path (bad_at keys), refl)
-told_of (both_script_tables path) = (fault.BothScriptTables path, refl)
-told_of (feature_not_enabled path feature) = (fault.FeatureNotEnabled path feature, refl)
-told_of (bad_name path name) = (fault.BadName path name, refl)
-told_of (repeated_script path script) = (fault.RepeatedScript path script, refl)
-told_of (no_constraint rule) = (fault.NoConstraint rule, refl)
-told_of (filter_and_default_filter rule) = (fault.FilterAndDefaultFilter rule, refl)
-told_of (bad_spec rule of_side) = (fault.BadSpec rule of_side [], refl)
-told_of (bad_rule_filter rule of_purpose) = (fault.BadRuleFilter rule of_purpose [], refl)
-told_of (bad_merged keys) = (fault.BadMergedValue (bad_at keys), refl)
-told_of (unknown_group rule group) = (fault.UnknownGroup rule group, refl)
-told_of (unknown_script rule script) = (fault.UnknownScript rule script, refl)
-told_of (unknown_wrapper rule script) = (fault.UnknownWrapper rule script, refl)
-told_of (inherits_badly told) = (fault.Inheritance told, refl)
-told_of (bad_filter profile) = (fault.BadFilter profile [], refl)
+warnings_for : (refusal : Refusal) → (told : LoadFault) × (reason_of told ≡ refusal)
+warnings_for (unread path) = (fault.Unread path [], refl)
+warnings_for (no_toml path) = (fault.Toml path [], refl)
+warnings_for (bad_value path keys) = (fault.BadValue path (bad_at keys), refl)
+warnings_for (both_script_tables path) = (fault.BothScriptTables path, refl)
+warnings_for (feature_not_enabled path feature) = (fault.FeatureNotEnabled path feature, refl)
+warnings_for (bad_name path name) = (fault.BadName path name, refl)
+warnings_for (repeated_script path script) = (fault.RepeatedScript path script, refl)
+warnings_for (no_constraint rule) = (fault.NoConstraint rule, refl)
+warnings_for (filter_and_default_filter rule) = (fault.FilterAndDefaultFilter rule, refl)
+warnings_for (bad_spec rule of_side) = (fault.BadSpec rule of_side [], refl)
+warnings_for (bad_rule_filter rule of_purpose) = (fault.BadRuleFilter rule of_purpose [], refl)
+warnings_for (bad_merged keys) = (fault.BadMergedValue (bad_at keys), refl)
+warnings_for (unknown_group rule group) = (fault.UnknownGroup rule group, refl)
+warnings_for (unknown_script rule script) = (fault.UnknownScript rule script, refl)
+warnings_for (unknown_wrapper rule script) = (fault.UnknownWrapper rule script, refl)
+warnings_for (inherits_badly told) = (fault.Inheritance told, refl)
+warnings_for (bad_filter profile) = (fault.BadFilter profile [], refl)
 
 -- ---- a configuration for what sources come to
 
 abbrev profile_from : Named → NamedProfile
 profile_from it = record { name = it.0; config = it.1 }
 
-profiles_again : (profiles : List Named) → map named (map profile_from profiles) ≡ profiles
+profiles_again : (profiles : List Named) → map named_of (map profile_from profiles) ≡ profiles
 profiles_again [] = refl
 profiles_again (it ∷ profiles) = ap (λ (more : List Named). it ∷ more) (profiles_again profiles)
 
@@ -197,7 +197,7 @@ module _ {F S : Type 0} (Is : IsFilterBy F) (IsSpec : IsSpecBy S) where
       → (it : LoadedConfig F S) × IsLoaded Is IsSpec IsTooDeep features built_in sources (Ok it)
   config_of IsTooDeep features built_in sources kept =
       let given = config_at (rules_upward sources) (script_rules_upward sources) (config_in (merged_in built_in sources)) (kept_merged Is IsSpec features built_in sources kept) in
-      let rules = each_from features (counted sources) (kept_sources Is IsSpec features built_in sources kept) in
+      let rules = each_from features (counting_sources sources) (kept_sources Is IsSpec features built_in sources kept) in
       let config = given.0 in
       let found = given.2.0 in
       let again = sym (profiles_again config.profiles) in (
@@ -206,8 +206,8 @@ module _ {F S : Type 0} (Is : IsFilterBy F) (IsSpec : IsSpecBy S) where
           kept = kept;
           values = given.1 ∙ ap (λ (all : List Named). Ok (record config { profiles = all })) again;
           filters = subst (λ (all : List Named). AreReadDefaults Is all found) again given.2.1;
-          rules = overrides_downward Is IsSpec (counted sources) rules.0 rules.1;
-          script_rules = scripts_downward Is IsSpec (counted sources) rules.0 rules.1;
+          rules = overrides_downward Is IsSpec (counting_sources sources) rules.0 rules.1;
+          script_rules = scripts_downward Is IsSpec (counting_sources sources) rules.0 rules.1;
         },
       )
 
@@ -246,5 +246,5 @@ module _ {F S : Type 0} (Is : IsFilterBy F) (IsSpec : IsSpecBy S) (IsTooDeep : L
     decided : AreDecided Is IsSpec IsTooDeep (checks_of features built_in sources) → ⊥
     decided (inl kept) = neither (inl (config_of Is IsSpec IsTooDeep features built_in sources kept))
     decided (inr (refusal, breaks)) =
-        let told = told_of refusal in
+        let told = warnings_for refusal in
         neither (inr (told.0, subst (λ (reason : Refusal). BreaksFirst Is IsSpec IsTooDeep (checks_of features built_in sources) reason) (sym told.1) breaks))

@@ -8,10 +8,10 @@ use Rattle.std.specs.List.{AllByRecursion, cons_option}
 use Rattle.std.specs.Option.{option_to_list}
 use Rattle.toml.specs.Data.{Members}
 use Rattle.nextest_config_resolution_load.specs.Checks.{file_of, source_checks}
-use Rattle.nextest_config_resolution_load.specs.Files.{members_in, told_in}
+use Rattle.nextest_config_resolution_load.specs.Files.{members_in, warnings_of_file}
 use Rattle.nextest_config_resolution_load.specs.Load.{IsFilterBy, IsKept, IsSpecBy}
 use Rattle.nextest_config_resolution_load.specs.Reading.{AreReadFiles, AreRulesOf, IsReadFile}
-use Rattle.nextest_config_resolution_load.specs.Telling.{told_at, told_of}
+use Rattle.nextest_config_resolution_load.specs.Warn.{warnings_at, warnings_for}
 use Rattle.nextest_config_resolution_load.specs.declared.placed_file.PlacedFile.{PlacedFile}
 use Rattle.nextest_config_resolution_load.specs.declared.placed_file.ReadFiles.{ReadFiles}
 use Rattle.nextest_config_resolution_load.proofs.Passing.{taken_more}
@@ -38,24 +38,24 @@ files_more done added all place source file within is here so adds =
 
 -- and what is told of it
 pub told_more : (told added : List ConfigWarning) (all : List ConfigSource) (place : ℕ) (path : List ℕ) (source : ConfigSource) (file : Option Members) → place < length all
-    → source ≡ get_or all place source → file_of source ≡ file → path ≡ source.path → told ≡ flat_map told_of (take place all) → added ≡ told ++ told_at path file
-    → added ≡ flat_map told_of (take (place + 1) all)
+    → source ≡ get_or all place source → file_of source ≡ file → path ≡ source.path → told ≡ flat_map warnings_for (take place all) → added ≡ told ++ warnings_at path file
+    → added ≡ flat_map warnings_for (take (place + 1) all)
 told_more told added all place path source file within is here stands so adds =
     adds
-    ∙ ap (λ (front : List ConfigWarning). front ++ told_at path file) so
-    ∙ ap (λ (last : List ConfigWarning). flat_map told_of (take place all) ++ last)
-    (ap (λ (at : List ℕ). told_at at file) stands ∙ ap (told_at source.path) (sym here) ∙ sym (append-nil (told_of source)))
-    ∙ sym (flat_map-append told_of (take place all) (source ∷ []))
-    ∙ ap (flat_map told_of) (sym (taken_more all place source within is))
+    ∙ ap (λ (front : List ConfigWarning). front ++ warnings_at path file) so
+    ∙ ap (λ (last : List ConfigWarning). flat_map warnings_for (take place all) ++ last)
+    (ap (λ (at : List ℕ). warnings_at at file) stands ∙ ap (warnings_at source.path) (sym here) ∙ sym (append-nil (warnings_for source)))
+    ∙ sym (flat_map-append warnings_for (take place all) (source ∷ []))
+    ∙ ap (flat_map warnings_for) (sym (taken_more all place source within is))
 
 -- all of them
 pub files_read : {F S : Type 0} (Is : IsFilterBy F) (IsSpec : IsSpecBy S) (all : List ConfigSource) (place : ℕ) (it : ReadFiles F S) → length all ≤ place
-    → map members_in it.files.items ≡ filter_map file_of (take place all) → flat_map told_in it.files.items ≡ flat_map told_of (take place all)
+    → map members_in it.files.items ≡ filter_map file_of (take place all) → flat_map warnings_of_file it.files.items ≡ flat_map warnings_for (take place all)
     → AreRulesOf Is IsSpec (take place all) it.rules.items → AreReadFiles Is IsSpec all it
 files_read Is IsSpec all place it over files told rules =
     let whole = take_all place all over in
     record {
       files = files ∙ ap (filter_map file_of) whole;
-      told = told ∙ ap (flat_map told_of) whole;
+      told = told ∙ ap (flat_map warnings_for) whole;
       rules = subst (λ (sources : List ConfigSource). AreRulesOf Is IsSpec sources it.rules.items) whole rules;
     }

@@ -12,7 +12,7 @@ use Rattle.nextest_config_elements_toml.specs.Reading.{Path, Reading, ◌>>=◌}
 use Rattle.nextest_config_elements_versions.specs.declared.feature.ConfigExperimental.TheVariants as feature
 use Rattle.nextest_config_elements_versions.specs.declared.feature.FeatureSet.{FeatureSet}
 use Rattle.nextest_config_resolution_inheritance.specs.Inheritance.{Parents}
-use Rattle.nextest_config_resolution_sources.specs.Counting.{counted}
+use Rattle.nextest_config_resolution_sources.specs.Counting.{counting_sources}
 use Rattle.nextest_config_resolution_sources.specs.declared.source.ConfigSource.{ConfigSource}
 use Rattle.nextest_config_resolution_sources.specs.declared.source.ConfigSourceOutcome.{ConfigSourceOutcome}
 use Rattle.nextest_config_resolution_sources.specs.declared.source.ConfigSourceOutcome.TheVariants as outcome
@@ -150,21 +150,21 @@ rules_of_source source = rules_in source.path (file_of source)
 
 -- those of all sources that count: the highest file first, as rules are asked, and the lowest first, as they are checked
 abbrev pub rules_downward : List ConfigSource → List PlacedOverride
-rules_downward sources = flat_map (λ source. (rules_of_source source).overrides) (reverse (counted sources))
+rules_downward sources = flat_map (λ source. (rules_of_source source).overrides) (reverse (counting_sources sources))
 
 abbrev pub rules_upward : List ConfigSource → List PlacedOverride
-rules_upward sources = flat_map (λ source. (rules_of_source source).overrides) (counted sources)
+rules_upward sources = flat_map (λ source. (rules_of_source source).overrides) (counting_sources sources)
 
 abbrev pub script_rules_downward : List ConfigSource → List PlacedScriptRule
-script_rules_downward sources = flat_map (λ source. (rules_of_source source).scripts) (reverse (counted sources))
+script_rules_downward sources = flat_map (λ source. (rules_of_source source).scripts) (reverse (counting_sources sources))
 
 abbrev pub script_rules_upward : List ConfigSource → List PlacedScriptRule
-script_rules_upward sources = flat_map (λ source. (rules_of_source source).scripts) (counted sources)
+script_rules_upward sources = flat_map (λ source. (rules_of_source source).scripts) (counting_sources sources)
 
 -- what files come to, the lowest first, each over the lower ones
-abbrev pub raised : Data → List Members → Data
-raised tree [] = tree
-raised tree (file ∷ files) = raised (over (table file) (Some tree)) files
+abbrev pub tree_of_files : Data → List Members → Data
+tree_of_files tree [] = tree
+tree_of_files tree (file ∷ files) = tree_of_files (over (table file) (Some tree)) files
 
 -- the members of a table
 abbrev pub members_of : Data → Members
@@ -175,16 +175,16 @@ members_of other = no_members
 abbrev pub as_setup : Data → Members
 as_setup given = member (codes "scripts") (table (member (codes "setup") given no_members)) no_members
 
-abbrev pub layered : Option Members → Members → Members
-layered None file = file
-layered (Some scripts) file = members_of (over (table scripts) (Some (table file)))
+abbrev pub file_over : Option Members → Members → Members
+file_over None file = file
+file_over (Some scripts) file = members_of (over (table scripts) (Some (table file)))
 
-abbrev pub moved : Members → Members
-moved file = layered (option_map as_setup (get_member (codes "script") file)) file
+abbrev pub file_with_setup : Members → Members
+file_with_setup file = file_over (option_map as_setup (get_member (codes "script") file)) file
 
 -- what the sources that count come to, over what is built in
 abbrev pub merged_in : Members → List ConfigSource → Members
-merged_in built_in sources = members_of (raised (table built_in) (map moved (filter_map file_of (counted sources))))
+merged_in built_in sources = members_of (tree_of_files (table built_in) (map file_with_setup (filter_map file_of (counting_sources sources))))
 
 -- what a merged tree says of profiles, scripts, the store and groups
 pub record MergedConfig : Type 0 where
@@ -228,5 +228,5 @@ merged_checks rules scripts (Ok config) = named_checks rules scripts config ++ (
 -- all checks: of each source that counts, the lowest first, then of what all of them come to
 abbrev pub checks_of : FeatureSet → Members → List ConfigSource → List Check
 checks_of features built_in sources =
-    flat_map (source_checks features) (counted sources)
+    flat_map (source_checks features) (counting_sources sources)
     ++ merged_checks (rules_upward sources) (script_rules_upward sources) (config_in (merged_in built_in sources))

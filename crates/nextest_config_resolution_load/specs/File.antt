@@ -18,9 +18,9 @@ use Rattle.nextest_config_resolution_values.specs.File.{store_dir_at}
 use Rattle.nextest_config_resolution_values.specs.Profile.{profile_in}
 
 -- whether each value is one, and else where the first stands that is none
-abbrev pub checked : {A : Type 0} → Reading A → Reading (Unit {0})
-checked (Ok x) = Ok tt
-checked (Err path) = Err path
+abbrev pub check_of : {A : Type 0} → Reading A → Reading (Unit {0})
+check_of (Ok x) = Ok tt
+check_of (Err path) = Err path
 
 -- of two paths below one table the one whose key stands first, by its bytes
 abbrev pub first_key : Path → List ℕ
@@ -72,11 +72,11 @@ profiles_at_file top = under (codes "profile") (profiles_of_file (get_member (co
 -- a file, by the bytes of its keys; what it asks for of features and versions is kept elsewhere
 unfoldable pub file_in : Members → Reading FileConfig
 file_in top = do
-  features ← checked (experimental_in top)
-  versions ← checked (nextest_version_in top)
+  features ← check_of (experimental_in top)
+  versions ← check_of (nextest_version_in top)
   profiles ← profiles_at_file top
   old_scripts ← old_scripts_at top
   scripts ← scripts_at top
-  store ← checked (store_dir_at top)
+  store ← check_of (store_dir_at top)
   groups ← groups_at top
   Ok (record { profiles = profiles; groups = groups; old_scripts = old_scripts; scripts = scripts })

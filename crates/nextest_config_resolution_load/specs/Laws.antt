@@ -13,8 +13,8 @@ use Rattle.nextest_config_resolution_scripts.specs.declared.script_config.Script
 use Rattle.nextest_config_resolution_scripts.specs.declared.script_rule.ScriptRuleConfig.{ScriptRuleConfig}
 use Rattle.nextest_config_resolution_sources.specs.declared.source.ConfigSource.{ConfigSource}
 use Rattle.nextest_config_resolution_merge.specs.Merged.{IsMerged}
-use Rattle.nextest_config_resolution_load.specs.Checks.{raised}
-use Rattle.nextest_config_resolution_load.specs.Load.{IsFilterBy, IsLoaded, IsLoadedAs, IsSpecBy, reason_of, seen}
+use Rattle.nextest_config_resolution_load.specs.Checks.{tree_of_files}
+use Rattle.nextest_config_resolution_load.specs.Load.{IsFilterBy, IsLoaded, IsLoadedAs, IsSpecBy, reason_of, merged_of}
 use Rattle.nextest_config_resolution_load.specs.Rules.{is_defined}
 use Rattle.nextest_config_resolution_load.specs.declared.load_error.LoadError.TheVariants.{Refused}
 use Rattle.nextest_config_resolution_load.specs.declared.load_fault.LoadFault.{LoadFault}
@@ -22,12 +22,12 @@ use Rattle.nextest_config_resolution_load.specs.declared.loaded_config.LoadedCon
 
 -- what files come to, the lowest first, is the merged tree of them all, with what is built in below
 abbrev pub MergedFiles : Type 0
-MergedFiles = (built_in : Members) (files : List Members) → IsMerged (reverse (map table files) ++ table built_in ∷ []) (raised (table built_in) files)
+MergedFiles = (built_in : Members) (files : List Members) → IsMerged (reverse (map table files) ++ table built_in ∷ []) (tree_of_files (table built_in) files)
 
 -- what sources are loaded to has one list of values
 abbrev pub OneLoad : {F S : Type 0} → IsFilterBy F → IsSpecBy S → (List ℕ → Type 0) → Type 0
 OneLoad {F} {S} Is IsSpec IsTooDeep = (features : FeatureSet) (built_in : Members) (sources : List ConfigSource) (one other : LoadedConfig F S)
-    → IsLoaded Is IsSpec IsTooDeep features built_in sources (Ok one) → IsLoaded Is IsSpec IsTooDeep features built_in sources (Ok other) → seen one ≡ seen other
+    → IsLoaded Is IsSpec IsTooDeep features built_in sources (Ok one) → IsLoaded Is IsSpec IsTooDeep features built_in sources (Ok other) → merged_of one ≡ merged_of other
 
 -- where no text is too deep for the reader of filters, sources that are loaded aren't refused
 abbrev pub NoFault : {F S : Type 0} → IsFilterBy F → IsSpecBy S → (List ℕ → Type 0) → Type 0

@@ -11,4 +11,4 @@ pub mod Refusing
 pub mod RuleIds
 pub mod RuleTexts
 pub mod Rules
-pub mod Telling
+pub mod Warn

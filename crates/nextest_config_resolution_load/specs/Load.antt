@@ -55,11 +55,11 @@ BreaksFirst Is IsSpec IsTooDeep (check ∷ checks) told =
 -- ---- configurations
 
 -- a configuration as its values
-abbrev pub named : NamedProfile → Named
-named it = (it.name, it.config)
+abbrev pub named_of : NamedProfile → Named
+named_of it = (it.name, it.config)
 
-abbrev pub seen : {F S : Type 0} → LoadedConfig F S → MergedConfig
-seen it = record { profiles = map named it.profiles; store_dir = it.store_dir; groups = it.groups; scripts = it.scripts }
+abbrev pub merged_of : {F S : Type 0} → LoadedConfig F S → MergedConfig
+merged_of it = record { profiles = map named_of it.profiles; store_dir = it.store_dir; groups = it.groups; scripts = it.scripts }
 
 -- what a text is, where there is a text
 abbrev pub IsReadAs : {A : Type 0} → (List ℕ → A → Type 0) → Option (List ℕ) → Option A → Type 0
@@ -103,8 +103,8 @@ AreReadScriptRules Is IsSpec rules loaded = AreReadBy script_conditions_of Is Is
 pub record IsLoadedAs {F S : Type 0} (Is : IsFilterBy F) (IsSpec : IsSpecBy S) (features : FeatureSet) (built_in : Members)
     (sources : List ConfigSource) (it : LoadedConfig F S) : Type 0 where
   pub kept : AllByRecursion (IsKept Is IsSpec) (checks_of features built_in sources)
-  pub values : config_in (merged_in built_in sources) ≡ Ok (seen it)
-  pub filters : AllZip (λ profile found. IsReadAs (Is purpose.Default) profile.1.default_filter found) (seen it).profiles it.default_filters
+  pub values : config_in (merged_in built_in sources) ≡ Ok (merged_of it)
+  pub filters : AllZip (λ profile found. IsReadAs (Is purpose.Default) profile.1.default_filter found) (merged_of it).profiles it.default_filters
   pub rules : AreReadRules Is IsSpec (rules_downward sources) it.rules
   pub script_rules : AreReadScriptRules Is IsSpec (script_rules_downward sources) it.script_rules
 

@@ -12,11 +12,11 @@ use Rattle.nextest_config_elements_toml.specs.declared.value_error.ValueError.{V
 use Rattle.nextest_config_elements_toml.specs.declared.value_error.ValueError.TheVariants as error
 use Rattle.nextest_config_resolution_inheritance.specs.Inheritance.{Rise}
 use Rattle.nextest_config_resolution_load.specs.Checks.{Check, FileRules, must_hold, repeated_script, MergedConfig, bad_merged, config_in, file_of, merged_in, no_toml, parents_of, rules_in, rules_of_source, source_checks, value_checks}
-use Rattle.nextest_config_resolution_load.specs.Files.{members_in, told_in}
-use Rattle.nextest_config_resolution_load.specs.Load.{AreReadRules, AreReadScriptRules, IsFilterBy, IsReadAs, IsSpecBy, LoadedOverride, LoadedScriptRule, named, reason_of, seen}
+use Rattle.nextest_config_resolution_load.specs.Files.{members_in, warnings_of_file}
+use Rattle.nextest_config_resolution_load.specs.Load.{AreReadRules, AreReadScriptRules, IsFilterBy, IsReadAs, IsSpecBy, LoadedOverride, LoadedScriptRule, named_of, reason_of, merged_of}
 use Rattle.nextest_config_resolution_load.specs.Rules.{rules_at, script_placed_in, script_rules_at}
 use Rattle.nextest_config_resolution_load.specs.Rules as words
-use Rattle.nextest_config_resolution_load.specs.Telling.{told_of, warnings_in}
+use Rattle.nextest_config_resolution_load.specs.Warn.{warnings_for, warnings_in}
 use Rattle.nextest_config_resolution_load.specs.declared.file_config.ProfileRules.{ProfileRules}
 use Rattle.nextest_config_resolution_load.specs.declared.languages.FilterPurpose.TheVariants as purpose
 use Rattle.nextest_config_resolution_load.specs.declared.load_error.LoadError.{LoadError}
@@ -29,7 +29,7 @@ use Rattle.nextest_config_resolution_load.specs.declared.placed_file.ReadFiles.{
 use Rattle.nextest_config_resolution_load.specs.declared.placed_file.ReadSources.{ReadSources}
 use Rattle.nextest_config_resolution_load.specs.declared.placed_file.SourceRules.{SourceRules}
 use Rattle.nextest_config_elements_versions.specs.declared.feature.FeatureSet.{FeatureSet}
-use Rattle.nextest_config_resolution_sources.specs.Counting.{counted}
+use Rattle.nextest_config_resolution_sources.specs.Counting.{counting_sources}
 use Rattle.nextest_config_resolution_sources.specs.declared.source.ConfigSource.{ConfigSource}
 use Rattle.nextest_config_resolution_values.specs.File.{Named}
 use Rattle.nextest_config_resolution_values.specs.Profile.{profile_of}
@@ -104,7 +104,7 @@ pub record IsReadFile {F S : Type 0} (Is : IsFilterBy F) (IsSpec : IsSpecBy S) (
 -- what was read of some sources
 pub record AreReadFiles {F S : Type 0} (Is : IsFilterBy F) (IsSpec : IsSpecBy S) (sources : List ConfigSource) (it : ReadFiles F S) : Type 0 where
   pub files : map members_in it.files.items ≡ filter_map file_of sources
-  pub told : flat_map told_in it.files.items ≡ flat_map told_of sources
+  pub told : flat_map warnings_of_file it.files.items ≡ flat_map warnings_for sources
   pub rules : AreRulesOf Is IsSpec sources it.rules.items
 
 -- ---- names
@@ -127,7 +127,7 @@ profile_at name given = do
 
 -- what was read, as its values
 abbrev pub values_of : ReadConfig → MergedConfig
-values_of it = record { profiles = map named it.profiles; store_dir = it.store_dir; groups = it.groups; scripts = it.scripts }
+values_of it = record { profiles = map named_of it.profiles; store_dir = it.store_dir; groups = it.groups; scripts = it.scripts }
 
 abbrev pub read_as : ReadConfig → Reading MergedConfig
 read_as it = Ok (values_of it)
@@ -140,18 +140,18 @@ AreReadDefaults Is profiles found = AllZip (λ profile filter. IsReadAs (Is purp
 
 -- what is checked of sources, and of what they come to, before it is asked which groups there are and how profiles inherit
 abbrev pub early_checks : FeatureSet → Members → List ConfigSource → List Check
-early_checks features built_in sources = flat_map (source_checks features) (counted sources) ++ value_checks bad_merged (config_in (merged_in built_in sources))
+early_checks features built_in sources = flat_map (source_checks features) (counting_sources sources) ++ value_checks bad_merged (config_in (merged_in built_in sources))
 
 -- what was read of the sources that count
 pub record AreReadSources {F S : Type 0} (Is : IsFilterBy F) (IsSpec : IsSpecBy S) (built_in : Members) (sources : List ConfigSource) (it : ReadSources F S) : Type 0 where
   pub values : config_in (merged_in built_in sources) ≡ read_as it.config
   pub rises : Rise (parents_of (values_of it.config).profiles)
-  pub told : flat_map told_in it.files.items ≡ warnings_in sources
-  pub rules : AreRulesOf Is IsSpec (counted sources) it.rules.items
+  pub told : flat_map warnings_of_file it.files.items ≡ warnings_in sources
+  pub rules : AreRulesOf Is IsSpec (counting_sources sources) it.rules.items
 
 -- a configuration is what was read, with its default filters and the overrides of all sources
 pub record IsCompleted {F S : Type 0} (Is : IsFilterBy F) (read : ReadConfig) (of_sources : List (SourceRules F S)) (it : LoadedConfig F S) : Type 0 where
-  pub same : seen it ≡ values_of read
-  pub filters : AreReadDefaults Is (seen it).profiles it.default_filters
+  pub same : merged_of it ≡ values_of read
+  pub filters : AreReadDefaults Is (merged_of it).profiles it.default_filters
   pub rules : it.rules ≡ downward (λ own. own.overrides) of_sources
   pub script_rules : it.script_rules ≡ downward (λ own. own.scripts) of_sources

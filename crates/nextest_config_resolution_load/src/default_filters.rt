@@ -1,7 +1,7 @@
 // The default filters of profiles.
 ghost use Rattle.std.specs.Prelude.{map};
 ghost use Rattle.nextest_config_resolution_load.specs.Checks.{default_check, default_checks};
-ghost use Rattle.nextest_config_resolution_load.specs.Load.{IsReadAs, named};
+ghost use Rattle.nextest_config_resolution_load.specs.Load.{IsReadAs, named_of};
 ghost use Rattle.nextest_config_resolution_load.specs.Reading.{AreReadDefaults};
 ghost use Rattle.nextest_config_resolution_load.specs.Refusing.{Passes};
 ghost use Rattle.nextest_config_resolution_load.specs.declared.languages.FilterPurpose.TheVariants as purpose;
@@ -19,8 +19,9 @@ pub(crate) fn read_defaults<R: Languages>(
     cx: &R::Cx,
     profiles: &[NamedProfile],
 ) -> Result<Listing<Option<R::Filter>>, LoadError>
-    ensures { Passes (R.is_filter cx.now) R.is_spec R.is_too_deep (default_checks (map named profiles.now))
-        (AreReadDefaults (R.is_filter cx.now) (map named profiles.now)) result }
+    ensures { Passes (R.is_filter cx.now) R.is_spec R.is_too_deep
+        (default_checks (map named_of profiles.now))
+        (AreReadDefaults (R.is_filter cx.now) (map named_of profiles.now)) result }
 {
     let mut found = Listing::new(alloc);
     for profile in profiles {
@@ -38,8 +39,8 @@ fn default_of<R: Languages>(
     profile: &str,
     text: &Option<Text>,
 ) -> Result<Option<R::Filter>, LoadError>
-    ensures { Passes (R.is_filter cx.now) R.is_spec R.is_too_deep (default_check profile.now text.now)
-        (IsReadAs (R.is_filter cx.now purpose.Default) text.now) result }
+    ensures { Passes (R.is_filter cx.now) R.is_spec R.is_too_deep (default_check profile.now
+        text.now) (IsReadAs (R.is_filter cx.now purpose.Default) text.now) result }
 {
     match text {
         None => Ok(None),

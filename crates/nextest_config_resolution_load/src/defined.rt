@@ -25,7 +25,8 @@ pub(crate) fn check_defined<R: Languages>(
     kind: &ConfigSourceKind,
     config: &FileConfig,
 ) -> Result<(), LoadError>
-    ensures { Passes (R.is_filter cx.now) R.is_spec R.is_too_deep (words.defined_checks features path.now kind.now config.now) (λ _. ⊤) result }
+    ensures { Passes (R.is_filter cx.now) R.is_spec R.is_too_deep
+        (words.defined_checks features path.now kind.now config.now) (λ _. ⊤) result }
 {
     check_tables::<R>(alloc, cx, path, config)?;
     check_features::<R>(alloc, cx, features, path, config)?;
@@ -40,7 +41,8 @@ fn check_tables<R: Languages>(
     path: &str,
     config: &FileConfig,
 ) -> Result<(), LoadError>
-    ensures { Passes (R.is_filter cx.now) R.is_spec R.is_too_deep (words.table_checks path.now config.now) (λ _. ⊤) result }
+    ensures { Passes (R.is_filter cx.now) R.is_spec R.is_too_deep
+        (words.table_checks path.now config.now) (λ _. ⊤) result }
 {
     if has_some(config.old_scripts.as_slice()) && has_scripts(config) {
         return Err(both_script_tables(alloc, path));
@@ -70,7 +72,8 @@ fn check_features<R: Languages>(
     path: &str,
     config: &FileConfig,
 ) -> Result<(), LoadError>
-    ensures { Passes (R.is_filter cx.now) R.is_spec R.is_too_deep (words.feature_checks features path.now config.now) (λ _. ⊤) result }
+    ensures { Passes (R.is_filter cx.now) R.is_spec R.is_too_deep
+        (words.feature_checks features path.now config.now) (λ _. ⊤) result }
 {
     if !(features.setup_scripts || !has_setup(config)) {
         return Err(feature_not_enabled(alloc, path, ConfigExperimental::SetupScripts));
@@ -96,7 +99,8 @@ fn check_names<R: Languages>(
     kind: &ConfigSourceKind,
     config: &FileConfig,
 ) -> Result<(), LoadError>
-    ensures { Passes (R.is_filter cx.now) R.is_spec R.is_too_deep (words.name_checks path.now kind.now config.now) (λ _. ⊤) result }
+    ensures { Passes (R.is_filter cx.now) R.is_spec R.is_too_deep
+        (words.name_checks path.now kind.now config.now) (λ _. ⊤) result }
 {
     check_each::<R, _>(alloc, cx, path, kind, config.groups.as_slice())?;
     check_each::<R, _>(alloc, cx, path, kind, config.old_scripts.as_slice())?;
@@ -112,7 +116,8 @@ fn check_each<R: Languages, T: Named>(
     kind: &ConfigSourceKind,
     all: &[T],
 ) -> Result<(), LoadError>
-    ensures { Passes (R.is_filter cx.now) R.is_spec R.is_too_deep (flat_map (λ it. words.may_name path.now kind.now (T.name_of it)) all.now) (λ _. ⊤) result }
+    ensures { Passes (R.is_filter cx.now) R.is_spec R.is_too_deep
+        (flat_map (λ it. words.may_name path.now kind.now (T.name_of it)) all.now) (λ _. ⊤) result }
 {
     for it in all {
         if !may_define(kind, it.name()) {
@@ -144,7 +149,8 @@ fn check_repeated<R: Languages>(
     path: &str,
     config: &FileConfig,
 ) -> Result<(), LoadError>
-    ensures { Passes (R.is_filter cx.now) R.is_spec R.is_too_deep (words.repeated_checks path.now config.now) (λ _. ⊤) result }
+    ensures { Passes (R.is_filter cx.now) R.is_spec R.is_too_deep
+        (words.repeated_checks path.now config.now) (λ _. ⊤) result }
 {
     let wrappers = names_of(alloc, config.scripts.wrapper.as_slice())?;
     check_others::<R>(alloc, cx, path, &wrappers, config.old_scripts.as_slice())?;
@@ -159,7 +165,8 @@ fn check_others<R: Languages>(
     names: &BTreeSet<&str>,
     scripts: &[NamedScript<SetupScriptConfig>],
 ) -> Result<(), LoadError>
-    ensures { Passes (R.is_filter cx.now) R.is_spec R.is_too_deep (flat_map (λ script. not_among path.now names.now script.id) scripts.now) (λ _. ⊤) result }
+    ensures { Passes (R.is_filter cx.now) R.is_spec R.is_too_deep
+        (flat_map (λ script. not_among path.now names.now script.id) scripts.now) (λ _. ⊤) result }
 {
     for script in scripts {
         if names.contains(script.id.as_str()) {

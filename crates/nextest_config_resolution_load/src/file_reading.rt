@@ -9,7 +9,7 @@ ghost use Rattle.nextest_config_resolution_load.specs.Reading.{refused_values, t
 ghost use Rattle.nextest_config_elements_deserialize.specs.Keys.{table_by};
 ghost use Rattle.nextest_config_elements_deserialize.specs.Paths.{GivesAt, profile_path};
 ghost use Rattle.nextest_config_elements_versions.specs.Demand as demand;
-ghost use Rattle.nextest_config_resolution_load.specs.File.{by_keys, checked, file_in, profiles_at_file, profiles_in_file, rules_in_profile, rules_in_table, rules_of_profile};
+ghost use Rattle.nextest_config_resolution_load.specs.File.{by_keys, check_of, file_in, profiles_at_file, profiles_in_file, rules_in_profile, rules_in_table, rules_of_profile};
 ghost use Rattle.nextest_config_resolution_overrides.specs.Groups.{groups_at};
 ghost use Rattle.nextest_config_resolution_scripts.specs.Scripts.{old_scripts_at, scripts_at};
 ghost use Rattle.nextest_config_resolution_values.specs.File.{store_dir_at};
@@ -54,7 +54,7 @@ pub(crate) fn read_file(alloc: Global, table: &Table) -> Result<FileConfig, Valu
 
 // The features that a file asks for.
 fn check_experimental(alloc: Global, table: &Table) -> Result<(), ValueError>
-    ensures { Gives [] result (checked (demand.experimental_in (table_view table.now))) }
+    ensures { Gives [] result (check_of (demand.experimental_in (table_view table.now))) }
 {
     if let Some(given) = member(table, "experimental") {
         deserialize_experimental(alloc, given, &["experimental"])?;
@@ -64,7 +64,7 @@ fn check_experimental(alloc: Global, table: &Table) -> Result<(), ValueError>
 
 // The versions that a file asks for.
 fn check_nextest_version(alloc: Global, table: &Table) -> Result<(), ValueError>
-    ensures { Gives [] result (checked (demand.nextest_version_in (table_view table.now))) }
+    ensures { Gives [] result (check_of (demand.nextest_version_in (table_view table.now))) }
 {
     if let Some(given) = member(table, "nextest-version") {
         deserialize_nextest_version(alloc, given, &["nextest-version"])?;
@@ -74,7 +74,7 @@ fn check_nextest_version(alloc: Global, table: &Table) -> Result<(), ValueError>
 
 // What stands under `store`.
 fn check_store(alloc: Global, table: &Table) -> Result<(), ValueError>
-    ensures { Gives [] result (checked (store_dir_at (table_view table.now))) }
+    ensures { Gives [] result (check_of (store_dir_at (table_view table.now))) }
 {
     deserialize_store_dir(alloc, member(table, "store"))?;
     Ok(())
@@ -179,7 +179,9 @@ fn refused_in(
     table: &Table,
     value: BadValue,
 ) -> Result<TableRules, ValueError>
-    ensures { (path : Path) → value.path.keys ≡ profile_path name.now ++ path → GivesAt (profile_path name.now) result (by_keys (refused_values path) (rules_in_table (table_view table.now))) }
+    ensures { (path : Path)
+        → value.path.keys ≡ profile_path name.now ++ path → GivesAt (profile_path name.now) result
+        (by_keys (refused_values path) (rules_in_table (table_view table.now))) }
 {
     match rules_in_table(alloc, name, table) {
         Ok(_) => Err(ValueError::Refused(value)),
@@ -190,7 +192,8 @@ fn refused_in(
 
 // Of two values that are refused in one profile the one whose key stands first, by its bytes.
 fn first_of(value: BadValue, other: BadValue) -> BadValue
-    ensures { result.path.keys ≡ match_ordering (slice_cmp nat_cmp (third value.path.keys) (third other.path.keys)) value.path.keys value.path.keys other.path.keys }
+    ensures { result.path.keys ≡ match_ordering (slice_cmp nat_cmp (third value.path.keys)
+        (third other.path.keys)) value.path.keys value.path.keys other.path.keys }
 {
     match third(&value).cmp(third(&other)) {
         Ordering::Less | Ordering::Equal => value,

@@ -5,10 +5,10 @@ ghost use Rattle.toml.specs.Parse.{parse_document};
 ghost use Rattle.toml.specs.View.{table_view};
 ghost use Rattle.nextest_config_resolution_load.specs.Checks.{document_checks, file_checks, file_of, missing_checks, rules_in_file, source_checks};
 ghost use Rattle.nextest_config_resolution_load.specs.File.{file_in};
-ghost use Rattle.nextest_config_resolution_load.specs.Files.{members_in, told_in};
+ghost use Rattle.nextest_config_resolution_load.specs.Files.{members_in, warnings_of_file};
 ghost use Rattle.nextest_config_resolution_load.specs.Reading.{AreReadFiles, AreReadInFile, IsReadFile, ParsesText};
 ghost use Rattle.nextest_config_resolution_load.specs.Refusing.{Passes};
-ghost use Rattle.nextest_config_resolution_load.specs.Telling.{told_at};
+ghost use Rattle.nextest_config_resolution_load.specs.Warn.{warnings_at};
 
 use crate::defined::check_defined;
 use crate::file_config::FileConfig;
@@ -33,8 +33,9 @@ pub(crate) fn read_files<'s, R: Languages>(
     features: FeatureSet,
     sources: &[&'s ConfigSource],
 ) -> Result<ReadFiles<'s, R::Filter, R::Spec>, LoadError>
-    ensures { let all = map (λ it. it.now) sources.now in
-        Passes (R.is_filter cx.now) R.is_spec R.is_too_deep (flat_map (source_checks features) all) (AreReadFiles (R.is_filter cx.now) R.is_spec all) result }
+    ensures { let all = map (λ it. it.now) sources.now in Passes
+        (R.is_filter cx.now) R.is_spec R.is_too_deep (flat_map (source_checks features) all)
+        (AreReadFiles (R.is_filter cx.now) R.is_spec all) result }
 {
     let mut files = Vec::new(alloc);
     let mut rules = Vec::new(alloc);
@@ -52,8 +53,10 @@ fn push_file<'s>(
     path: &'s str,
     file: Option<Table>,
 ) -> Result<(), AllocError>
-    ensures files { IfOk result (λ _. map members_in files.new.items ≡ map members_in files.old.items ++ option_to_list (option_map table_view file)) }
-    ensures told { IfOk result (λ _. flat_map told_in files.new.items ≡ flat_map told_in files.old.items ++ told_at path.now (option_map table_view file)) }
+    ensures files { IfOk result (λ _. map members_in files.new.items
+        ≡ map members_in files.old.items ++ option_to_list (option_map table_view file)) }
+    ensures told { IfOk result (λ _. flat_map warnings_of_file files.new.items ≡ flat_map
+        warnings_of_file files.old.items ++ warnings_at path.now (option_map table_view file)) }
 {
     match file {
         Some(table) => Ok(files.push(PlacedFile { path, table })?),
@@ -68,7 +71,8 @@ fn read_source<R: Languages>(
     features: FeatureSet,
     source: &ConfigSource,
 ) -> Result<ReadFile<R::Filter, R::Spec>, LoadError>
-    ensures { Passes (R.is_filter cx.now) R.is_spec R.is_too_deep (source_checks features source.now)
+    ensures { Passes
+        (R.is_filter cx.now) R.is_spec R.is_too_deep (source_checks features source.now)
         (IsReadFile (R.is_filter cx.now) R.is_spec source.now.path (file_of source.now)) result }
 {
     let path = source.path.as_str();
@@ -122,8 +126,8 @@ fn read_text<R: Languages>(
     kind: &ConfigSourceKind,
     text: &str,
 ) -> Result<ReadFile<R::Filter, R::Spec>, LoadError>
-    ensures { let given = parse_document text.now in
-        Passes (R.is_filter cx.now) R.is_spec R.is_too_deep (document_checks features path.now kind.now given)
+    ensures { let given = parse_document text.now in Passes (R.is_filter cx.now)
+        R.is_spec R.is_too_deep (document_checks features path.now kind.now given)
         (IsReadFile (R.is_filter cx.now) R.is_spec path.now given) result }
 {
     let table = parse_text(alloc, path, text)?;
@@ -157,9 +161,9 @@ fn read_rules<R: Languages>(
     kind: &ConfigSourceKind,
     table: &Table,
 ) -> Result<SourceRules<R::Filter, R::Spec>, LoadError>
-    ensures { let given = file_in (table_view table.now) in
-        Passes (R.is_filter cx.now) R.is_spec R.is_too_deep (file_checks features path.now kind.now given)
-        (λ it. AreReadInFile (R.is_filter cx.now) R.is_spec (rules_in_file path.now given) it) result }
+    ensures { let given = file_in (table_view table.now) in Passes (R.is_filter cx.now)
+        R.is_spec R.is_too_deep (file_checks features path.now kind.now given) (λ it.
+        AreReadInFile (R.is_filter cx.now) R.is_spec (rules_in_file path.now given) it) result }
 {
     match read_file(alloc, table) {
         Ok(config) => rules_of::<R>(alloc, cx, features, path, kind, config),
@@ -177,8 +181,9 @@ fn rules_of<R: Languages>(
     kind: &ConfigSourceKind,
     config: FileConfig,
 ) -> Result<SourceRules<R::Filter, R::Spec>, LoadError>
-    ensures { Passes (R.is_filter cx.now) R.is_spec R.is_too_deep (file_checks features path.now kind.now (Ok config))
-        (λ it. AreReadInFile (R.is_filter cx.now) R.is_spec (rules_in_file path.now (Ok config)) it) result }
+    ensures { Passes (R.is_filter cx.now) R.is_spec R.is_too_deep
+        (file_checks features path.now kind.now (Ok config)) (λ it. AreReadInFile
+        (R.is_filter cx.now) R.is_spec (rules_in_file path.now (Ok config)) it) result }
 {
     check_defined::<R>(alloc, cx, features, path, kind, &config)?;
     load_profiles::<R>(alloc, cx, path, config.profiles)

@@ -23,7 +23,9 @@ pub(crate) fn check_groups<R: Languages>(
     groups: &[NamedGroup],
     rules: &[SourceRules<R::Filter, R::Spec>],
 ) -> Result<(), LoadError>
-    ensures { Passes (R.is_filter cx.now) R.is_spec R.is_too_deep (flat_map (group_checks (is_defined groups.now)) (all_placed (overrides_of rules.now))) (λ _. ⊤) result }
+    ensures { Passes (R.is_filter cx.now) R.is_spec R.is_too_deep
+        (flat_map (group_checks (is_defined groups.now)) (all_placed (overrides_of rules.now)))
+        (λ _. ⊤) result }
 {
     let names = names_of(alloc, groups)?;
     for own in rules {
@@ -39,7 +41,8 @@ fn check_own<R: Languages>(
     names: &BTreeSet<&str>,
     rules: &[LoadedOverride<R::Filter, R::Spec>],
 ) -> Result<(), LoadError>
-    ensures { Passes (R.is_filter cx.now) R.is_spec R.is_too_deep (flat_map (group_checks (has_name names.now)) (map placed_in rules.now)) (λ _. ⊤) result }
+    ensures { Passes (R.is_filter cx.now) R.is_spec R.is_too_deep
+        (flat_map (group_checks (has_name names.now)) (map placed_in rules.now)) (λ _. ⊤) result }
 {
     for rule in rules {
         check_group::<R>(
@@ -61,7 +64,8 @@ fn check_group<R: Languages>(
     id: &OverrideId,
     group: &Option<TestGroup>,
 ) -> Result<(), LoadError>
-    ensures { Passes (R.is_filter cx.now) R.is_spec R.is_too_deep (group_checks_of (has_name names.now) id.now group.now) (λ _. ⊤) result }
+    ensures { Passes (R.is_filter cx.now) R.is_spec R.is_too_deep
+        (group_checks_of (has_name names.now) id.now group.now) (λ _. ⊤) result }
 {
     match group {
         None | Some(TestGroup::Global) => Ok(()),

@@ -46,7 +46,8 @@ pub trait Languages {
         purpose: FilterPurpose,
         text: &Text,
     ) -> Result<Option<Self::Filter>, AllocError>
-        ensures { IfOk result (ReadsFilter (is_filter cx.now purpose text.now) (is_too_deep text.now)) };
+        ensures { IfOk result
+            (ReadsFilter (is_filter cx.now purpose text.now) (is_too_deep text.now)) };
 
     /// The platform spec of a text; `None` where it is none. It fails only on allocation.
     fn read_spec(alloc: Global, text: &str) -> Result<Option<Self::Spec>, AllocError>

@@ -31,7 +31,7 @@ mod reading;
 mod refusing;
 mod rule_id;
 mod rules;
-mod telling;
+mod warn;
 
 pub use file_config::{FileConfig, ProfileRules};
 pub use languages::{FilterPurpose, Languages};

@@ -3,12 +3,12 @@ ghost use Rattle.std.specs.Prelude.{◌≡◌, ⊤, [], ◌∷◌, map, IfOk};
 ghost use Rattle.toml.specs.Data.{table};
 ghost use Rattle.toml.specs.View.{table_view};
 ghost use Rattle.nextest_config_resolution_inheritance.specs.Inheritance.{Rise};
-ghost use Rattle.nextest_config_resolution_load.specs.Checks.{bad_merged, config_in, inheritance, members_of, merged_checks, moved, named_checks, parents_of, raised, value_checks};
+ghost use Rattle.nextest_config_resolution_load.specs.Checks.{bad_merged, config_in, inheritance, members_of, merged_checks, file_with_setup, named_checks, parents_of, tree_of_files, value_checks};
 ghost use Rattle.nextest_config_resolution_load.specs.Files.{members_in};
-ghost use Rattle.nextest_config_resolution_load.specs.Load.{IsLoaded, seen};
+ghost use Rattle.nextest_config_resolution_load.specs.Load.{IsLoaded, merged_of};
 ghost use Rattle.nextest_config_resolution_load.specs.Reading.{AreReadSources, IsCompleted, all_placed, downward, early_checks, overrides_of, read_as, scripts_of, values_of};
 ghost use Rattle.nextest_config_resolution_load.specs.Refusing.{Passes};
-ghost use Rattle.nextest_config_resolution_load.specs.Telling.{TellsAs, warnings_in};
+ghost use Rattle.nextest_config_resolution_load.specs.Warn.{WarnsAs, warnings_in};
 
 use crate::default_filters::read_defaults;
 use crate::files::read_files;
@@ -21,7 +21,7 @@ use crate::merging::{layered, merge_files};
 use crate::named_scripts::check_scripts;
 use crate::placed_file::{PlacedFile, ReadSources, SourceRules};
 use crate::reading::read_config;
-use crate::telling::tell_files;
+use crate::warn::warn_files;
 use nextest_config_elements_toml::ValueError;
 use nextest_config_elements_versions::FeatureSet;
 use nextest_config_resolution_inheritance::{InheritanceError, check_inheritance};
@@ -56,15 +56,16 @@ pub fn load<R: Languages>(
     sources: &[ConfigSource],
     features: FeatureSet,
 ) -> Result<LoadedConfig<R::Filter, R::Spec>, LoadError>
-    ensures loaded { IsLoaded (R.is_filter cx.now) R.is_spec R.is_too_deep features (table_view built_in.now) sources.now result }
-    ensures rises { IfOk result (λ it. Rise (parents_of (seen it).profiles)) }
+    ensures loaded { IsLoaded (R.is_filter cx.now) R.is_spec R.is_too_deep features
+        (table_view built_in.now) sources.now result }
+    ensures rises { IfOk result (λ it. Rise (parents_of (merged_of it).profiles)) }
 {
     let read = read_sources::<R>(alloc, built_in, cx, sources, features)?;
     accepted::<R>(alloc, cx, read.config, read.rules)
 }
 
 /// What `load` gives of the sources, and `warnings` is told what no configuration knows in the files: in each that counts and is
-/// there, the lowest first, as `tell_file` tells it, under the path of its source.
+/// there, the lowest first, as `warn_file` tells it, under the path of its source.
 ///
 /// # Errors
 ///
@@ -77,14 +78,16 @@ pub fn load_with_warnings<R: Languages, W: ConfigWarnings>(
     features: FeatureSet,
     warnings: &mut W,
 ) -> Result<LoadedConfig<R::Filter, R::Spec>, LoadError>
-    ensures loaded { IsLoaded (R.is_filter cx.now) R.is_spec R.is_too_deep features (table_view built_in.now) sources.now result }
-    ensures rises { IfOk result (λ it. Rise (parents_of (seen it).profiles)) }
-    ensures told { TellsAs W.has_told warnings.old warnings.new (warnings_in sources.now) result }
+    ensures loaded { IsLoaded (R.is_filter cx.now) R.is_spec R.is_too_deep features
+        (table_view built_in.now) sources.now result }
+    ensures rises { IfOk result (λ it. Rise (parents_of (merged_of it).profiles)) }
+    ensures warnings { WarnsAs W.has_warned warnings.old warnings.new
+        (warnings_in sources.now) result }
 {
     let read = read_sources::<R>(alloc, built_in, cx, sources, features)?;
     match accepted::<R>(alloc, cx, read.config, read.rules) {
         Ok(config) => {
-            tell_files(alloc, warnings, read.files.as_slice())?;
+            warn_files(alloc, warnings, read.files.as_slice())?;
             Ok(config)
         }
         Err(error) => Err(error),
@@ -99,8 +102,9 @@ fn read_sources<'s, R: Languages>(
     sources: &'s [ConfigSource],
     features: FeatureSet,
 ) -> Result<ReadSources<'s, R::Filter, R::Spec>, LoadError>
-    ensures { let lowest = table_view built_in.now in
-        Passes (R.is_filter cx.now) R.is_spec R.is_too_deep (early_checks features lowest sources.now) (AreReadSources (R.is_filter cx.now) R.is_spec lowest sources.now) result }
+    ensures { let lowest = table_view built_in.now in Passes
+        (R.is_filter cx.now) R.is_spec R.is_too_deep (early_checks features lowest sources.now)
+        (AreReadSources (R.is_filter cx.now) R.is_spec lowest sources.now) result }
 {
     let counted = counted(alloc, sources)?;
     let read = read_files::<R>(alloc, cx, features, counted.as_slice())?;
@@ -119,8 +123,10 @@ fn read_merged<R: Languages>(
     cx: &R::Cx,
     files: &[PlacedFile],
 ) -> Result<ReadConfig, LoadError>
-    ensures read { let given = config_in (members_of (raised (table (table_view built_in.now)) (map moved (map members_in files.now)))) in
-        Passes (R.is_filter cx.now) R.is_spec R.is_too_deep (value_checks bad_merged given) (λ it. given ≡ read_as it) result }
+    ensures read { let given = config_in (members_of (tree_of_files
+        (table (table_view built_in.now)) (map file_with_setup (map members_in files.now))))
+        in Passes (R.is_filter cx.now) R.is_spec R.is_too_deep (value_checks bad_merged given)
+        (λ it. given ≡ read_as it) result }
     ensures rises { IfOk result (λ it. Rise (parents_of (values_of it).profiles)) }
 {
     let layers = layered(alloc, files)?;
@@ -144,8 +150,8 @@ fn accepted<R: Languages>(
 ) -> Result<LoadedConfig<R::Filter, R::Spec>, LoadError>
     requires rises { Rise (parents_of (values_of read).profiles) }
     ensures { Passes (R.is_filter cx.now) R.is_spec R.is_too_deep
-        (merged_checks (all_placed (overrides_of rules.items)) (all_placed (scripts_of rules.items)) (read_as read))
-        (IsCompleted (R.is_filter cx.now) read rules.items) result }
+        (merged_checks (all_placed (overrides_of rules.items)) (all_placed (scripts_of rules.items))
+        (read_as read)) (IsCompleted (R.is_filter cx.now) read rules.items) result }
 {
     check_names::<R>(alloc, cx, &read, rules.as_slice())?;
     check_parents::<R>(alloc, cx, &read)?;
@@ -176,7 +182,8 @@ fn check_names<R: Languages>(
     rules: &[SourceRules<R::Filter, R::Spec>],
 ) -> Result<(), LoadError>
     ensures { Passes (R.is_filter cx.now) R.is_spec R.is_too_deep
-        (named_checks (all_placed (overrides_of rules.now)) (all_placed (scripts_of rules.now)) (values_of read.now)) (λ _. ⊤) result }
+        (named_checks (all_placed (overrides_of rules.now)) (all_placed (scripts_of rules.now))
+        (values_of read.now)) (λ _. ⊤) result }
 {
     check_groups::<R>(alloc, cx, read.groups.as_slice(), rules)?;
     check_scripts::<R, _>(
@@ -202,7 +209,8 @@ fn check_parents<R: Languages>(
     read: &ReadConfig,
 ) -> Result<(), LoadError>
     requires rises { Rise (parents_of (values_of read.now).profiles) }
-    ensures { Passes (R.is_filter cx.now) R.is_spec R.is_too_deep (inheritance (parents_of (values_of read.now).profiles) ∷ []) (λ _. ⊤) result }
+    ensures { Passes (R.is_filter cx.now) R.is_spec R.is_too_deep
+        (inheritance (parents_of (values_of read.now).profiles) ∷ []) (λ _. ⊤) result }
 {
     match check_inheritance(alloc, read.profiles.as_slice()) {
         Ok(()) => Ok(()),
@@ -218,7 +226,8 @@ fn gathered<F: Drop, S: Drop>(
     alloc: Global,
     rules: Vec<SourceRules<F, S>>,
 ) -> Result<SourceRules<F, S>, AllocError>
-    ensures overrides { IfOk result (λ it. it.overrides ≡ downward (λ own. own.overrides) rules.items) }
+    ensures overrides { IfOk result
+        (λ it. it.overrides ≡ downward (λ own. own.overrides) rules.items) }
     ensures scripts { IfOk result (λ it. it.scripts ≡ downward (λ own. own.scripts) rules.items) }
 {
     let mut sources = rules;

@@ -3,7 +3,7 @@ ghost use Rattle.std.specs.Prelude.{◌≡◌, codes, map, IfOk, option_map};
 ghost use Rattle.toml.specs.Data.{get_member, member, no_members, table};
 ghost use Rattle.toml.specs.View.{table_view, view};
 ghost use Rattle.nextest_config_resolution_merge.specs.Whole.{IsTree};
-ghost use Rattle.nextest_config_resolution_load.specs.Checks.{as_setup, moved, raised};
+ghost use Rattle.nextest_config_resolution_load.specs.Checks.{as_setup, file_with_setup, tree_of_files};
 ghost use Rattle.nextest_config_resolution_load.specs.Files.{layered_in, members_in};
 
 use crate::placed_file::PlacedFile;
@@ -33,7 +33,8 @@ pub(crate) fn layered<'f>(
     alloc: Global,
     files: &'f [PlacedFile],
 ) -> Result<Vec<LayeredFile<'f>>, AllocError>
-    ensures { IfOk result (λ it. map layered_in it.items ≡ map moved (map members_in files.now)) }
+    ensures { IfOk result
+        (λ it. map layered_in it.items ≡ map file_with_setup (map members_in files.now)) }
 {
     let mut all = Vec::new(alloc);
     for file in files {
@@ -47,7 +48,8 @@ pub(crate) fn layered<'f>(
 
 // What stands under `script` in a file, as it stands under `scripts.setup`.
 fn moved_scripts(alloc: Global, file: &Table) -> Result<Option<Table>, AllocError>
-    ensures { IfOk result (λ it. option_map table_view it ≡ option_map as_setup (get_member (codes "script") (table_view file.now))) }
+    ensures { IfOk result (λ it. option_map table_view it
+        ≡ option_map as_setup (get_member (codes "script") (table_view file.now))) }
 {
     match member(file, "script") {
         None => Ok(None),
@@ -79,7 +81,8 @@ pub(crate) fn merge_files<'a>(
     built_in: &'a Table,
     files: &'a [LayeredFile<'_>],
 ) -> Result<MergedTree<'a>, AllocError>
-    ensures { IfOk result (λ it. IsTree it (raised (table (table_view built_in.now)) (map layered_in files.now))) }
+    ensures { IfOk result (λ it.
+        IsTree it (tree_of_files (table (table_view built_in.now)) (map layered_in files.now))) }
 {
     let mut tree = MergedTree::from_table(alloc, built_in)?;
     for file in files {

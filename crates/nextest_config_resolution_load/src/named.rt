@@ -37,7 +37,8 @@ impl<T> Named for NamedScript<T> {
 
 // The names of some.
 pub(crate) fn names_of<T: Named>(alloc: Global, all: &[T]) -> Result<BTreeSet<&str>, AllocError>
-    ensures { IfOk result (λ names. (name : List ℕ) → has_name names name ≡ list_any (λ it. bytes_eq name (T.name_of it)) all.now) }
+    ensures { IfOk result (λ names. (name : List ℕ)
+        → has_name names name ≡ list_any (λ it. bytes_eq name (T.name_of it)) all.now) }
 {
     let mut names = BTreeSet::new(alloc);
     for it in all {

@@ -25,7 +25,8 @@ pub(crate) fn check_scripts<R: Languages, T>(
     scripts: &[NamedScript<T>],
     rules: &[SourceRules<R::Filter, R::Spec>],
 ) -> Result<(), LoadError>
-    ensures { Passes (R.is_filter cx.now) R.is_spec R.is_too_deep (flat_map (words.script_checks kind (words.has_script scripts.now)) (all_placed (scripts_of rules.now))) (λ _. ⊤) result }
+    ensures { Passes (R.is_filter cx.now) R.is_spec R.is_too_deep (flat_map (words.script_checks
+        kind (words.has_script scripts.now)) (all_placed (scripts_of rules.now))) (λ _. ⊤) result }
 {
     let names = names_of(alloc, scripts)?;
     for own in rules {
@@ -42,7 +43,8 @@ fn check_own<R: Languages>(
     names: &BTreeSet<&str>,
     rules: &[LoadedScriptRule<R::Filter, R::Spec>],
 ) -> Result<(), LoadError>
-    ensures { Passes (R.is_filter cx.now) R.is_spec R.is_too_deep (flat_map (words.script_checks kind (has_name names.now)) (map placed_in rules.now)) (λ _. ⊤) result }
+    ensures { Passes (R.is_filter cx.now) R.is_spec R.is_too_deep (flat_map
+        (words.script_checks kind (has_name names.now)) (map placed_in rules.now)) (λ _. ⊤) result }
 {
     for rule in rules {
         check_rule::<R>(alloc, cx, kind, names, &rule.placed)?;
@@ -58,7 +60,8 @@ fn check_rule<R: Languages>(
     names: &BTreeSet<&str>,
     rule: &PlacedScriptRule,
 ) -> Result<(), LoadError>
-    ensures { Passes (R.is_filter cx.now) R.is_spec R.is_too_deep (words.script_checks kind (has_name names.now) rule.now) (λ _. ⊤) result }
+    ensures { Passes (R.is_filter cx.now) R.is_spec R.is_too_deep
+        (words.script_checks kind (has_name names.now) rule.now) (λ _. ⊤) result }
 {
     match kind {
         ScriptType::Setup => {
@@ -76,7 +79,8 @@ fn check_ids<R: Languages>(
     rule: &ScriptRuleId,
     ids: &[ScriptId],
 ) -> Result<(), LoadError>
-    ensures { Passes (R.is_filter cx.now) R.is_spec R.is_too_deep (flat_map (words.setup_check (has_name names.now) rule.now) ids.now) (λ _. ⊤) result }
+    ensures { Passes (R.is_filter cx.now) R.is_spec R.is_too_deep
+        (flat_map (words.setup_check (has_name names.now) rule.now) ids.now) (λ _. ⊤) result }
 {
     for id in ids {
         if !names.contains(id.as_str()) {
@@ -93,7 +97,8 @@ fn check_both<R: Languages>(
     names: &BTreeSet<&str>,
     rule: &PlacedScriptRule,
 ) -> Result<(), LoadError>
-    ensures { Passes (R.is_filter cx.now) R.is_spec R.is_too_deep (words.wrapper_checks (has_name names.now) rule.now) (λ _. ⊤) result }
+    ensures { Passes (R.is_filter cx.now) R.is_spec R.is_too_deep
+        (words.wrapper_checks (has_name names.now) rule.now) (λ _. ⊤) result }
 {
     check_wrapper::<R>(alloc, cx, names, &rule.id, &rule.config.list_wrapper)?;
     check_wrapper::<R>(alloc, cx, names, &rule.id, &rule.config.run_wrapper)
@@ -107,7 +112,8 @@ fn check_wrapper<R: Languages>(
     rule: &ScriptRuleId,
     id: &Option<ScriptId>,
 ) -> Result<(), LoadError>
-    ensures { Passes (R.is_filter cx.now) R.is_spec R.is_too_deep (words.wrapper_check (has_name names.now) rule.now id.now) (λ _. ⊤) result }
+    ensures { Passes (R.is_filter cx.now) R.is_spec R.is_too_deep
+        (words.wrapper_check (has_name names.now) rule.now id.now) (λ _. ⊤) result }
 {
     match id {
         None => Ok(()),

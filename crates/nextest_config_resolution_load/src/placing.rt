@@ -15,7 +15,8 @@ pub(crate) fn placed_overrides(
     profile: &Text,
     overrides: Listing<OverrideConfig>,
 ) -> Result<Vec<PlacedOverride>, AllocError>
-    ensures { IfOk result (λ it. it.items ≡ map (words.placed_at path.now profile.now) (enumerate_from 0 overrides)) }
+    ensures { IfOk result
+        (λ it. it.items ≡ map (words.placed_at path.now profile.now) (enumerate_from 0 overrides)) }
 {
     let mut rules = Vec::new(alloc);
     for (index, config) in Vec::from(overrides).into_iter().enumerate() {
@@ -36,7 +37,8 @@ pub(crate) fn placed_scripts(
     profile: &Text,
     scripts: Listing<ScriptRuleConfig>,
 ) -> Result<Vec<PlacedScriptRule>, AllocError>
-    ensures { IfOk result (λ it. it.items ≡ map (words.script_placed_at path.now profile.now) (enumerate_from 0 scripts)) }
+    ensures { IfOk result (λ it.
+        it.items ≡ map (words.script_placed_at path.now profile.now) (enumerate_from 0 scripts)) }
 {
     let mut rules = Vec::new(alloc);
     for (index, config) in Vec::from(scripts).into_iter().enumerate() {

@@ -24,8 +24,9 @@ pub(crate) fn load_profiles<R: Languages>(
     path: &str,
     profiles: Listing<ProfileRules>,
 ) -> Result<SourceRules<R::Filter, R::Spec>, LoadError>
-    ensures { Passes (R.is_filter cx.now) R.is_spec R.is_too_deep (flat_map (profile_checks path.now) profiles)
-        (λ it. AreReadInFile (R.is_filter cx.now) R.is_spec (rules_of_profiles path.now profiles) it) result }
+    ensures { Passes (R.is_filter cx.now) R.is_spec R.is_too_deep
+        (flat_map (profile_checks path.now) profiles) (λ it. AreReadInFile
+        (R.is_filter cx.now) R.is_spec (rules_of_profiles path.now profiles) it) result }
 {
     let mut rules = SourceRules {
         overrides: Listing::new(alloc),
@@ -70,7 +71,8 @@ fn load_profile<R: Languages>(
     rules: ProfileRules,
 ) -> Result<SourceRules<R::Filter, R::Spec>, LoadError>
     ensures { Passes (R.is_filter cx.now) R.is_spec R.is_too_deep (profile_checks path.now rules)
-        (λ it. AreReadInFile (R.is_filter cx.now) R.is_spec (rules_of_profile path.now rules) it) result }
+        (λ it. AreReadInFile (R.is_filter cx.now) R.is_spec (rules_of_profile path.now rules) it)
+        result }
 {
     let ProfileRules {
         profile,

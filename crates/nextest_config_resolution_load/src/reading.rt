@@ -10,7 +10,7 @@ ghost use Rattle.nextest_config_resolution_merge.specs.Whole.{IsTree};
 ghost use Rattle.nextest_config_resolution_values.specs.File.{profiles_at, profiles_in, profiles_of, store_dir_at};
 ghost use Rattle.nextest_config_elements_deserialize.specs.Paths.{profile_path};
 ghost use Rattle.nextest_config_resolution_load.specs.Checks.{config_in};
-ghost use Rattle.nextest_config_resolution_load.specs.Load.{named};
+ghost use Rattle.nextest_config_resolution_load.specs.Load.{named_of};
 ghost use Rattle.nextest_config_resolution_load.specs.Reading.{GivesSeen, profile_at, values_of};
 
 use crate::loaded_config::{NamedProfile, ReadConfig};
@@ -25,7 +25,8 @@ use toml::{Table, Value};
 
 // What a tree says of profiles, scripts, the store and groups.
 pub(crate) fn read_config(alloc: Global, tree: &MergedTree<'_>) -> Result<ReadConfig, ValueError>
-    ensures { (top : Members) → IsTree tree.now (table top) → GivesSeen values_of result (config_in top) }
+    ensures { (top : Members) → IsTree tree.now (table top)
+        → GivesSeen values_of result (config_in top) }
 {
     let profiles = match read_profiles(alloc, tree) {
         Ok(profiles) => profiles,
@@ -52,7 +53,8 @@ pub(crate) fn read_config(alloc: Global, tree: &MergedTree<'_>) -> Result<ReadCo
 
 // The scripts.
 fn read_scripts(alloc: Global, tree: &MergedTree<'_>) -> Result<ScriptConfig, ValueError>
-    ensures { (top : Members) → IsTree tree.now (table top) → GivesSeen (λ it. it) result (scripts_at top) }
+    ensures { (top : Members) → IsTree tree.now (table top)
+        → GivesSeen (λ it. it) result (scripts_at top) }
 {
     let scripts = tree.value_at(alloc, &["scripts"])?;
     deserialize_scripts(alloc, scripts.as_ref())
@@ -60,7 +62,8 @@ fn read_scripts(alloc: Global, tree: &MergedTree<'_>) -> Result<ScriptConfig, Va
 
 // The groups of tests.
 fn read_groups(alloc: Global, tree: &MergedTree<'_>) -> Result<Listing<NamedGroup>, ValueError>
-    ensures { (top : Members) → IsTree tree.now (table top) → GivesSeen (λ it. it) result (groups_at top) }
+    ensures { (top : Members) → IsTree tree.now (table top)
+        → GivesSeen (λ it. it) result (groups_at top) }
 {
     let groups = tree.value_at(alloc, &["test-groups"])?;
     deserialize_test_groups(alloc, groups.as_ref())
@@ -68,7 +71,8 @@ fn read_groups(alloc: Global, tree: &MergedTree<'_>) -> Result<Listing<NamedGrou
 
 // The directory of the store.
 fn read_store_dir(alloc: Global, tree: &MergedTree<'_>) -> Result<Option<Text>, ValueError>
-    ensures { (top : Members) → IsTree tree.now (table top) → GivesSeen (λ it. it) result (store_dir_at top) }
+    ensures { (top : Members) → IsTree tree.now (table top)
+        → GivesSeen (λ it. it) result (store_dir_at top) }
 {
     let store = tree.value_at(alloc, &["store"])?;
     deserialize_store_dir(alloc, store.as_ref())
@@ -76,7 +80,8 @@ fn read_store_dir(alloc: Global, tree: &MergedTree<'_>) -> Result<Option<Text>, 
 
 // The profiles, by the bytes of their names.
 fn read_profiles(alloc: Global, tree: &MergedTree<'_>) -> Result<Listing<NamedProfile>, ValueError>
-    ensures { (top : Members) → IsTree tree.now (table top) → GivesSeen (map named) result (profiles_at top) }
+    ensures { (top : Members) → IsTree tree.now (table top)
+        → GivesSeen (map named_of) result (profiles_at top) }
 {
     let found = tree.keys_at(alloc, &["profile"])?;
     let names = found.as_slice();
@@ -95,7 +100,9 @@ fn read_profiles(alloc: Global, tree: &MergedTree<'_>) -> Result<Listing<NamedPr
 
 // What there is where no profile stands.
 fn read_none(alloc: Global, tree: &MergedTree<'_>) -> Result<Listing<NamedProfile>, ValueError>
-    ensures { (top : Members) → IsTree tree.now (table top) → keys_in (get_path (codes "profile" ∷ []) (table top)) ≡ [] → GivesSeen (map named) result (profiles_at top) }
+    ensures { (top : Members)
+        → IsTree tree.now (table top) → keys_in (get_path (codes "profile" ∷ []) (table top)) ≡ []
+        → GivesSeen (map named_of) result (profiles_at top) }
 {
     let found = tree.value_at(alloc, &["profile"])?;
     no_profiles(alloc, found.as_ref())
@@ -103,7 +110,9 @@ fn read_none(alloc: Global, tree: &MergedTree<'_>) -> Result<Listing<NamedProfil
 
 // What there is by what stands where profiles would, which has no key.
 fn no_profiles(alloc: Global, found: Option<&Value>) -> Result<Listing<NamedProfile>, ValueError>
-    ensures { keys_in (option_map (λ it. view it.now) found.entry) ≡ [] → GivesSeen (map named) result (under (codes "profile") (profiles_of (option_map (λ it. view it.now) found.entry))) }
+    ensures { keys_in (option_map (λ it. view it.now) found.entry) ≡ []
+        → GivesSeen (map named_of) result
+        (under (codes "profile") (profiles_of (option_map (λ it. view it.now) found.entry))) }
 {
     match found {
         None => Ok(Listing::new(alloc)),
@@ -114,7 +123,8 @@ fn no_profiles(alloc: Global, found: Option<&Value>) -> Result<Listing<NamedProf
 
 // What there is by a table that has no key.
 fn no_members(alloc: Global, members: &Table) -> Result<Listing<NamedProfile>, ValueError>
-    ensures { keys (table_view members.now) ≡ [] → GivesSeen (map named) result (under (codes "profile") (profiles_in (table_view members.now))) }
+    ensures { keys (table_view members.now) ≡ [] → GivesSeen (map named_of) result
+        (under (codes "profile") (profiles_in (table_view members.now))) }
 {
     Ok(Listing::new(alloc))
 }
@@ -125,7 +135,9 @@ fn read_profile(
     tree: &MergedTree<'_>,
     name: &str,
 ) -> Result<NamedProfile, ValueError>
-    ensures { (top : Members) → IsTree tree.now (table top) → (given : Data) → get_path (profile_path name.now) (table top) ≡ Some given → GivesSeen named result (profile_at name.now given) }
+    ensures { (top : Members) → IsTree tree.now (table top)
+        → (given : Data) → get_path (profile_path name.now) (table top) ≡ Some given
+        → GivesSeen named_of result (profile_at name.now given) }
 {
     let found = tree.value_at(alloc, &["profile", name])?;
     found_profile(alloc, name, found.as_ref())
@@ -137,7 +149,8 @@ fn found_profile(
     name: &str,
     found: Option<&Value>,
 ) -> Result<NamedProfile, ValueError>
-    ensures { (given : Data) → option_map (λ it. view it.now) found.entry ≡ Some given → GivesSeen named result (profile_at name.now given) }
+    ensures { (given : Data) → option_map (λ it. view it.now) found.entry ≡ Some given
+        → GivesSeen named_of result (profile_at name.now given) }
 {
     match found {
         None => Err(refused(alloc, &["profile", name], None, "a table")),
@@ -147,7 +160,7 @@ fn found_profile(
 
 // The profile of a name, by what stands there.
 fn named_profile(alloc: Global, name: &str, value: &Value) -> Result<NamedProfile, ValueError>
-    ensures { GivesSeen named result (profile_at name.now (view value.now)) }
+    ensures { GivesSeen named_of result (profile_at name.now (view value.now)) }
 {
     let config = deserialize_profile_value(alloc, name, value)?;
     Ok(NamedProfile {

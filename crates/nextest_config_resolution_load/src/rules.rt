@@ -24,7 +24,8 @@ pub(crate) fn load_rules<R: Languages, P: PlacedRule>(
     cx: &R::Cx,
     rules: Vec<P>,
 ) -> Result<Listing<LoadedRule<P, R::Filter, R::Spec>>, LoadError>
-    ensures { Passes (R.is_filter cx.now) R.is_spec R.is_too_deep (flat_map (checks_by P.wraps P.rule_id P.conditions) rules.items)
+    ensures { Passes (R.is_filter cx.now) R.is_spec R.is_too_deep
+        (flat_map (checks_by P.wraps P.rule_id P.conditions) rules.items)
         (λ it. AreReadBy P.conditions (R.is_filter cx.now) R.is_spec rules.items it) result }
 {
     let mut loaded = Listing::new(alloc);
@@ -41,7 +42,8 @@ fn compile<R: Languages, P: PlacedRule>(
     cx: &R::Cx,
     rule: &P,
 ) -> Result<CompiledRule<R::Filter, R::Spec>, LoadError>
-    ensures { Passes (R.is_filter cx.now) R.is_spec R.is_too_deep (checks_by P.wraps P.rule_id P.conditions rule.now)
+    ensures { Passes (R.is_filter cx.now) R.is_spec R.is_too_deep
+        (checks_by P.wraps P.rule_id P.conditions rule.now)
         (IsCompiledRule (R.is_filter cx.now) R.is_spec (P.conditions rule.now)) result }
 {
     let texts = rule.texts();
@@ -77,7 +79,8 @@ fn compile_texts<R: Languages>(
     id: RuleRef<'_>,
     texts: &RuleTexts<'_>,
 ) -> Result<CompiledRule<R::Filter, R::Spec>, LoadError>
-    ensures { Passes (R.is_filter cx.now) R.is_spec R.is_too_deep (words.text_checks wraps (rule_of id.entry) (texts_of texts.now))
+    ensures { Passes (R.is_filter cx.now) R.is_spec R.is_too_deep
+        (words.text_checks wraps (rule_of id.entry) (texts_of texts.now))
         (IsCompiledRule (R.is_filter cx.now) R.is_spec (texts_of texts.now)) result }
 {
     let host = spec_of::<R>(alloc, cx, id, PlatformSide::Host, texts.host)?;
@@ -109,7 +112,8 @@ fn check_listing<R: Languages>(
     filter: &Option<R::Filter>,
 ) -> Result<(), LoadError>
     ensures { IsReadAs (R.is_filter cx.now purpose.Override) (option_copied text.entry) filter.now
-        → Passes (R.is_filter cx.now) R.is_spec R.is_too_deep (words.listing_checks wraps (rule_of id.entry) (option_copied text.entry)) (λ _. ⊤) result }
+        → Passes (R.is_filter cx.now) R.is_spec R.is_too_deep
+        (words.listing_checks wraps (rule_of id.entry) (option_copied text.entry)) (λ _. ⊤) result }
 {
     if !wraps {
         return Ok(());
@@ -129,7 +133,8 @@ fn check_served<R: Languages>(
     filter: &R::Filter,
 ) -> Result<(), LoadError>
     ensures { R.is_filter cx.now purpose.Override text.now filter.now
-        → Passes (R.is_filter cx.now) R.is_spec R.is_too_deep (words.filter_checks (rule_of id.entry) purpose.ListWrapper (Some text.now)) (λ _. ⊤) result }
+        → Passes (R.is_filter cx.now) R.is_spec R.is_too_deep (words.filter_checks
+        (rule_of id.entry) purpose.ListWrapper (Some text.now)) (λ _. ⊤) result }
 {
     if R::serves_listing(cx, filter) {
         return Ok(());
@@ -145,7 +150,8 @@ fn spec_of<R: Languages>(
     side: PlatformSide,
     text: Option<&Text>,
 ) -> Result<Option<R::Spec>, LoadError>
-    ensures { Passes (R.is_filter cx.now) R.is_spec R.is_too_deep (words.spec_checks (rule_of id.entry) side (option_copied text.entry))
+    ensures { Passes (R.is_filter cx.now) R.is_spec R.is_too_deep
+        (words.spec_checks (rule_of id.entry) side (option_copied text.entry))
         (IsReadAs R.is_spec (option_copied text.entry)) result }
 {
     match text {
@@ -165,7 +171,8 @@ fn filter_of<R: Languages>(
     purpose: FilterPurpose,
     text: Option<&Text>,
 ) -> Result<Option<R::Filter>, LoadError>
-    ensures { Passes (R.is_filter cx.now) R.is_spec R.is_too_deep (words.filter_checks (rule_of id.entry) purpose (option_copied text.entry))
+    ensures { Passes (R.is_filter cx.now) R.is_spec R.is_too_deep
+        (words.filter_checks (rule_of id.entry) purpose (option_copied text.entry))
         (IsReadAs (R.is_filter cx.now purpose) (option_copied text.entry)) result }
 {
     match text {

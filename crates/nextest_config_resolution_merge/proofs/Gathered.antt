@@ -9,7 +9,7 @@ use Rattle.std.proofs.lemmas.Map.Text.{is_eq-slice_cmp}
 use Rattle.toml.specs.Data.{Data, string, integer, float, boolean, datetime, array, table, Members, no_members, member}
 use Rattle.nextest_config_elements_toml.specs.Paths.{texts}
 use Rattle.nextest_config_elements_toml.specs.Reading.{Path}
-use Rattle.nextest_config_resolution_merge.specs.Nesting.{OfSorted, last_key, is_last, head_of, gathered, shorter}
+use Rattle.nextest_config_resolution_merge.specs.Nesting.{OfSorted, last_key, is_last, head_of, first_keys_of, shorter}
 use Rattle.nextest_config_resolution_merge.specs.Tree.{End, along, behind, ends, ends_at, members_ends, keys, keys_in, IsBefore, IsSorted, AreSorted}
 use Rattle.nextest_config_resolution_merge.proofs.Keys.{key_cmp, same_key}
 use Rattle.nextest_config_resolution_merge.proofs.Nested.{drop_along}
@@ -53,17 +53,17 @@ last_is all key = ap (λ last. option_map_or (λ it. bytes_eq it key) last false
 
 -- the further ends below the last key add nothing
 gathered_same : (all : List (List ℕ)) (key : List ℕ) (front more : List End)
-    → gathered (all ++ key ∷ []) (map (behind key) front ++ more) ≡ gathered (all ++ key ∷ []) more
+    → first_keys_of (all ++ key ∷ []) (map (behind key) front ++ more) ≡ first_keys_of (all ++ key ∷ []) more
 gathered_same all key [] more = refl
 gathered_same all key (end ∷ front) more =
-    ap (λ is. gathered (cond is (all ++ key ∷ []) ((all ++ key ∷ []) ++ key ∷ [])) (map (behind key) front ++ more)) (last_is all key)
+    ap (λ is. first_keys_of (cond is (all ++ key ∷ []) ((all ++ key ∷ []) ++ key ∷ [])) (map (behind key) front ++ more)) (last_is all key)
     ∙ gathered_same all key front more
 
 gathered_key : (all : List (List ℕ)) (key : List ℕ) (front more : List End) → is_last all key ≡ false → Begins front
-    → gathered all (map (behind key) front ++ more) ≡ gathered (all ++ key ∷ []) more
+    → first_keys_of all (map (behind key) front ++ more) ≡ first_keys_of (all ++ key ∷ []) more
 gathered_key all key [] more new begins = absurd begins
 gathered_key all key (end ∷ front) more new begins =
-    ap (λ is. gathered (cond is all (all ++ key ∷ [])) (map (behind key) front ++ more)) new ∙ gathered_same all key front more
+    ap (λ is. first_keys_of (cond is all (all ++ key ∷ [])) (map (behind key) front ++ more)) new ∙ gathered_same all key front more
 
 -- the last key isn't the first of a table
 abbrev IsNew : List (List ℕ) → Members → Type 0
@@ -75,7 +75,7 @@ new_behind all key no_members before = tt
 new_behind all key (member other value more) before =
     ap (λ last. option_map_or (λ it. bytes_eq it other) last false) (last_pushed all key) ∙ other_bytes key other before.0
 
-gathered_members : (all : List (List ℕ)) (members : Members) → AreSorted members → IsNew all members → gathered all (members_ends members) ≡ all ++ keys members
+gathered_members : (all : List (List ℕ)) (members : Members) → AreSorted members → IsNew all members → first_keys_of all (members_ends members) ≡ all ++ keys members
 gathered_members all no_members sorted new = sym (append-nil all)
 gathered_members all (member key value more) sorted new =
     gathered_key all key (ends value) (members_ends more) new (some_end value)
@@ -86,7 +86,7 @@ begins_new : (members : Members) → IsNew [] members
 begins_new no_members = tt
 begins_new (member key value more) = refl
 
-gathered_ends : (tree : Data) → IsSorted tree → gathered [] (ends tree) ≡ keys_in (Some tree)
+gathered_ends : (tree : Data) → IsSorted tree → first_keys_of [] (ends tree) ≡ keys_in (Some tree)
 gathered_ends (table (member key value more)) sorted = gathered_members [] (member key value more) sorted refl
 gathered_ends (table no_members) sorted = refl
 gathered_ends (string text) sorted = refl
@@ -97,6 +97,6 @@ gathered_ends (datetime time) sorted = refl
 gathered_ends (array items) sorted = refl
 
 -- what is gathered of the ends at a path are the keys of what stands there
-pub keys_found : (path : Path) (found : Option Data) → OfSorted found → gathered [] (map (shorter (length path)) (map (along path) (ends_at found))) ≡ keys_in found
+pub keys_found : (path : Path) (found : Option Data) → OfSorted found → first_keys_of [] (map (shorter (length path)) (map (along path) (ends_at found))) ≡ keys_in found
 keys_found path None sorted = refl
-keys_found path (Some tree) sorted = ap (gathered []) (drop_along path (ends tree)) ∙ gathered_ends tree sorted
+keys_found path (Some tree) sorted = ap (first_keys_of []) (drop_along path (ends tree)) ∙ gathered_ends tree sorted

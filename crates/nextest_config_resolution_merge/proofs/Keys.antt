@@ -5,7 +5,7 @@ use Rattle.std.proofs.lemmas.Map.Lookups.{exact_bytes}
 use Rattle.std.specs.Cmp.Lexicographic.{slice_cmp}
 use Rattle.std.specs.Ordering.{match_ordering, ordering_reverse}
 use Rattle.toml.specs.Data.{Data, Members, no_members, member, get_member}
-use Rattle.nextest_config_resolution_merge.specs.Tree.{set, IsBefore, IsSorted, AreSorted}
+use Rattle.nextest_config_resolution_merge.specs.Tree.{with_member, IsBefore, IsSorted, AreSorted}
 
 -- how keys compare
 abbrev pub key_cmp : List ℕ → List ℕ → Ordering
@@ -45,12 +45,12 @@ set_there Equal former old value = refl
 set_there Greater former old value = refl
 
 pub get_set : (key other : List ℕ) (value : Data) (members : Members)
-    → get_member key (set other value members) ≡ after_set (key_cmp key other) (get_member key members) value
+    → get_member key (with_member other value members) ≡ after_set (key_cmp key other) (get_member key members) value
 get_set key other value no_members = refl
 get_set key other value (member first old more) = by_first (key_cmp other first) refl (get_set key other value more) where
   by_first : (order : Ordering) → key_cmp other first ≡ order
-      → get_member key (set other value more) ≡ after_set (key_cmp key other) (get_member key more) value
-      → get_member key (match_ordering order (member other value (member first old more)) (member other value more) (member first old (set other value more)))
+      → get_member key (with_member other value more) ≡ after_set (key_cmp key other) (get_member key more) value
+      → get_member key (match_ordering order (member other value (member first old more)) (member other value more) (member first old (with_member other value more)))
       ≡ after_set (key_cmp key other) (get_member key (member first old more)) value
   by_first Less e behind = refl
   by_first Equal e behind =
@@ -59,16 +59,16 @@ get_set key other value (member first old more) = by_first (key_cmp other first)
       rw behind (set_behind (key_cmp key other) (key_cmp key first) (get_member key more) old value
       (λ same. ap (λ k. key_cmp k first) (equal_keys key other same) ∙ e))
 
-pub get_set_same : (key : List ℕ) (value : Data) (members : Members) → get_member key (set key value members) ≡ Some value
+pub get_set_same : (key : List ℕ) (value : Data) (members : Members) → get_member key (with_member key value members) ≡ Some value
 get_set_same key value members = get_set key key value members ∙ rw (same_key key) refl
 
 -- what was set last stands
-pub set_set : (key : List ℕ) (former value : Data) (members : Members) → set key value (set key former members) ≡ set key value members
+pub set_set : (key : List ℕ) (former value : Data) (members : Members) → with_member key value (with_member key former members) ≡ with_member key value members
 set_set key former value no_members = rw (same_key key) refl
 set_set key former value (member first old more) = by_first (key_cmp key first) refl (set_set key former value more) where
-  by_first : (order : Ordering) → key_cmp key first ≡ order → set key value (set key former more) ≡ set key value more
-      → set key value (match_ordering order (member key former (member first old more)) (member key former more) (member first old (set key former more)))
-      ≡ match_ordering order (member key value (member first old more)) (member key value more) (member first old (set key value more))
+  by_first : (order : Ordering) → key_cmp key first ≡ order → with_member key value (with_member key former more) ≡ with_member key value more
+      → with_member key value (match_ordering order (member key former (member first old more)) (member key former more) (member first old (with_member key former more)))
+      ≡ match_ordering order (member key value (member first old more)) (member key value more) (member first old (with_member key value more))
   by_first Less e behind = rw (same_key key) refl
   by_first Equal e behind = rw (same_key key) refl
   by_first Greater e behind = rw (e, behind) refl
@@ -83,27 +83,27 @@ pub get_before : (key : List ℕ) (members : Members) → IsBefore key members �
 get_before key no_members before = refl
 get_before key (member first value more) before = rw before.0 (get_before key more before.1)
 
-pub set_before : (key : List ℕ) (value : Data) (members : Members) → IsBefore key members → set key value members ≡ member key value members
+pub set_before : (key : List ℕ) (value : Data) (members : Members) → IsBefore key members → with_member key value members ≡ member key value members
 set_before key value no_members before = refl
 set_before key value (member first old more) before = rw before.0 refl
 
-pub before_set : (key other : List ℕ) (value : Data) (members : Members) → key_cmp key other ≡ Less → IsBefore key members → IsBefore key (set other value members)
+pub before_set : (key other : List ℕ) (value : Data) (members : Members) → key_cmp key other ≡ Less → IsBefore key members → IsBefore key (with_member other value members)
 before_set key other value no_members less before = (less, tt)
 before_set key other value (member first old more) less before =
     by_first (key_cmp other first) (before_set key other value more less before.1) where
-      by_first : (order : Ordering) → IsBefore key (set other value more)
-          → IsBefore key (match_ordering order (member other value (member first old more)) (member other value more) (member first old (set other value more)))
+      by_first : (order : Ordering) → IsBefore key (with_member other value more)
+          → IsBefore key (match_ordering order (member other value (member first old more)) (member other value more) (member first old (with_member other value more)))
       by_first Less behind = (less, before)
       by_first Equal behind = (less, before.1)
       by_first Greater behind = (before.0, behind)
 
 -- a value that is set leaves keys in order
-pub sorted_set : (key : List ℕ) (value : Data) (members : Members) → IsSorted value → AreSorted members → AreSorted (set key value members)
+pub sorted_set : (key : List ℕ) (value : Data) (members : Members) → IsSorted value → AreSorted members → AreSorted (with_member key value members)
 sorted_set key value no_members here sorted = (tt, (here, tt))
 sorted_set key value (member first old more) here sorted =
     by_first (key_cmp key first) refl (sorted_set key value more here sorted.1.1) where
-      by_first : (order : Ordering) → key_cmp key first ≡ order → AreSorted (set key value more)
-          → AreSorted (match_ordering order (member key value (member first old more)) (member key value more) (member first old (set key value more)))
+      by_first : (order : Ordering) → key_cmp key first ≡ order → AreSorted (with_member key value more)
+          → AreSorted (match_ordering order (member key value (member first old more)) (member key value more) (member first old (with_member key value more)))
       by_first Less e behind = ((e, before_less key first more e sorted.0), (here, sorted))
       by_first Equal e behind = (subst (λ k. IsBefore k more) (sym (equal_keys key first e)) sorted.0, (here, sorted.1.1))
       by_first Greater e behind = (before_set first key value more (turned_back key first e) sorted.0, (sorted.1.0, behind))

@@ -14,8 +14,8 @@ use Rattle.nextest_config_elements_toml.specs.Paths.{texts}
 use Rattle.nextest_config_elements_toml.specs.Reading.{Path}
 use Rattle.nextest_config_resolution_merge.specs.Entries.{end_of}
 use Rattle.nextest_config_resolution_merge.specs.declared.entry.Entry.{Entry}
-use Rattle.nextest_config_resolution_merge.specs.Nesting.{shorter, inside, put, nest, value_by, OfSorted}
-use Rattle.nextest_config_resolution_merge.specs.Tree.{End, along, behind, ends, ends_at, members_ends, set, IsSorted, AreSorted}
+use Rattle.nextest_config_resolution_merge.specs.Nesting.{shorter, inside, with_value_at, nest, value_by, OfSorted}
+use Rattle.nextest_config_resolution_merge.specs.Tree.{End, along, behind, ends, ends_at, members_ends, with_member, IsSorted, AreSorted}
 use Rattle.nextest_config_resolution_merge.proofs.Flattened.{Pair}
 use Rattle.nextest_config_resolution_merge.proofs.Keys.{key_cmp, equal_keys, get_before, get_set_same, set_set, set_before}
 use Rattle.nextest_config_resolution_merge.proofs.Walk.{Begins, some_end}
@@ -28,23 +28,23 @@ split_order Equal one other third = refl
 split_order Greater one other third = refl
 
 pub set_entry : (pairs : List Pair) (key : String Global) (value : Value)
-    → members_view (insert_entry string_cmp pairs key value) ≡ set (string_bytes key) (view value) (members_view pairs)
+    → members_view (insert_entry string_cmp pairs key value) ≡ with_member (string_bytes key) (view value) (members_view pairs)
 set_entry [] key value = refl
 set_entry (pair ∷ pairs) key value =
     split_order (string_cmp key pair.0) ((key, value) ∷ pair ∷ pairs) ((pair.0, value) ∷ pairs) (pair ∷ insert_entry string_cmp pairs key value)
     ∙ by_key (key_cmp (string_bytes key) (string_bytes pair.0)) refl (set_entry pairs key value) where
       by_key : (order : Ordering) → key_cmp (string_bytes key) (string_bytes pair.0) ≡ order
-          → members_view (insert_entry string_cmp pairs key value) ≡ set (string_bytes key) (view value) (members_view pairs)
+          → members_view (insert_entry string_cmp pairs key value) ≡ with_member (string_bytes key) (view value) (members_view pairs)
           → match_ordering order (members_view ((key, value) ∷ pair ∷ pairs)) (members_view ((pair.0, value) ∷ pairs)) (members_view (pair ∷ insert_entry string_cmp pairs key value))
           ≡ match_ordering order (member (string_bytes key) (view value) (members_view (pair ∷ pairs))) (member (string_bytes key) (view value) (members_view pairs))
-          (member (string_bytes pair.0) (view pair.1) (set (string_bytes key) (view value) (members_view pairs)))
+          (member (string_bytes pair.0) (view pair.1) (with_member (string_bytes key) (view value) (members_view pairs)))
       by_key Less e more = refl
       by_key Equal e more = ap (λ k. member k (view value) (members_view pairs)) (sym (equal_keys (string_bytes key) (string_bytes pair.0) e))
       by_key Greater e more = ap (member (string_bytes pair.0) (view pair.1)) more
 
 -- a value further down
 pub put_more : (key : List ℕ) (rest : Path) (value : Data) (into : Members) → (rest ≡ [] → ⊥)
-    → put (key ∷ rest) value into ≡ set key (table (put rest value (inside (get_member key into)))) into
+    → with_value_at (key ∷ rest) value into ≡ with_member key (table (with_value_at rest value (inside (get_member key into)))) into
 put_more key [] value into some = absurd (some refl)
 put_more key (next ∷ path) value into some = refl
 
@@ -74,24 +74,24 @@ deep_members (member key value more) = deep_behind key (ends value) (members_end
 
 -- ends below one key make up the table that stands there
 nest_key : (key : List ℕ) (first : End) (front rest : List End) → AreDeep (first ∷ front) → get_member key (nest rest) ≡ None
-    → nest (map (behind key) (first ∷ front) ++ rest) ≡ set key (table (nest (first ∷ front))) (nest rest)
+    → nest (map (behind key) (first ∷ front) ++ rest) ≡ with_member key (table (nest (first ∷ front))) (nest rest)
 nest_key key ([], value) front rest deep none = absurd deep
 nest_key key (next ∷ path, value) [] rest deep none = rw none refl
 nest_key key (next ∷ path, value) (second ∷ front) rest deep none =
     rw (nest_key key second front rest deep none, get_set_same key (table (nest (second ∷ front))) (nest rest))
-    (set_set key (table (nest (second ∷ front))) (table (put (next ∷ path) value (nest (second ∷ front)))) (nest rest))
+    (set_set key (table (nest (second ∷ front))) (table (with_value_at (next ∷ path) value (nest (second ∷ front)))) (nest rest))
 
 nest_begun : (key : List ℕ) (all rest : List End) → AreDeep all → Begins all → get_member key (nest rest) ≡ None
-    → nest (map (behind key) all ++ rest) ≡ set key (table (nest all)) (nest rest)
+    → nest (map (behind key) all ++ rest) ≡ with_member key (table (nest all)) (nest rest)
 nest_begun key [] rest deep begins none = absurd begins
 nest_begun key (first ∷ front) rest deep begins none = nest_key key first front rest deep none
 
 mutual
   nest_value : (key : List ℕ) (value : Data) (rest : List End) → IsSorted value → get_member key (nest rest) ≡ None
-      → nest (map (behind key) (ends value) ++ rest) ≡ set key value (nest rest)
+      → nest (map (behind key) (ends value) ++ rest) ≡ with_member key value (nest rest)
   nest_value key (table (member other given more)) rest sorted none =
       nest_begun key (members_ends (member other given more)) rest (deep_members (member other given more)) (some_end (table (member other given more))) none
-      ∙ ap (λ members. set key (table members) (nest rest)) (nest_members (member other given more) sorted)
+      ∙ ap (λ members. with_member key (table members) (nest rest)) (nest_members (member other given more) sorted)
   nest_value key (table no_members) rest sorted none = refl
   nest_value key (string text) rest sorted none = refl
   nest_value key (integer number) rest sorted none = refl
@@ -106,7 +106,7 @@ mutual
   nest_members (member key value more) sorted =
       let behind_it : nest (members_ends more) ≡ more = nest_members more sorted.1.1 in
       nest_value key value (members_ends more) sorted.1.0 (ap (get_member key) behind_it ∙ get_before key more sorted.0)
-      ∙ ap (set key value) behind_it ∙ set_before key value more sorted.0
+      ∙ ap (with_member key value) behind_it ∙ set_before key value more sorted.0
 
 abbrev is_nil : Path → Bool
 is_nil [] = true

@@ -6,7 +6,7 @@ use Rattle.std.proofs.lemmas.Bool.{cases_Bool, false≢true, true≢false}
 use Rattle.toml.specs.Data.{Data, string, integer, float, boolean, datetime, array, table, Members, no_members, member, get_member}
 use Rattle.nextest_config_elements_toml.specs.Reading.{Path}
 use Rattle.nextest_config_resolution_merge.specs.Laws.{MergedByOver, OneStanding}
-use Rattle.nextest_config_resolution_merge.specs.Merged.{Standing, a_table, a_leaf, standing_of, stands, HasLeafAbove, StandsIn, merged}
+use Rattle.nextest_config_resolution_merge.specs.Merged.{Standing, a_table, a_leaf, standing_of, stands, HasLeafAbove, StandsIn, merge_of_files}
 use Rattle.nextest_config_resolution_merge.specs.Tree.{get_path, over, merge}
 use Rattle.nextest_config_resolution_merge.proofs.Joined.{over_none}
 use Rattle.nextest_config_resolution_merge.proofs.Keys.{key_cmp, after_set, equal_keys, get_set}
@@ -236,4 +236,4 @@ merged_by_over file [] = λ path it. (at_top path it file [], λ found. by_place
   by_place path it (inr e) = absurd (no_files e.2.above e.2.file e.2.below e.2.parted)
 merged_by_over file (next ∷ below) = λ path it.
     let deeper = merged_by_over next below path it in
-    (found_in path it file (merged next below) (next ∷ below) deeper.0, back_from path it file (merged next below) (next ∷ below) deeper.1)
+    (found_in path it file (merge_of_files next below) (next ∷ below) deeper.0, back_from path it file (merge_of_files next below) (next ∷ below) deeper.1)

@@ -5,7 +5,7 @@ use Rattle.std.specs.Ordering.{match_ordering}
 use Rattle.std.proofs.lemmas.Bool.{true≢false, false≢true}
 use Rattle.toml.specs.Data.{Data, string, integer, float, boolean, datetime, array, table, Members, no_members, member, get_member}
 use Rattle.nextest_config_resolution_merge.specs.Meeting.{choose}
-use Rattle.nextest_config_resolution_merge.specs.Tree.{End, behind, ends, members_ends, is_leaf, set, over, merge, IsBefore, IsSorted, AreSorted}
+use Rattle.nextest_config_resolution_merge.specs.Tree.{End, behind, ends, members_ends, is_leaf, with_member, over, merge, IsBefore, IsSorted, AreSorted}
 use Rattle.nextest_config_resolution_merge.specs.declared.choice.Choice.{Choice}
 use Rattle.nextest_config_resolution_merge.specs.declared.choice.Choice.TheVariants.{TakeHigher, TakeLower, PassHigher, PassLower, Done}
 use Rattle.nextest_config_resolution_merge.proofs.Keys.{key_cmp, same_key, turned, turned_back, equal_keys, before_less}
@@ -179,14 +179,14 @@ pass_empty : (key : List ℕ) (front more : List End) → Begins front
 pass_empty key [] more begins = absurd begins
 pass_empty key (first ∷ front) more begins = pass_higher refl (rest_lower (behind key first ∷ (map (behind key) front ++ more)))
 
-some_set : (key : List ℕ) (value : Data) (members : Members) → Begins (members_ends (set key value members))
+some_set : (key : List ℕ) (value : Data) (members : Members) → Begins (members_ends (with_member key value members))
 some_set key value no_members = some_end (table (member key value no_members))
 some_set key value (member first old more) = by_first (key_cmp key first) where
   by_first : (order : Ordering)
-      → Begins (members_ends (match_ordering order (member key value (member first old more)) (member key value more) (member first old (set key value more))))
+      → Begins (members_ends (match_ordering order (member key value (member first old more)) (member key value more) (member first old (with_member key value more))))
   by_first Less = some_end (table (member key value (member first old more)))
   by_first Equal = some_end (table (member key value more))
-  by_first Greater = some_end (table (member first old (set key value more)))
+  by_first Greater = some_end (table (member first old (with_member key value more)))
 
 some_table : (members : Members) → Begins (members_ends members) → ends (table members) ≡ members_ends members
 some_table no_members begins = absurd begins

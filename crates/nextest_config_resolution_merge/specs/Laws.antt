@@ -2,11 +2,11 @@
 use Rattle.std.specs.Prelude.{◌≡◌, List, ◌∷◌}
 use Rattle.toml.specs.Data.{Data}
 use Rattle.nextest_config_elements_toml.specs.Reading.{Path}
-use Rattle.nextest_config_resolution_merge.specs.Merged.{Standing, StandsIn, IsMerged, merged}
+use Rattle.nextest_config_resolution_merge.specs.Merged.{Standing, StandsIn, IsMerged, merge_of_files}
 
 -- the files, each over the lower ones, are their merged tree
 abbrev pub MergedByOver : Type 0
-MergedByOver = (file : Data) (below : List Data) → IsMerged (file ∷ below) (merged file below)
+MergedByOver = (file : Data) (below : List Data) → IsMerged (file ∷ below) (merge_of_files file below)
 
 -- at a path stands one thing
 abbrev pub OneStanding : Type 0

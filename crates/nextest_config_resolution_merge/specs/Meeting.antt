@@ -44,11 +44,11 @@ by_meeting Same is_leaf = PassLower
 by_meeting Below is_leaf = PassLower
 by_meeting Above is_leaf = by_ending is_leaf
 
-abbrev pub chosen : End → End → Choice
-chosen higher lower = by_meeting (meet higher.0 lower.0) (is_leaf higher.1)
+abbrev pub choice_of : End → End → Choice
+choice_of higher lower = by_meeting (meet higher.0 lower.0) (is_leaf higher.1)
 
 abbrev pub choose : List End → List End → Choice
 choose [] [] = Done
 choose (first ∷ higher) [] = TakeHigher
 choose [] (beside ∷ lower) = TakeLower
-choose (first ∷ higher) (beside ∷ lower) = chosen first beside
+choose (first ∷ higher) (beside ∷ lower) = choice_of first beside

@@ -42,6 +42,6 @@ abbrev pub IsMerged : List Data → Data → Type 0
 IsMerged files tree = (path : Path) (it : Standing) → (stands path tree ≡ Some it) ↔ StandsIn files path it
 
 -- the highest file, over what the others are merged to
-abbrev pub merged : Data → List Data → Data
-merged file [] = file
-merged file (next ∷ below) = over file (Some (merged next below))
+abbrev pub merge_of_files : Data → List Data → Data
+merge_of_files file [] = file
+merge_of_files file (next ∷ below) = over file (Some (merge_of_files next below))

@@ -4,7 +4,7 @@ use Rattle.std.specs.Option.{option_map_or}
 use Rattle.std.specs.Str.{bytes_eq}
 use Rattle.toml.specs.Data.{Data, table, Members, no_members, get_member}
 use Rattle.nextest_config_elements_toml.specs.Reading.{Path}
-use Rattle.nextest_config_resolution_merge.specs.Tree.{End, set, IsSorted}
+use Rattle.nextest_config_resolution_merge.specs.Tree.{End, with_member, IsSorted}
 
 -- an end without the first keys of its path
 abbrev pub shorter : ℕ → End → End
@@ -16,15 +16,15 @@ inside (Some (table members)) = members
 inside other = no_members
 
 -- a table with a value at a path
-abbrev pub put : Path → Data → Members → Members
-put [] value members = members
-put (key ∷ []) value members = set key value members
-put (key ∷ next ∷ path) value members = set key (table (put (next ∷ path) value (inside (get_member key members)))) members
+abbrev pub with_value_at : Path → Data → Members → Members
+with_value_at [] value members = members
+with_value_at (key ∷ []) value members = with_member key value members
+with_value_at (key ∷ next ∷ path) value members = with_member key (table (with_value_at (next ∷ path) value (inside (get_member key members)))) members
 
 -- the ends, each put at its path
 abbrev pub nest : List End → Members
 nest [] = no_members
-nest (end ∷ more) = put end.0 end.1 (nest more)
+nest (end ∷ more) = with_value_at end.0 end.1 (nest more)
 
 -- what stands somewhere is in order
 abbrev pub OfSorted : Option Data → Type 0
@@ -54,6 +54,6 @@ head_of [] = None
 head_of (key ∷ path) = Some key
 
 -- the first keys of some ends, each once
-abbrev pub gathered : List (List ℕ) → List End → List (List ℕ)
-gathered keys [] = keys
-gathered keys (end ∷ more) = gathered (with_key keys (head_of end.0)) more
+abbrev pub first_keys_of : List (List ℕ) → List End → List (List ℕ)
+first_keys_of keys [] = keys
+first_keys_of keys (end ∷ more) = first_keys_of (with_key keys (head_of end.0)) more

@@ -52,10 +52,10 @@ keys_in (Some (table members)) = keys members
 keys_in other = []
 
 -- the members with another value at a key
-abbrev pub set : List ℕ → Data → Members → Members
-set key value no_members = member key value no_members
-set key value (member other old more) =
-    match_ordering (slice_cmp nat_cmp key other) (member key value (member other old more)) (member key value more) (member other old (set key value more))
+abbrev pub with_member : List ℕ → Data → Members → Members
+with_member key value no_members = member key value no_members
+with_member key value (member other old more) =
+    match_ordering (slice_cmp nat_cmp key other) (member key value (member other old more)) (member key value more) (member other old (with_member key value more))
 
 -- a tree over another: tables join key by key, and anything else hides what is below it
 abbrev mutual
@@ -65,7 +65,7 @@ abbrev mutual
 
   pub merge : Members → Members → Members
   merge no_members lower = lower
-  merge (member key value more) lower = set key (over value (get_member key lower)) (merge more lower)
+  merge (member key value more) lower = with_member key (over value (get_member key lower)) (merge more lower)
 
 -- a key comes before each key of a table
 abbrev pub IsBefore : List ℕ → Members → Type 0

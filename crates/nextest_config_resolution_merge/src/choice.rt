@@ -1,6 +1,6 @@
 // Which of two lists goes on.
 ghost use Rattle.std.specs.Prelude.{◌≡◌, map, reverse};
-ghost use Rattle.nextest_config_resolution_merge.specs.Meeting.{choose, chosen};
+ghost use Rattle.nextest_config_resolution_merge.specs.Meeting.{choose, choice_of};
 ghost use Rattle.nextest_config_resolution_merge.specs.Entries.{data_of, end_of};
 ghost use Rattle.nextest_config_resolution_merge.specs.Tree.{is_leaf};
 
@@ -37,7 +37,7 @@ pub(crate) fn choose(higher: &[Entry<'_>], lower: &[Entry<'_>]) -> Choice
 
 // What becomes of two ends.
 fn chosen(higher: &Entry<'_>, lower: &Entry<'_>) -> Choice
-    ensures { result ≡ chosen (end_of higher.now) (end_of lower.now) }
+    ensures { result ≡ choice_of (end_of higher.now) (end_of lower.now) }
 {
     match meet(higher.path.as_slice(), lower.path.as_slice()) {
         Meeting::Before => Choice::TakeHigher,

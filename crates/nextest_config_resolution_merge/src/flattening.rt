@@ -18,7 +18,8 @@ pub(crate) fn push_table<'a>(
     path: Vec<&'a str>,
     members: &'a Table,
 ) -> Result<(), AllocError>
-    ensures ends { IfOk result (λ _. map end_of entries.new.items ≡ map end_of entries.old.items ++ map (along (texts path.entry.items)) (ends (table (table_view members.now)))) }
+    ensures ends { IfOk result (λ _. map end_of entries.new.items ≡ map end_of entries.old.items
+        ++ map (along (texts path.entry.items)) (ends (table (table_view members.now)))) }
     ensures sorted { IfOk result (λ _. AreSorted (table_view members.now)) }
 {
     if members.is_empty() {
@@ -35,7 +36,8 @@ fn push_members<'a>(
     path: &[&'a str],
     members: &'a Table,
 ) -> Result<(), AllocError>
-    ensures ends { IfOk result (λ _. map end_of entries.new.items ≡ map end_of entries.old.items ++ map (along (texts path.now)) (members_ends (table_view members.now))) }
+    ensures ends { IfOk result (λ _. map end_of entries.new.items ≡ map end_of entries.old.items
+        ++ map (along (texts path.now)) (members_ends (table_view members.now))) }
     ensures sorted { IfOk result (λ _. AreSorted (table_view members.now)) }
 {
     for (key, member) in members.iter() {
@@ -53,7 +55,8 @@ fn push_value<'a>(
     key: &'a str,
     value: &'a Value,
 ) -> Result<(), AllocError>
-    ensures ends { IfOk result (λ _. map end_of entries.new.items ≡ map end_of entries.old.items ++ map (along (texts path.now ++ key.now ∷ [])) (ends (view value.now))) }
+    ensures ends { IfOk result (λ _. map end_of entries.new.items ≡ map end_of entries.old.items
+        ++ map (along (texts path.now ++ key.now ∷ [])) (ends (view value.now))) }
     ensures sorted { IfOk result (λ _. IsSorted (view value.now)) }
 {
     let path = longer(alloc, path, key)?;
@@ -69,7 +72,8 @@ fn push_entry<'a>(
     path: Vec<&'a str>,
     ending: Ending<'a>,
 ) -> Result<(), AllocError>
-    ensures { IfOk result (λ _. map end_of entries.new.items ≡ map end_of entries.old.items ++ (texts path.entry.items, data_of ending.entry) ∷ []) }
+    ensures { IfOk result (λ _. map end_of entries.new.items
+        ≡ map end_of entries.old.items ++ (texts path.entry.items, data_of ending.entry) ∷ []) }
 {
     entries.push(Entry { path, ending })?;
     Ok(())

@@ -12,14 +12,17 @@ use crate::meeting::{Meeting, meet};
 
 // The entries at a path and below it.
 pub(crate) fn run<'t, 'a>(entries: &'t [Entry<'a>], path: &[&str]) -> &'t [Entry<'a>]
-    ensures { (tree : Data) → IsSorted tree → map end_of entries.now ≡ ends tree → map end_of result.now ≡ map (along (texts path.now)) (ends_at (get_path (texts path.now) tree)) }
+    ensures { (tree : Data) → IsSorted tree → map end_of entries.now ≡ ends tree → map end_of
+        result.now ≡ map (along (texts path.now)) (ends_at (get_path (texts path.now) tree)) }
 {
     until_after(from_path(entries, path), path)
 }
 
 // The entries from a path on.
 fn from_path<'t, 'a>(entries: &'t [Entry<'a>], path: &[&str]) -> &'t [Entry<'a>]
-    ensures { (front back : List End) → map end_of entries.now ≡ front ++ back → list_all (ahead (texts path.now)) front ≡ true → list_all (λ end. not (ahead (texts path.now) end)) back ≡ true → map end_of result.now ≡ back }
+    ensures { (front back : List End) → map end_of entries.now ≡ front ++ back
+        → list_all (ahead (texts path.now)) front ≡ true → list_all
+        (λ end. not (ahead (texts path.now) end)) back ≡ true → map end_of result.now ≡ back }
 {
     let start = entries.partition_point(
         |entry: &Entry<'_>| -> bool
@@ -32,7 +35,9 @@ fn from_path<'t, 'a>(entries: &'t [Entry<'a>], path: &[&str]) -> &'t [Entry<'a>]
 
 // The first entries, which stand at a path or below it.
 fn until_after<'t, 'a>(entries: &'t [Entry<'a>], path: &[&str]) -> &'t [Entry<'a>]
-    ensures { (front back : List End) → map end_of entries.now ≡ front ++ back → list_all (within (texts path.now)) front ≡ true → list_all (λ end. not (within (texts path.now) end)) back ≡ true → map end_of result.now ≡ front }
+    ensures { (front back : List End) → map end_of entries.now ≡ front ++ back
+        → list_all (within (texts path.now)) front ≡ true → list_all
+        (λ end. not (within (texts path.now) end)) back ≡ true → map end_of result.now ≡ front }
 {
     let count = entries.partition_point(
         |entry: &Entry<'_>| -> bool

@@ -38,7 +38,8 @@ impl<'a> MergedTree<'a> {
 
     /// The tree of this over a lower one, in a time that is linear in both. It fails only on allocation.
     pub fn over(self, alloc: Global, lower: MergedTree<'a>) -> Result<MergedTree<'a>, AllocError>
-        ensures { (above below : Data) → IsTree self.entry above → IsTree lower.entry below → IfOk result (λ it. IsTree it (over above (Some below))) }
+        ensures { (above below : Data) → IsTree self.entry above → IsTree lower.entry below
+            → IfOk result (λ it. IsTree it (over above (Some below))) }
     {
         let MergedTree { entries: higher } = self;
         let MergedTree { entries: beside } = lower;
@@ -49,14 +50,16 @@ impl<'a> MergedTree<'a> {
     /// What stands at a path: a leaf, or the table of all that stands below it. It takes a time that is linear in that, but for the
     /// search for it, which is one by halves. It fails only on allocation.
     pub fn value_at(&self, alloc: Global, path: &[&str]) -> Result<Option<Value>, AllocError>
-        ensures { (tree : Data) → IsTree self.now tree → IfOk result (λ it. option_map view it ≡ get_path (texts path.now) tree) }
+        ensures { (tree : Data) → IsTree self.now tree
+            → IfOk result (λ it. option_map view it ≡ get_path (texts path.now) tree) }
     {
         value_in(alloc, run(self.entries.as_slice(), path), path.len())
     }
 
     /// The keys of the table at a path, by their bytes; none where no table stands. It fails only on allocation.
     pub fn keys_at(&self, alloc: Global, path: &[&str]) -> Result<Vec<&'a str>, AllocError>
-        ensures { (tree : Data) → IsTree self.now tree → IfOk result (λ it. texts it.items ≡ keys_in (get_path (texts path.now) tree)) }
+        ensures { (tree : Data) → IsTree self.now tree
+            → IfOk result (λ it. texts it.items ≡ keys_in (get_path (texts path.now) tree)) }
     {
         let keys = keys_in(alloc, run(self.entries.as_slice(), path), path.len())?;
         Ok(keys)

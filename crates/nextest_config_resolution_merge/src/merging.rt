@@ -13,7 +13,8 @@ pub(crate) fn joined<'a>(
     mut higher: Vec<Entry<'a>>,
     mut lower: Vec<Entry<'a>>,
 ) -> Result<Vec<Entry<'a>>, AllocError>
-    ensures { IfOk result (λ it. words.Joins (map end_of higher.entry.items) (map end_of lower.entry.items) (map end_of it.items)) }
+    ensures { IfOk result (λ it. words.Joins (map end_of higher.entry.items)
+        (map end_of lower.entry.items) (map end_of it.items)) }
 {
     higher.reverse();
     lower.reverse();
@@ -41,9 +42,12 @@ fn take<'a>(
     lower: &mut Vec<Entry<'a>>,
     choice: Choice,
 ) -> Result<(), AllocError>
-    ensures taken { IfOk result (λ _. map end_of entries.new.items ≡ words.taken_by choice (map end_of entries.old.items) (words.stack higher.old.items) (words.stack lower.old.items)) }
-    ensures higher { IfOk result (λ _. words.stack higher.new.items ≡ words.higher_by choice (words.stack higher.old.items)) }
-    ensures lower { IfOk result (λ _. words.stack lower.new.items ≡ words.lower_by choice (words.stack lower.old.items)) }
+    ensures taken { IfOk result (λ _. map end_of entries.new.items ≡ words.taken_by choice (map
+        end_of entries.old.items) (words.stack higher.old.items) (words.stack lower.old.items)) }
+    ensures higher { IfOk result (λ _.
+        words.stack higher.new.items ≡ words.higher_by choice (words.stack higher.old.items)) }
+    ensures lower { IfOk result
+        (λ _. words.stack lower.new.items ≡ words.lower_by choice (words.stack lower.old.items)) }
 {
     match choice {
         Choice::TakeHigher => move_last(entries, higher),
@@ -62,8 +66,10 @@ fn take<'a>(
 
 // Moves the last entry to the end of the others.
 fn move_last<'a>(entries: &mut Vec<Entry<'a>>, from: &mut Vec<Entry<'a>>) -> Result<(), AllocError>
-    ensures taken { IfOk result (λ _. map end_of entries.new.items ≡ map end_of entries.old.items ++ words.front (words.stack from.old.items)) }
-    ensures left { IfOk result (λ _. words.stack from.new.items ≡ words.rest (words.stack from.old.items)) }
+    ensures taken { IfOk result (λ _. map end_of entries.new.items
+        ≡ map end_of entries.old.items ++ words.front (words.stack from.old.items)) }
+    ensures left { IfOk result
+        (λ _. words.stack from.new.items ≡ words.rest (words.stack from.old.items)) }
 {
     match from.pop() {
         None => Ok(()),

@@ -19,7 +19,9 @@ pub(crate) fn value_in(
     run: &[Entry<'_>],
     depth: usize,
 ) -> Result<Option<Value>, AllocError>
-    ensures { (path : Path) (found : Option Data) → length path ≡ depth → words.OfSorted found → map end_of run.now ≡ map (along path) (ends_at found) → IfOk result (λ it. option_map view it ≡ found) }
+    ensures { (path : Path) (found : Option Data) → length path ≡ depth
+        → words.OfSorted found → map end_of run.now ≡ map (along path) (ends_at found)
+        → IfOk result (λ it. option_map view it ≡ found) }
 {
     match run.split_first() {
         None => Ok(None),
@@ -34,7 +36,8 @@ fn value_from(
     run: &[Entry<'_>],
     depth: usize,
 ) -> Result<Value, AllocError>
-    ensures { IfOk result (λ it. view it ≡ words.value_by depth (end_of first.now) (map end_of run.now)) }
+    ensures { IfOk result
+        (λ it. view it ≡ words.value_by depth (end_of first.now) (map end_of run.now)) }
 {
     if first.path.len() <= depth {
         return value_of(alloc, &first.ending);
@@ -48,7 +51,8 @@ pub(crate) fn keys_in<'a>(
     run: &[Entry<'a>],
     depth: usize,
 ) -> Result<Vec<&'a str>, AllocError>
-    ensures { IfOk result (λ it. texts it.items ≡ words.gathered [] (map (words.shorter depth) (map end_of run.now))) }
+    ensures { IfOk result (λ it.
+        texts it.items ≡ words.first_keys_of [] (map (words.shorter depth) (map end_of run.now))) }
 {
     let mut keys = Vec::new(alloc);
     for entry in run {
@@ -59,7 +63,8 @@ pub(crate) fn keys_in<'a>(
 
 // Adds a key that isn't the last one.
 fn push_new<'a>(keys: &mut Vec<&'a str>, key: Option<&&'a str>) -> Result<(), AllocError>
-    ensures { IfOk result (λ _. texts keys.new.items ≡ words.with_key (texts keys.old.items) (option_map (λ it. it.now.now) key.entry)) }
+    ensures { IfOk result (λ _. texts keys.new.items
+        ≡ words.with_key (texts keys.old.items) (option_map (λ it. it.now.now) key.entry)) }
 {
     match key {
         Some(key) if !is_last(keys.as_slice(), key) => Ok(keys.push(*key)?),

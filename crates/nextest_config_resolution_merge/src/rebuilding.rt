@@ -5,7 +5,7 @@ ghost use Rattle.toml.specs.View.{view, table_view};
 ghost use Rattle.nextest_config_elements_toml.specs.Paths.{texts};
 ghost use Rattle.nextest_config_resolution_merge.specs.Entries.{data_of, end_of};
 ghost use Rattle.nextest_config_resolution_merge.specs.Nesting as words;
-ghost use Rattle.nextest_config_resolution_merge.specs.Tree.{set};
+ghost use Rattle.nextest_config_resolution_merge.specs.Tree.{with_member};
 
 use crate::entry::{Ending, Entry};
 use std::alloc::{AllocError, Global};
@@ -13,7 +13,8 @@ use toml::{Table, Value};
 
 // The table of some entries, whose paths lead to it by so many keys.
 pub(crate) fn rebuilt(alloc: Global, run: &[Entry<'_>], depth: usize) -> Result<Table, AllocError>
-    ensures { IfOk result (λ it. table_view it ≡ words.nest (map (words.shorter depth) (map end_of run.now))) }
+    ensures { IfOk result
+        (λ it. table_view it ≡ words.nest (map (words.shorter depth) (map end_of run.now))) }
 {
     let mut members = Table::new(alloc);
     for place in (0..run.len()).rev() {
@@ -44,7 +45,8 @@ fn put(
     path: &[&str],
     ending: &Ending<'_>,
 ) -> Result<(), AllocError>
-    ensures { IfOk result (λ _. table_view members.new ≡ words.put (texts path.now) (data_of ending.now) (table_view members.old)) }
+    ensures { IfOk result (λ _. table_view members.new
+        ≡ words.with_value_at (texts path.now) (data_of ending.now) (table_view members.old)) }
 {
     match path.split_first() {
         None => Ok(()),
@@ -61,7 +63,8 @@ fn put_below(
     rest: &[&str],
     ending: &Ending<'_>,
 ) -> Result<(), AllocError>
-    ensures { IfOk result (λ _. table_view members.new ≡ words.put (key.now ∷ texts rest.now) (data_of ending.now) (table_view members.old)) }
+    ensures { IfOk result (λ _. table_view members.new ≡ words.with_value_at
+        (key.now ∷ texts rest.now) (data_of ending.now) (table_view members.old)) }
 {
     if rest.is_empty() {
         return set(alloc, members, key, value_of(alloc, ending)?);
@@ -74,7 +77,8 @@ fn put_below(
 
 // Sets the value of a key.
 fn set(alloc: Global, members: &mut Table, key: &str, value: Value) -> Result<(), AllocError>
-    ensures { IfOk result (λ _. table_view members.new ≡ set key.now (view value) (table_view members.old)) }
+    ensures { IfOk result
+        (λ _. table_view members.new ≡ with_member key.now (view value) (table_view members.old)) }
 {
     drop(members.insert(String::from_str(alloc, key)?, value)?);
     Ok(())
@@ -82,8 +86,10 @@ fn set(alloc: Global, members: &mut Table, key: &str, value: Value) -> Result<()
 
 // Takes the table at a key out, for another value; one with nothing in it where there is none.
 fn taken(alloc: Global, members: &mut Table, key: &str) -> Result<Table, AllocError>
-    ensures inner { IfOk result (λ it. table_view it ≡ words.inside (get_member key.now (table_view members.old))) }
-    ensures left { IfOk result (λ _. (value : Data) → set key.now value (table_view members.new) ≡ set key.now value (table_view members.old)) }
+    ensures inner { IfOk result
+        (λ it. table_view it ≡ words.inside (get_member key.now (table_view members.old))) }
+    ensures left { IfOk result (λ _. (value : Data) → with_member key.now value
+        (table_view members.new) ≡ with_member key.now value (table_view members.old)) }
 {
     let former = members.insert(String::from_str(alloc, key)?, Value::Boolean(false))?;
     Ok(inside(alloc, former))

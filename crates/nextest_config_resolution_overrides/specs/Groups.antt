@@ -17,14 +17,14 @@ abbrev pub group_path : List ℕ → Path
 group_path key = codes "test-groups" ∷ key ∷ []
 
 -- the name that an identifier is
-abbrev pub named : Result (List ℕ) InvalidIdentifier → Reading (List ℕ)
-named (Ok name) = Ok name
-named (Err refusal) = Err []
+abbrev pub name_of_identifier : Result (List ℕ) InvalidIdentifier → Reading (List ℕ)
+name_of_identifier (Ok name) = Ok name
+name_of_identifier (Err refusal) = Err []
 
 -- a group: its key is its name, an identifier, and what stands there sets it
 abbrev pub group_of : List ℕ → Data → Reading NamedGroup
 group_of key given = do
-  name ← named (identifier key)
+  name ← name_of_identifier (identifier key)
   config ← test_group_config_in given
   Ok (record { name = name; config = config })
 

@@ -30,7 +30,8 @@ fn bench_of(
     place: &str,
     found: Option<&Value>,
 ) -> Result<Option<SlowTimeout>, ValueError>
-    ensures { GivesAt (bench_path name.now place.now) result (bench_of (option_map (λ it. view it.now) found.entry)) }
+    ensures { GivesAt (bench_path name.now place.now) result
+        (bench_of (option_map (λ it. view it.now) found.entry)) }
 {
     match found {
         None => Ok(None),

@@ -2,7 +2,7 @@
 ghost use Rattle.std.specs.Prelude.{◌≡◌, IfOk, option_map};
 ghost use Rattle.toml.specs.View.{table_view, view};
 ghost use Rattle.nextest_config_elements_identifiers.specs.Config.{identifier};
-ghost use Rattle.nextest_config_resolution_overrides.specs.Groups.{group_of, group_path, groups_in, groups_of, groups_path, named};
+ghost use Rattle.nextest_config_resolution_overrides.specs.Groups.{group_of, group_path, groups_in, groups_of, groups_path, name_of_identifier};
 ghost use Rattle.nextest_config_elements_deserialize.specs.Paths.{GivesAt};
 
 use nextest_config_elements_deserialize::deserialize_test_group_config;
@@ -67,7 +67,7 @@ fn group_of(alloc: Global, key: &str, given: &Value) -> Result<NamedGroup, Value
 
 // The name that a key is.
 fn name_of(alloc: Global, key: &str) -> Result<CustomTestGroup, ValueError>
-    ensures { GivesAt (group_path key.now) result (named (identifier key.now)) }
+    ensures { GivesAt (group_path key.now) result (name_of_identifier (identifier key.now)) }
 {
     match CustomTestGroup::from_text(alloc, key) {
         Ok(name) => Ok(name),

@@ -36,7 +36,8 @@ fn overrides_of(
     name: &str,
     found: Option<&Value>,
 ) -> Result<Listing<OverrideConfig>, ValueError>
-    ensures { GivesAt (overrides_path name.now) result (overrides_of (option_map (λ it. view it.now) found.entry)) }
+    ensures { GivesAt (overrides_path name.now) result
+        (overrides_of (option_map (λ it. view it.now) found.entry)) }
 {
     match found {
         None => Ok(Listing::new(alloc)),
@@ -71,7 +72,8 @@ fn override_at(
     place: usize,
     value: &Value,
 ) -> Result<OverrideConfig, ValueError>
-    ensures { GivesAt (overrides_path name.now) result (under (decimal place) (table_by override_in (view value.now))) }
+    ensures { GivesAt (overrides_path name.now) result
+        (under (decimal place) (table_by override_in (view value.now))) }
 {
     let key = format!(in alloc; "{place}")?;
     override_of(alloc, name, key.as_str(), value)
@@ -84,7 +86,8 @@ fn override_of(
     place: &str,
     value: &Value,
 ) -> Result<OverrideConfig, ValueError>
-    ensures { GivesAt (override_path name.now place.now) result (table_by override_in (view value.now)) }
+    ensures { GivesAt (override_path name.now place.now) result
+        (table_by override_in (view value.now)) }
 {
     match value {
         Value::Table(table) => override_in(alloc, name, place, table),
@@ -103,7 +106,8 @@ fn override_in(
     place: &str,
     table: &Table,
 ) -> Result<OverrideConfig, ValueError>
-    ensures { GivesAt (override_path name.now place.now) result (override_in (table_view table.now)) }
+    ensures { GivesAt (override_path name.now place.now) result
+        (override_in (table_view table.now)) }
 {
     let first = bench_to_flaky(alloc, name, place, table)?;
     let second = junit_to_retries(alloc, name, place, table)?;

@@ -20,7 +20,8 @@ pub(crate) fn optional_value<T: DeserializeValue>(
     table: &Table,
     key: &str,
 ) -> Result<Option<T>, ValueError>
-    ensures { GivesAt (override_path name.now place.now) result (optional_by key.now T.reading (table_view table.now)) }
+    ensures { GivesAt (override_path name.now place.now) result
+        (optional_by key.now T.reading (table_view table.now)) }
 {
     match member(table, key) {
         None => Ok(None),

@@ -57,7 +57,8 @@ pub(crate) fn bench_to_flaky(
     place: &str,
     table: &Table,
 ) -> Result<BenchToFlaky, ValueError>
-    ensures { GivesAt (override_path name.now place.now) result (read.bench_to_flaky (table_view table.now)) }
+    ensures { GivesAt (override_path name.now place.now) result
+        (read.bench_to_flaky (table_view table.now)) }
 {
     let path = ["profile", name, "overrides", place];
     let bench_slow_timeout = bench_at(alloc, name, place, table)?;
@@ -82,7 +83,8 @@ pub(crate) fn junit_to_retries(
     place: &str,
     table: &Table,
 ) -> Result<JunitToRetries, ValueError>
-    ensures { GivesAt (override_path name.now place.now) result (read.junit_to_retries (table_view table.now)) }
+    ensures { GivesAt (override_path name.now place.now) result
+        (read.junit_to_retries (table_view table.now)) }
 {
     let path = ["profile", name, "overrides", place];
     let junit = optional_value::<OverrideJunit>(alloc, name, place, table, "junit")?;
@@ -107,7 +109,8 @@ pub(crate) fn args_to_threads(
     place: &str,
     table: &Table,
 ) -> Result<ArgsToThreads, ValueError>
-    ensures { GivesAt (override_path name.now place.now) result (read.args_to_threads (table_view table.now)) }
+    ensures { GivesAt (override_path name.now place.now) result
+        (read.args_to_threads (table_view table.now)) }
 {
     let path = ["profile", name, "overrides", place];
     let arguments = optional_value::<Listing<Text>>(alloc, name, place, table, "run-extra-args")?;

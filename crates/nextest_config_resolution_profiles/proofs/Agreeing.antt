@@ -15,12 +15,12 @@ use Rattle.nextest_config_elements_identifiers.specs.declared.source_kind.Config
 use Rattle.nextest_config_elements_toml.specs.Reading.{Reading, ◌>>=◌, under}
 use Rattle.nextest_config_elements_versions.specs.declared.feature.FeatureSet.{FeatureSet}
 use Rattle.nextest_config_resolution_inheritance.specs.Inheritance.{Name}
-use Rattle.nextest_config_resolution_load.specs.Checks.{as_setup, document_checks, document_of, file_checks, file_of, layered, members_of, moved, outcome_checks, raised, source_checks}
+use Rattle.nextest_config_resolution_load.specs.Checks.{as_setup, document_checks, document_of, file_checks, file_of, file_over, members_of, file_with_setup, outcome_checks, tree_of_files, source_checks}
 use Rattle.nextest_config_resolution_load.specs.File.{file_in}
 use Rattle.nextest_config_resolution_load.specs.Load.{IsFilterBy, IsKept, IsSpecBy}
 use Rattle.nextest_config_resolution_load.specs.declared.file_config.FileConfig.{FileConfig}
 use Rattle.nextest_config_resolution_load.proofs.Kept.{kept_before, kept_behind}
-use Rattle.nextest_config_resolution_sources.specs.Counting.{class_of, counted, first_of, is_of, listed, repository, same_class}
+use Rattle.nextest_config_resolution_sources.specs.Counting.{class_of, counting_sources, first_of, is_of, list_of_option, repository, same_class}
 use Rattle.nextest_config_resolution_sources.specs.declared.source.ConfigSource.{ConfigSource}
 use Rattle.nextest_config_resolution_sources.specs.declared.source.ConfigSourceOutcome.{ConfigSourceOutcome}
 use Rattle.nextest_config_resolution_sources.specs.declared.source.ConfigSourceOutcome.TheVariants as outcome
@@ -64,7 +64,7 @@ module _ {A B : Type 0} (R : A → B → Type 0) where
       by_test true rest = (all.0, rest)
       by_test false rest = rest
 
-  zip_or : (a c : Option A) (b d : Option B) → AllZip R (listed a) (listed b) → AllZip R (listed c) (listed d) → AllZip R (listed (option_or a c)) (listed (option_or b d))
+  zip_or : (a c : Option A) (b d : Option B) → AllZip R (list_of_option a) (list_of_option b) → AllZip R (list_of_option c) (list_of_option d) → AllZip R (list_of_option (option_or a c)) (list_of_option (option_or b d))
   zip_or None c None d first second = second
   zip_or None c (Some y) d first second = absurd first
   zip_or (Some x) c None d first second = absurd first
@@ -77,20 +77,20 @@ module _ (names : List Name) where
   same_is_of : (wanted : ConfigSourceKind) (one other : ConfigSource) → SourceAgrees names one other → is_of (class_of wanted) other ≡ is_of (class_of wanted) one
   same_is_of wanted one other agree = ap (λ (kind : ConfigSourceKind). same_class (class_of wanted) (class_of kind)) agree.kind
 
-  first_agree : (wanted : ConfigSourceKind) (sources others : List ConfigSource) → SourcesAgree names sources others → AllZip (SourceAgrees names) (listed (first_of (class_of wanted) sources)) (listed (first_of (class_of wanted) others))
+  first_agree : (wanted : ConfigSourceKind) (sources others : List ConfigSource) → SourcesAgree names sources others → AllZip (SourceAgrees names) (list_of_option (first_of (class_of wanted) sources)) (list_of_option (first_of (class_of wanted) others))
   first_agree wanted [] [] all = tt
   first_agree wanted [] (other ∷ others) all = absurd all
   first_agree wanted (one ∷ sources) [] all = absurd all
   first_agree wanted (one ∷ sources) (other ∷ others) all =
-      subst (λ (b : Bool). AllZip (SourceAgrees names) (listed (first_of (class_of wanted) (one ∷ sources))) (listed (cond b (Some other) (first_of (class_of wanted) others)))) (sym (same_is_of wanted one other all.0))
+      subst (λ (b : Bool). AllZip (SourceAgrees names) (list_of_option (first_of (class_of wanted) (one ∷ sources))) (list_of_option (cond b (Some other) (first_of (class_of wanted) others)))) (sym (same_is_of wanted one other all.0))
       (by_test (is_of (class_of wanted) one) (first_agree wanted sources others all.1))
     where
-      by_test : (b : Bool) → AllZip (SourceAgrees names) (listed (first_of (class_of wanted) sources)) (listed (first_of (class_of wanted) others))
-          → AllZip (SourceAgrees names) (listed (cond b (Some one) (first_of (class_of wanted) sources))) (listed (cond b (Some other) (first_of (class_of wanted) others)))
+      by_test : (b : Bool) → AllZip (SourceAgrees names) (list_of_option (first_of (class_of wanted) sources)) (list_of_option (first_of (class_of wanted) others))
+          → AllZip (SourceAgrees names) (list_of_option (cond b (Some one) (first_of (class_of wanted) sources))) (list_of_option (cond b (Some other) (first_of (class_of wanted) others)))
       by_test true rest = (all.0, tt)
       by_test false rest = rest
 
-  pub counted_agree : (sources others : List ConfigSource) → SourcesAgree names sources others → SourcesAgree names (counted sources) (counted others)
+  pub counted_agree : (sources others : List ConfigSource) → SourcesAgree names sources others → SourcesAgree names (counting_sources sources) (counting_sources others)
   counted_agree sources others all =
       let is_of_tool = is_of (class_of (kinds.Tool [])) in
       let explicit = class_of kinds.ExplicitRepository in
@@ -98,7 +98,7 @@ module _ (names : List Name) where
       let tools = zip_filter (SourceAgrees names) is_of_tool is_of_tool (same_is_of (kinds.Tool [])) sources others all in
       let repository_agrees = zip_or (SourceAgrees names) (first_of explicit sources) (first_of discovered sources) (first_of explicit others) (first_of discovered others)
       (first_agree kinds.ExplicitRepository sources others all) (first_agree kinds.DiscoveredRepository sources others all) in
-      zip_append (SourceAgrees names) (reverse (filter is_of_tool sources)) (reverse (filter is_of_tool others)) (listed (repository sources)) (listed (repository others))
+      zip_append (SourceAgrees names) (reverse (filter is_of_tool sources)) (reverse (filter is_of_tool others)) (list_of_option (repository sources)) (list_of_option (repository others))
       (zip_reverse (SourceAgrees names) (filter is_of_tool sources) (filter is_of_tool others) tools) repository_agrees
 
   -- their files
@@ -159,12 +159,12 @@ apart one other differ e = false≢true (sym differ ∙ (bytes_eq-Decides one ot
 profile_key_of_moved : (given : Data) (file : Members) → get_member (codes "profile") (merge (as_setup given) file) ≡ get_member (codes "profile") file
 profile_key_of_moved given file = get_merge (codes "profile") (as_setup given) file
 
-pub moved_agree : (names : List Name) (one other : Members) → AgreeBut names one other → AgreeBut names (moved one) (moved other)
+pub moved_agree : (names : List Name) (one other : Members) → AgreeBut names one other → AgreeBut names (file_with_setup one) (file_with_setup other)
 moved_agree names one other agree =
-    subst (λ (found : Option Data). AgreeBut names (moved one) (layered (option_map as_setup found) other)) (sym (agree.elsewhere (codes "script") (apart (codes "script") (codes "profile") refl)))
+    subst (λ (found : Option Data). AgreeBut names (file_with_setup one) (file_over (option_map as_setup found) other)) (sym (agree.elsewhere (codes "script") (apart (codes "script") (codes "profile") refl)))
     (by_scripts (get_member (codes "script") one))
   where
-    by_scripts : (found : Option Data) → AgreeBut names (layered (option_map as_setup found) one) (layered (option_map as_setup found) other)
+    by_scripts : (found : Option Data) → AgreeBut names (file_over (option_map as_setup found) one) (file_over (option_map as_setup found) other)
     by_scripts None = agree
     by_scripts (Some given) = record {
       elsewhere = λ key differs.
@@ -174,7 +174,7 @@ moved_agree names one other agree =
           ∙ sym (ap (λ (found : Option Data). named_members names (inside found)) (profile_key_of_moved given one));
     }
 
-pub all_moved_agree : (names : List Name) (files others : List Members) → AllZip (AgreeBut names) files others → AllZip (AgreeBut names) (map moved files) (map moved others)
+pub all_moved_agree : (names : List Name) (files others : List Members) → AllZip (AgreeBut names) files others → AllZip (AgreeBut names) (map file_with_setup files) (map file_with_setup others)
 all_moved_agree names [] [] all = tt
 all_moved_agree names [] (other ∷ others) all = absurd all
 all_moved_agree names (one ∷ files) [] all = absurd all
@@ -260,7 +260,7 @@ merged_alike names file other lower below agree read other_read alike =
     }
 
 pub raised_alike : (names : List Name) (files others : List Members) (lower below : Members) → AllZip (AgreeBut names) files others → AllByRecursion IsRead files → AllByRecursion IsRead others
-    → AreLike names lower below → AreLike names (members_of (raised (table lower) files)) (members_of (raised (table below) others))
+    → AreLike names lower below → AreLike names (members_of (tree_of_files (table lower) files)) (members_of (tree_of_files (table below) others))
 raised_alike names [] [] lower below all read other_read alike = alike
 raised_alike names [] (other ∷ others) lower below all read other_read alike = absurd all
 raised_alike names (file ∷ files) [] lower below all read other_read alike = absurd all

@@ -11,7 +11,7 @@ use Rattle.nextest_config_elements_toml.specs.Reading.{Reading, ◌>>=◌, under
 use Rattle.nextest_config_elements_versions.specs.Demand.{experimental_in, nextest_version_in}
 use Rattle.nextest_config_resolution_inheritance.specs.Inheritance.{Name}
 use Rattle.nextest_config_resolution_load.specs.Checks.{FileRules, file_of, rules_in, rules_in_file, rules_of_source}
-use Rattle.nextest_config_resolution_load.specs.File.{checked, file_in, profiles_at_file, profiles_in_file, profiles_of_file, rules_in_profile, rules_of_profile}
+use Rattle.nextest_config_resolution_load.specs.File.{check_of, file_in, profiles_at_file, profiles_in_file, profiles_of_file, rules_in_profile, rules_of_profile}
 use Rattle.nextest_config_resolution_load.specs.declared.file_config.FileConfig.{FileConfig}
 use Rattle.nextest_config_resolution_load.specs.declared.file_config.ProfileRules.{ProfileRules}
 use Rattle.nextest_config_resolution_overrides.specs.Groups.{groups_at}
@@ -56,7 +56,7 @@ table_part (Some given) all e =
 profiles_of_config : (file : Members) (config : FileConfig) → file_in file ≡ Ok config → profiles_in_file (profiles_below file) ≡ Ok config.profiles
 unfolding file_in
 profiles_of_config file config e =
-    let all = profiles_part (checked (experimental_in file)) (checked (nextest_version_in file)) (profiles_at_file file) (old_scripts_at file) (scripts_at file) (checked (store_dir_at file)) (groups_at file) config e in
+    let all = profiles_part (check_of (experimental_in file)) (check_of (nextest_version_in file)) (profiles_at_file file) (old_scripts_at file) (scripts_at file) (check_of (store_dir_at file)) (groups_at file) config e in
     table_part (get_member (codes "profile") file) config.profiles (under_read (codes "profile") (profiles_of_file (get_member (codes "profile") file)) config.profiles all)
 
 -- a profile that is read has the name of its key

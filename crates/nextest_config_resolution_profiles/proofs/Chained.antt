@@ -3,7 +3,7 @@ use Rattle.std.proofs.Common.{◌≡◌, ℕ, List, map, Option, Some, option_ma
 use Rattle.std.proofs.lemmas.Option.{get_or_from_slice_get, slice_get-map, slice_get_within}
 use Rattle.std.specs.List.{slice_get}
 use Rattle.nextest_config_resolution_inheritance.specs.Inheritance.{Name, name_at, names_at}
-use Rattle.nextest_config_resolution_load.specs.Load.{named}
+use Rattle.nextest_config_resolution_load.specs.Load.{named_of}
 use Rattle.nextest_config_resolution_load.specs.declared.loaded_config.NamedProfile.{NamedProfile}
 use Rattle.nextest_config_resolution_settings.specs.Keys as key
 use Rattle.nextest_config_resolution_settings.specs.Nearest.{IsNearest}
@@ -16,7 +16,7 @@ use Rattle.nextest_config_resolution_profiles.proofs.Filtered.{config_at, neares
 use Rattle.nextest_config_resolution_profiles.proofs.Names.{all_of, name_is}
 
 pub is_default_of : {F : Type 0} (profiles : List NamedProfile) (filters : List (Option F)) (places : List ℕ) (values : List ProfileConfig) (near : ℕ) (text : List ℕ) (place : ℕ) (profile : NamedProfile) (it : CompiledDefaultFilter F)
-    → AreAt (map named profiles) places values → IsNearest key.default_filter values near text
+    → AreAt (map named_of profiles) places values → IsNearest key.default_filter values near text
     → slice_get places near ≡ Some place → slice_get profiles place ≡ Some profile → profile.name ≡ it.profile.now → slice_get filters place ≡ Some (Some it.filter.now) → it.section ≡ section.Profile
     → IsDefaultFilterOf profiles filters (names_at (all_of profiles) places) values it
 is_default_of profiles filters places values near text place profile it at nearest placed stands name read set_in =

@@ -18,13 +18,13 @@ use Rattle.nextest_config_resolution_load.proofs.Passing.{taken_more}
 use Rattle.nextest_config_resolution_profiles.specs.Enabled.{AreNamesOf, HasEnabled, HoldsOnSome, IsEnabled, any_in, defined_as, has_name, is_named, setup_of, test_in}
 use Rattle.nextest_config_resolution_profiles.specs.Evaluatable.{Evaluatable}
 use Rattle.nextest_config_resolution_profiles.specs.Held.{Holds, placed_of}
-use Rattle.nextest_config_resolution_profiles.specs.HeldRules.{AreColumns, AreToldBy, IsColumn, picked, value_at}
+use Rattle.nextest_config_resolution_profiles.specs.HeldRules.{AreColumns, AreToldBy, IsColumn, rules_at, value_at}
 use Rattle.nextest_config_resolution_profiles.specs.Platforms.{RuleOn, ScriptRuleOn}
 use Rattle.nextest_config_resolution_profiles.specs.RuleLaws.{MoreEnableNoFewer}
 use Rattle.nextest_config_resolution_scripts.specs.declared.script_config.NamedScript.{NamedScript}
 use Rattle.nextest_config_resolution_scripts.specs.declared.script_rule.PlacedScriptRule.{PlacedScriptRule}
 use Rattle.nextest_config_resolution_scripts.specs.declared.setup_script.SetupScriptConfig.{SetupScriptConfig}
-use Rattle.nextest_config_resolution_settings.specs.Nearest.{lent}
+use Rattle.nextest_config_resolution_settings.specs.Nearest.{lent_layers}
 use Rattle.nextest_filtering_filters.specs.Meaning.{Tells}
 use Rattle.nextest_filtering_filters.specs.Query.{Binary, Test}
 
@@ -96,7 +96,7 @@ inserted old new key update id =
     one ∙ ap (λ (b : Bool). cond b true (has_name old id)) (is_eq-slice_cmp key id ∙ nat_list_eq_equiv.symm key id) ∙ taken (bytes_eq id key) (has_name old id)
 
 -- the names of rules
-pub named_in : (rules : List (Bor PlacedScriptRule)) (id : List ℕ) → list_any (λ rule. list_any (bytes_eq id) rule.now.config.setup) rules ≡ is_named (lent rules) id
+pub named_in : (rules : List (Bor PlacedScriptRule)) (id : List ℕ) → list_any (λ rule. list_any (bytes_eq id) rule.now.config.setup) rules ≡ is_named (lent_layers rules) id
 named_in [] id = refl
 named_in (rule ∷ rules) id = ap (λ (b : Bool). list_any (bytes_eq id) rule.now.config.setup || b) (named_in rules id)
 
@@ -113,17 +113,17 @@ module _ {F S : Type 0} (Holding : ScriptRuleOn F S → Type 0) where
   names_behind : (first : ScriptRuleOn F S) (rules : List (ScriptRuleOn F S)) (id : List ℕ) → Names Holding rules id → Names Holding (first ∷ rules) id
   names_behind first rules id it = record { rule = it.rule; of = Contains-append_right (first ∷ []) rules it.rule it.of; holds = it.holds; names = it.names }
 
-  pub named_by : (rules : List (ScriptRuleOn F S)) (row : List Bool) → AreToldBy Holding rules row → (id : List ℕ) → is_named (map placed_of (picked row rules)) id ≡ true → Names Holding rules id
+  pub named_by : (rules : List (ScriptRuleOn F S)) (row : List Bool) → AreToldBy Holding rules row → (id : List ℕ) → is_named (map placed_of (rules_at row rules)) id ≡ true → Names Holding rules id
   named_by [] row told id h = absurd (false≢true h)
   named_by (rule ∷ rules) [] told id h = absurd told
-  named_by (rule ∷ rules) (true ∷ row) told id h = by_side (named_by rules row told.1 id) (either (list_any (bytes_eq id) (setup_of rule)) (is_named (map placed_of (picked row rules)) id) h)
+  named_by (rule ∷ rules) (true ∷ row) told id h = by_side (named_by rules row told.1 id) (either (list_any (bytes_eq id) (setup_of rule)) (is_named (map placed_of (rules_at row rules)) id) h)
     where
-      by_side : (is_named (map placed_of (picked row rules)) id ≡ true → Names Holding rules id) → (list_any (bytes_eq id) (setup_of rule) ≡ true) ⊎ (is_named (map placed_of (picked row rules)) id ≡ true) → Names Holding (rule ∷ rules) id
+      by_side : (is_named (map placed_of (rules_at row rules)) id ≡ true → Names Holding rules id) → (list_any (bytes_eq id) (setup_of rule) ≡ true) ⊎ (is_named (map placed_of (rules_at row rules)) id ≡ true) → Names Holding (rule ∷ rules) id
       by_side rest (inl here) = record { rule = rule; of = (0, omega arith, refl); holds = told.0.0 refl; names = among id (setup_of rule) here }
       by_side rest (inr behind) = names_behind rule rules id (rest behind)
   named_by (rule ∷ rules) (false ∷ row) told id h = names_behind rule rules id (named_by rules row told.1 id h)
 
-  pub named_back : (rules : List (ScriptRuleOn F S)) (row : List Bool) → AreToldBy Holding rules row → (id : List ℕ) → Names Holding rules id → is_named (map placed_of (picked row rules)) id ≡ true
+  pub named_back : (rules : List (ScriptRuleOn F S)) (row : List Bool) → AreToldBy Holding rules row → (id : List ℕ) → Names Holding rules id → is_named (map placed_of (rules_at row rules)) id ≡ true
   named_back [] row told id it = absurd (none it.of)
     where
       none : {x : ScriptRuleOn F S} → Contains [] x → ⊥
@@ -137,11 +137,11 @@ module _ {F S : Type 0} (Holding : ScriptRuleOn F S → Type 0) where
       here (zero, within, is) = is
       here (suc k, within, is) = absurd (omega (arith, within))
 
-      by_value : (Contains rules it.rule → is_named (map placed_of (picked row rules)) id ≡ true) → (value : Bool) → Tells (Holding rule) value
-          → Contains (rule ∷ []) it.rule ⊎ Contains rules it.rule → is_named (map placed_of (picked (value ∷ row) (rule ∷ rules))) id ≡ true
-      by_value rest true tells (inl of) = either_left (list_any (bytes_eq id) (setup_of rule)) (is_named (map placed_of (picked row rules)) id)
+      by_value : (Contains rules it.rule → is_named (map placed_of (rules_at row rules)) id ≡ true) → (value : Bool) → Tells (Holding rule) value
+          → Contains (rule ∷ []) it.rule ⊎ Contains rules it.rule → is_named (map placed_of (rules_at (value ∷ row) (rule ∷ rules))) id ≡ true
+      by_value rest true tells (inl of) = either_left (list_any (bytes_eq id) (setup_of rule)) (is_named (map placed_of (rules_at row rules)) id)
           (among_back id (setup_of rule) (subst (λ (r : ScriptRuleOn F S). Contains (setup_of r) id) (sym (here of)) it.names))
-      by_value rest true tells (inr of) = either_right (list_any (bytes_eq id) (setup_of rule)) (is_named (map placed_of (picked row rules)) id) (rest of)
+      by_value rest true tells (inr of) = either_right (list_any (bytes_eq id) (setup_of rule)) (is_named (map placed_of (rules_at row rules)) id) (rest of)
       by_value rest false tells (inl of) = absurd (false≢true (tells.1 (subst Holding (sym (here of)) it.holds)))
       by_value rest false tells (inr of) = rest of
 
@@ -247,23 +247,23 @@ module _ {F S : Type 0} (OnTest : F → F → Test → Bool → Type 0) (profile
   -- by what holds on some tests and what holds on others
   pub enabled_both : (tests more : List Test) (old new : BTreeSet (List ℕ)) (row : List Bool) → HasEnabled OnTest profile tests old
       → AreToldBy (HoldsOnSome OnTest profile.default_filter.filter.now more) profile.script_rules row
-      → ((id : List ℕ) → has_name new id ≡ (has_name old id || is_named (map placed_of (picked row profile.script_rules)) id)) → HasEnabled OnTest profile (tests ++ more) new
+      → ((id : List ℕ) → has_name new id ≡ (has_name old id || is_named (map placed_of (rules_at row profile.script_rules)) id)) → HasEnabled OnTest profile (tests ++ more) new
   enabled_both tests more old new row before told adds = λ id. (
-    (λ h. forth id (either (has_name old id) (is_named (map placed_of (picked row profile.script_rules)) id) (sym (adds id) ∙ h))),
+    (λ h. forth id (either (has_name old id) (is_named (map placed_of (rules_at row profile.script_rules)) id) (sym (adds id) ∙ h))),
     (λ it. adds id ∙ back id it (Contains-append_cases tests more it.holds.0 it.holds.1)),
   )
     where
-      forth : (id : List ℕ) → (has_name old id ≡ true) ⊎ (is_named (map placed_of (picked row profile.script_rules)) id ≡ true) → IsEnabled OnTest profile (tests ++ more) id
+      forth : (id : List ℕ) → (has_name old id ≡ true) ⊎ (is_named (map placed_of (rules_at row profile.script_rules)) id ≡ true) → IsEnabled OnTest profile (tests ++ more) id
       forth id (inl early) = enabled_more tests (tests ++ more) id (λ test has. Contains-append_left tests more test has) ((before id).0 early)
       forth id (inr named) =
           let it = named_by (HoldsOnSome OnTest profile.default_filter.filter.now more) profile.script_rules row told id named in
           record { rule = it.rule; of_profile = it.of; names = it.names; holds = (it.holds.0, Contains-append_right tests more it.holds.0 it.holds.1, it.holds.2) }
 
       back : (id : List ℕ) (it : IsEnabled OnTest profile (tests ++ more) id) → Contains tests it.holds.0 ⊎ Contains more it.holds.0
-          → (has_name old id || is_named (map placed_of (picked row profile.script_rules)) id) ≡ true
-      back id it (inl has) = either_left (has_name old id) (is_named (map placed_of (picked row profile.script_rules)) id)
+          → (has_name old id || is_named (map placed_of (rules_at row profile.script_rules)) id) ≡ true
+      back id it (inl has) = either_left (has_name old id) (is_named (map placed_of (rules_at row profile.script_rules)) id)
           ((before id).1 (record { rule = it.rule; of_profile = it.of_profile; names = it.names; holds = (it.holds.0, has, it.holds.2) }))
-      back id it (inr has) = either_right (has_name old id) (is_named (map placed_of (picked row profile.script_rules)) id)
+      back id it (inr has) = either_right (has_name old id) (is_named (map placed_of (rules_at row profile.script_rules)) id)
           (named_back (HoldsOnSome OnTest profile.default_filter.filter.now more) profile.script_rules row told id
           (record { rule = it.rule; of = it.of_profile; holds = (it.holds.0, has, it.holds.2); names = it.names }))
 
@@ -331,9 +331,9 @@ columns_any items count [] = refl
 columns_any items count (column ∷ columns) = ap (λ (row : List Bool). any_in count (items column) ∷ row) (columns_any items count columns)
 
 pub defined_more : (scripts : List (NamedScript SetupScriptConfig)) (names : List (Bor (List ℕ))) (name : Bor (List ℕ)) (before after : List (List ℕ × SetupScriptConfig))
-    → before ≡ filter_map (defined_as scripts) (lent names) → after ≡ before ++ filter_map (defined_as scripts) (name.now ∷ []) → after ≡ filter_map (defined_as scripts) (lent (names ++ name ∷ []))
+    → before ≡ filter_map (defined_as scripts) (lent_layers names) → after ≡ before ++ filter_map (defined_as scripts) (name.now ∷ []) → after ≡ filter_map (defined_as scripts) (lent_layers (names ++ name ∷ []))
 defined_more scripts names name before after so_far adds =
     adds
     ∙ ap (λ (front : List (List ℕ × SetupScriptConfig)). front ++ filter_map (defined_as scripts) (name.now ∷ [])) so_far
-    ∙ sym (filter_map-append (defined_as scripts) (lent names) (name.now ∷ []))
+    ∙ sym (filter_map-append (defined_as scripts) (lent_layers names) (name.now ∷ []))
     ∙ sym (ap (filter_map (defined_as scripts)) (map_push (λ (it : Bor (List ℕ)). it.now) names name))

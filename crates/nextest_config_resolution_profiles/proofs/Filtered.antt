@@ -4,7 +4,7 @@ use Rattle.std.proofs.Math.Seq.{get_or-append_seam}
 use Rattle.std.proofs.lemmas.List.{length-append, length-map}
 use Rattle.std.proofs.lemmas.Option.{none-some, slice_get-get_or, slice_get-map, slice_get_read, slice_get_within}
 use Rattle.std.specs.List.{All, AllZip, slice_get}
-use Rattle.nextest_config_resolution_load.specs.Load.{IsFilterBy, IsReadAs, IsSpecBy, named}
+use Rattle.nextest_config_resolution_load.specs.Load.{IsFilterBy, IsReadAs, IsSpecBy, named_of}
 use Rattle.nextest_config_resolution_load.specs.declared.languages.FilterPurpose.TheVariants as purpose
 use Rattle.nextest_config_resolution_load.specs.declared.loaded_config.NamedProfile.{NamedProfile}
 use Rattle.nextest_config_resolution_profiles.specs.Chains.{AreAt}
@@ -38,13 +38,13 @@ as_many profiles places values at =
     sym (length-map values Some) ∙ ap length at.stand ∙ length-map places (λ place. option_map (λ (profile : Named). profile.1) (slice_get profiles place))
 
 -- the profile at a place has the values there
-pub config_at : (profiles : List NamedProfile) (places : List ℕ) (values : List ProfileConfig) (i place : ℕ) (profile : NamedProfile) (config : ProfileConfig) → AreAt (map named profiles) places values
+pub config_at : (profiles : List NamedProfile) (places : List ℕ) (values : List ProfileConfig) (i place : ℕ) (profile : NamedProfile) (config : ProfileConfig) → AreAt (map named_of profiles) places values
     → slice_get values i ≡ Some config → slice_get places i ≡ Some place → slice_get profiles place ≡ Some profile → profile.config ≡ config
 config_at profiles places values i place profile config at here there stands =
-    let at_place : ℕ → Option ProfileConfig = λ k. option_map (λ (p : Named). p.1) (slice_get (map named profiles) k) in
+    let at_place : ℕ → Option ProfileConfig = λ k. option_map (λ (p : Named). p.1) (slice_get (map named_of profiles) k) in
     let one : Some (Some config) ≡ Some (at_place place) =
     sym (slice_get-map Some values i ∙ ap (option_map Some) here) ∙ ap (λ all. slice_get all i) at.stand ∙ slice_get-map at_place places i ∙ ap (option_map at_place) there in
-    let other : at_place place ≡ Some profile.config = ap (option_map (λ (p : Named). p.1)) (slice_get-map named profiles place ∙ ap (option_map named) stands) in
+    let other : at_place place ≡ Some profile.config = ap (option_map (λ (p : Named). p.1)) (slice_get-map named_of profiles place ∙ ap (option_map named_of) stands) in
     let same : Some config ≡ Some profile.config = (let f : Some config ≡ at_place place = cc in f ∙ other) in
     let is : config ≡ profile.config = cc in
     sym is
@@ -57,7 +57,7 @@ shape Is (Some text) None is = absurd is
 shape Is (Some text) (Some it) is = refl
 
 pub all_filtered : {F : Type 0} (Is : List ℕ → F → Type 0) (profiles : List NamedProfile) (filters : List (Option F))
-    → AllZip (λ profile found. IsReadAs Is profile.1.default_filter found) (map named profiles) filters → AreFiltered profiles filters
+    → AllZip (λ profile found. IsReadAs Is profile.1.default_filter found) (map named_of profiles) filters → AreFiltered profiles filters
 all_filtered Is [] [] all = tt
 all_filtered Is [] (found ∷ filters) all = absurd all
 all_filtered Is (profile ∷ profiles) [] all = absurd all
@@ -67,8 +67,8 @@ all_filtered Is (profile ∷ profiles) (found ∷ filters) all = (shape Is profi
 pub default_is_read : {F S : Type 0} (Is : IsFilterBy F) (IsSpec : IsSpecBy S) (IsTooDeep : List ℕ → Type 0) → DefaultIsRead Is IsSpec IsTooDeep
 default_is_read {F} {S} Is IsSpec IsTooDeep features root sources config names chain it loaded of =
     let profiles = config.loaded.profiles in
-    let stands : slice_get (map named profiles) of.at ≡ Some (named of.from) = slice_get-map named profiles of.at ∙ ap (option_map named) of.stands in
-    let found = zip_at (λ (profile : Named) (found : Option F). IsReadAs (Is purpose.Default) profile.1.default_filter found) (map named profiles) config.loaded.default_filters of.at (named of.from) loaded.1.filters stands in
+    let stands : slice_get (map named_of profiles) of.at ≡ Some (named_of of.from) = slice_get-map named_of profiles of.at ∙ ap (option_map named_of) of.stands in
+    let found = zip_at (λ (profile : Named) (found : Option F). IsReadAs (Is purpose.Default) profile.1.default_filter found) (map named_of profiles) config.loaded.default_filters of.at (named_of of.from) loaded.1.filters stands in
     let same : found.0 ≡ Some it.filter.now = (let f : Some found.0 ≡ Some (Some it.filter.now) = sym found.1 ∙ of.read in cc) in
     subst (λ (text : Option (List ℕ)). IsReadAs (Is purpose.Default) text (Some it.filter.now)) of.sets
     (subst (λ (filter : Option F). IsReadAs (Is purpose.Default) of.from.config.default_filter filter) same found.2)
@@ -95,11 +95,11 @@ pub record DefaultAt {F : Type 0} (profiles : List NamedProfile) (filters : List
   pub read : slice_get filters (get_or places near 0) ≡ Some (Some found)
 
 pub default_at : {F : Type 0} (profiles : List NamedProfile) (filters : List (Option F)) (places : List ℕ) (values : List ProfileConfig) (near : ℕ) (text : List ℕ)
-    → All (λ place. place < length profiles) places → AreAt (map named profiles) places values → AreFiltered profiles filters → IsNearest key.default_filter values near text
+    → All (λ place. place < length profiles) places → AreAt (map named_of profiles) places values → AreFiltered profiles filters → IsNearest key.default_filter values near text
     → DefaultAt profiles filters places near text
 default_at profiles filters places values near text inside at filtered nearest =
     let here = nearest_at key.default_filter values near text nearest in
-    let within : near < length places = omega (arith, slice_get_within values near nearest.layer here, as_many (map named profiles) places values at) in
+    let within : near < length places = omega (arith, slice_get_within values near nearest.layer here, as_many (map named_of profiles) places values at) in
     let place = get_or places near 0 in
     let there = stands_at profiles place (inside near 0 within) in
     let sets : there.0.config.default_filter ≡ Some text =

@@ -8,9 +8,9 @@ use Rattle.toml.specs.Parse.{parse_document}
 use Rattle.nextest_config_elements_identifiers.specs.declared.source_kind.ConfigSourceKind.{ConfigSourceKind}
 use Rattle.nextest_config_elements_toml.specs.Reading.{Reading}
 use Rattle.nextest_config_resolution_inheritance.specs.Inheritance.{names}
-use Rattle.nextest_config_resolution_load.specs.Checks.{MergedConfig, as_setup, config_in, document_checks, document_of, file_checks, file_of, layered, members_of, merged_in, moved, outcome_checks, parents_of, raised, source_checks}
+use Rattle.nextest_config_resolution_load.specs.Checks.{MergedConfig, as_setup, config_in, document_checks, document_of, file_checks, file_of, file_over, members_of, merged_in, file_with_setup, outcome_checks, parents_of, tree_of_files, source_checks}
 use Rattle.nextest_config_resolution_load.specs.File.{file_in}
-use Rattle.nextest_config_resolution_load.specs.Load.{IsFilterBy, IsKept, IsLoadedAs, IsSpecBy, seen}
+use Rattle.nextest_config_resolution_load.specs.Load.{IsFilterBy, IsKept, IsLoadedAs, IsSpecBy, merged_of}
 use Rattle.nextest_config_resolution_load.specs.declared.file_config.FileConfig.{FileConfig}
 use Rattle.nextest_config_resolution_load.specs.declared.loaded_config.LoadedConfig.{LoadedConfig}
 use Rattle.nextest_config_resolution_load.proofs.Kept.{kept_before, kept_behind, kept_sources}
@@ -18,7 +18,7 @@ use Rattle.nextest_config_resolution_load.proofs.Configs.{same_names}
 use Rattle.nextest_config_resolution_load.proofs.Profiles.{names_read}
 use Rattle.nextest_config_resolution_profiles.specs.Kept.{HasProfile, KeptProfile}
 use Rattle.nextest_config_resolution_profiles.proofs.Tables.{IsRead, below, config_parts, file_parts, profiles_table, table_kept}
-use Rattle.nextest_config_resolution_sources.specs.Counting.{counted}
+use Rattle.nextest_config_resolution_sources.specs.Counting.{counting_sources}
 use Rattle.nextest_config_resolution_sources.specs.declared.source.ConfigSource.{ConfigSource}
 use Rattle.nextest_config_resolution_sources.specs.declared.source.ConfigSourceOutcome.{ConfigSourceOutcome}
 use Rattle.nextest_config_resolution_sources.specs.declared.source.ConfigSourceOutcome.TheVariants as outcome
@@ -78,13 +78,13 @@ files_have Is IsSpec features (source ∷ more) kept =
     one_more (file_of source) (filter_map file_of more) (outcome_has Is IsSpec features source.path source.kind source.outcome here) (files_have Is IsSpec features more behind)
 
 -- a file whose setup scripts are moved has the same profiles and the same store
-moved_at : (key : List ℕ) (file : Members) → ((given : Data) → get_member key (as_setup given) ≡ None) → get_member key (moved file) ≡ get_member key file
+moved_at : (key : List ℕ) (file : Members) → ((given : Data) → get_member key (as_setup given) ≡ None) → get_member key (file_with_setup file) ≡ get_member key file
 moved_at key file none = by_scripts (get_member (codes "script") file) where
-  by_scripts : (found : Option Data) → get_member key (layered (option_map as_setup found) file) ≡ get_member key file
+  by_scripts : (found : Option Data) → get_member key (file_over (option_map as_setup found) file) ≡ get_member key file
   by_scripts None = refl
   by_scripts (Some given) = get_merge key (as_setup given) file ∙ ap (λ (it : Option Data). joint it (get_member key file)) (none given)
 
-moved_read : (file : Members) → IsRead file → IsRead (moved file)
+moved_read : (file : Members) → IsRead file → IsRead (file_with_setup file)
 moved_read file (profiles, store_dir, parts) = (
   profiles,
   store_dir,
@@ -94,21 +94,21 @@ moved_read file (profiles, store_dir, parts) = (
   },
 )
 
-pub moved_have : (files : List Members) → AllByRecursion IsRead files → AllByRecursion IsRead (map moved files)
+pub moved_have : (files : List Members) → AllByRecursion IsRead files → AllByRecursion IsRead (map file_with_setup files)
 moved_have [] read = tt
 moved_have (file ∷ files) read = (moved_read file read.0, moved_have files read.1)
 
 -- what each file that is read leaves over what is below it stays through all of them
 raised_keeps : (Keeps : Members → Type 0) → ((file lower : Members) → IsRead file → Keeps lower → Keeps (merge file lower))
-    → (files : List Members) (lower : Members) → AllByRecursion IsRead files → Keeps lower → Keeps (members_of (raised (table lower) files))
+    → (files : List Members) (lower : Members) → AllByRecursion IsRead files → Keeps lower → Keeps (members_of (tree_of_files (table lower) files))
 raised_keeps Keeps one [] lower read it = it
 raised_keeps Keeps one (file ∷ files) lower read it = raised_keeps Keeps one files (merge file lower) read.1 (one file lower read.0 it)
 
 pub kept_in : {F S : Type 0} (Is : IsFilterBy F) (IsSpec : IsSpecBy S) (features : FeatureSet) (built_in : Members) (sources : List ConfigSource) (config : LoadedConfig F S) (Keeps : Members → Type 0)
     → ((file lower : Members) → IsRead file → Keeps lower → Keeps (merge file lower)) → IsLoadedAs Is IsSpec features built_in sources config → Keeps built_in → Keeps (merged_in built_in sources)
 kept_in Is IsSpec features built_in sources config Keeps one loaded it =
-    raised_keeps Keeps one (map moved (filter_map file_of (counted sources))) built_in
-    (moved_have (filter_map file_of (counted sources)) (files_have Is IsSpec features (counted sources) (kept_sources Is IsSpec features built_in sources loaded.kept))) it
+    raised_keeps Keeps one (map file_with_setup (filter_map file_of (counting_sources sources))) built_in
+    (moved_have (filter_map file_of (counting_sources sources)) (files_have Is IsSpec features (counting_sources sources) (kept_sources Is IsSpec features built_in sources loaded.kept))) it
 
 -- ---- one file over what is below it
 
@@ -138,4 +138,4 @@ read_has name top config it e =
 
 pub kept_profile : {F S : Type 0} (Is : IsFilterBy F) (IsSpec : IsSpecBy S) (IsTooDeep : List ℕ → Type 0) → KeptProfile Is IsSpec IsTooDeep
 kept_profile Is IsSpec IsTooDeep features built_in sources config name has loaded =
-    read_has name (merged_in built_in sources) (seen config) (kept_in Is IsSpec features built_in sources config (HasProfile name) (merged_has name) loaded has) loaded.values
+    read_has name (merged_in built_in sources) (merged_of config) (kept_in Is IsSpec features built_in sources config (HasProfile name) (merged_has name) loaded has) loaded.values

@@ -6,8 +6,8 @@ use Rattle.toml.specs.Data.{Data, Members, get_member}
 use Rattle.nextest_config_elements_toml.specs.Reading.{Reading, ◌>>=◌, under}
 use Rattle.nextest_config_elements_versions.specs.declared.feature.FeatureSet.{FeatureSet}
 use Rattle.nextest_config_resolution_inheritance.specs.Inheritance.{Name}
-use Rattle.nextest_config_resolution_load.specs.Checks.{MergedConfig, config_in, file_of, merged_in, moved}
-use Rattle.nextest_config_resolution_load.specs.Load.{IsFilterBy, IsLoadedAs, IsSpecBy, seen}
+use Rattle.nextest_config_resolution_load.specs.Checks.{MergedConfig, config_in, file_of, merged_in, file_with_setup}
+use Rattle.nextest_config_resolution_load.specs.Load.{IsFilterBy, IsLoadedAs, IsSpecBy, merged_of}
 use Rattle.nextest_config_resolution_load.specs.Rules.{placed_at, script_placed_at}
 use Rattle.nextest_config_resolution_load.specs.declared.loaded_config.LoadedConfig.{LoadedConfig}
 use Rattle.nextest_config_resolution_load.proofs.Kept.{kept_sources}
@@ -16,7 +16,7 @@ use Rattle.nextest_config_resolution_overrides.specs.declared.groups.NamedGroup.
 use Rattle.nextest_config_resolution_scripts.specs.Scripts.{scripts_at, scripts_of}
 use Rattle.nextest_config_resolution_scripts.specs.declared.script_config.ScriptConfig.{ScriptConfig}
 use Rattle.nextest_config_resolution_settings.specs.Rules.{profile_of, script_profile_of}
-use Rattle.nextest_config_resolution_sources.specs.Counting.{counted}
+use Rattle.nextest_config_resolution_sources.specs.Counting.{counting_sources}
 use Rattle.nextest_config_resolution_sources.specs.declared.source.ConfigSource.{ConfigSource}
 use Rattle.nextest_config_resolution_values.specs.File.{Named, profiles_at, profiles_of, store_dir_at, store_dir_of}
 use Rattle.nextest_config_resolution_profiles.specs.Agreeing.{ProfileIsolation, SourceAgrees, is_one_of, profiles_below}
@@ -80,8 +80,8 @@ same_values names one other config second alike first next name known =
 
 module _ {F S : Type 0} (Is : IsFilterBy F) (IsSpec : IsSpecBy S) (IsTooDeep : List ℕ → Type 0) where
   all_read : (features : FeatureSet) (sources : List ConfigSource) (loaded : LoadedConfig F S) → IsLoadedAs Is IsSpec features built_in_members sources loaded
-      → AllByRecursion (λ source. FileIsRead (file_of source)) (counted sources)
-  all_read features sources loaded it = sources_read Is IsSpec features (counted sources) (kept_sources Is IsSpec features built_in_members sources it.kept)
+      → AllByRecursion (λ source. FileIsRead (file_of source)) (counting_sources sources)
+  all_read features sources loaded it = sources_read Is IsSpec features (counting_sources sources) (kept_sources Is IsSpec features built_in_members sources it.kept)
 
   pub profile_isolation : ProfileIsolation Is IsSpec IsTooDeep
   profile_isolation features other_features root other_root sources others names config second agree loaded loaded_other =
@@ -89,18 +89,18 @@ module _ {F S : Type 0} (Is : IsFilterBy F) (IsSpec : IsSpecBy S) (IsTooDeep : L
       let read = all_read features sources config.loaded loaded.1 in
       let other_read = all_read other_features others second.loaded loaded_other.1 in
       let built = built_in_like names in
-      let alike = raised_alike names (map moved (filter_map file_of (counted sources))) (map moved (filter_map file_of (counted others))) built_in_members built_in_members
-      (all_moved_agree names (filter_map file_of (counted sources)) (filter_map file_of (counted others)) (files_agree names (counted sources) (counted others) counts))
-      (moved_have (filter_map file_of (counted sources)) (files_read (counted sources) read)) (moved_have (filter_map file_of (counted others)) (files_read (counted others) other_read)) built in
-      let here = says (merged_in built_in_members sources) (seen config.loaded) loaded.1.values in
-      let there = says (merged_in built_in_members others) (seen second.loaded) loaded_other.1.values in
-      let zipped = zip_reverse (λ one other. SourceAgrees names one other × FileIsRead (file_of one) × FileIsRead (file_of other)) (counted sources) (counted others)
-      (zip_with (SourceAgrees names) (λ source. FileIsRead (file_of source)) (λ source. FileIsRead (file_of source)) (counted sources) (counted others) counts read other_read) in
+      let alike = raised_alike names (map file_with_setup (filter_map file_of (counting_sources sources))) (map file_with_setup (filter_map file_of (counting_sources others))) built_in_members built_in_members
+      (all_moved_agree names (filter_map file_of (counting_sources sources)) (filter_map file_of (counting_sources others)) (files_agree names (counting_sources sources) (counting_sources others) counts))
+      (moved_have (filter_map file_of (counting_sources sources)) (files_read (counting_sources sources) read)) (moved_have (filter_map file_of (counting_sources others)) (files_read (counting_sources others) other_read)) built in
+      let here = says (merged_in built_in_members sources) (merged_of config.loaded) loaded.1.values in
+      let there = says (merged_in built_in_members others) (merged_of second.loaded) loaded_other.1.values in
+      let zipped = zip_reverse (λ one other. SourceAgrees names one other × FileIsRead (file_of one) × FileIsRead (file_of other)) (counting_sources sources) (counting_sources others)
+      (zip_with (SourceAgrees names) (λ source. FileIsRead (file_of source)) (λ source. FileIsRead (file_of source)) (counting_sources sources) (counting_sources others) counts read other_read) in
       record {
-        values = All-from_recursion (λ name. values_of (seen second.loaded).profiles name ≡ values_of (seen config.loaded).profiles name) names
-            (each_value names (merged_in built_in_members sources) (merged_in built_in_members others) (seen config.loaded) (seen second.loaded) alike here there names (each_known names));
-        rules = same_rules profile_of (λ it. it.overrides) placed_at (λ path profile it. refl) (λ it. it.overrides) (λ path config. refl) names (reverse (counted sources)) (reverse (counted others)) zipped;
-        script_rules = same_rules script_profile_of (λ it. it.scripts) script_placed_at (λ path profile it. refl) (λ it. it.scripts) (λ path config. refl) names (reverse (counted sources)) (reverse (counted others)) zipped;
+        values = All-from_recursion (λ name. values_of (merged_of second.loaded).profiles name ≡ values_of (merged_of config.loaded).profiles name) names
+            (each_value names (merged_in built_in_members sources) (merged_in built_in_members others) (merged_of config.loaded) (merged_of second.loaded) alike here there names (each_known names));
+        rules = same_rules profile_of (λ it. it.overrides) placed_at (λ path profile it. refl) (λ it. it.overrides) (λ path config. refl) names (reverse (counting_sources sources)) (reverse (counting_sources others)) zipped;
+        script_rules = same_rules script_profile_of (λ it. it.scripts) script_placed_at (λ path profile it. refl) (λ it. it.scripts) (λ path config. refl) names (reverse (counting_sources sources)) (reverse (counting_sources others)) zipped;
         groups = same_read (groups_at (merged_in built_in_members sources)) (groups_at (merged_in built_in_members others)) config.loaded.groups second.loaded.groups here.groups there.groups
             (ap (λ (found : Option Data). under (codes "test-groups") (groups_of found)) (alike.elsewhere (codes "test-groups") (apart (codes "test-groups") (codes "profile") refl)));
         scripts = same_read (scripts_at (merged_in built_in_members sources)) (scripts_at (merged_in built_in_members others)) config.loaded.scripts second.loaded.scripts here.scripts there.scripts

@@ -14,7 +14,7 @@ use Rattle.nextest_config_elements_deserialize.specs.Words.{flaky_result, final_
 use Rattle.nextest_config_resolution_inheritance.specs.Inheritance.{Name, IsChain, default}
 use Rattle.nextest_config_resolution_inheritance.specs.Inheritance.IsChain.{ends, goes_on}
 use Rattle.nextest_config_resolution_load.specs.Checks.{merged_in, parents_of}
-use Rattle.nextest_config_resolution_load.specs.Load.{IsFilterBy, IsLoadedAs, IsSpecBy, seen}
+use Rattle.nextest_config_resolution_load.specs.Load.{IsFilterBy, IsLoadedAs, IsSpecBy, merged_of}
 use Rattle.nextest_config_resolution_load.specs.declared.loaded_config.LoadedConfig.{LoadedConfig}
 use Rattle.nextest_config_resolution_profiles.specs.BuiltIn.{bench_members, built_in_members, default_members, junit_members}
 use Rattle.nextest_config_resolution_profiles.specs.BuiltInLaws.{SetsEach}
@@ -137,10 +137,10 @@ chain_sets_filter profiles value text found sets name chain it unset =
 
 -- `default` has values, and sets a default filter
 pub default_sets : {F S : Type 0} (Is : IsFilterBy F) (IsSpec : IsSpecBy S) (features : FeatureSet) (sources : List ConfigSource) (loaded : LoadedConfig F S) → IsLoadedAs Is IsSpec features built_in_members sources loaded
-    → (value : ProfileConfig) × (values_of (seen loaded).profiles default ≡ Some value) × ((text : List ℕ) × (value.default_filter ≡ Some text))
+    → (value : ProfileConfig) × (values_of (merged_of loaded).profiles default ≡ Some value) × ((text : List ℕ) × (value.default_filter ≡ Some text))
 default_sets Is IsSpec features sources loaded it =
     let has = loaded_has Is IsSpec features sources loaded it in
-    let (value, found, is) = values_read (merged_in built_in_members sources) (seen loaded) has it.values in
+    let (value, found, is) = values_read (merged_in built_in_members sources) (merged_of loaded) has it.values in
     let name : List ℕ = codes "default-filter" in
     (value, found, one_there value.default_filter (have_set has.values name as_str value.default_filter is.default_filter (has.has_values name refl)))
 
@@ -150,15 +150,15 @@ pub store_sets : {F S : Type 0} (Is : IsFilterBy F) (IsSpec : IsSpecBy S) (featu
 store_sets Is IsSpec features sources loaded it =
     let has = loaded_has Is IsSpec features sources loaded it in
     let name : List ℕ = codes "dir" in
-    let may = optional_has name as_str has.store loaded.store_dir (store_read (merged_in built_in_members sources) (seen loaded) has it.values) in
+    let may = optional_has name as_str has.store loaded.store_dir (store_read (merged_in built_in_members sources) (merged_of loaded) has it.values) in
     one_there loaded.store_dir (have_set has.store name as_str loaded.store_dir may (has.has_store name refl))
 
 chain_sets : {F S : Type 0} (Is : IsFilterBy F) (IsSpec : IsSpecBy S) (features : FeatureSet) (sources : List ConfigSource) (loaded : LoadedConfig F S) → IsLoadedAs Is IsSpec features built_in_members sources loaded
-    → (name : Name) (chain : List ProfileConfig) → IsChainOf (seen loaded).profiles name chain → SetsEach chain
+    → (name : Name) (chain : List ProfileConfig) → IsChainOf (merged_of loaded).profiles name chain → SetsEach chain
 chain_sets Is IsSpec features sources loaded it name chain in_chain =
     let has = loaded_has Is IsSpec features sources loaded it in
-    let (value, found, is) = values_read (merged_in built_in_members sources) (seen loaded) has it.values in
-    let (front, same) = ends_with_default (seen loaded).profiles value found name chain in_chain in
+    let (value, found, is) = values_read (merged_in built_in_members sources) (merged_of loaded) has it.values in
+    let (front, same) = ends_with_default (merged_of loaded).profiles value found name chain in_chain in
     subst SetsEach (sym same) (sets_each (merged_in built_in_members sources) has value is front)
 
 pub never_falls_back : {F S : Type 0} (Is : IsFilterBy F) (IsSpec : IsSpecBy S) (IsTooDeep : List ℕ → Type 0) → NeverFallsBack Is IsSpec IsTooDeep

@@ -11,7 +11,7 @@ use Rattle.nextest_config_resolution_inheritance.specs.Inheritance.{Name, Parent
 use Rattle.nextest_config_resolution_inheritance.specs.Inheritance.IsChain.{ends, goes_on}
 use Rattle.nextest_config_resolution_inheritance.proofs.Chains.{one_chain}
 use Rattle.nextest_config_resolution_load.specs.Checks.{parents_of}
-use Rattle.nextest_config_resolution_load.specs.Load.{IsFilterBy, IsLoaded, IsSpecBy, seen}
+use Rattle.nextest_config_resolution_load.specs.Load.{IsFilterBy, IsLoaded, IsSpecBy, merged_of}
 use Rattle.nextest_config_resolution_load.specs.declared.loaded_config.LoadedConfig.{LoadedConfig}
 use Rattle.nextest_config_resolution_load.proofs.Kept.{kept_inherits}
 use Rattle.nextest_config_resolution_profiles.specs.Config.{IsChainOf, names_of, profiles_of, values_of}
@@ -68,14 +68,14 @@ built_in_has = record { profiles = profiles_members; given = table default_membe
 
 -- `default` is a profile of every configuration
 pub default_there : {F S : Type 0} (Is : IsFilterBy F) (IsSpec : IsSpecBy S) (IsTooDeep : List ℕ → Type 0) (features : FeatureSet) (sources : List ConfigSource) (config : LoadedConfig F S)
-    → IsLoaded Is IsSpec IsTooDeep features built_in_members sources (Ok config) → Contains (names (parents_of (seen config).profiles)) default
+    → IsLoaded Is IsSpec IsTooDeep features built_in_members sources (Ok config) → Contains (names (parents_of (merged_of config).profiles)) default
 default_there Is IsSpec IsTooDeep features sources config loaded = kept_profile Is IsSpec IsTooDeep features built_in_members sources config default built_in_has loaded
 
 pub some_chain : {F S : Type 0} (Is : IsFilterBy F) (IsSpec : IsSpecBy S) (IsTooDeep : List ℕ → Type 0) → SomeChain Is IsSpec IsTooDeep
 some_chain {F} {S} Is IsSpec IsTooDeep features root sources config name loaded = by_value (values_of (profiles_of config) name) refl
   where
     accepted : IsAccepted (parents_of (profiles_of config))
-    accepted = kept_inherits Is IsSpec features built_in_members sources (seen config.loaded) loaded.1.kept loaded.1.values
+    accepted = kept_inherits Is IsSpec features built_in_members sources (merged_of config.loaded) loaded.1.kept loaded.1.values
 
     by_value : (found : Option ProfileConfig) → values_of (profiles_of config) name ≡ found
         → ((values : List ProfileConfig) × IsChainOf (profiles_of config) name values) ⊎ ¬ Contains (names_of config) name

@@ -4,7 +4,7 @@ use Rattle.toml.specs.Data.{Data, string, integer, float, boolean, datetime, arr
 use Rattle.nextest_config_elements_toml.specs.Reading.{Reading, ◌>>=◌, under}
 use Rattle.nextest_config_elements_versions.specs.Demand.{experimental_in, nextest_version_in}
 use Rattle.nextest_config_resolution_load.specs.Checks.{MergedConfig, config_in}
-use Rattle.nextest_config_resolution_load.specs.File.{by_keys, checked, file_in, profiles_at_file, profiles_in_file, profiles_of_file, rules_in_profile, rules_in_table, rules_of_profile}
+use Rattle.nextest_config_resolution_load.specs.File.{by_keys, check_of, file_in, profiles_at_file, profiles_in_file, profiles_of_file, rules_in_profile, rules_in_table, rules_of_profile}
 use Rattle.nextest_config_resolution_load.specs.declared.file_config.FileConfig.{FileConfig}
 use Rattle.nextest_config_resolution_load.specs.declared.file_config.ProfileRules.{ProfileRules}
 use Rattle.nextest_config_resolution_overrides.specs.Groups.{groups_at}
@@ -146,7 +146,7 @@ all_too (Some given) all e =
     (it.0, ap (λ given. profiles_of (Some given)) same ∙ it.1)
 
 -- what is checked has a value
-value_checked : {A : Type 0} (reading : Reading A) (done : Unit {0}) → checked reading ≡ Ok done → (x : A) × (reading ≡ Ok x)
+value_checked : {A : Type 0} (reading : Reading A) (done : Unit {0}) → check_of reading ≡ Ok done → (x : A) × (reading ≡ Ok x)
 value_checked (Ok x) done e = (x, refl)
 value_checked (Err path) done e = absurd (cc)
 
@@ -173,8 +173,8 @@ pub file_parts : (file : Members) (config : FileConfig) → file_in file ≡ Ok 
     → (profiles : List Named) × (store_dir : Option (List ℕ)) × AreRead file profiles store_dir
 unfolding file_in
 file_parts file config e =
-    let parts = parts_of (checked (experimental_in file)) (checked (nextest_version_in file)) (profiles_at_file file) (old_scripts_at file) (scripts_at file)
-    (checked (store_dir_at file)) (groups_at file) (λ profiles old scripts groups. record { profiles = profiles; groups = groups; old_scripts = old; scripts = scripts }) config e in
+    let parts = parts_of (check_of (experimental_in file)) (check_of (nextest_version_in file)) (profiles_at_file file) (old_scripts_at file) (scripts_at file)
+    (check_of (store_dir_at file)) (groups_at file) (λ profiles old scripts groups. record { profiles = profiles; groups = groups; old_scripts = old; scripts = scripts }) config e in
     let found = get_member (codes "profile") file in
     let all = all_too found parts.all (under_read (codes "profile") (profiles_of_file found) parts.all parts.profiles_are) in
     let store = value_checked (store_dir_at file) parts.done parts.store_is in (

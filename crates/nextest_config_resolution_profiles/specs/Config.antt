@@ -1,9 +1,12 @@
 -- A whole configuration, and its profiles.
 use Rattle.std.specs.Prelude.{◌≡◌, ℕ, ◌==◌, Bool, ◌||◌, List, ◌++◌, Option, Some, Result, Ok, Err, ⊤, Contains, codes, length, map, nat_eq, slice_get, if◌then◌else◌}
 use Rattle.std.specs.List.{starts_with}
+use Rattle.std.specs.List.Sorted.{IsStrictlySortedBy}
+use Rattle.std.specs.Cmp.Lexicographic.{slice_cmp}
+use Rattle.std.specs.Ordering.{nat_cmp}
 use Rattle.nextest_config_resolution_profiles.specs.BuiltIn.{built_in_members}
 use Rattle.nextest_config_resolution_inheritance.specs.Inheritance.{Name}
-use Rattle.nextest_config_resolution_load.specs.Load.{IsFilterBy, IsLoaded, IsSpecBy, seen}
+use Rattle.nextest_config_resolution_load.specs.Load.{IsFilterBy, IsLoaded, IsSpecBy, merged_of}
 use Rattle.nextest_config_resolution_load.specs.declared.load_error.LoadError.{LoadError}
 use Rattle.nextest_config_resolution_load.specs.declared.loaded_config.NamedProfile.{NamedProfile}
 use Rattle.nextest_config_resolution_settings.specs.Keys as key
@@ -17,14 +20,14 @@ use Rattle.nextest_config_resolution_settings.specs.declared.default_filter.Comp
 use Rattle.nextest_config_resolution_profiles.specs.declared.profile_error.ProfileError.{ProfileError}
 use Rattle.nextest_config_resolution_profiles.specs.declared.profile_error.ProfileError.TheVariants as error
 use Rattle.nextest_config_resolution_profiles.specs.Early.{Early, in_profile}
-pub use Rattle.nextest_config_resolution_profiles.specs.Languages.{IsDefaultIn, IsFilterIn}
+pub use Rattle.nextest_config_resolution_profiles.specs.Languages.{IsFilterIn}
 pub use Rattle.nextest_config_resolution_profiles.specs.Values.{IsChainOf, values_of}
 use Rattle.nextest_config_resolution_profiles.specs.Whole.{Whole}
 use Rattle.nextest_config_elements_versions.specs.declared.feature.FeatureSet.{FeatureSet}
 
 -- its profiles, by the bytes of their names, and the names themselves
 abbrev pub profiles_of : {F S : Type 0} → Whole F S → List Named
-profiles_of config = (seen config.loaded).profiles
+profiles_of config = (merged_of config.loaded).profiles
 
 abbrev pub names_of : {F S : Type 0} → Whole F S → List Name
 names_of config = map (λ profile. profile.name) config.loaded.profiles
@@ -79,6 +82,12 @@ abbrev pub IsProfile : {F S : Type 0} → Whole F S → Name → Result (Early F
 IsProfile config name (Ok it) = IsEarly config name it
 IsProfile config name (Err (error.NotFound told)) = (told.name ≡ name) × (told.known ≡ names_of config) × ¬ Contains (names_of config) name
 IsProfile config name (Err error.OutOfMemory) = ⊤
+
+-- the names of all profiles, which a refusal gives, rise by their bytes
+abbrev pub KnownRise : {E : Type 0} → Result E ProfileError → Type 0
+KnownRise (Err (error.NotFound told)) = IsStrictlySortedBy (slice_cmp nat_cmp) told.known
+KnownRise (Err error.OutOfMemory) = ⊤
+KnownRise (Ok it) = ⊤
 
 -- whether a profile of a chain sets the path of the report in JUnit's form
 abbrev pub SetsJunit : List ProfileConfig → Type 0

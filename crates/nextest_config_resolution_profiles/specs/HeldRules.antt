@@ -24,11 +24,11 @@ pub record IsHeldRow {F S : Type 0} (OnTest : F → F → Test → Bool → Type
   pub scripts : AreTold OnTest profile.default_filter.filter.now test profile.script_rules back
 
 -- the rules at which a row is true, in their order
-abbrev pub picked : {R : Type 0} → List Bool → List R → List R
-picked row [] = []
-picked [] (rule ∷ rules) = []
-picked (true ∷ row) (rule ∷ rules) = rule ∷ picked row rules
-picked (false ∷ row) (rule ∷ rules) = picked row rules
+abbrev pub rules_at : {R : Type 0} → List Bool → List R → List R
+rules_at row [] = []
+rules_at [] (rule ∷ rules) = []
+rules_at (true ∷ row) (rule ∷ rules) = rule ∷ rules_at row rules
+rules_at (false ∷ row) (rule ∷ rules) = rules_at row rules
 
 -- ---- the same for each of some tests
 

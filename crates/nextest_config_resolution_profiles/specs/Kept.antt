@@ -3,7 +3,7 @@ use Rattle.std.specs.Prelude.{◌≡◌, ℕ, List, Some, Ok, Contains, codes}
 use Rattle.toml.specs.Data.{Data, table, Members, get_member}
 use Rattle.nextest_config_resolution_inheritance.specs.Inheritance.{names}
 use Rattle.nextest_config_resolution_load.specs.Checks.{parents_of}
-use Rattle.nextest_config_resolution_load.specs.Load.{IsFilterBy, IsLoaded, IsSpecBy, seen}
+use Rattle.nextest_config_resolution_load.specs.Load.{IsFilterBy, IsLoaded, IsSpecBy, merged_of}
 use Rattle.nextest_config_resolution_load.specs.declared.loaded_config.LoadedConfig.{LoadedConfig}
 use Rattle.nextest_config_resolution_sources.specs.declared.source.ConfigSource.{ConfigSource}
 use Rattle.nextest_config_elements_versions.specs.declared.feature.FeatureSet.{FeatureSet}
@@ -18,4 +18,4 @@ pub record HasProfile (name : List ℕ) (top : Members) : Type 0 where
 -- a profile of what is built in is one of each configuration that sources come to over it
 abbrev pub KeptProfile : {F S : Type 0} → IsFilterBy F → IsSpecBy S → (List ℕ → Type 0) → Type 0
 KeptProfile {F} {S} Is IsSpec IsTooDeep = (features : FeatureSet) (built_in : Members) (sources : List ConfigSource) (config : LoadedConfig F S) (name : List ℕ)
-    → HasProfile name built_in → IsLoaded Is IsSpec IsTooDeep features built_in sources (Ok config) → Contains (names (parents_of (seen config).profiles)) name
+    → HasProfile name built_in → IsLoaded Is IsSpec IsTooDeep features built_in sources (Ok config) → Contains (names (parents_of (merged_of config).profiles)) name

@@ -23,11 +23,7 @@ IsFilterIn IsParsed asks_tests cx purpose.ListWrapper text it =
     IsParsed cx kind.OverrideFilter groups.Unavailable text it × (asks_tests it ≡ false)
 
 -- a filter that was parsed for a purpose, if it serves it
-abbrev pub served : {F : Type 0} → (F → Bool) → FilterPurpose → F → Option F
-served asks_tests purpose.Default it = Some it
-served asks_tests purpose.Override it = Some it
-served asks_tests purpose.ListWrapper it = if asks_tests it then None else Some it
-
--- this default filter
-abbrev pub IsDefaultIn : {F Cx : Type 0} → (Cx → FiltersetKind → KnownGroups → List ℕ → F → Type 0) → Cx → List ℕ → F → Type 0
-IsDefaultIn IsParsed cx text it = IsParsed cx kind.DefaultFilter groups.Unavailable text it
+abbrev pub if_serves : {F : Type 0} → (F → Bool) → FilterPurpose → F → Option F
+if_serves asks_tests purpose.Default it = Some it
+if_serves asks_tests purpose.Override it = Some it
+if_serves asks_tests purpose.ListWrapper it = if asks_tests it then None else Some it

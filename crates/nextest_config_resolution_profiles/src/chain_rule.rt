@@ -22,7 +22,8 @@ pub(crate) struct ChainRule<'c, P, F, S> {
 impl<'c, P, F, S: Specs> ChainRule<'c, P, F, S> {
     // Looks on which of these platforms it holds.
     pub(crate) fn put_on(&mut self, platforms: &BuildPlatforms<'_, S::Facts>)
-        ensures { self.new ≡ put_on S.value_on (built_on platforms.now) (built_for platforms.now) self.old }
+        ensures { self.new
+            ≡ put_on S.value_on (built_on platforms.now) (built_for platforms.now) self.old }
     {
         let specs = &self.rule.compiled;
         let on_host = spec_holds(&specs.host, platforms.host);

@@ -3,13 +3,13 @@ ghost use Rattle.std.specs.Prelude.{◌≡◌, ◌≢◌, ◌<◌, All, Contains
 ghost use Rattle.std.specs.Bool.{OnFalse, OnTrue};
 ghost use Rattle.nextest_config_resolution_inheritance.specs.Inheritance.{IsAccepted, Rise, default, name_at, names, names_at};
 ghost use Rattle.nextest_config_resolution_load.specs.Checks.{parents_of};
-ghost use Rattle.nextest_config_resolution_load.specs.Load.{named};
+ghost use Rattle.nextest_config_resolution_load.specs.Load.{named_of};
 ghost use Rattle.nextest_config_resolution_profiles.specs.Chains.{AreAt, IsChained};
 ghost use Rattle.nextest_config_resolution_profiles.specs.Config.{IsDefaultFilterOf};
 ghost use Rattle.nextest_config_resolution_profiles.specs.Whole.{AreFiltered};
 ghost use Rattle.nextest_config_resolution_profiles.specs.Values.{SetsFilter};
 ghost use Rattle.nextest_config_resolution_settings.specs.Keys as key;
-ghost use Rattle.nextest_config_resolution_settings.specs.Nearest.{SetsNone, lent};
+ghost use Rattle.nextest_config_resolution_settings.specs.Nearest.{SetsNone, lent_layers};
 
 use crate::chain_rule::ChainRule;
 use crate::rules::rules_at;
@@ -28,8 +28,10 @@ use std::alloc::{AllocError, Global};
 // The place of the profile of a name.
 pub(crate) fn place_of(profiles: &[NamedProfile], name: &str) -> Option<usize>
     ensures within { IfSome result (λ place. place < length profiles.now) }
-    ensures found { IfSome result (λ place. name_at (parents_of (map named profiles.now)) place ≡ name.now) }
-    ensures missing { IfNone result (¬ Contains (map (λ profile. profile.name) profiles.now) name.now) }
+    ensures found { IfSome result
+        (λ place. name_at (parents_of (map named_of profiles.now)) place ≡ name.now) }
+    ensures missing { IfNone result
+        (¬ Contains (map (λ profile. profile.name) profiles.now) name.now) }
 {
     for place in 0..profiles.len() {
         if is_named(&profiles[place], name) {
@@ -80,14 +82,14 @@ pub(crate) fn chain_at<'c, F: Drop, S: Drop>(
     scripts: &'c [LoadedScriptRule<F, S>],
     place: usize,
 ) -> Result<Chained<'c, F, S>, AllocError>
-    requires accepted { IsAccepted (parents_of (map named profiles.now)) }
-    requires rise { Rise (parents_of (map named profiles.now)) }
-    requires has_default { Contains (names (parents_of (map named profiles.now))) default }
-    requires sets_filter { SetsFilter (map named profiles.now) }
+    requires accepted { IsAccepted (parents_of (map named_of profiles.now)) }
+    requires rise { Rise (parents_of (map named_of profiles.now)) }
+    requires has_default { Contains (names (parents_of (map named_of profiles.now))) default }
+    requires sets_filter { SetsFilter (map named_of profiles.now) }
     requires filtered { AreFiltered profiles.now filters.now }
     requires place { place < length profiles.now }
     ensures { IfOk result (IsChained profiles.now filters.now all.now scripts.now
-        (name_at (parents_of (map named profiles.now)) place)) }
+        (name_at (parents_of (map named_of profiles.now)) place)) }
 {
     let found = chain_of(alloc, profiles, place)?;
     let places = found.as_slice();
@@ -112,10 +114,11 @@ fn default_filter_of<'c, F>(
     values: &[&'c ProfileConfig],
 ) -> CompiledDefaultFilter<'c, F>
     requires within { All (λ place. place < length profiles.now) places.now }
-    requires at { AreAt (map named profiles.now) places.now (lent values.now) }
+    requires at { AreAt (map named_of profiles.now) places.now (lent_layers values.now) }
     requires filtered { AreFiltered profiles.now filters.now }
-    requires set { ¬ SetsNone key.default_filter (lent values.now) }
-    ensures { IsDefaultFilterOf profiles.now filters.now (names_at (parents_of (map named profiles.now)) places.now) (lent values.now) result }
+    requires set { ¬ SetsNone key.default_filter (lent_layers values.now) }
+    ensures { IsDefaultFilterOf profiles.now filters.now (names_at
+        (parents_of (map named_of profiles.now)) places.now) (lent_layers values.now) result }
 {
     let Some((near, _)) = nearest::<DefaultFilterKey, ProfileConfig>(values) else {
         unreachable!();
@@ -139,7 +142,8 @@ fn values_at<'c>(
     places: &[usize],
 ) -> Result<Vec<&'c ProfileConfig>, AllocError>
     requires { All (λ place. place < length profiles.now) places.now }
-    ensures { IfOk result (λ values. AreAt (map named profiles.now) places.now (lent values.items)) }
+    ensures { IfOk result
+        (λ values. AreAt (map named_of profiles.now) places.now (lent_layers values.items)) }
 {
     let mut values = Vec::with_capacity(alloc, places.len())?;
     for place in places {

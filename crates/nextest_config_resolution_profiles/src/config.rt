@@ -46,8 +46,8 @@ impl<F: Filters, S: Specs> Model for NextestConfig<F, S> {
 }
 
 impl<F: Filters, S: Specs> NextestConfig<F, S> {
-    ghost use Rattle.nextest_config_resolution_load.specs.Telling.{TellsAs, warnings_in};
-    ghost use Rattle.nextest_config_resolution_profiles.specs.Config.{IsConfig, IsFilterIn, IsProfile};
+    ghost use Rattle.nextest_config_resolution_load.specs.Warn.{WarnsAs, warnings_in};
+    ghost use Rattle.nextest_config_resolution_profiles.specs.Config.{IsConfig, IsFilterIn, IsProfile, KnownRise};
     ghost use Rattle.nextest_config_resolution_profiles.specs.Selection.{selected_by};
     ghost use Rattle.std.specs.Prelude.{◌≡◌, Some};
 
@@ -65,7 +65,8 @@ impl<F: Filters, S: Specs> NextestConfig<F, S> {
         sources: &[ConfigSource],
         experimental: FeatureSet,
     ) -> Result<NextestConfig<F, S>, LoadError>
-        ensures { IsConfig (IsFilterIn F.is_parsed F.has_runtime_leaves cx.now) S.is_parsed F.is_too_deep experimental root.now sources.now result }
+        ensures { IsConfig (IsFilterIn F.is_parsed F.has_runtime_leaves cx.now) S.is_parsed
+            F.is_too_deep experimental root.now sources.now result }
     {
         let lowest = built_in(alloc)?;
         match load::<ConfigLanguages<F, S>>(alloc, &lowest, cx, sources, experimental) {
@@ -91,8 +92,10 @@ impl<F: Filters, S: Specs> NextestConfig<F, S> {
         experimental: FeatureSet,
         warnings: &mut W,
     ) -> Result<NextestConfig<F, S>, LoadError>
-        ensures config { IsConfig (IsFilterIn F.is_parsed F.has_runtime_leaves cx.now) S.is_parsed F.is_too_deep experimental root.now sources.now result }
-        ensures told { TellsAs W.has_told warnings.old warnings.new (warnings_in sources.now) result }
+        ensures config { IsConfig (IsFilterIn F.is_parsed F.has_runtime_leaves cx.now) S.is_parsed
+            F.is_too_deep experimental root.now sources.now result }
+        ensures warnings { WarnsAs W.has_warned warnings.old warnings.new
+            (warnings_in sources.now) result }
     {
         let lowest = built_in(alloc)?;
         let root = Text::from_str(alloc, root)?;
@@ -125,9 +128,10 @@ impl<F: Filters, S: Specs> NextestConfig<F, S> {
         experimental: FeatureSet,
         warnings: &mut W,
     ) -> Result<NextestConfig<F, S>, LoadError>
-        ensures config { IsConfig (IsFilterIn F.is_parsed F.has_runtime_leaves cx.now) S.is_parsed F.is_too_deep
-            experimental root.now (selected_by selection.now sources.now) result }
-        ensures told { TellsAs W.has_told warnings.old warnings.new (warnings_in (selected_by selection.now sources.now)) result }
+        ensures config { IsConfig (IsFilterIn F.is_parsed F.has_runtime_leaves cx.now) S.is_parsed
+            F.is_too_deep experimental root.now (selected_by selection.now sources.now) result }
+        ensures warnings { WarnsAs W.has_warned warnings.old warnings.new
+            (warnings_in (selected_by selection.now sources.now)) result }
     {
         let sources = selected(alloc, selection, sources)?;
         NextestConfig::from_sources_with_warnings(
@@ -154,9 +158,11 @@ impl<F: Filters, S: Specs> NextestConfig<F, S> {
         experimental: FeatureSet,
         warnings: &mut W,
     ) -> Result<NextestConfig<F, S>, LoadError>
-        ensures config { IsConfig (IsFilterIn F.is_parsed F.has_runtime_leaves cx.now) S.is_parsed F.is_too_deep
-            experimental paths.now.workspace_root (selected_by selection.now sources.now) result }
-        ensures told { TellsAs W.has_told warnings.old warnings.new (warnings_in (selected_by selection.now sources.now)) result }
+        ensures config { IsConfig (IsFilterIn F.is_parsed F.has_runtime_leaves cx.now) S.is_parsed
+            F.is_too_deep experimental paths.now.workspace_root
+            (selected_by selection.now sources.now) result }
+        ensures warnings { WarnsAs W.has_warned warnings.old warnings.new
+            (warnings_in (selected_by selection.now sources.now)) result }
     {
         let root = paths.workspace_root.as_str();
         NextestConfig::from_sources_with_selection(
@@ -203,9 +209,11 @@ impl<F: Filters, S: Specs> NextestConfig<F, S> {
     ///
     /// # Errors
     ///
-    /// `NotFound` exactly if no profile has that name, with the names of all. Want of memory says nothing of the profiles.
+    /// `NotFound` exactly if no profile has that name, with the names of all, which rise by their bytes. Running out of memory says
+    /// nothing of the profiles.
     pub fn profile(&self, alloc: Global, name: &str) -> Result<EarlyProfile<'_, F, S>, ProfileError>
-        ensures { IsProfile self.now name.now result }
+        ensures exact { IsProfile self.now name.now result }
+        ensures rises { KnownRise result }
     {
         let profiles = self.loaded.profiles.as_slice();
         match place_of(profiles, name) {

@@ -1,6 +1,6 @@
 // How the filters and platform specs of a configuration are read.
 ghost use Rattle.std.specs.Prelude.{◌≡◌};
-ghost use Rattle.nextest_config_resolution_profiles.specs.Languages.{kind_of, served};
+ghost use Rattle.nextest_config_resolution_profiles.specs.Languages.{kind_of, if_serves};
 
 use nextest_config_resolution_filters::{FilterError, Filters, SpecError, Specs};
 use nextest_config_resolution_load::{FilterPurpose, Languages};
@@ -71,7 +71,7 @@ fn kind_of(purpose: FilterPurpose) -> FiltersetKind
 
 // A filter that was parsed for a purpose, if it serves it.
 fn served<F: Filters>(purpose: FilterPurpose, filter: F) -> Option<F>
-    ensures { result ≡ served F.has_runtime_leaves purpose filter }
+    ensures { result ≡ if_serves F.has_runtime_leaves purpose filter }
 {
     match purpose {
         FilterPurpose::Default | FilterPurpose::Override => Some(filter),

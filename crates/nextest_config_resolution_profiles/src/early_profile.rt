@@ -56,14 +56,14 @@ impl<'c, F: Filters, S: Specs> Model for EarlyProfile<'c, F, S> {
     ghost use Rattle.nextest_config_resolution_profiles.specs.Asking.{AreAskable};
     ghost use Rattle.nextest_config_resolution_profiles.specs.ChainRules.{rules_in};
     ghost use Rattle.nextest_config_resolution_profiles.specs.Early.{Early};
-    ghost use Rattle.nextest_config_resolution_settings.specs.Nearest.{lent};
+    ghost use Rattle.nextest_config_resolution_settings.specs.Nearest.{lent_layers};
 
     ghost Value = { Early F S };
 
     ghost view = { λ it. record {
       name = it.name.now;
       store_dir = it.store_dir;
-      chain = lent it.chain.items;
+      chain = lent_layers it.chain.items;
       default_filter = it.default_filter;
       rules = rules_in it.rules.items;
       script_rules = rules_in it.script_rules.items;
@@ -108,7 +108,8 @@ impl<'c, F: Filters, S: Specs> EarlyProfile<'c, F, S> {
     ///
     /// It fails only on allocation.
     pub fn known_groups(&self, alloc: Global) -> Result<KnownGroups, AllocError>
-        ensures { IfOk result (λ it. it ≡ KnownGroups.Known (map (λ group. group.name) self.now.groups)) }
+        ensures { IfOk result
+            (λ it. it ≡ KnownGroups.Known (map (λ group. group.name) self.now.groups)) }
     {
         Ok(KnownGroups::Known(group_names(alloc, self.groups)?))
     }
@@ -127,7 +128,8 @@ impl<'c, F: Filters, S: Specs> EarlyProfile<'c, F, S> {
         self,
         platforms: &BuildPlatforms<'_, S::Facts>,
     ) -> EvaluatableProfile<'c, F, S>
-        ensures { IsPutOn S.value_on (built_on platforms.now) (built_for platforms.now) self.entry result }
+        ensures { IsPutOn S.value_on (built_on platforms.now)
+            (built_for platforms.now) self.entry result }
     {
         let EarlyProfile {
             name,

@@ -9,7 +9,7 @@ ghost use Rattle.nextest_config_resolution_profiles.specs.Asking.{IsAskable};
 ghost use Rattle.nextest_config_resolution_profiles.specs.ChainRules.{rule_in, rules_in, seen_rule, seen_rules};
 ghost use Rattle.nextest_config_resolution_profiles.specs.Enabled as words;
 ghost use Rattle.nextest_config_resolution_profiles.specs.HeldRules.{AreHeldColumns, AreToldBy};
-ghost use Rattle.nextest_config_resolution_settings.specs.Nearest.{lent};
+ghost use Rattle.nextest_config_resolution_settings.specs.Nearest.{lent_layers};
 ghost use Rattle.nextest_filtering_filters.specs.Meaning.{Tells};
 ghost use Rattle.nextest_filtering_filters.specs.Query.{Binary, Test, binary_of, test_of};
 
@@ -144,7 +144,7 @@ impl EnabledNames {
     // Adds the names of the setup scripts that these rules name.
     fn add_all(&mut self, rules: &[&PlacedScriptRule]) -> Result<(), AllocError>
         ensures { OnOk result ((id : List ℕ) → words.has_name self.new id
-            ≡ words.has_name self.old id || words.is_named (lent rules.now) id) }
+            ≡ words.has_name self.old id || words.is_named (lent_layers rules.now) id) }
     {
         for rule in rules {
             add_setup(&mut self.names, rule.config.setup.as_slice())?;
@@ -158,7 +158,8 @@ impl EnabledNames {
         alloc: Global,
         scripts: &'c [NamedScript<SetupScriptConfig>],
     ) -> Result<SetupScripts<'c>, AllocError>
-        ensures { IfOk result (words.AreScriptsOf (λ id. IsTrue (words.has_name self.now id)) scripts.now) }
+        ensures { IfOk result
+            (words.AreScriptsOf (λ id. IsTrue (words.has_name self.now id)) scripts.now) }
     {
         let mut found = Vec::new(alloc);
         for id in &self.names {
@@ -185,8 +186,8 @@ fn push_defined<'c>(
     id: &ScriptId,
     scripts: &'c [NamedScript<SetupScriptConfig>],
 ) -> Result<(), AllocError>
-    ensures { OnOk result (map words.seen_script found.new.items
-        ≡ map words.seen_script found.old.items ++ filter_map (words.defined_as scripts.now) (id.now ∷ [])) }
+    ensures { OnOk result (map words.seen_script found.new.items ≡ map words.seen_script
+        found.old.items ++ filter_map (words.defined_as scripts.now) (id.now ∷ [])) }
 {
     if let Some(config) = script_named(scripts, id) {
         found.push(EnabledScript {
@@ -213,8 +214,8 @@ fn asked_of<P, F: Filters, S>(
 ) -> Result<Vec<bool>, AllocError>
     requires serves { F.serves_as_default default.now ≡ true }
     requires askable { All (IsAskable F.serves_as_default F.asks_groups) (rules_in rules.now) }
-    ensures { IfOk result (λ row. AreToldBy (words.HoldsAsked F.on_test F.on_binary default.now asked.entry)
-        (seen_rules rules.now) row.items) }
+    ensures { IfOk result (λ row. AreToldBy (words.HoldsAsked F.on_test F.on_binary default.now
+        asked.entry) (seen_rules rules.now) row.items) }
 {
     let mut row = Vec::with_capacity(alloc, rules.len())?;
     for rule in rules {
@@ -232,7 +233,8 @@ fn holds_asked<P, F: Filters, S>(
 ) -> Result<bool, AllocError>
     requires serves { F.serves_as_default default.now ≡ true }
     requires askable { IsAskable F.serves_as_default F.asks_groups (rule_in rule.now) }
-    ensures { IfOk result (Tells (words.HoldsAsked F.on_test F.on_binary default.now asked.entry (seen_rule rule.now))) }
+    ensures { IfOk result (Tells
+        (words.HoldsAsked F.on_test F.on_binary default.now asked.entry (seen_rule rule.now))) }
 {
     match asked {
         Asked::Tests(tests) => holds_on_some(alloc, rule, default, tests),
@@ -249,7 +251,8 @@ fn holds_on_some<P, F: Filters, S>(
 ) -> Result<bool, AllocError>
     requires serves { F.serves_as_default default.now ≡ true }
     requires askable { IsAskable F.serves_as_default F.asks_groups (rule_in rule.now) }
-    ensures { IfOk result (Tells (words.HoldsOnSome F.on_test default.now (map test_of tests.now) (seen_rule rule.now))) }
+    ensures { IfOk result (Tells
+        (words.HoldsOnSome F.on_test default.now (map test_of tests.now) (seen_rule rule.now))) }
 {
     for test in tests {
         if holds_on(alloc, rule, default, test)? {
@@ -267,7 +270,8 @@ fn holds_on_binary<P, F: Filters, S>(
     binary: &BinaryQuery<'_>,
 ) -> Result<bool, AllocError>
     requires serves { F.serves_as_default default.now ≡ true }
-    ensures { IfOk result (Tells (words.HoldsOnBinary F.on_binary default.now (binary_of binary.now) (seen_rule rule.now))) }
+    ensures { IfOk result (Tells
+        (words.HoldsOnBinary F.on_binary default.now (binary_of binary.now) (seen_rule rule.now))) }
 {
     if !rule.holds_for(binary.platform) {
         return Ok(false);
@@ -283,7 +287,8 @@ fn holds_on_binary<P, F: Filters, S>(
 
 // Of each column, whether one of its first values is true.
 fn any_of_each(alloc: Global, columns: &[Vec<bool>], count: usize) -> Result<Vec<bool>, AllocError>
-    ensures { IfOk result (λ row. row.items ≡ map (λ column. words.any_in count column.items) columns.now) }
+    ensures { IfOk result
+        (λ row. row.items ≡ map (λ column. words.any_in count column.items) columns.now) }
 {
     let mut row = Vec::with_capacity(alloc, columns.len())?;
     for column in columns {
@@ -387,7 +392,8 @@ impl<'c, F: Filters, S: Specs> EvaluatableProfile<'c, F, S> {
         alloc: Global,
         asked: Asked<'_>,
     ) -> Result<Vec<&'c PlacedScriptRule>, AllocError>
-        ensures { IfOk result (λ it. words.FindsAsked F.on_test F.on_binary self.now asked.entry (lent it.items)) }
+        ensures { IfOk result (λ it.
+            words.FindsAsked F.on_test F.on_binary self.now asked.entry (lent_layers it.items)) }
     {
         let rules = self.script_rules.as_slice();
         let row = asked_of(alloc, rules, self.default_filter.filter, asked)?;

@@ -6,7 +6,7 @@ ghost use Rattle.nextest_config_resolution_profiles.specs.Finding.{FindsHeld};
 ghost use Rattle.nextest_config_resolution_profiles.specs.Held.{AreSettingsFor, Holds, IsGroupFor, layers_of};
 ghost use Rattle.nextest_config_resolution_settings.specs.Fallbacks as fallback;
 ghost use Rattle.nextest_config_resolution_settings.specs.Keys as key;
-ghost use Rattle.nextest_config_resolution_settings.specs.Nearest.{lent};
+ghost use Rattle.nextest_config_resolution_settings.specs.Nearest.{lent_layers};
 ghost use Rattle.nextest_config_resolution_settings.specs.Profile.{OfProfiles};
 ghost use Rattle.nextest_config_resolution_settings.specs.TestSettings.{AreSettings, group_of};
 ghost use Rattle.nextest_config_resolution_settings.specs.Tracking.{TellsAll, TellsNothing};
@@ -76,14 +76,14 @@ impl<'c, F: Filters, S: Specs> Model for EvaluatableProfile<'c, F, S> {
     ghost use Rattle.nextest_config_resolution_profiles.specs.Asking.{AreAskable};
     ghost use Rattle.nextest_config_resolution_profiles.specs.ChainRules.{rules_in, seen_rules};
     ghost use Rattle.nextest_config_resolution_profiles.specs.Evaluatable.{Evaluatable};
-    ghost use Rattle.nextest_config_resolution_settings.specs.Nearest.{lent};
+    ghost use Rattle.nextest_config_resolution_settings.specs.Nearest.{lent_layers};
 
     ghost Value = { Evaluatable F S };
 
     ghost view = { λ it. record {
       name = it.name.now;
       store_dir = it.store_dir;
-      chain = lent it.chain.items;
+      chain = lent_layers it.chain.items;
       default_filter = it.default_filter;
       rules = seen_rules it.rules.items;
       script_rules = seen_rules it.script_rules.items;
@@ -98,7 +98,7 @@ impl<'c, F: Filters, S: Specs> Model for EvaluatableProfile<'c, F, S> {
 impl<'c, F: Filters, S: Specs> EvaluatableProfile<'c, F, S> {
     /// The profiles that it is read from, lent: itself, its parents one after another, and `default`.
     pub fn chain(&self) -> &[&'c ProfileConfig]
-        ensures { lent result.now ≡ self.now.chain }
+        ensures { lent_layers result.now ≡ self.now.chain }
     {
         self.chain.as_slice()
     }
@@ -174,7 +174,8 @@ impl<'c, F: Filters, S: Specs> EvaluatableProfile<'c, F, S> {
 
     /// `final-status-level`: which statuses are shown at the end of a run.
     pub fn final_status_level(&self) -> FinalStatusLevel
-        ensures { OfProfiles key.final_status_level self.now.chain fallback.final_status_level result }
+        ensures { OfProfiles key.final_status_level self.now.chain fallback.final_status_level
+            result }
     {
         let otherwise = fallbacks::final_status_level();
         *value_or::<FinalStatusLevelKey, ProfileConfig>(self.chain(), &otherwise)
@@ -206,7 +207,8 @@ impl<'c, F: Filters, S: Specs> EvaluatableProfile<'c, F, S> {
 
     /// `slow-timeout`: when a test is slow, and when it is ended for that; of benchmarks `bench.slow-timeout`, and that alone.
     pub fn slow_timeout(&self, mode: NextestRunMode) -> SlowTimeout
-        ensures { OfProfiles (key.slow_timeout mode) self.now.chain (fallback.slow_timeout mode) result }
+        ensures { OfProfiles (key.slow_timeout mode) self.now.chain
+            (fallback.slow_timeout mode) result }
     {
         let otherwise = fallbacks::slow_timeout(mode);
         match mode {
@@ -221,7 +223,8 @@ impl<'c, F: Filters, S: Specs> EvaluatableProfile<'c, F, S> {
 
     /// `global-timeout`: how long a run may take; of benchmarks `bench.global-timeout`, and that alone.
     pub fn global_timeout(&self, mode: NextestRunMode) -> GlobalTimeout
-        ensures { OfProfiles (key.global_timeout mode) self.now.chain fallback.global_timeout result }
+        ensures { OfProfiles
+            (key.global_timeout mode) self.now.chain fallback.global_timeout result }
     {
         let otherwise = fallbacks::global_timeout();
         match mode {
@@ -299,7 +302,8 @@ impl<'c, F: Filters, S: Specs> EvaluatableProfile<'c, F, S> {
         mode: NextestRunMode,
         query: &TestQuery<'_>,
     ) -> Result<TestSettings<'c>, AllocError>
-        ensures { IfOk result (AreSettingsFor F.on_test TellsNothing self.now mode (test_of query.now)) }
+        ensures { IfOk result
+            (AreSettingsFor F.on_test TellsNothing self.now mode (test_of query.now)) }
     {
         self.settings_on::<()>(alloc, mode, query)
     }
@@ -315,7 +319,8 @@ impl<'c, F: Filters, S: Specs> EvaluatableProfile<'c, F, S> {
         mode: NextestRunMode,
         query: &TestQuery<'_>,
     ) -> Result<TestSettings<'c, SettingSource<'c>>, AllocError>
-        ensures { IfOk result (AreSettingsFor F.on_test TellsAll self.now mode (test_of query.now)) }
+        ensures { IfOk result
+            (AreSettingsFor F.on_test TellsAll self.now mode (test_of query.now)) }
     {
         self.settings_on::<SettingSource<'c>>(alloc, mode, query)
     }
@@ -330,7 +335,8 @@ impl<'c, F: Filters, S: Specs> EvaluatableProfile<'c, F, S> {
         alloc: Global,
         query: &TestQuery<'_>,
     ) -> Result<TestGroupRef<'c>, AllocError>
-        ensures { IfOk result (λ it. IsGroupFor F.on_test self.now (test_of query.now) (group_of it)) }
+        ensures { IfOk result
+            (λ it. IsGroupFor F.on_test self.now (test_of query.now) (group_of it)) }
     {
         group_on(
             alloc,
@@ -361,7 +367,8 @@ impl<'c, F: Filters, S: Specs> EvaluatableProfile<'c, F, S> {
         overrides: &'l [&'c PlacedOverride],
         scripts: &'l [&'c PlacedScriptRule],
     ) -> TestSettings<'c, T>
-        ensures { AreSettings T.tells mode (layers_of self.now (lent overrides.now) (lent scripts.now)) result }
+        ensures { AreSettings T.tells mode
+            (layers_of self.now (lent_layers overrides.now) (lent_layers scripts.now)) result }
     {
         let layers = TestLayers {
             overrides,
@@ -378,8 +385,8 @@ impl<'c, F: Filters, S: Specs> EvaluatableProfile<'c, F, S> {
         alloc: Global,
         query: &TestQuery<'_>,
     ) -> Result<Vec<&'c PlacedOverride>, AllocError>
-        ensures { IfOk result (λ it. FindsHeld (Holds F.on_test self.now.default_filter.filter.now (test_of query.now))
-            self.now.rules (lent it.items)) }
+        ensures { IfOk result (λ it. FindsHeld (Holds F.on_test self.now.default_filter.filter.now
+            (test_of query.now)) self.now.rules (lent_layers it.items)) }
     {
         held_on(
             alloc,
@@ -395,8 +402,8 @@ impl<'c, F: Filters, S: Specs> EvaluatableProfile<'c, F, S> {
         alloc: Global,
         query: &TestQuery<'_>,
     ) -> Result<Vec<&'c PlacedScriptRule>, AllocError>
-        ensures { IfOk result (λ it. FindsHeld (Holds F.on_test self.now.default_filter.filter.now (test_of query.now))
-            self.now.script_rules (lent it.items)) }
+        ensures { IfOk result (λ it. FindsHeld (Holds F.on_test self.now.default_filter.filter.now
+            (test_of query.now)) self.now.script_rules (lent_layers it.items)) }
     {
         held_on(
             alloc,
@@ -408,7 +415,8 @@ impl<'c, F: Filters, S: Specs> EvaluatableProfile<'c, F, S> {
 
     // `junit.report-name`: the name that stands in the report.
     fn junit_report_name(&self) -> &'c str
-        ensures { OfProfiles key.junit_report_name self.now.chain fallback.junit_report_name result.now }
+        ensures { OfProfiles key.junit_report_name self.now.chain fallback.junit_report_name
+            result.now }
     {
         match of_profiles::<JunitReportNameKey, ProfileConfig>(self.chain()) {
             Some(name) => name.as_str(),
@@ -418,7 +426,8 @@ impl<'c, F: Filters, S: Specs> EvaluatableProfile<'c, F, S> {
 
     // `junit.store-success-output`: whether the report has the outputs of tests that pass.
     fn junit_store_success_output(&self) -> bool
-        ensures { OfProfiles key.junit_store_success_output self.now.chain fallback.junit_store_success_output result }
+        ensures { OfProfiles key.junit_store_success_output self.now.chain
+            fallback.junit_store_success_output result }
     {
         let otherwise = fallbacks::junit_store_success_output();
         *value_or::<JunitStoreSuccessOutputKey, ProfileConfig>(self.chain(), &otherwise)
@@ -426,7 +435,8 @@ impl<'c, F: Filters, S: Specs> EvaluatableProfile<'c, F, S> {
 
     // `junit.store-failure-output`: whether it has the outputs of tests that fail.
     fn junit_store_failure_output(&self) -> bool
-        ensures { OfProfiles key.junit_store_failure_output self.now.chain fallback.junit_store_failure_output result }
+        ensures { OfProfiles key.junit_store_failure_output self.now.chain
+            fallback.junit_store_failure_output result }
     {
         let otherwise = fallbacks::junit_store_failure_output();
         *value_or::<JunitStoreFailureOutputKey, ProfileConfig>(self.chain(), &otherwise)
@@ -434,7 +444,8 @@ impl<'c, F: Filters, S: Specs> EvaluatableProfile<'c, F, S> {
 
     // `junit.report-skipped`: which skipped tests are reported.
     fn junit_report_skipped(&self) -> ReportSkipPolicy
-        ensures { OfProfiles key.junit_report_skipped self.now.chain fallback.junit_report_skipped result }
+        ensures { OfProfiles key.junit_report_skipped self.now.chain fallback.junit_report_skipped
+            result }
     {
         let otherwise = fallbacks::junit_report_skipped();
         *value_or::<JunitReportSkippedKey, ProfileConfig>(self.chain(), &otherwise)
@@ -442,7 +453,8 @@ impl<'c, F: Filters, S: Specs> EvaluatableProfile<'c, F, S> {
 
     // `junit.flaky-fail-status`: how a test is reported that fails since it is flaky.
     fn junit_flaky_fail_status(&self) -> JunitFlakyFailStatus
-        ensures { OfProfiles key.junit_flaky_fail_status self.now.chain fallback.junit_flaky_fail_status result }
+        ensures { OfProfiles key.junit_flaky_fail_status self.now.chain
+            fallback.junit_flaky_fail_status result }
     {
         let otherwise = fallbacks::junit_flaky_fail_status();
         *value_or::<JunitFlakyFailStatusKey, ProfileConfig>(self.chain(), &otherwise)

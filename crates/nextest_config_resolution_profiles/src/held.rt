@@ -4,7 +4,7 @@ ghost use Rattle.nextest_config_resolution_profiles.specs.Asking.{IsAskable};
 ghost use Rattle.nextest_config_resolution_profiles.specs.ChainRules.{rule_in, rules_in, seen_rule, seen_rules};
 ghost use Rattle.nextest_config_resolution_profiles.specs.Finding.{AddsHeld, FindsHeld, GivesGroup};
 ghost use Rattle.nextest_config_resolution_profiles.specs.Held.{Holds, IsGroupBy};
-ghost use Rattle.nextest_config_resolution_settings.specs.Nearest.{lent};
+ghost use Rattle.nextest_config_resolution_settings.specs.Nearest.{lent_layers};
 ghost use Rattle.nextest_config_resolution_settings.specs.TestSettings.{group_of};
 ghost use Rattle.nextest_filtering_filters.specs.Meaning.{Tells};
 ghost use Rattle.nextest_filtering_filters.specs.Query.{test_of};
@@ -27,7 +27,7 @@ pub(crate) fn held_on<'c, P, F: Filters, S>(
     requires serves { F.serves_as_default default.now ≡ true }
     requires askable { All (IsAskable F.serves_as_default F.asks_groups) (rules_in rules.now) }
     ensures { IfOk result (λ it. FindsHeld (Holds F.on_test default.now (test_of query.now))
-        (seen_rules rules.now) (lent it.items)) }
+        (seen_rules rules.now) (lent_layers it.items)) }
 {
     let mut held = Vec::new(alloc);
     for rule in rules {
@@ -46,8 +46,8 @@ fn push_held<'c, P, F: Filters, S>(
 ) -> Result<(), AllocError>
     requires serves { F.serves_as_default default.now ≡ true }
     requires askable { IsAskable F.serves_as_default F.asks_groups (rule_in rule.now) }
-    ensures { IfOk result (λ _. AddsHeld (Holds F.on_test default.now (test_of query.now)) (seen_rule rule.now)
-        (lent held.old.items) (lent held.new.items)) }
+    ensures { IfOk result (λ _. AddsHeld (Holds F.on_test default.now (test_of query.now))
+        (seen_rule rule.now) (lent_layers held.old.items) (lent_layers held.new.items)) }
 {
     if holds_on(alloc, rule, default, query)? {
         held.push(&rule.rule.placed)?;
@@ -84,7 +84,8 @@ fn group_by<'c, F: Filters, S>(
 ) -> Result<Option<TestGroupRef<'c>>, AllocError>
     requires serves { F.serves_as_default default.now ≡ true }
     requires askable { IsAskable F.serves_as_default F.asks_groups (rule_in rule.now) }
-    ensures { IfOk result (GivesGroup (Holds F.on_test default.now (test_of query.now)) (seen_rule rule.now)) }
+    ensures { IfOk result
+        (GivesGroup (Holds F.on_test default.now (test_of query.now)) (seen_rule rule.now)) }
 {
     match &rule.rule.placed.config.test_group {
         Some(group) => {
@@ -116,7 +117,8 @@ pub(crate) fn holds_on<P, F: Filters, S>(
 ) -> Result<bool, AllocError>
     requires serves { F.serves_as_default default.now ≡ true }
     requires askable { IsAskable F.serves_as_default F.asks_groups (rule_in rule.now) }
-    ensures { IfOk result (Tells (Holds F.on_test default.now (test_of query.now) (seen_rule rule.now))) }
+    ensures { IfOk result
+        (Tells (Holds F.on_test default.now (test_of query.now) (seen_rule rule.now))) }
 {
     if !rule.holds_for(query.binary_query.platform) {
         return Ok(false);

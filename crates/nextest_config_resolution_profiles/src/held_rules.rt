@@ -3,8 +3,8 @@ ghost use Rattle.std.specs.Prelude.{◌≡◌, ◌++◌, ◌∷◌, [], Some, Al
 ghost use Rattle.nextest_config_resolution_profiles.specs.Asking.{IsAskable};
 ghost use Rattle.nextest_config_resolution_profiles.specs.ChainRules.{rule_in, rules_in, seen_rule, seen_rules};
 ghost use Rattle.nextest_config_resolution_profiles.specs.Held.{AreSettingsFor, placed_of};
-ghost use Rattle.nextest_config_resolution_profiles.specs.HeldRules.{AreColumns, AreHeldColumns, IsColumn, IsHeldRow, TellsEach, held_row, picked, row_at, value_at};
-ghost use Rattle.nextest_config_resolution_settings.specs.Nearest.{lent};
+ghost use Rattle.nextest_config_resolution_profiles.specs.HeldRules.{AreColumns, AreHeldColumns, IsColumn, IsHeldRow, TellsEach, held_row, rules_at, row_at, value_at};
+ghost use Rattle.nextest_config_resolution_settings.specs.Nearest.{lent_layers};
 ghost use Rattle.nextest_config_resolution_settings.specs.Tracking.{TellsNothing};
 ghost use Rattle.nextest_filtering_filters.specs.Query.{Test, binary_of};
 
@@ -96,7 +96,7 @@ fn columns_of<P, F: Filters, S>(
     requires serves { F.serves_as_default default.now ≡ true }
     requires askable { All (IsAskable F.serves_as_default F.asks_groups) (rules_in rules.now) }
     ensures { IfOk result (λ it. AreColumns F.on_test default.now (binary_of binary.now)
-        (lent names.now) (seen_rules rules.now) (map (λ column. column.items) it.items)) }
+        (lent_layers names.now) (seen_rules rules.now) (map (λ column. column.items) it.items)) }
 {
     let mut columns = Vec::with_capacity(alloc, rules.len())?;
     for rule in rules {
@@ -117,7 +117,7 @@ fn column_of<P, F: Filters, S>(
     requires serves { F.serves_as_default default.now ≡ true }
     requires askable { IsAskable F.serves_as_default F.asks_groups (rule_in rule.now) }
     ensures { IfOk result (λ it. IsColumn F.on_test default.now (binary_of binary.now)
-        (lent names.now) (seen_rule rule.now) it.items) }
+        (lent_layers names.now) (seen_rule rule.now) it.items) }
 {
     if !rule.holds_for(binary.platform) {
         return Ok(Vec::new(alloc));
@@ -138,8 +138,8 @@ fn filtered_column<F: Filters>(
 ) -> Result<Vec<bool>, AllocError>
     requires serves { F.serves_as_default default.now ≡ true }
     requires no_groups { F.asks_groups filter.now ≡ false }
-    ensures { IfOk result (λ it. TellsEach (λ name. F.on_test filter.now default.now
-        (record { binary = binary_of binary.now; name = name }) true) (lent names.now) it.items) }
+    ensures { IfOk result (λ it. TellsEach (λ name. F.on_test filter.now default.now (record
+        { binary = binary_of binary.now; name = name }) true) (lent_layers names.now) it.items) }
 {
     if holds_nowhere(alloc, filter, default, binary)? {
         return Ok(Vec::new(alloc));
@@ -172,8 +172,8 @@ pub(crate) fn picked_by<'c, P, F, S>(
     rules: &[ChainRule<'c, P, F, S>],
     row: &[bool],
 ) -> Result<Vec<&'c P>, AllocError>
-    ensures { IfOk result (λ it. lent it.items
-        ≡ map placed_of (picked row.now (seen_rules rules.now))) }
+    ensures { IfOk result (λ it. lent_layers it.items
+        ≡ map placed_of (rules_at row.now (seen_rules rules.now))) }
 {
     let mut held = Vec::new(alloc);
     for (place, rule) in rules.iter().enumerate() {
@@ -188,8 +188,8 @@ fn push_if<'c, P, F, S>(
     rule: &ChainRule<'c, P, F, S>,
     is_asked: bool,
 ) -> Result<(), AllocError>
-    ensures { IfOk result (λ _. lent held.new.items
-        ≡ lent held.old.items ++ (if is_asked then placed_of (seen_rule rule.now) ∷ [] else [])) }
+    ensures { IfOk result (λ _. lent_layers held.new.items ≡ lent_layers held.old.items
+        ++ (if is_asked then placed_of (seen_rule rule.now) ∷ [] else [])) }
 {
     if is_asked {
         held.push(&rule.rule.placed)?;
@@ -217,7 +217,8 @@ impl<'c, F: Filters, S: Specs> EvaluatableProfile<'c, F, S> {
         binary: &BinaryQuery<'_>,
         names: &[&str],
     ) -> Result<HeldRules, AllocError>
-        ensures { IfOk result (AreHeldColumns F.on_test self.now (binary_of binary.now) (lent names.now)) }
+        ensures { IfOk result
+            (AreHeldColumns F.on_test self.now (binary_of binary.now) (lent_layers names.now)) }
     {
         let default = self.default_filter.filter;
         let overrides = columns_of(alloc, self.rules.as_slice(), default, binary, names)?;
@@ -251,7 +252,8 @@ impl<'c, F: Filters, S: Specs> EvaluatableProfile<'c, F, S> {
         alloc: Global,
         row: &[bool],
     ) -> Result<Vec<&'c PlacedOverride>, AllocError>
-        ensures { IfOk result (λ it. lent it.items ≡ map placed_of (picked row.now self.now.rules)) }
+        ensures { IfOk result
+            (λ it. lent_layers it.items ≡ map placed_of (rules_at row.now self.now.rules)) }
     {
         picked_by(alloc, self.rules.as_slice(), row)
     }
@@ -262,8 +264,8 @@ impl<'c, F: Filters, S: Specs> EvaluatableProfile<'c, F, S> {
         alloc: Global,
         row: &[bool],
     ) -> Result<Vec<&'c PlacedScriptRule>, AllocError>
-        ensures { IfOk result (λ it. lent it.items
-            ≡ map placed_of (picked (drop (length self.now.rules) row.now) self.now.script_rules)) }
+        ensures { IfOk result (λ it. lent_layers it.items ≡ map placed_of
+            (rules_at (drop (length self.now.rules) row.now) self.now.script_rules)) }
     {
         let behind = row_behind(row, self.rules.len());
         picked_by(alloc, self.script_rules.as_slice(), behind)

@@ -13,7 +13,8 @@ use nextest_config_resolution_settings::TrackSource;
 
 /// A profile of what is built in is one of every configuration that is loaded over it.
 pub fn kept_profile<F: Filters, S: Specs>()
-    ensures { (cx : F.Cx) → KeptProfile (IsFilterIn F.is_parsed F.has_runtime_leaves cx) S.is_parsed F.is_too_deep }
+    ensures { (cx : F.Cx)
+        → KeptProfile (IsFilterIn F.is_parsed F.has_runtime_leaves cx) S.is_parsed F.is_too_deep }
 {}
 
 /// The chain of a profile has one list of values.
@@ -24,24 +25,30 @@ pub fn one_profile()
 /// It can't be that sources neither come to a configuration nor break a rule; and in a configuration a name has a chain, or no
 /// profile has that name.
 pub fn some_profile<F: Filters, S: Specs>()
-    ensures config { (cx : F.Cx) → SomeConfig (IsFilterIn F.is_parsed F.has_runtime_leaves cx) S.is_parsed F.is_too_deep }
-    ensures chain { (cx : F.Cx) → SomeChain (IsFilterIn F.is_parsed F.has_runtime_leaves cx) S.is_parsed F.is_too_deep }
+    ensures config { (cx : F.Cx)
+        → SomeConfig (IsFilterIn F.is_parsed F.has_runtime_leaves cx) S.is_parsed F.is_too_deep }
+    ensures chain { (cx : F.Cx)
+        → SomeChain (IsFilterIn F.is_parsed F.has_runtime_leaves cx) S.is_parsed F.is_too_deep }
 {}
 
 /// The default filter that a profile of a configuration tells is the one that its text is in the workspace.
 pub fn default_is_read<F: Filters, S: Specs>()
-    ensures { (cx : F.Cx) → DefaultIsRead (IsFilterIn F.is_parsed F.has_runtime_leaves cx) S.is_parsed F.is_too_deep }
+    ensures { (cx : F.Cx)
+        → DefaultIsRead (IsFilterIn F.is_parsed F.has_runtime_leaves cx) S.is_parsed F.is_too_deep }
 {}
 
 /// Each rule of a configuration has the filters and platform specs that its texts are in the workspace.
 pub fn rules_are_read<F: Filters, S: Specs>()
-    ensures scripts { (cx : F.Cx) → ScriptRulesAreRead (IsFilterIn F.is_parsed F.has_runtime_leaves cx) S.is_parsed F.is_too_deep }
-    ensures overrides { (cx : F.Cx) → RulesAreRead (IsFilterIn F.is_parsed F.has_runtime_leaves cx) S.is_parsed F.is_too_deep }
+    ensures scripts { (cx : F.Cx) → ScriptRulesAreRead
+        (IsFilterIn F.is_parsed F.has_runtime_leaves cx) S.is_parsed F.is_too_deep }
+    ensures overrides { (cx : F.Cx)
+        → RulesAreRead (IsFilterIn F.is_parsed F.has_runtime_leaves cx) S.is_parsed F.is_too_deep }
 {}
 
 /// Each script that a script rule of a profile names is found, and each group that one of its overrides names is defined.
 pub fn nothing_is_undefined<F: Filters, S: Specs>()
-    ensures { (cx : F.Cx) → NothingIsUndefined (IsFilterIn F.is_parsed F.has_runtime_leaves cx) S.is_parsed F.is_too_deep }
+    ensures { (cx : F.Cx) → NothingIsUndefined
+        (IsFilterIn F.is_parsed F.has_runtime_leaves cx) S.is_parsed F.is_too_deep }
 {}
 
 /// Profiles of other names change nothing: two lists of sources whose files agree but in profiles of names other than these come to
@@ -50,9 +57,11 @@ pub fn nothing_is_undefined<F: Filters, S: Specs>()
 /// groups and scripts, default filters that no question tells apart, and for each test the same settings, for tests the same groups and
 /// setup scripts, and for each binary the same wrapper script.
 pub fn profile_isolation<'p, F: Filters, S: Specs, T: TrackSource<'p>>()
-    ensures values { (cx : F.Cx) → ProfileIsolation (IsFilterIn F.is_parsed F.has_runtime_leaves cx) S.is_parsed F.is_too_deep }
-    ensures answers { (cx : F.Cx) → IsolatesProfiles F.on_binary F.on_test F.asks_groups F.has_runtime_leaves F.serves_as_default
-        T.tells S.value_on (IsFilterIn F.is_parsed F.has_runtime_leaves cx) S.is_parsed F.is_too_deep }
+    ensures values { (cx : F.Cx) → ProfileIsolation
+        (IsFilterIn F.is_parsed F.has_runtime_leaves cx) S.is_parsed F.is_too_deep }
+    ensures answers { (cx : F.Cx) → IsolatesProfiles F.on_binary
+        F.on_test F.asks_groups F.has_runtime_leaves F.serves_as_default T.tells S.value_on
+        (IsFilterIn F.is_parsed F.has_runtime_leaves cx) S.is_parsed F.is_too_deep }
 {}
 
 /// More tests enable no fewer setup scripts.
@@ -88,7 +97,8 @@ pub fn no_fallback()
 
 /// A configuration sets the directory of its store, and each of its chains sets each setting but the path of JUnit's report, so that no fallback is ever used.
 pub fn never_falls_back<F: Filters, S: Specs>()
-    ensures { (cx : F.Cx) → NeverFallsBack (IsFilterIn F.is_parsed F.has_runtime_leaves cx) S.is_parsed F.is_too_deep }
+    ensures { (cx : F.Cx) → NeverFallsBack
+        (IsFilterIn F.is_parsed F.has_runtime_leaves cx) S.is_parsed F.is_too_deep }
 {}
 
 /// Where no rule holds for what is built for the target and sets a default filter, it is that of the profiles.
@@ -106,10 +116,10 @@ pub fn one_held<'p, F: Filters, S: Specs, T: TrackSource<'p>, U: TrackSource<'p>
 
 /// By each profile of a configuration, and on each platforms, each test has settings, and a group.
 pub fn some_settings<'p, F: Filters, S: Specs, T: TrackSource<'p>>()
-    ensures settings { (cx : F.Cx) → SomeSettingsFor (IsFilterIn F.is_parsed F.has_runtime_leaves cx) S.is_parsed F.is_too_deep
-        S.value_on F.on_test T.tells }
-    ensures group { (cx : F.Cx) → SomeGroupFor (IsFilterIn F.is_parsed F.has_runtime_leaves cx) S.is_parsed F.is_too_deep
-        S.value_on F.on_test }
+    ensures settings { (cx : F.Cx) → SomeSettingsFor (IsFilterIn F.is_parsed F.has_runtime_leaves
+        cx) S.is_parsed F.is_too_deep S.value_on F.on_test T.tells }
+    ensures group { (cx : F.Cx) → SomeGroupFor (IsFilterIn F.is_parsed F.has_runtime_leaves cx)
+        S.is_parsed F.is_too_deep S.value_on F.on_test }
 {}
 
 /// The group of a test is the one that its settings have.

@@ -45,8 +45,8 @@ pub(crate) fn put_all_on<P, F, S: Specs>(
     rules: &mut Vec<ChainRule<'_, P, F, S>>,
     platforms: &BuildPlatforms<'_, S::Facts>,
 )
-    ensures { rules.new.items
-        ≡ map (put_on S.value_on (words.built_on platforms.now) (words.built_for platforms.now)) rules.old.items }
+    ensures { rules.new.items ≡ map (put_on S.value_on (words.built_on platforms.now)
+        (words.built_for platforms.now)) rules.old.items }
 {
     put_each_on(rules.as_mut_slice(), platforms);
 }
@@ -56,8 +56,8 @@ fn put_each_on<P, F, S: Specs>(
     rules: &mut [ChainRule<'_, P, F, S>],
     platforms: &BuildPlatforms<'_, S::Facts>,
 )
-    ensures { rules.new
-        ≡ map (put_on S.value_on (words.built_on platforms.now) (words.built_for platforms.now)) rules.old }
+    ensures { rules.new ≡ map (put_on S.value_on (words.built_on platforms.now)
+        (words.built_for platforms.now)) rules.old }
 {
     for rule in rules.iter_mut() {
         rule.put_on(platforms);
@@ -82,7 +82,8 @@ fn default_of_rules<'c, F, S>(
     rules: &[ChainRule<'c, PlacedOverride, F, S>],
 ) -> Option<CompiledDefaultFilter<'c, F>>
     ensures found { IfSome result (words.IsDefaultOfRules (seen_rules rules.now)) }
-    ensures none { IfNone result (NoneHoldsAndSets words.ForTarget words.default_set (seen_rules rules.now)) }
+    ensures none { IfNone result
+        (NoneHoldsAndSets words.ForTarget words.default_set (seen_rules rules.now)) }
 {
     for rule in rules {
         if let Some(found) = default_of_rule(rule) {
@@ -98,7 +99,8 @@ fn default_of_rule<'c, F, S>(
 ) -> Option<CompiledDefaultFilter<'c, F>>
     ensures holds { OnSome result (words.ForTarget (seen_rule rule.now)) }
     ensures found { IfSome result (words.IsDefaultOf (seen_rule rule.now)) }
-    ensures none { IfNone result (¬ HoldsAndSets words.ForTarget words.default_set (seen_rule rule.now)) }
+    ensures none { IfNone result
+        (¬ HoldsAndSets words.ForTarget words.default_set (seen_rule rule.now)) }
 {
     if !rule.for_target {
         return None;

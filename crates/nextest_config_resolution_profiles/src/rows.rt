@@ -40,7 +40,8 @@ pub(crate) fn put_table(
     key: &str,
     inner: Table,
 ) -> Result<(), AllocError>
-    ensures { OnOk result (table_view into.new ≡ put_member key.now (table (table_view inner)) (table_view into.old)) }
+    ensures { OnOk result (table_view into.new
+        ≡ put_member key.now (table (table_view inner)) (table_view into.old)) }
 {
     put(alloc, into, key, Value::from(inner))
 }
@@ -59,7 +60,8 @@ fn value_of(alloc: Global, plain: Plain<'_>) -> Result<Value, AllocError>
 
 // Puts a value under a key, in the place of what stands there.
 fn put(alloc: Global, into: &mut Table, key: &str, value: Value) -> Result<(), AllocError>
-    ensures { OnOk result (table_view into.new ≡ put_member key.now (view value) (table_view into.old)) }
+    ensures { OnOk result
+        (table_view into.new ≡ put_member key.now (view value) (table_view into.old)) }
 {
     let key = String::from_str(alloc, key)?;
     into.insert(key, value)?;

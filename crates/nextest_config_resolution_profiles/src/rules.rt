@@ -2,7 +2,7 @@
 ghost use Rattle.std.specs.Prelude.{◌≡◌, ◌++◌, ◌<◌, [], ◌∷◌, All, IfOk, filter, length, map};
 ghost use Rattle.nextest_config_resolution_inheritance.specs.Inheritance.{names_at};
 ghost use Rattle.nextest_config_resolution_load.specs.Checks.{parents_of};
-ghost use Rattle.nextest_config_resolution_load.specs.Load.{named};
+ghost use Rattle.nextest_config_resolution_load.specs.Load.{named_of};
 ghost use Rattle.nextest_config_resolution_profiles.specs.ChainRules.{rules_in};
 ghost use Rattle.nextest_config_resolution_profiles.specs.Early.{in_profile};
 ghost use Rattle.nextest_config_resolution_settings.specs.Rules.{is_of_profile, rules_of, rules_of_profile};
@@ -20,8 +20,8 @@ pub(crate) fn rules_at<'c, P: InProfile + Drop, F: Drop, S: Drop>(
     all: &'c [LoadedRule<P, F, S>],
 ) -> Result<Vec<ChainRule<'c, P, F, S>>, AllocError>
     requires { All (λ place. place < length profiles.now) places.now }
-    ensures { IfOk result (λ it. rules_in it.items
-        ≡ rules_of (in_profile P.profile_of) all.now (names_at (parents_of (map named profiles.now)) places.now)) }
+    ensures { IfOk result (λ it. rules_in it.items ≡ rules_of (in_profile P.profile_of) all.now
+        (names_at (parents_of (map named_of profiles.now)) places.now)) }
 {
     let mut rules = Vec::new(alloc);
     for place in places {
@@ -51,8 +51,8 @@ fn push_rule<'c, P: InProfile + Drop, F: Drop, S: Drop>(
     name: &str,
     rule: &'c LoadedRule<P, F, S>,
 ) -> Result<(), AllocError>
-    ensures { IfOk result (λ _. rules_in rules.new.items
-        ≡ rules_in rules.old.items ++ filter (is_of_profile (in_profile P.profile_of) name.now) (rule.now ∷ [])) }
+    ensures { IfOk result (λ _. rules_in rules.new.items ≡ rules_in rules.old.items
+        ++ filter (is_of_profile (in_profile P.profile_of) name.now) (rule.now ∷ [])) }
 {
     if rule.placed.profile() == name {
         rules.push(ChainRule::new(rule))?;

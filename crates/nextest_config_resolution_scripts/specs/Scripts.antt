@@ -10,7 +10,7 @@ use Rattle.nextest_config_elements_deserialize.specs.Values.{truth}
 use Rattle.nextest_config_elements_deserialize.specs.Words.{one_of}
 use Rattle.nextest_config_resolution_commands.specs.Below.{defaulted_by, required_by}
 use Rattle.nextest_config_resolution_commands.specs.Commands.{command_in}
-use Rattle.nextest_config_resolution_overrides.specs.Groups.{named}
+use Rattle.nextest_config_resolution_overrides.specs.Groups.{name_of_identifier}
 use Rattle.nextest_config_resolution_scripts.specs.declared.script_config.NamedScript.{NamedScript}
 use Rattle.nextest_config_resolution_scripts.specs.declared.script_config.ScriptConfig.{ScriptConfig}
 use Rattle.nextest_config_resolution_scripts.specs.declared.setup_script.SetupScriptConfig.{SetupScriptConfig}
@@ -83,7 +83,7 @@ wrapper_script_in members = do
 -- a script: its key is its name, an identifier, and what stands there is read so
 abbrev pub script_of : {A : Type 0} → (Data → Reading A) → List ℕ → Data → Reading (NamedScript A)
 script_of reading key given = do
-  id ← named (identifier key)
+  id ← name_of_identifier (identifier key)
   config ← reading given
   Ok (record { id = id; config = config })
 

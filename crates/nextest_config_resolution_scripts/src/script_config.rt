@@ -6,7 +6,7 @@ ghost use Rattle.nextest_config_elements_identifiers.specs.Config.{identifier};
 ghost use Rattle.nextest_config_elements_toml.specs.Paths.{Gives};
 ghost use Rattle.nextest_config_elements_toml.specs.Reading.{under};
 ghost use Rattle.nextest_config_elements_deserialize.specs.Paths.{GivesAt};
-ghost use Rattle.nextest_config_resolution_overrides.specs.Groups.{named};
+ghost use Rattle.nextest_config_resolution_overrides.specs.Groups.{name_of_identifier};
 ghost use Rattle.nextest_config_resolution_scripts.specs.Defined.{or_earlier, script_named};
 ghost use Rattle.nextest_config_resolution_scripts.specs.Paths.{old_scripts_path, scripts_path};
 ghost use Rattle.nextest_config_resolution_scripts.specs.Scripts.{kinds_in, old_scripts_of, script_of, scripts_by, scripts_in, scripts_of, setup_in, wrapper_in};
@@ -176,7 +176,8 @@ impl fmt::Display for ProfileScriptType {
 ///
 /// `Refused` names the first key or value, by the bytes of the keys, that is none, and a key before its value.
 pub fn deserialize_scripts(alloc: Global, found: Option<&Value>) -> Result<ScriptConfig, ValueError>
-    ensures { GivesAt scripts_path result (scripts_of (option_map (λ it. view it.now) found.entry)) }
+    ensures { GivesAt scripts_path result
+        (scripts_of (option_map (λ it. view it.now) found.entry)) }
 {
     match found {
         None => Ok(ScriptConfig {
@@ -227,7 +228,8 @@ pub fn deserialize_old_scripts(
     alloc: Global,
     found: Option<&Value>,
 ) -> Result<Listing<NamedScript<SetupScriptConfig>>, ValueError>
-    ensures { GivesAt old_scripts_path result (old_scripts_of (option_map (λ it. view it.now) found.entry)) }
+    ensures { GivesAt old_scripts_path result
+        (old_scripts_of (option_map (λ it. view it.now) found.entry)) }
 {
     scripts_of(alloc, found, &["script"])
 }
@@ -238,7 +240,8 @@ fn scripts_of<T: DeserializeValue>(
     found: Option<&Value>,
     path: &[&str],
 ) -> Result<Listing<NamedScript<T>>, ValueError>
-    ensures { Gives path.now result (scripts_by T.reading (option_map (λ it. view it.now) found.entry)) }
+    ensures { Gives path.now result
+        (scripts_by T.reading (option_map (λ it. view it.now) found.entry)) }
 {
     match found {
         None => Ok(Listing::new(alloc)),
@@ -294,7 +297,7 @@ fn script_of<T: DeserializeValue>(
 
 // The name that a key is.
 fn id_of(alloc: Global, key: &str) -> Result<ScriptId, ValueError>
-    ensures { Gives [] result (named (identifier key.now)) }
+    ensures { Gives [] result (name_of_identifier (identifier key.now)) }
 {
     match ScriptId::new(alloc, key) {
         Ok(id) => Ok(id),

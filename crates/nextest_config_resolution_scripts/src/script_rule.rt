@@ -114,7 +114,8 @@ fn script_rules_of(
     name: &str,
     found: Option<&Value>,
 ) -> Result<Listing<ScriptRuleConfig>, ValueError>
-    ensures { GivesAt (script_rules_path name.now) result (script_rules_of (option_map (λ it. view it.now) found.entry)) }
+    ensures { GivesAt (script_rules_path name.now) result
+        (script_rules_of (option_map (λ it. view it.now) found.entry)) }
 {
     let path = ["profile", name, "scripts"];
     match found {

@@ -4,7 +4,7 @@ use Rattle.nextest_config_resolution_overrides.specs.declared.placed_override.Pl
 use Rattle.nextest_config_resolution_scripts.specs.declared.script_config.NamedScript.{NamedScript}
 use Rattle.nextest_config_resolution_scripts.specs.declared.script_rule.PlacedScriptRule.{PlacedScriptRule}
 use Rattle.nextest_config_resolution_scripts.specs.declared.wrapper_script.WrapperScriptConfig.{WrapperScriptConfig}
-use Rattle.nextest_config_resolution_settings.specs.Nearest.{lent}
+use Rattle.nextest_config_resolution_settings.specs.Nearest.{lent_layers}
 use Rattle.nextest_config_resolution_settings.specs.declared.tracking.TestLayers.{TestLayers}
 use Rattle.nextest_config_resolution_values.specs.declared.profile_config.ProfileConfig.{ProfileConfig}
 
@@ -17,4 +17,4 @@ pub record Layers : Type 0 where
   pub chain : List ProfileConfig
 
 abbrev pub layers_in : TestLayers → Layers
-layers_in it = record { overrides = lent it.overrides.now; scripts = lent it.scripts.now; wrappers = it.wrappers.now; chain = lent it.chain.now }
+layers_in it = record { overrides = lent_layers it.overrides.now; scripts = lent_layers it.scripts.now; wrappers = it.wrappers.now; chain = lent_layers it.chain.now }

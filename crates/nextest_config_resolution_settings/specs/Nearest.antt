@@ -7,8 +7,8 @@ use Rattle.nextest_config_resolution_settings.specs.declared.source.SettingSourc
 use Rattle.nextest_config_resolution_settings.specs.declared.source.SettingSource.TheVariants as source
 
 -- layers that are lent
-abbrev pub lent : {L : Type 0} → List (Bor L) → List L
-lent layers = map (λ layer. layer.now) layers
+abbrev pub lent_layers : {L : Type 0} → List (Bor L) → List L
+lent_layers layers = map (λ layer. layer.now) layers
 
 -- no layer of a list sets a value
 abbrev pub SetsNone : {L V : Type 0} → (L → Option V) → List L → Type 0
@@ -31,11 +31,11 @@ pub data Source : Type 0 where
   a_profile : ℕ → Source
   no_layer : Source
 
-abbrev pub seen : SettingSource → Source
-seen (source.Override id) = an_override id.now
-seen (source.Script id) = a_script_rule id.now
-seen (source.Profile place) = a_profile place
-seen source.Default = no_layer
+abbrev pub setting_source_of : SettingSource → Source
+setting_source_of (source.Override id) = an_override id.now
+setting_source_of (source.Script id) = a_script_rule id.now
+setting_source_of (source.Profile place) = a_profile place
+setting_source_of source.Default = no_layer
 
 -- the nearest rule that sets a setting is this override
 pub record IsOfRule {R V : Type 0} (id_of : R → OverrideId) (by_rule : R → Option V) (rules : List R) (value : V) (id : OverrideId) : Type 0 where

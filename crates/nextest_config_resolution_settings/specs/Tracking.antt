@@ -1,6 +1,6 @@
 -- What is kept of where a setting comes from.
 use Rattle.std.specs.Prelude.{◌≡◌, refl, ⊤}
-use Rattle.nextest_config_resolution_settings.specs.Nearest.{Source, an_override, a_script_rule, a_profile, no_layer, seen}
+use Rattle.nextest_config_resolution_settings.specs.Nearest.{Source, an_override, a_script_rule, a_profile, no_layer, setting_source_of}
 use Rattle.nextest_config_resolution_settings.specs.declared.source.SettingSource.{SettingSource}
 use Rattle.nextest_config_resolution_settings.specs.declared.source.SettingSource.TheVariants as source
 
@@ -9,7 +9,7 @@ abbrev pub TellsNothing : Unit {0} → Source → Type 0
 TellsNothing it from = ⊤
 
 abbrev pub TellsAll : SettingSource → Source → Type 0
-TellsAll it from = seen it ≡ from
+TellsAll it from = setting_source_of it ≡ from
 
 -- something is kept of each source
 abbrev pub KeepsSome : {S : Type 0} → (S → Source → Type 0) → Type 0

@@ -1,7 +1,7 @@
 // The layers of a configuration, and what they set.
 ghost use Rattle.std.specs.Prelude.{◌≡◌, IfNone, IfSome, unwrap_or};
 ghost use Rattle.std.specs.Option.{option_copied};
-ghost use Rattle.nextest_config_resolution_settings.specs.Nearest.{IsNearest, IsOfProfiles, IsSetting, SetsNone, an_override, lent, seen};
+ghost use Rattle.nextest_config_resolution_settings.specs.Nearest.{IsNearest, IsOfProfiles, IsSetting, SetsNone, an_override, lent_layers, setting_source_of};
 
 use crate::source::SettingSource;
 use nextest_config_resolution_overrides::OverrideId;
@@ -27,8 +27,9 @@ pub trait Sets<S: Setting> {
 /// The place of the nearest layer that sets a setting, and the value that it sets: of the first of a list. `None` where no
 /// layer sets it.
 pub fn nearest<'c, S: Setting, L: Sets<S>>(layers: &[&'c L]) -> Option<(usize, &'c S::Value)>
-    ensures found { IfSome result (λ found. IsNearest L.value (lent layers.now) found.0 found.1.now) }
-    ensures none { IfNone result (SetsNone L.value (lent layers.now)) }
+    ensures found { IfSome result
+        (λ found. IsNearest L.value (lent_layers layers.now) found.0 found.1.now) }
+    ensures none { IfNone result (SetsNone L.value (lent_layers layers.now)) }
 {
     for place in 0..layers.len() {
         if let Some(value) = layers[place].value() {
@@ -67,8 +68,9 @@ pub fn find_setting<'c, S: Setting, R: Sets<S> + Rule, P: Sets<S>>(
     rules: &[&'c R],
     profiles: &[&'c P],
 ) -> (Option<&'c S::Value>, SettingSource<'c>)
-    ensures { (fallback : S.Value) → IsSetting R.id R.value P.value (lent rules.now) (lent profiles.now) fallback
-        (unwrap_or (option_copied result.0) fallback) (seen result.1) }
+    ensures { (fallback : S.Value)
+        → IsSetting R.id R.value P.value (lent_layers rules.now) (lent_layers profiles.now) fallback
+        (unwrap_or (option_copied result.0) fallback) (setting_source_of result.1) }
 {
     match nearest::<S, R>(rules) {
         Some((place, value)) => (Some(value), source_of(rules[place])),
@@ -78,7 +80,7 @@ pub fn find_setting<'c, S: Setting, R: Sets<S> + Rule, P: Sets<S>>(
 
 // That a value comes from a rule.
 fn source_of<'c, R: Rule>(rule: &'c R) -> SettingSource<'c>
-    ensures { seen result ≡ an_override (R.id rule.now) }
+    ensures { setting_source_of result ≡ an_override (R.id rule.now) }
 {
     SettingSource::Override(rule.id())
 }
@@ -88,8 +90,8 @@ fn source_of<'c, R: Rule>(rule: &'c R) -> SettingSource<'c>
 pub fn find_in_profiles<'c, 'p, S: Setting, P: Sets<S>>(
     profiles: &[&'c P],
 ) -> (Option<&'c S::Value>, SettingSource<'p>)
-    ensures { (fallback : S.Value) → IsOfProfiles P.value (lent profiles.now) fallback
-        (unwrap_or (option_copied result.0) fallback) (seen result.1) }
+    ensures { (fallback : S.Value) → IsOfProfiles P.value (lent_layers profiles.now) fallback
+        (unwrap_or (option_copied result.0) fallback) (setting_source_of result.1) }
 {
     match nearest::<S, P>(profiles) {
         Some((place, value)) => (Some(value), SettingSource::Profile(place)),

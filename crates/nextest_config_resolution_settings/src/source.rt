@@ -17,7 +17,7 @@ pub enum SettingSource<'p> {
 
 /// What is kept of where a setting comes from: nothing (`()`), or all of it (`SettingSource`).
 pub trait TrackSource<'p>: Copy {
-    ghost use Rattle.nextest_config_resolution_settings.specs.Nearest.{Source, seen};
+    ghost use Rattle.nextest_config_resolution_settings.specs.Nearest.{Source, setting_source_of};
     ghost use Rattle.nextest_config_resolution_settings.specs.Tracking.{KeepsSome};
 
     // What is kept where a setting comes from there.
@@ -28,7 +28,7 @@ pub trait TrackSource<'p>: Copy {
 
     /// What is kept of where a setting comes from.
     fn track(source: SettingSource<'p>) -> Self
-        ensures { tells result (seen source.entry) };
+        ensures { tells result (setting_source_of source.entry) };
 }
 
 impl<'p> TrackSource<'p> for () {

@@ -4,7 +4,7 @@ ghost use Rattle.std.specs.Option.{option_copied};
 ghost use Rattle.nextest_config_resolution_settings.specs.Fallbacks as fallback;
 ghost use Rattle.nextest_config_resolution_settings.specs.Keys as key;
 ghost use Rattle.nextest_config_resolution_settings.specs.Layers.{layers_in};
-ghost use Rattle.nextest_config_resolution_settings.specs.Nearest.{lent};
+ghost use Rattle.nextest_config_resolution_settings.specs.Nearest.{lent_layers};
 ghost use Rattle.nextest_config_resolution_settings.specs.RuleKeys as rule;
 ghost use Rattle.nextest_config_resolution_settings.specs.Rules.{id_of};
 ghost use Rattle.nextest_config_resolution_settings.specs.TestSettings.{AreSettings, group_of};
@@ -88,9 +88,9 @@ fn found_by<'c, S: Setting, R: Sets<S> + Rule, P: Sets<S>, T: TrackSource<'c>>(
     rules: &[&'c R],
     profiles: &[&'c P],
 ) -> (Option<&'c S::Value>, T)
-    ensures { (otherwise : S.Value) →
-        IsTracked T.tells R.id R.value P.value (lent rules.now) (lent profiles.now) otherwise
-        (unwrap_or (option_copied result.0) otherwise, result.1) }
+    ensures { (otherwise : S.Value)
+        → IsTracked T.tells R.id R.value P.value (lent_layers rules.now) (lent_layers profiles.now)
+        otherwise (unwrap_or (option_copied result.0) otherwise, result.1) }
 {
     let (value, source) = find_setting::<S, R, P>(rules, profiles);
     (value, T::track(source))
@@ -105,9 +105,8 @@ where
     PlacedOverride: Sets<S>,
     ProfileConfig: Sets<S>,
     S::Value: Copy + 'c,
-    ensures { IsTracked T.tells id_of
-        ⟦<PlacedOverride as Sets<S>>⟧.value ⟦<ProfileConfig as Sets<S>>⟧.value
-        (lent layers.entry.overrides.now) (lent layers.entry.chain.now) otherwise result }
+    ensures { IsTracked T.tells id_of ⟦<PlacedOverride as Sets<S>>⟧.value ⟦<ProfileConfig as Sets<S>>⟧.value (lent_layers layers.entry.overrides.now)
+        (lent_layers layers.entry.chain.now) otherwise result }
 {
     let (found, source) = found_by::<S, PlacedOverride, ProfileConfig, T>(
         layers.overrides,
@@ -125,7 +124,7 @@ fn slow_timeout_by<'l, 'c, T: TrackSource<'c>>(
     mode: NextestRunMode,
 ) -> (SlowTimeout, T)
     ensures { IsTracked T.tells id_of (rule.slow_timeout mode) (key.slow_timeout mode)
-        (lent layers.entry.overrides.now) (lent layers.entry.chain.now)
+        (lent_layers layers.entry.overrides.now) (lent_layers layers.entry.chain.now)
         (fallback.slow_timeout mode) result }
 {
     let otherwise = fallbacks::slow_timeout(mode);
@@ -138,8 +137,8 @@ fn slow_timeout_by<'l, 'c, T: TrackSource<'c>>(
 // `run-extra-args`, and what is kept of where it is taken from.
 fn run_extra_args_by<'l, 'c, T: TrackSource<'c>>(layers: TestLayers<'l, 'c>) -> (&'c [Text], T)
     ensures { IsTracked T.tells id_of rule.run_extra_args key.run_extra_args
-        (lent layers.entry.overrides.now) (lent layers.entry.chain.now) fallback.run_extra_args
-        (result.0.now, result.1) }
+        (lent_layers layers.entry.overrides.now)
+        (lent_layers layers.entry.chain.now) fallback.run_extra_args (result.0.now, result.1) }
 {
     let (found, source) = found_by::<RunExtraArgsKey, PlacedOverride, ProfileConfig, T>(
         layers.overrides,
@@ -154,8 +153,8 @@ fn run_extra_args_by<'l, 'c, T: TrackSource<'c>>(layers: TestLayers<'l, 'c>) -> 
 // `test-group`, and what is kept of where it is taken from.
 fn test_group_by<'l, 'c, T: TrackSource<'c>>(layers: TestLayers<'l, 'c>) -> (TestGroupRef<'c>, T)
     ensures { IsTracked T.tells id_of rule.test_group key.test_group
-        (lent layers.entry.overrides.now) (lent layers.entry.chain.now) fallback.test_group
-        (group_of result.0, result.1) }
+        (lent_layers layers.entry.overrides.now)
+        (lent_layers layers.entry.chain.now) fallback.test_group (group_of result.0, result.1) }
 {
     let (found, source) = found_by::<TestGroupKey, PlacedOverride, ProfileConfig, T>(
         layers.overrides,

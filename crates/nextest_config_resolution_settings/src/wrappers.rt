@@ -1,7 +1,7 @@
 // The wrapper scripts that script rules set.
 ghost use Rattle.std.specs.Prelude.{◌≡◌};
 ghost use Rattle.std.specs.Option.{option_copied};
-ghost use Rattle.nextest_config_resolution_settings.specs.Nearest.{lent};
+ghost use Rattle.nextest_config_resolution_settings.specs.Nearest.{lent_layers};
 ghost use Rattle.nextest_config_resolution_settings.specs.Wrappers as words;
 
 use crate::keys::{ListWrapperKey, RunWrapperKey};
@@ -49,8 +49,8 @@ pub(crate) fn wrapper_by<'c, S: Setting<Value = ScriptId>, T: TrackSource<'c>>(
 ) -> (Option<&'c WrapperScriptConfig>, T)
 where
     PlacedScriptRule: Sets<S>,
-    ensures { words.IsTrackedWrapper T.tells wrappers.now ⟦<PlacedScriptRule as Sets<S>>⟧.value (lent rules.now)
-        (option_copied result.0, result.1) }
+    ensures { words.IsTrackedWrapper T.tells wrappers.now ⟦<PlacedScriptRule as Sets<S>>⟧.value
+        (lent_layers rules.now) (option_copied result.0, result.1) }
 {
     match nearest::<S, PlacedScriptRule>(rules) {
         Some((place, id)) => {
@@ -67,7 +67,7 @@ pub fn list_settings_by<'c>(
     rules: &[&'c PlacedScriptRule],
     wrappers: &'c [NamedScript<WrapperScriptConfig>],
 ) -> ListSettings<'c>
-    ensures { words.SetsWrapper wrappers.now words.list_wrapper (lent rules.now)
+    ensures { words.SetsWrapper wrappers.now words.list_wrapper (lent_layers rules.now)
         (option_copied result.list_wrapper.0) }
 {
     ListSettings {

@@ -32,10 +32,10 @@ first_of wanted (source ∷ more) = if is_of wanted source then Some source else
 abbrev pub repository : List ConfigSource → Option ConfigSource
 repository sources = option_or (first_of class.Explicit sources) (first_of class.Discovered sources)
 
-abbrev pub listed : {A : Type 0} → Option A → List A
-listed None = []
-listed (Some x) = x ∷ []
+abbrev pub list_of_option : {A : Type 0} → Option A → List A
+list_of_option None = []
+list_of_option (Some x) = x ∷ []
 
 -- the tools' sources, of which the first is the highest, and above them the repository's
-abbrev pub counted : List ConfigSource → List ConfigSource
-counted sources = reverse (filter (is_of class.Tool) sources) ++ listed (repository sources)
+abbrev pub counting_sources : List ConfigSource → List ConfigSource
+counting_sources sources = reverse (filter (is_of class.Tool) sources) ++ list_of_option (repository sources)

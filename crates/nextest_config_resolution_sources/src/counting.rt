@@ -15,7 +15,8 @@ pub fn counted<'s>(
     alloc: Global,
     sources: &'s [ConfigSource],
 ) -> Result<Vec<&'s ConfigSource>, AllocError>
-    ensures { IfOk result (λ found. map (λ it. it.now) found.items ≡ words.counted sources.now) }
+    ensures { IfOk result
+        (λ found. map (λ it. it.now) found.items ≡ words.counting_sources sources.now) }
 {
     let mut found = tools(alloc, sources)?;
     found.reverse();
@@ -28,7 +29,8 @@ fn push_repository<'s>(
     found: &mut Vec<&'s ConfigSource>,
     sources: &'s [ConfigSource],
 ) -> Result<(), AllocError>
-    ensures { IfOk result (λ _. map (λ it. it.now) found.new.items ≡ map (λ it. it.now) found.old.items ++ words.listed (words.repository sources.now)) }
+    ensures { IfOk result (λ _. map (λ it. it.now) found.new.items ≡ map
+        (λ it. it.now) found.old.items ++ words.list_of_option (words.repository sources.now)) }
 {
     match repository(sources) {
         Some(source) => Ok(found.push(source)?),
@@ -41,7 +43,8 @@ fn tools<'s>(
     alloc: Global,
     sources: &'s [ConfigSource],
 ) -> Result<Vec<&'s ConfigSource>, AllocError>
-    ensures { IfOk result (λ found. map (λ it. it.now) found.items ≡ filter (words.is_of class.Tool) sources.now) }
+    ensures { IfOk result
+        (λ found. map (λ it. it.now) found.items ≡ filter (words.is_of class.Tool) sources.now) }
 {
     let mut found = Vec::new(alloc);
     for source in sources {
@@ -55,7 +58,8 @@ fn push_tool<'s>(
     found: &mut Vec<&'s ConfigSource>,
     source: &'s ConfigSource,
 ) -> Result<(), AllocError>
-    ensures { IfOk result (λ _. map (λ it. it.now) found.new.items ≡ map (λ it. it.now) found.old.items ++ filter (words.is_of class.Tool) (source.now ∷ [])) }
+    ensures { IfOk result (λ _. map (λ it. it.now) found.new.items
+        ≡ map (λ it. it.now) found.old.items ++ filter (words.is_of class.Tool) (source.now ∷ [])) }
 {
     if is_of(Class::Tool, source) {
         found.push(source)?;

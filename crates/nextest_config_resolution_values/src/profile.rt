@@ -55,7 +55,8 @@ pub fn deserialize_profile_value(
 
 // What a profile says of benchmarks.
 fn bench_in(alloc: Global, name: &str, table: &Table) -> Result<Option<ProfileBench>, ValueError>
-    ensures { GivesAt (profile_path name.now) result (optional_by (codes "bench") (table_by bench_in) (table_view table.now)) }
+    ensures { GivesAt (profile_path name.now) result
+        (optional_by (codes "bench") (table_by bench_in) (table_view table.now)) }
 {
     match member(table, "bench") {
         None => Ok(None),

@@ -18,7 +18,8 @@ pub(crate) fn optional_value<T: DeserializeValue>(
     table: &Table,
     key: &str,
 ) -> Result<Option<T>, ValueError>
-    ensures { GivesAt (profile_path name.now) result (optional_by key.now T.reading (table_view table.now)) }
+    ensures { GivesAt (profile_path name.now) result
+        (optional_by key.now T.reading (table_view table.now)) }
 {
     match member(table, key) {
         None => Ok(None),
@@ -33,7 +34,8 @@ pub(crate) fn optional_bench_value<T: DeserializeValue>(
     table: &Table,
     key: &str,
 ) -> Result<Option<T>, ValueError>
-    ensures { GivesAt (bench_path name.now) result (optional_by key.now T.reading (table_view table.now)) }
+    ensures { GivesAt (bench_path name.now) result
+        (optional_by key.now T.reading (table_view table.now)) }
 {
     match member(table, key) {
         None => Ok(None),

@@ -58,7 +58,8 @@ pub(crate) fn default_to_final(
     name: &str,
     table: &Table,
 ) -> Result<DefaultToFinal, ValueError>
-    ensures { GivesAt (profile_path name.now) result (read.default_to_final (table_view table.now)) }
+    ensures { GivesAt (profile_path name.now) result
+        (read.default_to_final (table_view table.now)) }
 {
     let path = ["profile", name];
     let default_filter = optional_text(alloc, table, &path, "default-filter")?;
@@ -85,7 +86,8 @@ pub(crate) fn flaky_to_inherits(
     name: &str,
     table: &Table,
 ) -> Result<FlakyToInherits, ValueError>
-    ensures { GivesAt (profile_path name.now) result (read.flaky_to_inherits (table_view table.now)) }
+    ensures { GivesAt (profile_path name.now) result
+        (read.flaky_to_inherits (table_view table.now)) }
 {
     let path = ["profile", name];
     let flaky_result = optional::<Any, FlakyResult>(alloc, table, &path, "flaky-result")?;
@@ -126,7 +128,8 @@ pub(crate) fn status_to_threads(
     name: &str,
     table: &Table,
 ) -> Result<StatusToThreads, ValueError>
-    ensures { GivesAt (profile_path name.now) result (read.status_to_threads (table_view table.now)) }
+    ensures { GivesAt (profile_path name.now) result
+        (read.status_to_threads (table_view table.now)) }
 {
     let path = ["profile", name];
     let status_level = optional::<Any, StatusLevel>(alloc, table, &path, "status-level")?;

@@ -16,7 +16,8 @@ pub fn deserialize_store_dir(
     alloc: Global,
     store: Option<&Value>,
 ) -> Result<Option<Text>, ValueError>
-    ensures { GivesAt (codes "store" ∷ []) result (store_dir_of (option_map (λ it. view it.now) store.entry)) }
+    ensures { GivesAt (codes "store" ∷ []) result
+        (store_dir_of (option_map (λ it. view it.now) store.entry)) }
 {
     match store {
         None => Ok(None),

@@ -9,10 +9,10 @@ use Rattle.nextest_config_elements_toml.specs.Reading.{Path}
 use Rattle.nextest_config_elements_toml.specs.declared.key_path.KeyPath.{KeyPath}
 use Rattle.nextest_config_resolution_warnings.specs.Steps.{path_of, paths_below, text_of}
 use Rattle.nextest_config_resolution_warnings.specs.Unknown.{behind, key_path}
-use Rattle.nextest_config_resolution_warnings.specs.declared.step.Step.{Step}
+use Rattle.nextest_config_resolution_warnings.specs.declared.step.KeyStep.{KeyStep}
 
 -- paths below a step are paths behind its key
-one_step : (steps : List Step) (step : Step) (paths : List Path) → paths_below (steps ++ step ∷ []) paths ≡ paths_below steps (behind (text_of step) paths)
+one_step : (steps : List KeyStep) (step : KeyStep) (paths : List Path) → paths_below (steps ++ step ∷ []) paths ≡ paths_below steps (behind (text_of step) paths)
 one_step steps step [] = refl
 one_step steps step (path ∷ paths) =
     let along : path_of (steps ++ step ∷ []) ++ path ≡ path_of steps ++ (text_of step ∷ path) =
@@ -21,7 +21,7 @@ one_step steps step (path ∷ paths) =
     ∙ ap (λ (ps : List KeyPath). key_path (path_of steps ++ (text_of step ∷ path)) ∷ ps) (one_step steps step paths)
 
 -- what was found below a step stands in front of what is ahead
-pub found_further : (steps : List Step) (step : Step) (key : List ℕ) (before now whole : List KeyPath) (here ahead : List Path)
+pub found_further : (steps : List KeyStep) (step : KeyStep) (key : List ℕ) (before now whole : List KeyPath) (here ahead : List Path)
     → text_of step ≡ key → before ++ paths_below steps (behind key here ++ ahead) ≡ whole → now ≡ before ++ paths_below (steps ++ step ∷ []) here
     → now ++ paths_below steps ahead ≡ whole
 found_further steps step key before now whole here ahead same known more =
@@ -41,7 +41,7 @@ item_first items at value within is =
     items_view-drop items at value within ∙ ap (λ (it : Value). item (view it) (items_view (drop (at + 1) items))) (sym is)
 
 -- the key of one step more
-pub step_further : (steps : List Step) (at : ℕ) (step : Step) (before now : Path) (text : List ℕ) → at < length steps
+pub step_further : (steps : List KeyStep) (at : ℕ) (step : KeyStep) (before now : Path) (text : List ℕ) → at < length steps
     → before ≡ path_of (take at steps) → text ≡ text_of (get_or steps at step) → now ≡ before ++ text ∷ [] → now ≡ path_of (take (at + 1) steps)
 step_further steps at step before now text within known is more =
     more

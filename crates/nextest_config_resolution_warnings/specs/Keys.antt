@@ -11,6 +11,6 @@ abbrev pub seen_row : Bor (List ℕ) × Place → List ℕ × Place
 seen_row row = (row.0.now, row.1)
 
 -- keys
-abbrev pub seen : Keys → places.Keys
-seen (These rows) = places.these (map seen_row rows.now)
-seen (Any place) = places.any place
+abbrev pub keys_of : Keys → places.Keys
+keys_of (These rows) = places.these (map seen_row rows.now)
+keys_of (Any place) = places.any place

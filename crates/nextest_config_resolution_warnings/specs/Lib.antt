@@ -4,6 +4,6 @@ pub mod Reserved
 pub mod Scripts
 pub mod Shown
 pub mod Steps
-pub mod Telling
+pub mod Warn
 pub mod Unknown
 pub mod Warnings

@@ -10,9 +10,9 @@ shown_character character =
     else encode_utf8 character
 
 -- a text, on one line
-abbrev pub shown : List ℕ → List ℕ
-shown text = flat_map shown_character (chars text)
+abbrev pub one_line_of : List ℕ → List ℕ
+one_line_of text = flat_map shown_character (chars text)
 
 -- the keys of a path, with a dot between two of them
 abbrev pub shown_keys : List (List ℕ) → List ℕ
-shown_keys keys = join_with_byte 46 (map shown keys)
+shown_keys keys = join_with_byte 46 (map one_line_of keys)

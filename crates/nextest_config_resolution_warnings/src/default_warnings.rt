@@ -54,7 +54,7 @@ impl ConfigWarnings for DefaultConfigWarnings {
     ghost use Rattle.std.specs.Prelude.{◌≡◌, map};
     ghost use Rattle.nextest_config_resolution_warnings.specs.Warnings.{text_of};
 
-    ghost has_told = { λ lines told. lines ≡ map text_of told };
+    ghost has_warned = { λ lines told. lines ≡ map text_of told };
 
     fn unknown_config_key(&mut self, path: &str, key: &KeyPath) -> Result<(), AllocError> {
         let text = texts::unknown_key(self.alloc, path, key)?;

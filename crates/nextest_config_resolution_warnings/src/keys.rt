@@ -1,7 +1,7 @@
 // Which keys a table at a place may have.
 ghost use Rattle.std.specs.Prelude.{◌≡◌, map};
 ghost use Rattle.toml.specs.View.{table_view};
-ghost use Rattle.nextest_config_resolution_warnings.specs.Keys.{seen, seen_row};
+ghost use Rattle.nextest_config_resolution_warnings.specs.Keys.{keys_of, seen_row};
 ghost use Rattle.nextest_config_resolution_warnings.specs.Places as places;
 
 use crate::member::member;
@@ -170,7 +170,7 @@ pub(crate) enum Keys {
 // The keys that a table at a place may have.
 #[tactic(auto, unfolding(crate::specs::Places::keys_at))]
 fn keys_at(place: Place) -> Keys
-    ensures { seen result ≡ places.keys_at place }
+    ensures { keys_of result ≡ places.keys_at place }
 {
     match place {
         Place::Top => Keys::These(TOP),
@@ -205,7 +205,7 @@ fn keys_at(place: Place) -> Keys
 
 // The keys that a table at a place may have: a longest delay has no meaning beside equal ones.
 pub(crate) fn keys_in(place: Place, table: &Table) -> Keys
-    ensures { seen result ≡ places.keys_in place (table_view table.now) }
+    ensures { keys_of result ≡ places.keys_in place (table_view table.now) }
 {
     match place {
         Place::Retries if has_fixed_delays(table) => keys_at(Place::FixedRetries),
@@ -236,7 +236,7 @@ pub(crate) fn items_at(place: Place) -> Place
 
 // What stands at a key, if a table may have it.
 pub(crate) fn place_of(keys: Keys, key: &str) -> Option<Place>
-    ensures { result ≡ places.place_of (seen keys) key.now }
+    ensures { result ≡ places.place_of (keys_of keys) key.now }
 {
     match keys {
         Keys::These(rows) => named_in(rows, key),

@@ -49,7 +49,8 @@ fn push_unknown_reserved(
     found: &mut Listing<Text>,
     name: &str,
 ) -> Result<(), AllocError>
-    ensures { IfOk result (λ _. found.new ≡ found.old ++ filter reserved.is_unknown_reserved (name.now ∷ [])) }
+    ensures { IfOk result
+        (λ _. found.new ≡ found.old ++ filter reserved.is_unknown_reserved (name.now ∷ [])) }
 {
     if is_unknown_reserved(name) {
         found.push(Text::from_str(alloc, name)?)?;

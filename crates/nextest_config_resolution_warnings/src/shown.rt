@@ -1,5 +1,5 @@
 // How a text of a configuration prints in a warning.
-ghost use Rattle.nextest_config_resolution_warnings.specs.Shown.{shown, shown_character, shown_keys};
+ghost use Rattle.nextest_config_resolution_warnings.specs.Shown.{one_line_of, shown_character, shown_keys};
 
 use nextest_text::Text;
 use std::fmt;
@@ -34,9 +34,9 @@ impl fmt::Display for ShownCharacter {
 
 impl fmt::Display for Shown<'_> {
     ghost use Rattle.std.specs.Prelude.{Some};
-    ghost use Rattle.nextest_config_resolution_warnings.specs.Shown.{shown};
+    ghost use Rattle.nextest_config_resolution_warnings.specs.Shown.{one_line_of};
 
-    ghost output = { λ it. Some (shown it.0.now) };
+    ghost output = { λ it. Some (one_line_of it.0.now) };
 
     fn fmt<W: fmt::Write>(&self, f: &mut fmt::Formatter<W>) -> fmt::Result {
         for character in self.0.chars() {

@@ -43,7 +43,8 @@ pub(crate) fn empty_script_sections(
     profile: &str,
     count: usize,
 ) -> Result<Text, AllocError>
-    ensures { IfOk result (λ text. text ≡ text_of (EmptyScriptSections path.now profile.now count)) }
+    ensures { IfOk result
+        (λ text. text ≡ text_of (EmptyScriptSections path.now profile.now count)) }
 {
     let (profile, path) = (Shown(profile), Shown(path));
     let text = format!(in alloc; "empty script sections {count} in profile {profile} in {path}")?;

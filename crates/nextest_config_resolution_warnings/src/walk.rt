@@ -2,13 +2,13 @@
 ghost use Rattle.std.specs.Prelude.{◌≡◌, ◌++◌, [], ◌∷◌, IfOk};
 ghost use Rattle.std.specs.Option.{option_map_or};
 ghost use Rattle.toml.specs.View.{view, array_view, table_view};
-ghost use Rattle.nextest_config_resolution_warnings.specs.Keys.{seen};
+ghost use Rattle.nextest_config_resolution_warnings.specs.Keys.{keys_of};
 ghost use Rattle.nextest_config_resolution_warnings.specs.Steps.{path_of, paths_below};
 ghost use Rattle.nextest_config_resolution_warnings.specs.Unknown.{key_path, unknown_in, unknown_items, unknown_keys, unknown_members};
 
 use crate::keys::{Keys, items_at, keys_in, place_of};
 use crate::place::Place;
-use crate::step::{Step, key_path};
+use crate::step::{KeyStep, key_path};
 use nextest_config_elements_toml::KeyPath;
 use nextest_text::Listing;
 use std::alloc::{AllocError, Global};
@@ -19,12 +19,13 @@ use toml::{Table, Value};
 #[cycle(walk)]
 pub(crate) fn walk<'a>(
     alloc: Global,
-    steps: &mut Vec<Step<'a>>,
+    steps: &mut Vec<KeyStep<'a>>,
     found: &mut Listing<KeyPath>,
     place: Place,
     value: &'a Value,
 ) -> Result<(), AllocError>
-    ensures found { IfOk result (λ _. found.new ≡ found.old ++ paths_below steps.old.items (unknown_in place (view value.now))) }
+    ensures found { IfOk result (λ _.
+        found.new ≡ found.old ++ paths_below steps.old.items (unknown_in place (view value.now))) }
     ensures steps { IfOk result (λ _. steps.new.items ≡ steps.old.items) }
 {
     match value {
@@ -38,16 +39,17 @@ pub(crate) fn walk<'a>(
 #[cycle(walk)]
 fn walk_table<'a>(
     alloc: Global,
-    steps: &mut Vec<Step<'a>>,
+    steps: &mut Vec<KeyStep<'a>>,
     found: &mut Listing<KeyPath>,
     keys: Keys,
     table: &'a Table,
 ) -> Result<(), AllocError>
-    ensures found { IfOk result (λ _. found.new ≡ found.old ++ paths_below steps.old.items (unknown_members (seen keys) (table_view table.now))) }
+    ensures found { IfOk result (λ _. found.new ≡ found.old
+        ++ paths_below steps.old.items (unknown_members (keys_of keys) (table_view table.now))) }
     ensures steps { IfOk result (λ _. steps.new.items ≡ steps.old.items) }
 {
     'members: for (key, member) in table.iter() {
-        steps.push(Step::Key(key.as_str()))?;
+        steps.push(KeyStep::Key(key.as_str()))?;
         walk_member(alloc, steps, found, place_of(keys, key.as_str()), member)?;
         steps.pop();
     }
@@ -58,13 +60,13 @@ fn walk_table<'a>(
 #[cycle(walk)]
 fn walk_member<'a>(
     alloc: Global,
-    steps: &mut Vec<Step<'a>>,
+    steps: &mut Vec<KeyStep<'a>>,
     found: &mut Listing<KeyPath>,
     place: Option<Place>,
     value: &'a Value,
 ) -> Result<(), AllocError>
-    ensures found { IfOk result (λ _. found.new
-        ≡ found.old ++ paths_below steps.old.items (option_map_or (λ it. unknown_in it (view value.now)) place ([] ∷ []))) }
+    ensures found { IfOk result (λ _. found.new ≡ found.old ++ paths_below steps.old.items
+        (option_map_or (λ it. unknown_in it (view value.now)) place ([] ∷ []))) }
     ensures steps { IfOk result (λ _. steps.new.items ≡ steps.old.items) }
 {
     match place {
@@ -77,16 +79,17 @@ fn walk_member<'a>(
 #[cycle(walk)]
 fn walk_items<'a>(
     alloc: Global,
-    steps: &mut Vec<Step<'a>>,
+    steps: &mut Vec<KeyStep<'a>>,
     found: &mut Listing<KeyPath>,
     place: Place,
     items: &'a Array,
 ) -> Result<(), AllocError>
-    ensures found { IfOk result (λ _. found.new ≡ found.old ++ paths_below steps.old.items (unknown_items place 0 (array_view items.now))) }
+    ensures found { IfOk result (λ _. found.new
+        ≡ found.old ++ paths_below steps.old.items (unknown_items place 0 (array_view items.now))) }
     ensures steps { IfOk result (λ _. steps.new.items ≡ steps.old.items) }
 {
     'items: for (position, item) in items.iter().enumerate() {
-        steps.push(Step::Position(position))?;
+        steps.push(KeyStep::Position(position))?;
         walk(alloc, steps, found, place, item)?;
         steps.pop();
     }
@@ -96,7 +99,7 @@ fn walk_items<'a>(
 // Adds the path of what was come to.
 fn push_path(
     alloc: Global,
-    steps: &[Step<'_>],
+    steps: &[KeyStep<'_>],
     found: &mut Listing<KeyPath>,
 ) -> Result<(), AllocError>
     ensures { IfOk result (λ _. found.new ≡ found.old ++ key_path (path_of steps.now) ∷ []) }

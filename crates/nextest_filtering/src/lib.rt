@@ -29,7 +29,9 @@ pub use nextest_text::{Listing, Text};
 pub mod laws {
     pub use nextest_filtering_compiling::laws::{kept_meaning, one_meaning};
     pub use nextest_filtering_escapes::laws::{escaped_reads_back, one_regex, one_text};
-    pub use nextest_filtering_filters::laws::{one_answer, same_without_groups, sure_of_tests};
+    pub use nextest_filtering_filters::laws::{
+        one_answer, same_without_groups, same_without_lookup, sure_of_tests,
+    };
     pub use nextest_filtering_globs::laws::one_reading as one_glob_reading;
     pub use nextest_filtering_syntax::laws::{one_tree, printed_reads_back, reads_back_exactly};
 }

@@ -9,7 +9,7 @@ use Rattle.nextest_filtering_ast.specs.declared.matcher.NameMatcher.{NameMatcher
 use Rattle.nextest_filtering_ast.specs.declared.matcher.NameMatcher.TheVariants as matcher
 use Rattle.nextest_filtering_ast.specs.Tree.{Comparison, regex, Matcher, matcher_of, IsRegex}
 use Rattle.nextest_filtering_ast.specs.Words.{platform_word}
-use Rattle.nextest_filtering_ast.specs.Grammar.{unblanked, Spells, Compares}
+use Rattle.nextest_filtering_ast.specs.Grammar.{after_blanks, Spells, IsPattern}
 use Rattle.nextest_filtering_arguments.specs.declared.stop.Stop.{Stop}
 use Rattle.nextest_filtering_arguments.specs.declared.stop.Stop.TheVariants.{NoTree, Memory}
 use Rattle.nextest_filtering_arguments.specs.Faults.{IsSuffix}
@@ -51,7 +51,7 @@ compared_reads comparison implicit text meant rest old mid new None it (more, ne
       reads = λ none. absurd (Prim.omega (arith, grown, more, none));
       only = λ value end x has closes.
           let known = it.only has.3.0 value.text end x has.3.1 has.3.2 closes in
-          absurd (never (subst (Compares comparison) known.1 has.2));
+          absurd (never (subst (IsPattern comparison) known.1 has.2));
     }
 
 -- ---- platforms
@@ -111,7 +111,7 @@ pattern_found text raw rest spelled source pattern n whole ends sole stands sour
       reads = λ _. (matcher.Regex pattern, refl, rest, (refl, refl, subst IsRegex (sym is) reads, (raw, whole, spelling)), refl);
       only = λ value end x has closes.
           let same = same_regex text raw rest pattern sole spelling value end has in
-          (refl, (matcher.Regex pattern, refl, matcher_same value regex false pattern has.0 has.1 same.0), ap unblanked same.1);
+          (refl, (matcher.Regex pattern, refl, matcher_same value regex false pattern has.0 has.1 same.0), ap after_blanks same.1);
     }
 
 pub pattern_unclosed : (text : List ℕ) (old new : ℕ) → HasNoRegex text → new ≡ old + 1 → IsNoArgument ReadsPattern text old new

@@ -6,32 +6,32 @@ use Rattle.nextest_filtering_escapes.specs.Text.{Piece, Plain, Escaped, Unicode,
 use Rattle.nextest_filtering_escapes.specs.Ends.{Stops}
 use Rattle.nextest_filtering_escapes.proofs.Shown.{last_same}
 use Rattle.nextest_filtering_escapes.proofs.Pieces.{text_none, text_more}
-use Rattle.nextest_filtering_ast.specs.Grammar.{unblanked}
+use Rattle.nextest_filtering_ast.specs.Grammar.{after_blanks}
 use Rattle.nextest_filtering_arguments.specs.Blanks.{AreBlanks, HasBareEnd}
 use Rattle.nextest_filtering_arguments.proofs.Trimming.{blank_cases, part_of}
 
 -- ---- blanks at the front
 
 -- what stands before the first byte that is no blank
-pub blanks_before : (text : List ℕ) → (blanks : List ℕ) × AreBlanks blanks × (text ≡ blanks ++ unblanked text)
+pub blanks_before : (text : List ℕ) → (blanks : List ℕ) × AreBlanks blanks × (text ≡ blanks ++ after_blanks text)
 blanks_before [] = ([], tt, refl)
 blanks_before (byte ∷ rest) = by_test (blanks_before rest) (is_blank byte) refl where
-  by_test : ((blanks : List ℕ) × AreBlanks blanks × (rest ≡ blanks ++ unblanked rest)) → (b : Bool) → is_blank byte ≡ b
-      → (blanks : List ℕ) × AreBlanks blanks × (byte ∷ rest ≡ blanks ++ unblanked (byte ∷ rest))
+  by_test : ((blanks : List ℕ) × AreBlanks blanks × (rest ≡ blanks ++ after_blanks rest)) → (b : Bool) → is_blank byte ≡ b
+      → (blanks : List ℕ) × AreBlanks blanks × (byte ∷ rest ≡ blanks ++ after_blanks (byte ∷ rest))
   by_test next true test =
-      let same : unblanked (byte ∷ rest) ≡ unblanked rest = Prim.rw test refl in
+      let same : after_blanks (byte ∷ rest) ≡ after_blanks rest = Prim.rw test refl in
       (byte ∷ next.0, (test, next.1), ap (λ (x : List ℕ). byte ∷ x) (next.2 ∙ ap (λ (x : List ℕ). next.0 ++ x) (sym same)))
   by_test next false test = ([], tt, Prim.rw test refl)
 
-pub unblanked_past : (blanks rest : List ℕ) → AreBlanks blanks → unblanked (blanks ++ rest) ≡ unblanked rest
+pub unblanked_past : (blanks rest : List ℕ) → AreBlanks blanks → after_blanks (blanks ++ rest) ≡ after_blanks rest
 unblanked_past [] rest all = refl
 unblanked_past (byte ∷ blanks) rest all = Prim.rw all.0 (unblanked_past blanks rest all.1)
 
 -- the byte that comes first without blanks is none
-pub unblanked_bare : (text : List ℕ) (byte : ℕ) (rest : List ℕ) → unblanked text ≡ byte ∷ rest → is_blank byte ≡ false
+pub unblanked_bare : (text : List ℕ) (byte : ℕ) (rest : List ℕ) → after_blanks text ≡ byte ∷ rest → is_blank byte ≡ false
 unblanked_bare [] byte rest is = cc
 unblanked_bare (first ∷ text) byte rest is = by_test (unblanked_bare text byte rest) (is_blank first) refl where
-  by_test : (unblanked text ≡ byte ∷ rest → is_blank byte ≡ false) → (b : Bool) → is_blank first ≡ b → is_blank byte ≡ false
+  by_test : (after_blanks text ≡ byte ∷ rest → is_blank byte ≡ false) → (b : Bool) → is_blank first ≡ b → is_blank byte ≡ false
   by_test next true test = next (Prim.rw test at is)
   by_test next false test = let same : first ∷ text ≡ byte ∷ rest = Prim.rw test at is in let head : first ≡ byte = cc in subst (λ (b : ℕ). is_blank b ≡ false) head test
 
@@ -43,7 +43,7 @@ end_bare byte ends =
       | inr is ↦ subst (λ (b : ℕ). is_blank b ≡ false) (sym (eqb-true byte 44 is)) refl
     ]
 
-pub unblanked_stops : (rest : List ℕ) → Stops rest → unblanked rest ≡ rest
+pub unblanked_stops : (rest : List ℕ) → Stops rest → after_blanks rest ≡ rest
 unblanked_stops [] stops = refl
 unblanked_stops (byte ∷ rest) stops = Prim.rw (end_bare byte stops) refl
 

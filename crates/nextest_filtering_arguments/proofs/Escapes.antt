@@ -9,7 +9,7 @@ use Rattle.nextest_filtering_escapes.specs.Parts.{IsRead}
 use Rattle.nextest_filtering_escapes.proofs.Ended.{bad_escapes_stay}
 use Rattle.nextest_filtering_escapes.specs.declared.escapes.EscapeSpan.{EscapeSpan}
 use Rattle.nextest_filtering_ast.specs.declared.leaf.SourceSpan.{SourceSpan}
-use Rattle.nextest_filtering_arguments.specs.Faults.{IsSuffix, here, within, Lies, spanned, past}
+use Rattle.nextest_filtering_arguments.specs.Faults.{IsSuffix, here, within, Lies, bytes_in_span, past}
 use Rattle.nextest_filtering_arguments.specs.Texts.{IsFront, IsLookedAt}
 use Rattle.nextest_filtering_arguments.proofs.Spans.{told, told_past, suffix_trans, suffix_len}
 
@@ -44,7 +44,7 @@ span_same a b n m s t left right e f = Prim.cc
 
 -- the span that is told holds the bad escape
 pub escape_told : (input ahead : List ℕ) (span : EscapeSpan) (place : SourceSpan) → place ≡ within input ahead span.offset span.length
-    → IsSuffix ahead input → IsSpanOf ahead span → Lies input place × IsBadEscape (spanned input place) (past input place)
+    → IsSuffix ahead input → IsSpanOf ahead span → Lies input place × IsBadEscape (bytes_in_span input place) (past input place)
 escape_told input ahead span place is suffix at =
     let tail = at.bytes ++ at.behind in
     let parts = escape_parts ahead span at in
@@ -57,7 +57,7 @@ escape_told input ahead span place is suffix at =
     let within = suffix_trans tail ahead input (at.before, parts) suffix in
     let it = told input tail at.behind place at.bytes same within refl in
     let behind = told_past input tail at.behind place at.bytes same within refl in
-    (it.0, subst (IsBadEscape (spanned input place)) (sym behind) (subst (λ (l : List ℕ). IsBadEscape l at.behind) (sym it.1) at.bad))
+    (it.0, subst (IsBadEscape (bytes_in_span input place)) (sym behind) (subst (λ (l : List ℕ). IsBadEscape l at.behind) (sym it.1) at.bad))
 
 -- what was looked at: each bad escape is a fault more
 pub looked_at : (whole text : List ℕ) (bad items : List EscapeSpan) (old new : ℕ) → items ≡ bad → (bad ≡ [] → IsUnended whole → IsText whole text)

@@ -2,11 +2,11 @@
 use Rattle.std.proofs.Common.{◌≡◌, ◌≢◌, refl, ℕ, ◌+◌, ◌≤◌, Bool, true, false, eqb, not, ◌&&◌, List, [], ◌∷◌, ◌++◌, length, sym, ap, subst, ◌∙◌, arith, rules, append_assoc, length-append}
 use Rattle.std.proofs.lemmas.Bool.{false≢true}
 use Rattle.nextest_filtering_escapes.specs.Text.{IsText, is_end}
-use Rattle.nextest_filtering_escapes.specs.Ends.{Stops, unended, IsUnended, IsOnlyText}
+use Rattle.nextest_filtering_escapes.specs.Ends.{Stops, is_unended, IsUnended, IsOnlyText}
 use Rattle.nextest_filtering_escapes.specs.declared.escapes.EscapeSpan.{EscapeSpan}
 use Rattle.nextest_filtering_escapes.proofs.Pieces.{plain_around, one_text}
 use Rattle.nextest_filtering_ast.specs.declared.leaf.SourceSpan.{SourceSpan}
-use Rattle.nextest_filtering_ast.specs.Grammar.{unblanked, Behind}
+use Rattle.nextest_filtering_ast.specs.Grammar.{after_blanks, Behind}
 use Rattle.nextest_filtering_arguments.specs.Blanks.{IsTrimmed}
 use Rattle.nextest_filtering_arguments.specs.Faults.{IsSuffix, here, Lies}
 use Rattle.nextest_filtering_arguments.specs.Texts.{IsPlaced, IsLookedAt, IsMeant, IsTextArgument}
@@ -15,12 +15,12 @@ use Rattle.nextest_filtering_arguments.proofs.Trimming.{trimmed_once}
 use Rattle.nextest_filtering_arguments.proofs.Cutting.{blanks_before, unblanked_past, unblanked_bare, unblanked_stops, text_cut}
 
 -- a prefix of bytes with no end of a text has none
-unended_part : (escaped : Bool) (a b : List ℕ) → unended escaped (a ++ b) ≡ true → unended escaped a ≡ true
+unended_part : (escaped : Bool) (a b : List ℕ) → is_unended escaped (a ++ b) ≡ true → is_unended escaped a ≡ true
 unended_part true [] b is = refl
 unended_part false [] b is = refl
 unended_part true (byte ∷ a) b is = unended_part false a b is
 unended_part false (byte ∷ a) b is = by_end (is_end byte) (λ (e : Bool). unended_part e a b) is where
-  by_end : (e : Bool) → ((escaped : Bool) → unended escaped (a ++ b) ≡ true → unended escaped a ≡ true) → (not e && unended (eqb byte 92) (a ++ b)) ≡ true → (not e && unended (eqb byte 92) a) ≡ true
+  by_end : (e : Bool) → ((escaped : Bool) → is_unended escaped (a ++ b) ≡ true → is_unended escaped a ≡ true) → (not e && is_unended (eqb byte 92) (a ++ b)) ≡ true → (not e && is_unended (eqb byte 92) a) ≡ true
   by_end true next is = absurd (false≢true is)
   by_end false next is = next (eqb byte 92) is
 
@@ -45,8 +45,8 @@ empty_meant raw found old new b raw_is none told = record {
 -- a text with no bad escape
 pub good_meant : (whole raw found : List ℕ) (bad : List EscapeSpan) (n : ℕ) (b e : Bool) → b ≡ eqb (length raw) 0 → b ≡ false → e ≡ eqb (length bad) 0 → e ≡ true
     → IsUnended whole → IsTrimmed whole raw → (bad ≡ [] → IsUnended raw → IsText raw found) → IsMeant raw n n found
-good_meant whole raw found bad n b e raw_is some bad_is none unended trimmed stands =
-    let text = stands (empty bad e bad_is none) (trimmed_unended whole raw unended trimmed) in
+good_meant whole raw found bad n b e raw_is some bad_is none is_unended trimmed stands =
+    let text = stands (empty bad e bad_is none) (trimmed_unended whole raw is_unended trimmed) in
     record {
       more = Prim.omega arith;
       reads = λ _. (not_empty raw b raw_is some, text);
@@ -56,12 +56,12 @@ good_meant whole raw found bad n b e raw_is some bad_is none unended trimmed sta
 -- one that has some, which were told
 pub bad_meant : (whole raw found : List ℕ) (bad : List EscapeSpan) (old new : ℕ) (e : Bool) → e ≡ eqb (length bad) 0 → e ≡ false
     → IsUnended whole → IsTrimmed whole raw → (bad ≢ [] → (text : List ℕ) → IsText raw text → ⊥) → IsLookedAt whole old new → IsMeant raw old new found
-bad_meant whole raw found bad old new e bad_is some unended trimmed never looked =
+bad_meant whole raw found bad old new e bad_is some is_unended trimmed never looked =
     let no_text = never (not_empty bad e bad_is some) in
     record {
       more = looked.more;
       reads = λ same.
-          let whole_text = looked.good same unended in
+          let whole_text = looked.good same is_unended in
           let cut = text_cut raw trimmed.1.0 whole_text.0 trimmed.1.1 (subst (λ (l : List ℕ). IsText l whole_text.0) trimmed.1.2 whole_text.1) in
           absurd (no_text cut.0 cut.1);
       only = λ other _ has. absurd (no_text other has);
@@ -77,7 +77,7 @@ argument_lies input ahead whole rest raw span is suffix parts trimmed =
     subst (Lies input) (sym is) (here_lies input ahead (length raw) suffix short)
 
 -- and holds it
-pub argument_placed : (input text ahead whole rest raw : List ℕ) (span : SourceSpan) → span ≡ here input ahead (length raw) → ahead ≡ unblanked text
+pub argument_placed : (input text ahead whole rest raw : List ℕ) (span : SourceSpan) → span ≡ here input ahead (length raw) → ahead ≡ after_blanks text
     → ahead ≡ whole ++ rest → IsTrimmed whole raw → IsPlaced input text rest span
 argument_placed input text ahead whole rest raw span is skipped parts (bare, (blanks, all, whole_is)) = (
   raw,
@@ -88,7 +88,7 @@ argument_placed input text ahead whole rest raw span is skipped parts (bare, (bl
   is ∙ ap (λ (l : List ℕ). here input l (length raw)) skipped,
 )
 
-pub argument_reads : (text ahead whole rest raw found : List ℕ) (old new : ℕ) → ahead ≡ unblanked text → ahead ≡ whole ++ rest → Stops rest
+pub argument_reads : (text ahead whole rest raw found : List ℕ) (old new : ℕ) → ahead ≡ after_blanks text → ahead ≡ whole ++ rest → Stops rest
     → IsOnlyText ahead whole rest → IsTrimmed whole raw → IsMeant raw old new found → IsTextArgument text old new found rest
 argument_reads text ahead whole rest raw found old new is parts stops sole (bare, (blanks, all, whole_is)) meant =
     let place : Behind raw text (blanks ++ rest) =

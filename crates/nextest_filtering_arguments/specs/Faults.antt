@@ -30,8 +30,8 @@ abbrev pub within : List ℕ → List ℕ → ℕ → ℕ → SourceSpan
 within input rest offset n = record { offset = length input - length rest + offset; length = n }
 
 -- the bytes that a span holds
-abbrev pub spanned : List ℕ → SourceSpan → List ℕ
-spanned input span = take span.length (drop span.offset input)
+abbrev pub bytes_in_span : List ℕ → SourceSpan → List ℕ
+bytes_in_span input span = take span.length (drop span.offset input)
 
 -- the bytes behind it
 abbrev pub past : List ℕ → SourceSpan → List ℕ
@@ -60,14 +60,14 @@ abbrev pub IsFaultOf : List ℕ → ParseSingleError → Type 0
 IsFaultOf input (fault.InvalidGlob span) = Lies input span
 IsFaultOf input (fault.InvalidRegexWithoutMessage span) = Lies input span
 IsFaultOf input (fault.ExpectedCloseRegex span) = IsPlace input span × RunsOut input span
-IsFaultOf input (fault.InvalidOrOperator span) = Lies input span × ((spanned input span ≡ codes "||") ⊎ (spanned input span ≡ codes "OR"))
-IsFaultOf input (fault.InvalidAndOperator span) = Lies input span × ((spanned input span ≡ codes "&&") ⊎ (spanned input span ≡ codes "AND"))
+IsFaultOf input (fault.InvalidOrOperator span) = Lies input span × ((bytes_in_span input span ≡ codes "||") ⊎ (bytes_in_span input span ≡ codes "OR"))
+IsFaultOf input (fault.InvalidAndOperator span) = Lies input span × ((bytes_in_span input span ≡ codes "&&") ⊎ (bytes_in_span input span ≡ codes "AND"))
 IsFaultOf input (fault.UnexpectedArgument span) = Lies input span
-IsFaultOf input (fault.UnexpectedComma span) = Lies input span × (spanned input span ≡ codes ",")
+IsFaultOf input (fault.UnexpectedComma span) = Lies input span × (bytes_in_span input span ≡ codes ",")
 IsFaultOf input (fault.InvalidString span) = IsPlace input span
 IsFaultOf input (fault.ExpectedOpenParenthesis span) = IsPlace input span × BeginsBare input span
 IsFaultOf input (fault.ExpectedCloseParenthesis span) = IsPlace input span × BeginsBare input span
-IsFaultOf input (fault.InvalidEscapeCharacter span) = Lies input span × IsBadEscape (spanned input span) (past input span)
+IsFaultOf input (fault.InvalidEscapeCharacter span) = Lies input span × IsBadEscape (bytes_in_span input span) (past input span)
 IsFaultOf input (fault.ExpectedExpr span) = RunsOut input span × BeginsBare input span
 IsFaultOf input (fault.ExpectedEndOfExpression span) = RunsOut input span × BeginsBare input span
 IsFaultOf input (fault.InvalidPlatformArgument span) = Lies input span

@@ -6,7 +6,7 @@ use Rattle.nextest_filtering_ast.specs.declared.leaf.BuildPlatform.{BuildPlatfor
 use Rattle.nextest_filtering_ast.specs.declared.matcher.NameMatcher.{NameMatcher}
 use Rattle.nextest_filtering_ast.specs.Tree.{Comparison, equal, contains, glob, regex, Matcher, matcher_of, Subject, package_name, dependencies, dependents, kind, binary_name, binary_id, test_name, group, IsRegex}
 use Rattle.nextest_filtering_ast.specs.Words.{platform_word}
-use Rattle.nextest_filtering_ast.specs.Grammar.{unblanked, Behind, Spells, Compares}
+use Rattle.nextest_filtering_ast.specs.Grammar.{after_blanks, Behind, Spells, IsPattern}
 use Rattle.nextest_filtering_arguments.specs.declared.stop.Stop.{Stop}
 use Rattle.nextest_filtering_arguments.specs.declared.stop.Stop.TheVariants.{NoTree, Memory}
 use Rattle.nextest_filtering_arguments.specs.declared.subject.Subject.{Subject as Looked}
@@ -43,14 +43,14 @@ sign_of by.Glob = 35
 pub record IsArgument {F V : Type 0} (value_of : F → V) (Reads : V → List ℕ → List ℕ → Type 0) (text : List ℕ) (old new : ℕ) (found : Option F) (rest : List ℕ) : Type 0 where
   pub more : old ≤ new
   pub behind : IsSuffix rest text
-  pub reads : new ≡ old → (f : F) × (found ≡ Some f) × (end : List ℕ) × Reads (value_of f) text end × (unblanked end ≡ unblanked rest)
-  pub only : (value : V) (end x : List ℕ) → Reads value text end → unblanked end ≡ 41 ∷ x
-      → (new ≡ old) × ((f : F) × (found ≡ Some f) × (value ≡ value_of f)) × (unblanked end ≡ unblanked rest)
+  pub reads : new ≡ old → (f : F) × (found ≡ Some f) × (end : List ℕ) × Reads (value_of f) text end × (after_blanks end ≡ after_blanks rest)
+  pub only : (value : V) (end x : List ℕ) → Reads value text end → after_blanks end ≡ 41 ∷ x
+      → (new ≡ old) × ((f : F) × (found ≡ Some f) × (value ≡ value_of f)) × (after_blanks end ≡ after_blanks rest)
 
 -- no argument with a `)` behind stands there, for a fault that was added
 pub record IsNoArgument {V : Type 0} (Reads : V → List ℕ → List ℕ → Type 0) (text : List ℕ) (old new : ℕ) : Type 0 where
   pub more : old < new
-  pub never : (value : V) (end x : List ℕ) → Reads value text end → unblanked end ≡ 41 ∷ x → ⊥
+  pub never : (value : V) (end x : List ℕ) → Reads value text end → after_blanks end ≡ 41 ∷ x → ⊥
 
 -- what reading a matcher answers
 abbrev pub FindsMatcher : (Matcher → List ℕ → List ℕ → Type 0) → List ℕ → ℕ → ℕ → Result (Option NameMatcher × Bor (List ℕ)) Stop → Type 0
@@ -60,7 +60,7 @@ FindsMatcher Reads text old new (Err Memory) = Unit {0}
 
 -- a text to compare with so, behind its sign or without one
 abbrev pub ReadsCompared : Comparison → Bool → Matcher → List ℕ → List ℕ → Type 0
-ReadsCompared comparison implicit m text rest = (m.comparison ≡ comparison) × (m.implicit ≡ implicit) × Compares comparison m.text
+ReadsCompared comparison implicit m text rest = (m.comparison ≡ comparison) × (m.implicit ≡ implicit) × IsPattern comparison m.text
     × ((raw : List ℕ) × Behind raw text rest × Spells raw m.text)
 
 -- a regular expression behind its first `/`
@@ -78,5 +78,5 @@ platform_itself platform = platform
 
 -- a matcher was made of the text, or a fault was added where the text can't be compared with so
 abbrev pub IsMade : Comparison → Bool → List ℕ → ℕ → ℕ → Option NameMatcher → Type 0
-IsMade comparison implicit text old new (Some m) = (new ≡ old) × (matcher_of m ≡ record { comparison = comparison; implicit = implicit; text = text }) × Compares comparison text
-IsMade comparison implicit text old new None = (old < new) × (Compares comparison text → ⊥)
+IsMade comparison implicit text old new (Some m) = (new ≡ old) × (matcher_of m ≡ record { comparison = comparison; implicit = implicit; text = text }) × IsPattern comparison text
+IsMade comparison implicit text old new None = (old < new) × (IsPattern comparison text → ⊥)

@@ -2,7 +2,7 @@
 use Rattle.std.specs.Prelude.{◌≡◌, ◌≢◌, ℕ, ◌≤◌, List, [], ◌∷◌, ◌++◌, length}
 use Rattle.nextest_filtering_escapes.specs.Text.{IsText}
 use Rattle.nextest_filtering_escapes.specs.Ends.{Stops, IsUnended, IsEnded}
-use Rattle.nextest_filtering_ast.specs.Grammar.{unblanked, Behind, Spells}
+use Rattle.nextest_filtering_ast.specs.Grammar.{after_blanks, Behind, Spells}
 use Rattle.nextest_filtering_ast.specs.declared.leaf.SourceSpan.{SourceSpan}
 use Rattle.nextest_filtering_arguments.specs.Blanks.{AreBlanks, HasBareEnd}
 use Rattle.nextest_filtering_arguments.specs.Faults.{IsSuffix, here}
@@ -13,8 +13,8 @@ IsFront front text = (rest : List ℕ) × (text ≡ front ++ rest) × IsUnended 
 
 -- the span holds what comes next in a rest of the input up to where the text goes on, without the blanks around it
 abbrev pub IsPlaced : List ℕ → List ℕ → List ℕ → SourceSpan → Type 0
-IsPlaced input text rest span = (raw blanks : List ℕ) × (unblanked text ≡ raw ++ (blanks ++ rest)) × HasBareEnd raw × AreBlanks blanks
-    × (span ≡ here input (unblanked text) (length raw))
+IsPlaced input text rest span = (raw blanks : List ℕ) × (after_blanks text ≡ raw ++ (blanks ++ rest)) × HasBareEnd raw × AreBlanks blanks
+    × (span ≡ here input (after_blanks text) (length raw))
 
 -- Bytes, blanks at the end included, were looked at for bad escapes: where they stand for no text, a fault was added.
 pub record IsLookedAt (whole : List ℕ) (old new : ℕ) : Type 0 where
@@ -33,5 +33,5 @@ pub record IsTextArgument (text : List ℕ) (old new : ℕ) (found rest : List �
   pub more : old ≤ new
   pub behind : IsSuffix rest text
   pub stops : Stops rest
-  pub reads : new ≡ old → (raw end : List ℕ) × Behind raw text end × Spells raw found × (unblanked end ≡ rest)
-  pub only : (raw other end x : List ℕ) → Behind raw text end → Spells raw other → unblanked end ≡ 41 ∷ x → (new ≡ old) × (other ≡ found) × (unblanked end ≡ rest)
+  pub reads : new ≡ old → (raw end : List ℕ) × Behind raw text end × Spells raw found × (after_blanks end ≡ rest)
+  pub only : (raw other end x : List ℕ) → Behind raw text end → Spells raw other → after_blanks end ≡ 41 ∷ x → (new ≡ old) × (other ≡ found) × (after_blanks end ≡ rest)

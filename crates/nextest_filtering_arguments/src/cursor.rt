@@ -1,7 +1,7 @@
 // What stands at the start of a text.
 ghost use Rattle.std.specs.Prelude.{◌≡◌, ◌++◌, ℕ, List, IfSome, IfNone, drop, true};
 ghost use Rattle.nextest_filtering_escapes.specs.Text.{is_blank};
-ghost use Rattle.nextest_filtering_ast.specs.Grammar.{unblanked};
+ghost use Rattle.nextest_filtering_ast.specs.Grammar.{after_blanks};
 ghost use Rattle.nextest_filtering_arguments.specs.Blanks.{has_blank_front, EndsBlank, HasBareEnd, IsTrimmed};
 
 /// Whether the byte is a blank: a space, a tab, a line feed or a carriage return.
@@ -33,7 +33,7 @@ fn behind_blank(text: &str) -> &str
 /// The text from its first byte on that is no blank.
 #[tactic(auto, using(crate::proofs::Blanks::unblanked_behind, crate::proofs::Blanks::unblanked_same))]
 pub fn skip_blanks(text: &str) -> &str
-    ensures { result.now ≡ unblanked text.now }
+    ensures { result.now ≡ after_blanks text.now }
 {
     let mut rest = text;
     while begins_blank(rest) {

@@ -20,7 +20,8 @@ use std::alloc::{AllocError, Global};
 // The sign at the start of `text`, and what follows it.
 fn sign(text: &str) -> Option<(Comparing, &str)>
     ensures some { IfSome result (λ it. text.now ≡ sign_of it.0 ∷ it.1.now) }
-    ensures none { IfNone result ((comparing : Comparing) (rest : List ℕ) → text.now ≡ sign_of comparing ∷ rest → ⊥) }
+    ensures none { IfNone result
+        ((comparing : Comparing) (rest : List ℕ) → text.now ≡ sign_of comparing ∷ rest → ⊥) }
 {
     if let Some(rest) = behind(text, "=") {
         return Some((Comparing::Equal, rest));
@@ -55,7 +56,8 @@ fn made(
 ) -> Result<Option<NameMatcher>, AllocError>
     requires lies { Lies faults.old.input argument.span }
     ensures input { faults.new.input ≡ faults.old.input }
-    ensures made { IfOk result (λ it. IsMade (comparison_of comparing) implicit argument.entry.text (count faults.old) (count faults.new) it) }
+    ensures made { IfOk result (λ it. IsMade (comparison_of comparing) implicit argument.entry.text
+        (count faults.old) (count faults.new) it) }
 {
     let value = argument.text;
     match comparing {
@@ -82,7 +84,9 @@ fn compared<'i>(
 ) -> Result<(Option<NameMatcher>, &'i str), AllocError>
     requires suffix { IsSuffix text.now faults.old.input }
     ensures input { faults.new.input ≡ faults.old.input }
-    ensures reads { IfOk result (λ it. IsArgument matcher_of (ReadsCompared (comparison_of comparing) implicit) text.now (count faults.old) (count faults.new) it.0 it.1.now) }
+    ensures reads { IfOk result
+        (λ it. IsArgument matcher_of (ReadsCompared (comparison_of comparing) implicit) text.now
+        (count faults.old) (count faults.new) it.0 it.1.now) }
 {
     let argument = text_argument(alloc, faults, text)?;
     let rest = argument.rest;
@@ -98,7 +102,8 @@ fn pattern<'i>(
 ) -> Result<(Option<NameMatcher>, &'i str), Stop>
     requires suffix { IsSuffix text.now faults.old.input }
     ensures input { faults.new.input ≡ faults.old.input }
-    ensures finds { FindsMatcher ReadsPattern text.now (count faults.old) (count faults.new) result }
+    ensures finds { FindsMatcher ReadsPattern text.now (count faults.old)
+        (count faults.new) result }
 {
     let Some((raw, rest)) = split_regex(text) else {
         let span = faults.span("", 0);
@@ -129,7 +134,8 @@ pub fn matcher<'i>(
 ) -> Result<(Option<NameMatcher>, &'i str), Stop>
     requires suffix { IsSuffix text.now faults.old.input }
     ensures input { faults.new.input ≡ faults.old.input }
-    ensures finds { FindsMatcher (ReadsMatcher (subject_of subject)) text.now (count faults.old) (count faults.new) result }
+    ensures finds { FindsMatcher (ReadsMatcher (subject_of subject)) text.now (count faults.old)
+        (count faults.new) result }
 {
     let ahead = skip_blanks(text);
     if let Some(inside) = behind(ahead, "/") {

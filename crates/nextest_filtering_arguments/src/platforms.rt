@@ -14,7 +14,8 @@ use std::alloc::{AllocError, Global};
 // The platform of that name.
 fn platform_of(text: &str) -> Option<BuildPlatform>
     ensures some { IfSome result (λ platform. text.now ≡ platform_word platform) }
-    ensures none { IfNone result ((platform : BuildPlatform) → text.now ≡ platform_word platform → ⊥) }
+    ensures none { IfNone result
+        ((platform : BuildPlatform) → text.now ≡ platform_word platform → ⊥) }
 {
     match text {
         "host" => Some(BuildPlatform::Host),
@@ -33,7 +34,8 @@ pub fn platform<'i>(
 ) -> Result<(Option<BuildPlatform>, &'i str), AllocError>
     requires suffix { IsSuffix text.now faults.old.input }
     ensures input { faults.new.input ≡ faults.old.input }
-    ensures reads { IfOk result (λ it. IsArgument platform_itself ReadsPlatform text.now (count faults.old) (count faults.new) it.0 it.1.now) }
+    ensures reads { IfOk result (λ it. IsArgument platform_itself ReadsPlatform text.now
+        (count faults.old) (count faults.new) it.0 it.1.now) }
 {
     let argument = text_argument(alloc, faults, text)?;
     if let Some(platform) = platform_of(argument.text.as_str()) {

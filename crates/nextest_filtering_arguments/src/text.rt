@@ -72,7 +72,8 @@ fn meaning_of(
     requires front { IsFront whole.now ahead.now }
     requires trimmed { IsTrimmed whole.now raw.now }
     ensures input { faults.new.input ≡ faults.old.input }
-    ensures meant { IfOk result (λ found. IsMeant raw.now (count faults.old) (count faults.new) found) }
+    ensures meant { IfOk result
+        (λ found. IsMeant raw.now (count faults.old) (count faults.new) found) }
 {
     if raw.is_empty() {
         let span = faults.span(ahead, 0);
@@ -99,7 +100,8 @@ pub fn text_argument<'i>(
     ensures input { faults.new.input ≡ faults.old.input }
     ensures lies { IfOk result (λ it. Lies faults.old.input it.span) }
     ensures placed { IfOk result (λ it. IsPlaced faults.old.input text.now it.rest.now it.span) }
-    ensures reads { IfOk result (λ it. IsTextArgument text.now (count faults.old) (count faults.new) it.text it.rest.now) }
+    ensures reads { IfOk result
+        (λ it. IsTextArgument text.now (count faults.old) (count faults.new) it.text it.rest.now) }
 {
     let ahead = skip_blanks(text);
     let (whole, rest) = split_text(ahead);

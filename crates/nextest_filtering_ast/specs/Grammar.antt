@@ -15,13 +15,13 @@ use Rattle.nextest_filtering_ast.specs.Tree.{Comparison, equal, contains, glob, 
 use Rattle.nextest_filtering_ast.specs.Words.{platform_word, subject_word}
 
 -- the text from its first byte on that is no blank
-abbrev pub unblanked : List ℕ → List ℕ
-unblanked [] = []
-unblanked (byte ∷ rest) = if is_blank byte then unblanked rest else byte ∷ rest
+abbrev pub after_blanks : List ℕ → List ℕ
+after_blanks [] = []
+after_blanks (byte ∷ rest) = if is_blank byte then after_blanks rest else byte ∷ rest
 
 -- the text is front, behind blanks, and then rest
 abbrev pub Behind : List ℕ → List ℕ → List ℕ → Type 0
-Behind front text rest = unblanked text ≡ front ++ rest
+Behind front text rest = after_blanks text ≡ front ++ rest
 
 -- a word of an operator ends where a blank, `(` or `!` follows
 abbrev pub ends_word : List ℕ → Bool
@@ -44,9 +44,9 @@ ReadsJoint (And Ampersand) text rest = Behind (codes "&") text rest
 ReadsJoint (joint.Minus Minus) text rest = Behind (codes "-") text rest
 
 -- what an intersection or a difference joins
-abbrev pub joined : Joint → Tree → Tree → Tree
-joined (And op) a b = intersection op a b
-joined (joint.Minus op) a b = difference op a b
+abbrev pub joint_of : Joint → Tree → Tree → Tree
+joint_of (And op) a b = intersection op a b
+joint_of (joint.Minus op) a b = difference op a b
 
 -- the sign of a matcher begins its argument
 abbrev pub is_sign : ℕ → Bool
@@ -71,11 +71,11 @@ pub record Spells (raw text : List ℕ) : Type 0 where
   pub stands : IsText raw text
 
 -- the text can be compared with so
-abbrev pub Compares : Comparison → List ℕ → Type 0
-Compares equal text = Unit {0}
-Compares contains text = Unit {0}
-Compares glob text = IsGlobText text
-Compares regex text = IsRegex text
+abbrev pub IsPattern : Comparison → List ℕ → Type 0
+IsPattern equal text = Unit {0}
+IsPattern contains text = Unit {0}
+IsPattern glob text = IsGlobText text
+IsPattern regex text = IsRegex text
 
 -- a text behind a sign, or a regular expression between two
 abbrev pub ReadsSigned : Comparison → List ℕ → List ℕ → List ℕ → Type 0
@@ -93,7 +93,7 @@ pub record ReadsBare (text argument rest : List ℕ) : Type 0 where
 
 -- the argument is this matcher of a predicate on that subject
 abbrev pub ReadsMatcher : Subject → Matcher → List ℕ → List ℕ → Type 0
-ReadsMatcher subject m argument rest = Compares m.comparison m.text × (
+ReadsMatcher subject m argument rest = IsPattern m.comparison m.text × (
     ((m.implicit ≡ false) × ReadsSigned m.comparison m.text argument rest)
     ⊎ ((m.implicit ≡ true) × (m.comparison ≡ bare subject) × ReadsBare m.text argument rest))
 
@@ -132,7 +132,7 @@ mutual
   -- what `and`, `&` and `-` join, from the left
   pub data Conjunction : List ℕ → Tree → List ℕ → Type 0 where
     first_operand : (t : Tree) (text rest : List ℕ) → Unary text t rest → Conjunction text t rest
-    next_operand : (op : Joint) (a b t : Tree) (text middle behind rest : List ℕ) → Conjunction text a middle → ReadsJoint op middle behind → Unary behind b rest → t ≡ joined op a b → Conjunction text t rest
+    next_operand : (op : Joint) (a b t : Tree) (text middle behind rest : List ℕ) → Conjunction text a middle → ReadsJoint op middle behind → Unary behind b rest → t ≡ joint_of op a b → Conjunction text t rest
 
   -- what `or`, `|` and `+` join, from the left
   pub data Expression : List ℕ → Tree → List ℕ → Type 0 where
@@ -143,4 +143,4 @@ mutual
 pub record IsFilterset (text : List ℕ) (tree : Tree) : Type 0 where
   pub rest : List ℕ
   pub read : Expression text tree rest
-  pub blank : unblanked rest ≡ []
+  pub blank : after_blanks rest ≡ []

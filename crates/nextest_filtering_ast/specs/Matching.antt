@@ -8,11 +8,11 @@ abbrev pub comparison_of : NameMatching → Comparison
 comparison_of (matching.Equal text) = equal
 comparison_of (matching.Contains text) = contains
 comparison_of (matching.Glob it) = glob
-comparison_of (matching.Regex text) = regex
+comparison_of (matching.Regex it) = regex
 
 -- the text that names are compared with
 abbrev pub text_of : NameMatching → List ℕ
 text_of (matching.Equal text) = text.now
 text_of (matching.Contains text) = text.now
 text_of (matching.Glob it) = it.text
-text_of (matching.Regex text) = text
+text_of (matching.Regex it) = it.value

@@ -1,6 +1,6 @@
 -- How filtersets print.
 use Rattle.std.specs.Prelude.{ℕ, Bool, true, false, List, [], ◌++◌, codes}
-use Rattle.nextest_filtering_escapes.specs.Printing.{escaped, slashed}
+use Rattle.nextest_filtering_escapes.specs.Printing.{text_with_escapes, regex_text_of}
 use Rattle.nextest_filtering_ast.specs.declared.operators.NotOperator.{NotOperator}
 use Rattle.nextest_filtering_ast.specs.declared.operators.NotOperator.TheVariants.{LiteralNot, Exclamation}
 use Rattle.nextest_filtering_ast.specs.Tree.{Comparison, equal, contains, glob, regex, Matcher, Leaf, matching, built_for, default_filter, everything, nothing, Tree, negation, union, intersection, difference, parens, set}
@@ -14,10 +14,10 @@ written_sign false sign = sign
 
 -- a text behind its sign, or a regular expression between slashes
 abbrev pub printed_as : Comparison → Bool → List ℕ → List ℕ
-printed_as equal implicit text = written_sign implicit (codes "=") ++ escaped text
-printed_as contains implicit text = written_sign implicit (codes "~") ++ escaped text
-printed_as glob implicit text = written_sign implicit (codes "#") ++ escaped text
-printed_as regex implicit text = codes "/" ++ slashed text ++ codes "/"
+printed_as equal implicit text = written_sign implicit (codes "=") ++ text_with_escapes text
+printed_as contains implicit text = written_sign implicit (codes "~") ++ text_with_escapes text
+printed_as glob implicit text = written_sign implicit (codes "#") ++ text_with_escapes text
+printed_as regex implicit text = codes "/" ++ regex_text_of text ++ codes "/"
 
 -- how a matcher prints
 abbrev pub printed_matcher : Matcher → List ℕ
@@ -45,10 +45,10 @@ abbrev pub between : List ℕ → List ℕ → List ℕ → List ℕ
 between left word right = left ++ codes " " ++ word ++ codes " " ++ right
 
 -- how a filterset prints
-abbrev pub printed : Tree → List ℕ
-printed (negation op t) = not_front op ++ printed t
-printed (union op a b) = between (printed a) (or_word op) (printed b)
-printed (intersection op a b) = between (printed a) (and_word op) (printed b)
-printed (difference op a b) = between (printed a) (minus_word op) (printed b)
-printed (parens t) = codes "(" ++ printed t ++ codes ")"
-printed (set it) = printed_leaf it
+abbrev pub text_of_tree : Tree → List ℕ
+text_of_tree (negation op t) = not_front op ++ text_of_tree t
+text_of_tree (union op a b) = between (text_of_tree a) (or_word op) (text_of_tree b)
+text_of_tree (intersection op a b) = between (text_of_tree a) (and_word op) (text_of_tree b)
+text_of_tree (difference op a b) = between (text_of_tree a) (minus_word op) (text_of_tree b)
+text_of_tree (parens t) = codes "(" ++ text_of_tree t ++ codes ")"
+text_of_tree (set it) = printed_leaf it

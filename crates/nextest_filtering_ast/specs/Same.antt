@@ -15,21 +15,21 @@ comparison_index glob = 2
 comparison_index regex = 3
 
 -- that a text was written without its sign counts, but not of a glob
-abbrev pub counted : Comparison → Bool → Bool
-counted equal implicit = implicit
-counted contains implicit = implicit
-counted glob implicit = false
-counted regex implicit = implicit
+abbrev pub counts_implicit : Comparison → Bool → Bool
+counts_implicit equal implicit = implicit
+counts_implicit contains implicit = implicit
+counts_implicit glob implicit = false
+counts_implicit regex implicit = implicit
 
 -- they compare alike, with one text, and both or neither without a sign that counts
 abbrev pub same_matcher : Matcher → Matcher → Bool
 same_matcher a b = nat_eq (comparison_index a.comparison) (comparison_index b.comparison)
-    && beq (counted a.comparison a.implicit) (counted b.comparison b.implicit) && pointwise nat_eq a.text b.text
+    && beq (counts_implicit a.comparison a.implicit) (counts_implicit b.comparison b.implicit) && pointwise nat_eq a.text b.text
 
 pub same_matcher_equiv : IsEquivalence same_matcher
 same_matcher_equiv =
     and_equiv (and_equiv (on_equiv (λ (m : Matcher). comparison_index m.comparison) nat_eq_equiv)
-    (on_equiv (λ (m : Matcher). counted m.comparison m.implicit) bool_eq_equiv)) (on_equiv (λ (m : Matcher). m.text) nat_list_eq_equiv)
+    (on_equiv (λ (m : Matcher). counts_implicit m.comparison m.implicit) bool_eq_equiv)) (on_equiv (λ (m : Matcher). m.text) nat_list_eq_equiv)
 
 -- two values that stand for the same matcher
 abbrev pub same_value : NameMatcher → NameMatcher → Bool

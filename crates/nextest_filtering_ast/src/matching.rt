@@ -18,14 +18,15 @@ pub enum NameMatching<'m> {
     Contains(&'m str),
     /// The whole name matches this glob.
     Glob(GlobMatcher<'m>),
-    /// A part of the name matches this regular expression.
-    Regex(PatternMatcher<'m>),
+    /// A part of the name matches this regular expression. It is large, so the others don't make room for it.
+    Regex(Box<PatternMatcher<'m>>),
 }
 
 impl NameMatcher {
     /// What it takes to look at many names. It fails only on allocation.
     pub fn matching(&self, alloc: Global) -> Result<NameMatching<'_>, AllocError>
-        ensures comparison { IfOk result (λ it. comparison_of it ≡ (matcher_of self.now).comparison) }
+        ensures comparison { IfOk result
+            (λ it. comparison_of it ≡ (matcher_of self.now).comparison) }
         ensures text { IfOk result (λ it. text_of it ≡ (matcher_of self.now).text) }
     {
         match self {
@@ -36,13 +37,17 @@ impl NameMatcher {
             NameMatcher::Glob { glob, implicit: _ } => {
                 Ok(NameMatching::Glob(GlobMatcher::new(alloc, glob)))
             }
-            NameMatcher::Regex(pattern) => Ok(NameMatching::Regex(pattern.matcher(alloc)?)),
+            NameMatcher::Regex(pattern) => Ok(NameMatching::Regex(Box::new(
+                alloc,
+                pattern.matcher(alloc)?,
+            )?)),
         }
     }
 
     /// Whether it matches a name. It fails only on allocation. Who asks for many names makes a `NameMatching` and keeps it.
     pub fn is_match(&self, alloc: Global, name: &str) -> Result<bool, AllocError>
-        ensures { IfOk result (λ answer. (answer ≡ true) ↔ MatchesName (matcher_of self.now) name.now) }
+        ensures { IfOk result
+            (λ answer. (answer ≡ true) ↔ MatchesName (matcher_of self.now) name.now) }
     {
         let mut matching = self.matching(alloc)?;
         matching.is_match(name)
@@ -52,7 +57,8 @@ impl NameMatcher {
 impl<'m> NameMatching<'m> {
     /// Whether the matcher matches a name. It fails only on allocation.
     pub fn is_match(&mut self, name: &str) -> Result<bool, AllocError>
-        ensures exact { IfOk result (λ answer. (answer ≡ true) ↔ Compares (comparison_of self.old) (text_of self.old) name.now) }
+        ensures exact { IfOk result (λ answer. (answer ≡ true)
+            ↔ Compares (comparison_of self.old) (text_of self.old) name.now) }
         ensures comparison { comparison_of self.new ≡ comparison_of self.old }
         ensures text { text_of self.new ≡ text_of self.old }
     {

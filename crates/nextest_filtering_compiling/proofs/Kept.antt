@@ -10,19 +10,19 @@ use Rattle.nextest_filtering_compiling.specs.Outcomes.{IsKept, IsOutcome}
 use Rattle.nextest_filtering_compiling.specs.Bans.{place_of}
 use Rattle.nextest_filtering_compiling.specs.Compiling.{AreCompiled, IsCompiledLeaf}
 use Rattle.nextest_filtering_compiling.specs.Context.{Context}
-use Rattle.nextest_filtering_compiling.specs.Faults.{Have, LeafHas, listed}
+use Rattle.nextest_filtering_compiling.specs.Faults.{Have, LeafHas, faults_of_option}
 use Rattle.nextest_filtering_compiling.specs.declared.compile.Outcome.{Outcome}
 use Rattle.nextest_filtering_compiling.specs.declared.compile.Outcome.TheVariants as outcome
 use Rattle.nextest_filtering_filters.specs.declared.known_groups.KnownGroups.{KnownGroups}
 
 have_push : (cx : Context) (known : KnownGroups) (leaves : List ParsedLeaf) (it : ParsedLeaf) (faults : List ParseSingleError) (first : Option ParseSingleError)
-    → Have cx known leaves faults → LeafHas cx known (place_of it) (leaf_of it) first → Have cx known (leaves ++ it ∷ []) (faults ++ listed first)
+    → Have cx known leaves faults → LeafHas cx known (place_of it) (leaf_of it) first → Have cx known (leaves ++ it ∷ []) (faults ++ faults_of_option first)
 have_push cx known [] it faults first none has =
-    (first, [], ap (λ (l : List ParseSingleError). l ++ listed first) none ∙ sym (append-nil (listed first)), has, refl)
+    (first, [], ap (λ (l : List ParseSingleError). l ++ faults_of_option first) none ∙ sym (append-nil (faults_of_option first)), has, refl)
 have_push cx known (leaf ∷ leaves) it faults first (head, rest, same, has_head, have) has = (
   head,
-  rest ++ listed first,
-  ap (λ (l : List ParseSingleError). l ++ listed first) same ∙ append_assoc (listed head) rest (listed first),
+  rest ++ faults_of_option first,
+  ap (λ (l : List ParseSingleError). l ++ faults_of_option first) same ∙ append_assoc (faults_of_option head) rest (faults_of_option first),
   has_head,
   have_push cx known leaves it rest first have has,
 )

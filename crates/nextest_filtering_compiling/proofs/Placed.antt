@@ -14,7 +14,7 @@ use Rattle.nextest_filtering_ast.specs.declared.leaf.ParsedLeaf.{ParsedLeaf}
 use Rattle.nextest_filtering_syntax.specs.declared.tree.ParsedExpr.{ParsedExpr}
 use Rattle.nextest_filtering_syntax.specs.declared.tree.ParsedExpr.TheVariants as tree
 use Rattle.nextest_filtering_compiling.specs.Compiling.{AreCompiled, IsCompiled, IsCompiledLeaf}
-use Rattle.nextest_filtering_compiling.specs.Leaves.{leaves_of, placed}
+use Rattle.nextest_filtering_compiling.specs.Leaves.{leaves_of, formula_of_tree}
 
 -- predicates are compiled to those that stand from a place on
 abbrev Stand : Graph → List FiltersetLeaf → ℕ → List ParsedLeaf → Type 0
@@ -42,25 +42,25 @@ stand_all graph front (one ∷ made) (it ∷ leaves) all first is at zip =
     )
 
 compiled_at : (graph : Graph) (all : List FiltersetLeaf) (t : ParsedExpr) (first : ℕ) → Stand graph all first (leaves_of t)
-    → IsCompiled graph (tree_of t) (with_leaves (leaf_at all) (placed first t))
-compiled_at graph all (tree.Not' op p t) first stand = (with_leaves (leaf_at all) (placed first t), refl, compiled_at graph all t first stand)
+    → IsCompiled graph (tree_of t) (with_leaves (leaf_at all) (formula_of_tree first t))
+compiled_at graph all (tree.Not' op p t) first stand = (with_leaves (leaf_at all) (formula_of_tree first t), refl, compiled_at graph all t first stand)
 compiled_at graph all (tree.Union' op p a q b) first stand = (
-  with_leaves (leaf_at all) (placed first a),
-  with_leaves (leaf_at all) (placed (first + length (leaves_of a)) b),
+  with_leaves (leaf_at all) (formula_of_tree first a),
+  with_leaves (leaf_at all) (formula_of_tree (first + length (leaves_of a)) b),
   refl,
   compiled_at graph all a first (stand_left graph all first (leaves_of a) (leaves_of b) stand),
   compiled_at graph all b (first + length (leaves_of a)) (stand_right graph all first (first + length (leaves_of a)) (leaves_of a) (leaves_of b) refl stand),
 )
 compiled_at graph all (tree.Intersection' op p a q b) first stand = (
-  with_leaves (leaf_at all) (placed first a),
-  with_leaves (leaf_at all) (placed (first + length (leaves_of a)) b),
+  with_leaves (leaf_at all) (formula_of_tree first a),
+  with_leaves (leaf_at all) (formula_of_tree (first + length (leaves_of a)) b),
   refl,
   compiled_at graph all a first (stand_left graph all first (leaves_of a) (leaves_of b) stand),
   compiled_at graph all b (first + length (leaves_of a)) (stand_right graph all first (first + length (leaves_of a)) (leaves_of a) (leaves_of b) refl stand),
 )
 compiled_at graph all (tree.Difference' op p a q b) first stand = (
-  with_leaves (leaf_at all) (placed first a),
-  with_leaves (leaf_at all) (placed (first + length (leaves_of a)) b),
+  with_leaves (leaf_at all) (formula_of_tree first a),
+  with_leaves (leaf_at all) (formula_of_tree (first + length (leaves_of a)) b),
   refl,
   compiled_at graph all a first (stand_left graph all first (leaves_of a) (leaves_of b) stand),
   compiled_at graph all b (first + length (leaves_of a)) (stand_right graph all first (first + length (leaves_of a)) (leaves_of a) (leaves_of b) refl stand),
@@ -70,5 +70,5 @@ compiled_at graph all (tree.Set it) first stand = (leaf_at all first, refl, stan
 
 -- a tree over what its predicates are compiled to, by their places, is what it is compiled to
 pub tree_compiled : (graph : Graph) (made : List FiltersetLeaf) (t : ParsedExpr) → AreCompiled graph (leaves_of t) made
-    → IsCompiled graph (tree_of t) (with_leaves (leaf_at made) (placed 0 t))
+    → IsCompiled graph (tree_of t) (with_leaves (leaf_at made) (formula_of_tree 0 t))
 tree_compiled graph made t zip = compiled_at graph made t 0 (stand_all graph [] made (leaves_of t) made 0 refl refl zip)

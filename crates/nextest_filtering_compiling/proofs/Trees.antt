@@ -15,7 +15,8 @@ use Rattle.nextest_filtering_ast.specs.Tree.{Leaf, Matcher, Subject, Tree, binar
 use Rattle.nextest_filtering_ast.specs.declared.leaf.SourceSpan.{SourceSpan}
 use Rattle.nextest_filtering_ast.specs.declared.matcher.NameMatcher.{NameMatcher}
 use Rattle.nextest_filtering_compiling.specs.Compiling.{IsCompiled, IsCompiledLeaf, IsSetOf, IsWith}
-use Rattle.nextest_filtering_compiling.specs.Laws.{KeepsMeaning}
+use Rattle.nextest_filtering_compiling.specs.Laws.{KeepsMeaning, OneMeaning}
+use Rattle.nextest_filtering_compiling.specs.Meaning.{same_on_binary, same_on_test}
 use Rattle.nextest_filtering_compiling.specs.Packages.{AsksFor}
 use Rattle.nextest_filtering_compiling.specs.Trees.{MayBeAs, TreeCanBeOn, TreeIsOn, shape_of_tree}
 
@@ -168,4 +169,15 @@ pub kept_meaning : {G : Type 0} (Member : G → Test → Matcher → Type 0) →
 kept_meaning Member groups graph tree default filter fallback made also = (
   (λ binary value. let exact = can_be_as_compiled graph tree default filter fallback made also binary value in (exact.1, exact.0)),
   (λ test value. let exact = is_on_as_compiled graph tree default filter fallback made also test (Member groups test) value in (exact.1, exact.0)),
+)
+
+-- ---- two filters of one tree
+
+-- what the one is, the other is, both ways
+pub one_meaning : {G : Type 0} (Member : G → Test → Matcher → Type 0) → OneMeaning Member
+one_meaning Member graph tree a b default one other = (
+  (λ binary value. (same_on_binary graph tree a b default one other binary value, same_on_binary graph tree b a default other one binary value)),
+  (λ groups test value.
+      let In = Member groups test in
+      (same_on_test graph tree a b default one other test In value, same_on_test graph tree b a default other one test In value)),
 )

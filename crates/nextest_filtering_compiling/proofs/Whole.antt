@@ -8,7 +8,7 @@ use Rattle.nextest_filtering_filters.specs.Filter.{Compiled, filter_of, leaf_at}
 use Rattle.nextest_filtering_filters.specs.declared.leaf.FiltersetLeaf.{FiltersetLeaf}
 use Rattle.nextest_filtering_filters.specs.Formula.{Formula, with_leaves}
 use Rattle.nextest_filtering_filters.specs.Steps.{formula_of}
-use Rattle.nextest_filtering_filters.specs.declared.step.Step.{Step}
+use Rattle.nextest_filtering_filters.specs.declared.step.FormulaStep.{FormulaStep}
 use Rattle.nextest_filtering_syntax.specs.Places.{StandsWhole}
 use Rattle.nextest_filtering_syntax.specs.Reading.{IsReadingOf}
 use Rattle.nextest_filtering_syntax.specs.declared.reading.Reading.{Reading}
@@ -21,11 +21,11 @@ use Rattle.nextest_filtering_syntax.specs.declared.tree.ParsedExpr.{ParsedExpr}
 use Rattle.nextest_filtering_syntax.specs.declared.tree.ParsedExpr.TheVariants as tree
 use Rattle.nextest_filtering_compiling.specs.Accepting.{IsAccepted, IsFree, IsRefusedFor}
 use Rattle.nextest_filtering_compiling.specs.Outcomes.{IsFiltered}
-use Rattle.nextest_filtering_compiling.specs.Bans.{ban_of, banned, fault_for, place_of}
+use Rattle.nextest_filtering_compiling.specs.Bans.{ban_of, bans_of, fault_for, place_of}
 use Rattle.nextest_filtering_compiling.specs.Compiling.{AreCompiled, IsCompiled}
 use Rattle.nextest_filtering_compiling.specs.Context.{Context}
-use Rattle.nextest_filtering_compiling.specs.Faults.{Have, LeafHas, listed}
-use Rattle.nextest_filtering_compiling.specs.Leaves.{leaves_of, placed}
+use Rattle.nextest_filtering_compiling.specs.Faults.{Have, LeafHas, faults_of_option}
+use Rattle.nextest_filtering_compiling.specs.Leaves.{leaves_of, formula_of_tree}
 use Rattle.nextest_filtering_compiling.specs.declared.filterset.Filtered.TheVariants as filtered
 use Rattle.nextest_filtering_filters.specs.declared.known_groups.KnownGroups.{KnownGroups}
 use Rattle.nextest_filtering_compiling.proofs.Placed.{tree_compiled}
@@ -40,9 +40,9 @@ is_something {X} [] count empty is filled same none = eqb-false count 0 (sym is 
 is_something {X} (first ∷ more) count empty is filled same none = cc
 
 -- no predicate has a fault: its filter
-pub filtered_as : (cx : Context) (purpose : FiltersetKind) (known : KnownGroups) (t : ParsedExpr) (bans faults : List ParseSingleError) (made : List FiltersetLeaf) (shape : List Step) (new : Compiled)
-    → bans ≡ banned purpose (leaves_of t) → bans ≡ [] → Have cx known (leaves_of t) faults
-    → (faults ≡ [] → AreCompiled cx.graph (leaves_of t) made) → faults ≡ [] → formula_of shape ≡ placed 0 t
+pub filtered_as : (cx : Context) (purpose : FiltersetKind) (known : KnownGroups) (t : ParsedExpr) (bans faults : List ParseSingleError) (made : List FiltersetLeaf) (shape : List FormulaStep) (new : Compiled)
+    → bans ≡ bans_of purpose (leaves_of t) → bans ≡ [] → Have cx known (leaves_of t) faults
+    → (faults ≡ [] → AreCompiled cx.graph (leaves_of t) made) → faults ≡ [] → formula_of shape ≡ formula_of_tree 0 t
     → new.steps ≡ shape → new.leaves ≡ made → IsFiltered cx purpose known t (filtered.Filter new)
 filtered_as cx purpose known t bans faults made shape new is_banned bans_none have zip faults_none formula steps leaves = (
   sym is_banned ∙ bans_none,
@@ -51,9 +51,9 @@ filtered_as cx purpose known t bans faults made shape new is_banned bans_none ha
   subst (AreCompiled cx.graph (leaves_of t)) (sym leaves) (zip faults_none),
 )
   where
-    same : filter_of new ≡ with_leaves (leaf_at made) (placed 0 t)
-    same = ap (λ (s : List Step). with_leaves (leaf_at new.leaves) (formula_of s)) steps ∙ ap (λ (f : Formula ℕ). with_leaves (leaf_at new.leaves) f) formula
-        ∙ ap (λ (l : List FiltersetLeaf). with_leaves (leaf_at l) (placed 0 t)) leaves
+    same : filter_of new ≡ with_leaves (leaf_at made) (formula_of_tree 0 t)
+    same = ap (λ (s : List FormulaStep). with_leaves (leaf_at new.leaves) (formula_of s)) steps ∙ ap (λ (f : Formula ℕ). with_leaves (leaf_at new.leaves) f) formula
+        ∙ ap (λ (l : List FiltersetLeaf). with_leaves (leaf_at l) (formula_of_tree 0 t)) leaves
 
 -- ---- predicates without faults
 
@@ -125,22 +125,22 @@ no_ban : (purpose : FiltersetKind) (span : SourceSpan) (reason : Option BannedPr
 no_ban purpose span None more none = (refl, none)
 no_ban purpose span (Some reason) more none = cc
 
-no_fault : (first : Option ParseSingleError) (rest : List ParseSingleError) → [] ≡ listed first ++ rest → (first ≡ None) × ([] ≡ rest)
+no_fault : (first : Option ParseSingleError) (rest : List ParseSingleError) → [] ≡ faults_of_option first ++ rest → (first ≡ None) × ([] ≡ rest)
 no_fault None rest none = (refl, none)
 no_fault (Some told) rest none = cc
 
 -- they are without faults, where none is listed
-are_free : (cx : Context) (purpose : FiltersetKind) (known : KnownGroups) (leaves : List ParsedLeaf) → banned purpose leaves ≡ [] → Have cx known leaves [] → Free cx purpose known leaves
+are_free : (cx : Context) (purpose : FiltersetKind) (known : KnownGroups) (leaves : List ParsedLeaf) → bans_of purpose leaves ≡ [] → Have cx known leaves [] → Free cx purpose known leaves
 are_free cx purpose known [] bans have = tt
 are_free cx purpose known (it ∷ leaves) bans (first, rest, same, has, have) =
-    let ban = no_ban purpose (place_of it) (ban_of purpose (leaf_of it)) (banned purpose leaves) bans in
+    let ban = no_ban purpose (place_of it) (ban_of purpose (leaf_of it)) (bans_of purpose leaves) bans in
     let none = no_fault first rest same in
     (ban.0, subst (LeafHas cx known (place_of it) (leaf_of it)) none.0 has, are_free cx purpose known leaves ban.1 (subst (Have cx known leaves) (sym none.1) have))
 
-bans_none : (cx : Context) (purpose : FiltersetKind) (known : KnownGroups) (leaves : List ParsedLeaf) → Free cx purpose known leaves → banned purpose leaves ≡ []
+bans_none : (cx : Context) (purpose : FiltersetKind) (known : KnownGroups) (leaves : List ParsedLeaf) → Free cx purpose known leaves → bans_of purpose leaves ≡ []
 bans_none cx purpose known [] free = refl
 bans_none cx purpose known (it ∷ leaves) (ban, has, free) =
-    ap (λ (reason : Option BannedPredicateReason). fault_for purpose (place_of it) reason ++ banned purpose leaves) ban ∙ bans_none cx purpose known leaves free
+    ap (λ (reason : Option BannedPredicateReason). fault_for purpose (place_of it) reason ++ bans_of purpose leaves) ban ∙ bans_none cx purpose known leaves free
 
 faults_none : (cx : Context) (purpose : FiltersetKind) (known : KnownGroups) (leaves : List ParsedLeaf) (faults : List ParseSingleError) → Free cx purpose known leaves → Have cx known leaves faults → faults ≡ []
 faults_none cx purpose known [] faults free have = have
@@ -194,7 +194,7 @@ is_read text reading parsed is clean at =
 -- one whose predicates have faults is refused
 pub refused_predicates : (cx : Context) (purpose : FiltersetKind) (known : KnownGroups) (text : List ℕ) (reading : Reading) (parsed : ParsedExpr) (faults : List ParseSingleError)
     → IsReadingOf text reading → reading.faults.items ≡ [] → reading.tree ≡ Some parsed → faults ≢ []
-    → (faults ≡ banned purpose (leaves_of parsed)) ⊎ ((banned purpose (leaves_of parsed) ≡ []) × Have cx known (leaves_of parsed) faults) → Refuses cx purpose known text faults
+    → (faults ≡ bans_of purpose (leaves_of parsed)) ⊎ ((bans_of purpose (leaves_of parsed) ≡ []) × Have cx known (leaves_of parsed) faults) → Refuses cx purpose known text faults
 refused_predicates cx purpose known text reading parsed faults is clean at some why =
     let read = is_read text reading parsed is clean at in
     record {

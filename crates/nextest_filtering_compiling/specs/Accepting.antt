@@ -9,7 +9,7 @@ use Rattle.nextest_filtering_ast.specs.Grammar.{IsFilterset}
 use Rattle.nextest_filtering_ast.specs.Tree.{Tree, negation, union, intersection, difference, parens, set}
 use Rattle.nextest_filtering_syntax.specs.Parsed.{tree_of}
 use Rattle.nextest_filtering_syntax.specs.declared.tree.ParsedExpr.{ParsedExpr}
-use Rattle.nextest_filtering_compiling.specs.Bans.{ban_of, banned}
+use Rattle.nextest_filtering_compiling.specs.Bans.{ban_of, bans_of}
 use Rattle.nextest_filtering_compiling.specs.Compiling.{AreCompiled, IsCompiled}
 use Rattle.nextest_filtering_compiling.specs.Context.{Context}
 use Rattle.nextest_filtering_compiling.specs.Faults.{Have, LeafHas}
@@ -37,7 +37,7 @@ abbrev pub IsRefusedFor : Context → FiltersetKind → KnownGroups → List ℕ
 IsRefusedFor cx kind known text faults =
     (((other : Tree) → IsFilterset text other → ⊥) × AreFaultsOf text faults)
     ⊎ ((parsed : ParsedExpr) × IsFilterset text (tree_of parsed) × StandsWhole text parsed
-    × ((faults ≡ banned kind (leaves_of parsed)) ⊎ ((banned kind (leaves_of parsed) ≡ []) × Have cx known (leaves_of parsed) faults)))
+    × ((faults ≡ bans_of kind (leaves_of parsed)) ⊎ ((bans_of kind (leaves_of parsed) ≡ []) × Have cx known (leaves_of parsed) faults)))
 
 -- what a text gives: its tree with the spans of its predicates, and the filter that the tree is compiled to, its predicates one by one; or the
 -- faults for which it is refused, of which there are some; want of memory says nothing

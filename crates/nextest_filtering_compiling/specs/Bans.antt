@@ -30,6 +30,6 @@ fault_for kind span None = []
 fault_for kind span (Some reason) = fault.BannedPredicate kind span reason ∷ []
 
 -- those of predicates, from left to right
-abbrev pub banned : FiltersetKind → List ParsedLeaf → List ParseSingleError
-banned kind [] = []
-banned kind (it ∷ more) = fault_for kind (place_of it) (ban_of kind (leaf_of it)) ++ banned kind more
+abbrev pub bans_of : FiltersetKind → List ParsedLeaf → List ParseSingleError
+bans_of kind [] = []
+bans_of kind (it ∷ more) = fault_for kind (place_of it) (ban_of kind (leaf_of it)) ++ bans_of kind more

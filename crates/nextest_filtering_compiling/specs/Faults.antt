@@ -47,13 +47,13 @@ LeafHas cx known span (matching binary_name m) = Has (fault.NoBinaryNameMatch sp
 LeafHas cx known span (matching group m) = Has (fault.NoGroupMatch span) (NoGroup known m)
 LeafHas cx known span other = (λ told. told ≡ None)
 
-abbrev pub listed : Option ParseSingleError → List ParseSingleError
-listed None = []
-listed (Some told) = told ∷ []
+abbrev pub faults_of_option : Option ParseSingleError → List ParseSingleError
+faults_of_option None = []
+faults_of_option (Some told) = told ∷ []
 
 -- the faults of predicates, from left to right
 abbrev pub Have : Context → KnownGroups → List ParsedLeaf → List ParseSingleError → Type 0
 Have cx known [] faults = faults ≡ []
 Have cx known (it ∷ more) faults =
-    (first : Option ParseSingleError) × (rest : List ParseSingleError) × (faults ≡ listed first ++ rest)
+    (first : Option ParseSingleError) × (rest : List ParseSingleError) × (faults ≡ faults_of_option first ++ rest)
     × LeafHas cx known (place_of it) (leaf_of it) first × Have cx known more rest

@@ -30,7 +30,7 @@ use Rattle.nextest_filtering_ast.specs.Meaning.{MatchesName}
 use Rattle.nextest_filtering_ast.specs.Tree.{Leaf, Matcher, Tree, matcher_of, matching, default_filter, group, negation, union, intersection, difference, parens, set}
 use Rattle.nextest_filtering_compiling.specs.Questions.{asks_as_written}
 use Rattle.nextest_config_resolution_filters.specs.Filters.{AreAlike, FiltersLaws, IsRead}
-use Rattle.nextest_filtering_compiling.specs.Filtersets.{AsksAsWritten, HasOnBinary, HasOnTest, IsFilterset, any_leaf, asked_in, asks, asks_default, asks_group, can_be_default}
+use Rattle.nextest_filtering_compiling.specs.Filtersets.{AsksAsWritten, HasOnBinary, HasOnTest, IsParsedFilterset, any_leaf, asked_in, asks, asks_default, asks_group, can_be_default}
 use Rattle.nextest_filtering_compiling.specs.declared.questions.Question.{Question}
 use Rattle.nextest_filtering_compiling.specs.declared.questions.Question.TheVariants as about
 
@@ -97,7 +97,7 @@ same_asked question one other first second same = first question ∙ ap (any_lea
 both_same : (a b c d : Bool) → a ≡ c → b ≡ d → (not a && not b) ≡ (not c && not d)
 both_same a b c d first second = ap (λ (x : Bool). not x && not b) first ∙ ap (λ (y : Bool). not c && not y) second
 
-pub one_meaning : (cx : Context) (purpose : FiltersetKind) (known : KnownGroups) (text : List ℕ) (one other : Filterset) → IsFilterset cx purpose known text one → IsFilterset cx purpose known text other
+pub one_meaning : (cx : Context) (purpose : FiltersetKind) (known : KnownGroups) (text : List ℕ) (one other : Filterset) → IsParsedFilterset cx purpose known text one → IsParsedFilterset cx purpose known text other
     → AreAlike HasOnBinary HasOnTest (asked_in about.Group) (asked_in about.Test) can_be_default one other
 one_meaning cx purpose known text one other first second =
     let tree = tree_of one.parsed in
@@ -157,17 +157,17 @@ both_not true b one other = absurd (apart one)
 both_not false true one other = absurd (apart other)
 both_not false false one other = refl
 
-pub default_has_no_groups : (cx : Context) (known : KnownGroups) (text : List ℕ) (it : Filterset) → IsFilterset cx kind.DefaultFilter known text it → asked_in about.Group it ≡ false
+pub default_has_no_groups : (cx : Context) (known : KnownGroups) (text : List ℕ) (it : Filterset) → IsParsedFilterset cx kind.DefaultFilter known text it → asked_in about.Group it ≡ false
 default_has_no_groups cx known text it is =
     asks_as_written cx kind.DefaultFilter known text it is about.Group ∙ none_free cx kind.DefaultFilter known asks_group no_group_in_default (tree_of it.parsed) is.1.1
 
-pub default_serves : (cx : Context) (known : KnownGroups) (text : List ℕ) (it : Filterset) → IsFilterset cx kind.DefaultFilter known text it → can_be_default it ≡ true
+pub default_serves : (cx : Context) (known : KnownGroups) (text : List ℕ) (it : Filterset) → IsParsedFilterset cx kind.DefaultFilter known text it → can_be_default it ≡ true
 default_serves cx known text it is =
     both_not (asked_in about.Default it) (asked_in about.Group it)
     (asks_as_written cx kind.DefaultFilter known text it is about.Default ∙ none_free cx kind.DefaultFilter known asks_default no_default_in_default (tree_of it.parsed) is.1.1)
     (default_has_no_groups cx known text it is)
 
-pub override_has_no_groups : (cx : Context) (known : KnownGroups) (text : List ℕ) (it : Filterset) → IsFilterset cx kind.OverrideFilter known text it → asked_in about.Group it ≡ false
+pub override_has_no_groups : (cx : Context) (known : KnownGroups) (text : List ℕ) (it : Filterset) → IsParsedFilterset cx kind.OverrideFilter known text it → asked_in about.Group it ≡ false
 override_has_no_groups cx known text it is =
     asks_as_written cx kind.OverrideFilter known text it is about.Group ∙ none_free cx kind.OverrideFilter known asks_group no_group_in_override (tree_of it.parsed) is.1.1
 
@@ -232,21 +232,21 @@ no_default it serves =
     all_at (λ leaf. is_default leaf ≡ false) (leaf_at it.compiled.leaves)
     (λ place. none_at is_default refl it.compiled.leaves place (first_not (asked_in about.Default it) (asked_in about.Group it) serves)) (formula_of it.compiled.steps)
 
-read_readable : (it : Filterset) → IsRead IsFilterset it → AreReadable (filter_of it.compiled)
+read_readable : (it : Filterset) → IsRead IsParsedFilterset it → AreReadable (filter_of it.compiled)
 read_readable it (cx, purpose, known, text, is) = readable text (tree_of it.parsed) is.1.0 cx.graph (filter_of it.compiled) is.3
 
 no_member : (m : Matcher) → IsReadable m → (b : Bool) × Tells ⊥ b
 no_member m reads = (false, ((λ is. apart (sym is)), (λ never. absurd never)))
 
-pub some_on_binary : (filter default : Filterset) (binary : Binary) → IsRead IsFilterset filter → IsRead IsFilterset default → can_be_default default ≡ true → (value : Option Bool) × HasOnBinary filter default binary value
+pub some_on_binary : (filter default : Filterset) (binary : Binary) → IsRead IsParsedFilterset filter → IsRead IsParsedFilterset default → can_be_default default ≡ true → (value : Option Bool) × HasOnBinary filter default binary value
 some_on_binary filter default binary read default_read serves =
     decided_on_binary filter.compiled default.compiled (read_readable filter read) (read_readable default default_read) (no_default default serves) binary
 
-pub some_on_test : (filter default : Filterset) (test : Test) → IsRead IsFilterset filter → IsRead IsFilterset default → can_be_default default ≡ true → (value : Bool) × HasOnTest filter default test value
+pub some_on_test : (filter default : Filterset) (test : Test) → IsRead IsParsedFilterset filter → IsRead IsParsedFilterset default → can_be_default default ≡ true → (value : Bool) × HasOnTest filter default test value
 some_on_test filter default test read default_read serves =
     decided_on_test filter.compiled default.compiled (read_readable filter read) (read_readable default default_read) (no_default default serves) test (λ matcher. ⊥) no_member
 
-pub filterset_laws : FiltersLaws IsFilterset HasOnBinary HasOnTest (asked_in about.Group) (asked_in about.Test) can_be_default
+pub filterset_laws : FiltersLaws IsParsedFilterset HasOnBinary HasOnTest (asked_in about.Group) (asked_in about.Test) can_be_default
 filterset_laws = record {
   one_meaning = one_meaning;
   default_serves = default_serves;

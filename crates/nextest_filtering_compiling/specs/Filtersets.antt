@@ -64,8 +64,8 @@ abbrev pub AsksAsWritten : Filterset → Type 0
 AsksAsWritten it = (question : Question) → asked_in question it ≡ any_leaf (asks question) (tree_of it.parsed)
 
 -- the text is accepted as this filterset
-abbrev pub IsFilterset : Context → FiltersetKind → KnownGroups → List ℕ → Filterset → Type 0
-IsFilterset cx kind known text it = Parses cx kind known text (Ok it)
+abbrev pub IsParsedFilterset : Context → FiltersetKind → KnownGroups → List ℕ → Filterset → Type 0
+IsParsedFilterset cx kind known text it = Parses cx kind known text (Ok it)
 
 -- the value on a binary whatever its tests are, none where tests tell; and the value on a test, which is in no group
 abbrev pub HasOnBinary : Filterset → Filterset → Binary → Option Bool → Type 0

@@ -20,10 +20,10 @@ abbrev pub behind : Bor ParsedLeaf → ParsedLeaf
 behind lent = lent.now
 
 -- a tree as a formula over the places of its predicates, the leftmost of which has this one
-abbrev pub placed : ℕ → ParsedExpr → Formula ℕ
-placed first (tree.Not' op p t) = negated (placed first t)
-placed first (tree.Union' op p a q b) = either (placed first a) (placed (first + length (leaves_of a)) b)
-placed first (tree.Intersection' op p a q b) = both (placed first a) (placed (first + length (leaves_of a)) b)
-placed first (tree.Difference' op p a q b) = both (placed first a) (negated (placed (first + length (leaves_of a)) b))
-placed first (tree.Parens' p t) = placed first t
-placed first (tree.Set it) = leaf first
+abbrev pub formula_of_tree : ℕ → ParsedExpr → Formula ℕ
+formula_of_tree first (tree.Not' op p t) = negated (formula_of_tree first t)
+formula_of_tree first (tree.Union' op p a q b) = either (formula_of_tree first a) (formula_of_tree (first + length (leaves_of a)) b)
+formula_of_tree first (tree.Intersection' op p a q b) = both (formula_of_tree first a) (formula_of_tree (first + length (leaves_of a)) b)
+formula_of_tree first (tree.Difference' op p a q b) = both (formula_of_tree first a) (negated (formula_of_tree (first + length (leaves_of a)) b))
+formula_of_tree first (tree.Parens' p t) = formula_of_tree first t
+formula_of_tree first (tree.Set it) = leaf first

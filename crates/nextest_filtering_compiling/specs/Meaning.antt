@@ -12,7 +12,7 @@ use Rattle.nextest_filtering_filters.specs.Formula as formula
 use Rattle.nextest_filtering_filters.specs.Formula.{Formula, Gives, both_gives, either_gives, leaf_gives, negated_gives}
 use Rattle.nextest_filtering_filters.proofs.Giving.{of_leaf}
 use Rattle.nextest_filtering_graph.specs.Graph.{Graph}
-use Rattle.nextest_filtering_ast.specs.Grammar.{Compares, Conjunction, Expression, IsFilterset, ReadsArgument, Unary, a_group, a_negation, a_predicate, first_conjunction, first_operand, joined, next_conjunction, next_operand}
+use Rattle.nextest_filtering_ast.specs.Grammar.{IsPattern, Conjunction, Expression, IsFilterset, ReadsArgument, Unary, a_group, a_negation, a_predicate, first_conjunction, first_operand, joint_of, next_conjunction, next_operand}
 use Rattle.nextest_filtering_ast.specs.Meaning.{MatchesName}
 use Rattle.nextest_filtering_ast.specs.Tree.{Leaf, Matcher, Subject, Tree, binary_id, binary_name, built_for, default_filter, dependencies, dependents, difference, everything, group, intersection, kind, matcher_of, matching, negation, nothing, package_name, parens, set, test_name, union}
 use Rattle.nextest_filtering_ast.specs.declared.leaf.SourceSpan.{SourceSpan}
@@ -20,7 +20,6 @@ use Rattle.nextest_filtering_ast.specs.declared.matcher.NameMatcher.{NameMatcher
 use Rattle.nextest_filtering_ast.specs.declared.operators.Joint.{Joint}
 use Rattle.nextest_filtering_ast.specs.declared.operators.Joint.TheVariants as joint
 use Rattle.nextest_filtering_compiling.specs.Compiling.{IsCompiled, IsCompiledLeaf, IsSetOf, IsWith}
-use Rattle.nextest_filtering_compiling.specs.Laws.{OneMeaning}
 use Rattle.nextest_filtering_compiling.specs.Packages.{AsksFor}
 
 -- ---- two that a predicate is compiled to
@@ -121,15 +120,6 @@ pub same_on_binary : (graph : Graph) (tree : Tree) (a b default : Formula Filter
     → CanBeOn a default binary value → CanBeOn b default binary value
 same_on_binary graph tree a b default one other binary = same_gives graph binary Either Either (Gives (MayBe binary Either Either Never) default) tree a b one other
 
--- both ways
-pub one_meaning : {G : Type 0} (Member : G → Test → Matcher → Type 0) → OneMeaning Member
-one_meaning Member graph tree a b default one other = (
-  (λ binary value. (same_on_binary graph tree a b default one other binary value, same_on_binary graph tree b a default other one binary value)),
-  (λ groups test value.
-      let In = Member groups test in
-      (same_on_test graph tree a b default one other test In value, same_on_test graph tree b a default other one test In value)),
-)
-
 -- ---- matchers that are readable
 
 -- that of a predicate, where it has one
@@ -151,13 +141,13 @@ HasReadableMatchers (set it) = HasReadableMatcher it
 
 -- what is read of a text has such matchers
 argument_read : (it : Leaf) (argument rest : List ℕ) → ReadsArgument it argument rest → HasReadableMatcher it
-argument_read (matching subject m) argument rest reads = λ is. subst (λ how. Compares how m.text) is reads.0
+argument_read (matching subject m) argument rest reads = λ is. subst (λ how. IsPattern how m.text) is reads.0
 argument_read (built_for platform) argument rest reads = tt
 argument_read default_filter argument rest reads = tt
 argument_read everything argument rest reads = tt
 argument_read nothing argument rest reads = tt
 
-joined_read : (op : Joint) (t u : Tree) → HasReadableMatchers t → HasReadableMatchers u → HasReadableMatchers (joined op t u)
+joined_read : (op : Joint) (t u : Tree) → HasReadableMatchers t → HasReadableMatchers u → HasReadableMatchers (joint_of op t u)
 joined_read (joint.And op) t u one other = (one, other)
 joined_read (joint.Minus op) t u one other = (one, other)
 

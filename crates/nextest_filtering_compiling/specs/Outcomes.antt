@@ -9,7 +9,7 @@ use Rattle.nextest_filtering_syntax.specs.Parsed.{tree_of}
 use Rattle.nextest_filtering_ast.specs.declared.leaf.ParsedLeaf.{ParsedLeaf}
 use Rattle.nextest_filtering_ast.specs.declared.leaf.SourceSpan.{SourceSpan}
 use Rattle.nextest_filtering_syntax.specs.declared.tree.ParsedExpr.{ParsedExpr}
-use Rattle.nextest_filtering_compiling.specs.Bans.{banned, place_of}
+use Rattle.nextest_filtering_compiling.specs.Bans.{bans_of, place_of}
 use Rattle.nextest_filtering_compiling.specs.Compiling.{AreCompiled, IsCompiled, IsCompiledLeaf}
 use Rattle.nextest_filtering_compiling.specs.Context.{Context}
 use Rattle.nextest_filtering_compiling.specs.Faults.{Have, LeafHas}
@@ -35,7 +35,7 @@ IsKept (outcome.Fault fault) made faults more_made more_faults = more_faults ≡
 
 -- the filter that a tree is, where no predicate has a fault; else the faults
 abbrev pub IsFiltered : Context → FiltersetKind → KnownGroups → ParsedExpr → Filtered → Type 0
-IsFiltered cx kind known tree (filtered.Filter made) = (banned kind (leaves_of tree) ≡ []) × Have cx known (leaves_of tree) []
+IsFiltered cx kind known tree (filtered.Filter made) = (bans_of kind (leaves_of tree) ≡ []) × Have cx known (leaves_of tree) []
     × IsCompiled cx.graph (tree_of tree) (filter_of made) × AreCompiled cx.graph (leaves_of tree) made.leaves
 IsFiltered cx kind known tree (filtered.Faults faults) = (faults.items ≢ [])
-    × ((faults.items ≡ banned kind (leaves_of tree)) ⊎ ((banned kind (leaves_of tree) ≡ []) × Have cx known (leaves_of tree) faults.items))
+    × ((faults.items ≡ bans_of kind (leaves_of tree)) ⊎ ((bans_of kind (leaves_of tree) ≡ []) × Have cx known (leaves_of tree) faults.items))

@@ -17,7 +17,7 @@ use Rattle.nextest_filtering_syntax.specs.declared.tree.ParsedExpr.{ParsedExpr}
 use Rattle.nextest_filtering_syntax.specs.declared.tree.ParsedExpr.TheVariants as tree
 use Rattle.nextest_filtering_ast.specs.Tree.{Leaf, Matcher, Subject, matching, built_for, default_filter, everything, nothing, package_name, dependencies, dependents, kind, binary_name, binary_id, test_name, group, leaf_of}
 use Rattle.nextest_filtering_ast.specs.declared.leaf.ParsedLeaf.{ParsedLeaf}
-use Rattle.nextest_filtering_compiling.specs.Filtersets.{AsksAsWritten, IsFilterset, any_leaf, asks, asks_default, asks_group, asks_test, is_asking}
+use Rattle.nextest_filtering_compiling.specs.Filtersets.{AsksAsWritten, IsParsedFilterset, any_leaf, asks, asks_default, asks_group, asks_test, is_asking}
 use Rattle.nextest_filtering_compiling.specs.declared.questions.Question.{Question}
 use Rattle.nextest_filtering_compiling.specs.declared.questions.Question.TheVariants as about
 
@@ -88,6 +88,6 @@ tree_asks asked (tree.Parens' p t) = tree_asks asked t
 tree_asks asked (tree.Set it) = or_nothing (asked (leaf_of it))
 
 -- a filterset asks what its tree asks
-pub asks_as_written : (cx : Context) (purpose : FiltersetKind) (known : KnownGroups) (text : List ℕ) (it : Filterset) → IsFilterset cx purpose known text it → AsksAsWritten it
+pub asks_as_written : (cx : Context) (purpose : FiltersetKind) (known : KnownGroups) (text : List ℕ) (it : Filterset) → IsParsedFilterset cx purpose known text it → AsksAsWritten it
 asks_as_written cx purpose known text it is question =
     all_ask cx.graph question (leaves_of it.parsed) it.compiled.leaves is.4 ∙ tree_asks (asks question) it.parsed

@@ -3,7 +3,7 @@ use Rattle.std.specs.Prelude.{ℕ, ◌+◌, List, [], ◌∷◌, length, Option,
 use Rattle.nextest_filtering_filters.specs.Formula.{Formula, negated, either, both}
 use Rattle.nextest_filtering_syntax.specs.declared.tree.ParsedExpr.{ParsedExpr}
 use Rattle.nextest_filtering_syntax.specs.declared.tree.ParsedExpr.TheVariants as tree
-use Rattle.nextest_filtering_compiling.specs.Leaves.{leaves_of, placed}
+use Rattle.nextest_filtering_compiling.specs.Leaves.{leaves_of, formula_of_tree}
 use Rattle.nextest_filtering_compiling.specs.declared.shape.Task.{Task}
 use Rattle.nextest_filtering_compiling.specs.declared.shape.Task.TheVariants as task
 
@@ -11,7 +11,7 @@ use Rattle.nextest_filtering_compiling.specs.declared.shape.Task.TheVariants as 
 -- finds too few of them
 abbrev pub done : List Task → List (Formula ℕ) → ℕ → Option (List (Formula ℕ) × ℕ)
 done [] waiting next = Some (waiting, next)
-done (task.Add t ∷ more) waiting next = done more (placed next t.now ∷ waiting) (next + length (leaves_of t.now))
+done (task.Add t ∷ more) waiting next = done more (formula_of_tree next t.now ∷ waiting) (next + length (leaves_of t.now))
 done (task.Negate ∷ more) [] next = None
 done (task.Negate ∷ more) (inside ∷ waiting) next = done more (negated inside ∷ waiting) next
 done (task.Either ∷ more) [] next = None

@@ -1,5 +1,5 @@
 // Filtersets as filters.
-ghost use Rattle.nextest_filtering_compiling.specs.Filtersets.{HasOnBinary, HasOnTest, IsFilterset, asked_in, asks_tests, can_be_default};
+ghost use Rattle.nextest_filtering_compiling.specs.Filtersets.{HasOnBinary, HasOnTest, IsParsedFilterset, asked_in, asks_tests, can_be_default};
 ghost use Rattle.nextest_filtering_compiling.specs.declared.questions.Question.TheVariants as about;
 ghost use Rattle.nextest_filtering_compiling.specs.FiltersetLaws.{filterset_laws};
 
@@ -16,7 +16,7 @@ use std::alloc::{AllocError, Global};
 impl Filters for Filterset {
     type Cx = ParseContext;
 
-    ghost is_parsed = { IsFilterset };
+    ghost is_parsed = { IsParsedFilterset };
 
     // a pattern that nests too deep for the regular expressions is no filterset
     ghost is_too_deep = { λ text. ⊥ };

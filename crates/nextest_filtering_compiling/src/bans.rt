@@ -2,7 +2,7 @@
 ghost use Rattle.std.specs.Prelude.{◌≡◌, ◌++◌, IfOk, OnOk, map};
 ghost use Rattle.nextest_filtering_ast.specs.Tree.{leaf_of};
 ghost use Rattle.nextest_filtering_compiling.specs.Bans as words;
-ghost use Rattle.nextest_filtering_compiling.specs.Bans.{ban_of, banned, fault_for};
+ghost use Rattle.nextest_filtering_compiling.specs.Bans.{ban_of, bans_of, fault_for};
 ghost use Rattle.nextest_filtering_compiling.specs.Leaves.{behind};
 
 use nextest_filtering_arguments::{BannedPredicateReason, FiltersetKind, ParseSingleError};
@@ -61,7 +61,8 @@ fn add_ban(
     leaf: &ParsedLeaf,
     found: &mut Vec<ParseSingleError>,
 ) -> Result<(), AllocError>
-    ensures { OnOk result (found.new.items ≡ found.old.items ++ fault_for kind (words.place_of leaf.now) (ban_of kind (leaf_of leaf.now))) }
+    ensures { OnOk result (found.new.items ≡ found.old.items
+        ++ fault_for kind (words.place_of leaf.now) (ban_of kind (leaf_of leaf.now))) }
 {
     match ban(kind, leaf) {
         Some(reason) => Ok(found.push(ParseSingleError::BannedPredicate {
@@ -79,7 +80,7 @@ pub(crate) fn banned_in(
     kind: FiltersetKind,
     leaves: &[&ParsedLeaf],
 ) -> Result<Vec<ParseSingleError>, AllocError>
-    ensures { IfOk result (λ found. found.items ≡ banned kind (map behind leaves.now)) }
+    ensures { IfOk result (λ found. found.items ≡ bans_of kind (map behind leaves.now)) }
 {
     let mut found = Vec::new(alloc);
     for leaf in leaves {

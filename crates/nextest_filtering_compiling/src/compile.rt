@@ -39,7 +39,8 @@ fn about_packages(
     matcher: &NameMatcher,
     span: SourceSpan,
 ) -> Result<Outcome, AllocError>
-    ensures { (known : groups.KnownGroups) → IfOk result (IsOutcomeAt cx.now known span (matching (subject_of asks) (matcher_of matcher.now))) }
+    ensures { (known : groups.KnownGroups) → IfOk result
+        (IsOutcomeAt cx.now known span (matching (subject_of asks) (matcher_of matcher.now))) }
 {
     let named = named_places(alloc, cx, matcher)?;
     if named.is_empty() {
@@ -56,7 +57,8 @@ fn about_id(
     matcher: &NameMatcher,
     span: SourceSpan,
 ) -> Result<Outcome, AllocError>
-    ensures { (known : groups.KnownGroups) → IfOk result (IsOutcomeAt cx.now known span (matching binary_id (matcher_of matcher.now))) }
+    ensures { (known : groups.KnownGroups) → IfOk result
+        (IsOutcomeAt cx.now known span (matching binary_id (matcher_of matcher.now))) }
 {
     if lacks_binary(alloc, cx, BinaryPart::Id, matcher)? {
         return Ok(Outcome::Fault(ParseSingleError::NoBinaryIdMatch(span)));
@@ -71,7 +73,8 @@ fn about_name(
     matcher: &NameMatcher,
     span: SourceSpan,
 ) -> Result<Outcome, AllocError>
-    ensures { (known : groups.KnownGroups) → IfOk result (IsOutcomeAt cx.now known span (matching binary_name (matcher_of matcher.now))) }
+    ensures { (known : groups.KnownGroups) → IfOk result
+        (IsOutcomeAt cx.now known span (matching binary_name (matcher_of matcher.now))) }
 {
     if lacks_binary(alloc, cx, BinaryPart::Name, matcher)? {
         return Ok(Outcome::Fault(ParseSingleError::NoBinaryNameMatch(span)));
@@ -86,7 +89,8 @@ fn about_group(
     matcher: &NameMatcher,
     span: SourceSpan,
 ) -> Result<Outcome, AllocError>
-    ensures { (cx : Context) → IfOk result (IsOutcomeAt cx known.now span (matching group (matcher_of matcher.now))) }
+    ensures { (cx : Context)
+        → IfOk result (IsOutcomeAt cx known.now span (matching group (matcher_of matcher.now))) }
 {
     if lacks_group(alloc, known, matcher)? {
         return Ok(Outcome::Fault(ParseSingleError::NoGroupMatch(span)));
@@ -135,7 +139,8 @@ fn keep(
     made: &mut Vec<FiltersetLeaf>,
     faults: &mut Vec<ParseSingleError>,
 ) -> Result<(), AllocError>
-    ensures { OnOk result (IsKept outcome made.old.items faults.old.items made.new.items faults.new.items) }
+    ensures { OnOk result
+        (IsKept outcome made.old.items faults.old.items made.new.items faults.new.items) }
 {
     match outcome {
         Outcome::Leaf(leaf) => Ok(made.push(leaf)?),
@@ -150,8 +155,10 @@ pub(crate) fn compile_leaves(
     known: &KnownGroups,
     leaves: &[&ParsedLeaf],
 ) -> Result<Compiled, AllocError>
-    ensures faults { IfOk result (λ it. Have cx.now known.now (map behind leaves.now) it.faults.items) }
-    ensures leaves { IfOk result (λ it. it.faults.items ≡ [] → AreCompiled cx.now.graph (map behind leaves.now) it.leaves.items) }
+    ensures faults { IfOk result
+        (λ it. Have cx.now known.now (map behind leaves.now) it.faults.items) }
+    ensures leaves { IfOk result (λ it. it.faults.items ≡ []
+        → AreCompiled cx.now.graph (map behind leaves.now) it.leaves.items) }
 {
     let mut made = Vec::new(alloc);
     let mut faults = Vec::new(alloc);

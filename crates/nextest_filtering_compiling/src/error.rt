@@ -5,7 +5,7 @@ use std::alloc::{AllocError, AllocFailed};
 use thiserror::Error;
 
 /// A filterset's text, and its faults.
-#[derive(Debug, Drop)]
+#[derive(Clone, Debug, Drop)]
 pub struct FiltersetParseErrors {
     /// The text.
     pub input: Text,

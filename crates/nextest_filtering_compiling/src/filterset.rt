@@ -119,7 +119,8 @@ impl Filterset {
         query: &BinaryQuery<'_>,
         ecx: &EvalContext<'_>,
     ) -> Result<Option<bool>, AllocError>
-        ensures { IfOk result (IsValue (CanBeOn (filter_of self.now.compiled) (filter_of ecx.now) (binary_of query.now))) }
+        ensures { IfOk result (IsValue
+            (CanBeOn (filter_of self.now.compiled) (filter_of ecx.now) (binary_of query.now))) }
     {
         self.compiled.matches_binary(alloc, query, ecx)
     }
@@ -132,7 +133,8 @@ impl Filterset {
         ecx: &EvalContext<'_>,
     ) -> Result<bool, AllocError>
         requires no_group { list_any is_group self.now.compiled.leaves ≡ false }
-        ensures { IfOk result (λ value. IsValue (IsOn (filter_of self.now.compiled) (filter_of ecx.now) (test_of query.now) (λ matcher. ⊥)) (Some value)) }
+        ensures { IfOk result (λ value. IsValue (IsOn (filter_of self.now.compiled)
+            (filter_of ecx.now) (test_of query.now) (λ matcher. ⊥)) (Some value)) }
     {
         self.compiled.matches_test(alloc, query, ecx)
     }
@@ -147,10 +149,12 @@ impl Filterset {
         ecx: &EvalContext<'_>,
     ) -> Result<Vec<bool>, AllocError>
         requires no_group { list_any is_group self.now.compiled.leaves ≡ false }
-        ensures { IfOk result (λ values. AllZip (λ name value. IsValue (IsOn
-            (filter_of self.now.compiled) (filter_of ecx.now)
-            (record { binary = binary_of binary.now; name = name.now }) (λ matcher. ⊥)) (Some value))
-            names.now values.items) }
+        ensures { IfOk result (λ values. AllZip (λ name value. IsValue
+            (IsOn (filter_of self.now.compiled) (filter_of ecx.now) (record {
+              binary = binary_of
+                  binary.now;
+              name = name.now;
+            }) (λ matcher. ⊥)) (Some value)) names.now values.items) }
     {
         self.compiled.matches_tests(alloc, binary, names, ecx)
     }
@@ -163,7 +167,8 @@ impl Filterset {
         ecx: &EvalContext<'_>,
         groups: &G,
     ) -> Result<bool, AllocError>
-        ensures { IfOk result (λ value. IsValue (IsOn (filter_of self.now.compiled) (filter_of ecx.now) (test_of query.now) (G.member groups.now (test_of query.now))) (Some value)) }
+        ensures { IfOk result (λ value. IsValue (IsOn (filter_of self.now.compiled) (filter_of
+            ecx.now) (test_of query.now) (G.member groups.now (test_of query.now))) (Some value)) }
     {
         self.compiled
             .matches_test_with_groups(alloc, query, ecx, groups)

@@ -1,7 +1,7 @@
 // A tree as a formula over the places of its predicates.
 ghost use Rattle.std.specs.Prelude.{◌≡◌, ◌+◌, ◌<◌, ◌^◌, ◌∷◌, length, reverse, sum_by, IfOk, OnOk, map};
 ghost use Rattle.nextest_filtering_filters.specs.Steps.{formula_of, waiting_of};
-ghost use Rattle.nextest_filtering_compiling.specs.Leaves.{behind, leaves_of, placed};
+ghost use Rattle.nextest_filtering_compiling.specs.Leaves.{behind, leaves_of, formula_of_tree};
 ghost use Rattle.nextest_filtering_compiling.specs.Tasks.{done, work_in, work_of};
 
 use nextest_filtering_ast::ParsedLeaf;
@@ -30,7 +30,7 @@ pub(crate) fn shape_of(
     leaves: &[&ParsedLeaf],
 ) -> Result<Formula, AllocError>
     requires { map behind leaves.now ≡ leaves_of tree.now }
-    ensures { IfOk result (λ it. formula_of it ≡ placed 0 tree.now) }
+    ensures { IfOk result (λ it. formula_of it ≡ formula_of_tree 0 tree.now) }
 {
     let mut builder = FormulaBuilder::new(alloc);
     // a slice has fewer than 2^64 predicates, so their places can be counted
@@ -59,8 +59,8 @@ fn add<'t>(
 ) -> Result<(), AllocError>
     requires { next.old + length (leaves_of tree.now) < 2 ^ 64 }
     ensures same { OnOk result (done (reverse tasks.new.items) (waiting_of builder.new) next.new
-        ≡ done (reverse tasks.old.items) (placed next.old tree.now ∷ waiting_of builder.old)
-        (next.old + length (leaves_of tree.now))) }
+        ≡ done (reverse tasks.old.items) (formula_of_tree next.old tree.now
+        ∷ waiting_of builder.old) (next.old + length (leaves_of tree.now))) }
     ensures less { OnOk result (sum_by work_in tasks.new.items
         < work_of tree.now + sum_by work_in tasks.old.items) }
 {

@@ -6,7 +6,7 @@ use Rattle.std.specs.Str.Parse.{AllDigits}
 use Rattle.std.proofs.lemmas.Bool.{ne_eqb, cond-true, cond-false, cond_both, and_from, and_parts, or_from, not-true, not_from_false, lt-ltb, false≢true}
 use Rattle.std.proofs.lemmas.List.{append-nil, append_assoc, append_cancel_left, take_more, drop_more, take_all, drop_all}
 use Rattle.nextest_filtering_escapes.specs.Text.{Piece, Plain, Escaped, Unicode, IsPiece, IsText, spelling, is_end}
-use Rattle.nextest_filtering_escapes.specs.Ends.{Stops, IsEnded, unended}
+use Rattle.nextest_filtering_escapes.specs.Ends.{Stops, IsEnded, is_unended}
 
 -- ---- loops over bytes: what a reading finds from the left is what it passed, and what it finds ahead
 
@@ -43,32 +43,32 @@ text_front escaped [] = []
 text_front true (byte ∷ rest) = byte ∷ text_front false rest
 text_front false (byte ∷ rest) = cond (is_end byte) [] (byte ∷ text_front (eqb byte 92) rest)
 
-pub unended_front : (escaped : Bool) (bytes : List ℕ) → unended escaped (text_front escaped bytes) ≡ true
+pub unended_front : (escaped : Bool) (bytes : List ℕ) → is_unended escaped (text_front escaped bytes) ≡ true
 unended_front true [] = refl
 unended_front false [] = refl
 unended_front true (byte ∷ rest) = unended_front false rest
 unended_front false (byte ∷ rest) =
-    cond_both (is_end byte) [] (byte ∷ text_front (eqb byte 92) rest) (λ (x : List ℕ). unended false x ≡ true) (λ _. refl)
+    cond_both (is_end byte) [] (byte ∷ text_front (eqb byte 92) rest) (λ (x : List ℕ). is_unended false x ≡ true) (λ _. refl)
     (λ other. and_from (not (is_end byte)) _ (not_from_false (is_end byte) other) (unended_front (eqb byte 92) rest))
 
 -- the byte behind it is an end that isn't escaped
 front_ended : (escaped : Bool) (input : List ℕ) (byte : ℕ) (rest : List ℕ) → input ≡ text_front escaped input ++ byte ∷ rest
-    → unended escaped (text_front escaped input ++ byte ∷ []) ≡ false
+    → is_unended escaped (text_front escaped input ++ byte ∷ []) ≡ false
 front_ended true [] byte rest whole = cc
 front_ended false [] byte rest whole = cc
 front_ended true (b ∷ input) byte rest whole = front_ended false input byte rest (cc)
 front_ended false (b ∷ input) byte rest whole =
-    cond_both (is_end b) [] (b ∷ text_front (eqb b 92) input) (λ (x : List ℕ). b ∷ input ≡ x ++ byte ∷ rest → unended false (x ++ byte ∷ []) ≡ false)
-    (λ ends same. let is : byte ≡ b = cc in ap (λ (e : Bool). not e && unended (eqb byte 92) []) (ap is_end is ∙ ends))
+    cond_both (is_end b) [] (b ∷ text_front (eqb b 92) input) (λ (x : List ℕ). b ∷ input ≡ x ++ byte ∷ rest → is_unended false (x ++ byte ∷ []) ≡ false)
+    (λ ends same. let is : byte ≡ b = cc in ap (λ (e : Bool). not e && is_unended (eqb byte 92) []) (ap is_end is ∙ ends))
     (λ other same.
-    ap (λ (e : Bool). not e && unended (eqb b 92) (text_front (eqb b 92) input ++ byte ∷ [])) other
+    ap (λ (e : Bool). not e && is_unended (eqb b 92) (text_front (eqb b 92) input ++ byte ∷ [])) other
     ∙ front_ended (eqb b 92) input byte rest (cc))
     whole
 
 pub text_ended : (input front behind : List ℕ) → text_front false input ≡ front → input ≡ front ++ behind → IsEnded front behind
 text_ended input front [] is whole = tt
 text_ended input front (byte ∷ behind) is whole =
-    subst (λ (x : List ℕ). unended false (x ++ byte ∷ []) ≡ false) is
+    subst (λ (x : List ℕ). is_unended false (x ++ byte ∷ []) ≡ false) is
     (front_ended false input byte behind (whole ∙ ap (λ (x : List ℕ). x ++ byte ∷ behind) (sym is)))
 
 -- a byte that is no end and no `\`

@@ -8,7 +8,7 @@ use Rattle.std.proofs.lemmas.Bool.{and_parts, and_from, not_from_false, ne_eqb, 
 use Rattle.std.proofs.lemmas.List.{append-nil, append_assoc, length-append}
 use Rattle.nextest_filtering_escapes.specs.declared.escapes.EscapeSpan.{EscapeSpan}
 use Rattle.nextest_filtering_escapes.specs.Text.{Piece, Plain, Escaped, Unicode, IsPiece, IsText, spelling, meaning, is_plain, is_end}
-use Rattle.nextest_filtering_escapes.specs.Ends.{IsUnended, unended}
+use Rattle.nextest_filtering_escapes.specs.Ends.{IsUnended, is_unended}
 use Rattle.nextest_filtering_escapes.specs.Spans.{IsBadEscape, IsSpanOf, Rise}
 use Rattle.nextest_filtering_escapes.specs.Reading.{ReadsEscape}
 use Rattle.nextest_filtering_escapes.specs.Parts.{Part, Good, Bad, IsLoosePiece, IsPart, AreParts, IsRead, part_bytes, part_text, span_at, spans_of}
@@ -57,30 +57,30 @@ loose_all (byte ∷ bytes) bare = loose_more (Plain byte) bytes bytes bare.0 (lo
 
 -- ---- with no end inside, such pieces are pieces
 
-digits_ended : (digits more : List ℕ) → AllDigits 16 digits → unended false ((digits ++ 125 ∷ []) ++ more) ≡ true → unended false more ≡ true
+digits_ended : (digits more : List ℕ) → AllDigits 16 digits → is_unended false ((digits ++ 125 ∷ []) ++ more) ≡ true → is_unended false more ≡ true
 digits_ended [] more are goes = goes
 digits_ended (byte ∷ digits) more are goes =
     let next = (and_parts (not (is_end byte)) _ goes).1 in
-    digits_ended digits more are.1 (ap (λ (b : Bool). unended b ((digits ++ 125 ∷ []) ++ more)) (sym (digit_not byte 92 are.0 refl)) ∙ next)
+    digits_ended digits more are.1 (ap (λ (b : Bool). is_unended b ((digits ++ 125 ∷ []) ++ more)) (sym (digit_not byte 92 are.0 refl)) ∙ next)
 
-pub piece_tight : (p : Piece) (more : List ℕ) → IsLoosePiece p → unended false (spelling p ++ more) ≡ true → IsPiece p × (unended false more ≡ true)
+pub piece_tight : (p : Piece) (more : List ℕ) → IsLoosePiece p → is_unended false (spelling p ++ more) ≡ true → IsPiece p × (is_unended false more ≡ true)
 piece_tight (Plain byte) more is goes =
     let parts = and_parts (not (is_end byte)) _ goes in
     let bare = ne_eqb byte 92 is in (
       and_from (not (eqb byte 92)) (not (is_end byte)) (not_from_false (eqb byte 92) bare) parts.0,
-      ap (λ (b : Bool). unended b more) (sym bare) ∙ parts.1,
+      ap (λ (b : Bool). is_unended b more) (sym bare) ∙ parts.1,
     )
 piece_tight (Escaped letter meant) more is goes = (is, goes)
 piece_tight (Unicode digits scalar) more is goes = (is, digits_ended digits more is.0.2 goes)
 
-pieces_tight : (ps : List Piece) → AllByRecursion IsLoosePiece ps → unended false (flat_map spelling ps) ≡ true → AllByRecursion IsPiece ps
+pieces_tight : (ps : List Piece) → AllByRecursion IsLoosePiece ps → is_unended false (flat_map spelling ps) ≡ true → AllByRecursion IsPiece ps
 pieces_tight [] each goes = tt
 pieces_tight (p ∷ ps) each goes = let first = piece_tight p (flat_map spelling ps) each.0 goes in (first.0, pieces_tight ps each.1 first.1)
 
 pub text_from_loose : (raw text : List ℕ) → IsLoose raw text → IsUnended raw → IsText raw text
 text_from_loose raw text loose goes = record {
   pieces = loose.pieces;
-  each = pieces_tight loose.pieces loose.each (ap (λ (x : List ℕ). unended false x) (sym loose.spelled) ∙ goes);
+  each = pieces_tight loose.pieces loose.each (ap (λ (x : List ℕ). is_unended false x) (sym loose.spelled) ∙ goes);
   spelled = loose.spelled;
   meant = loose.meant;
 }

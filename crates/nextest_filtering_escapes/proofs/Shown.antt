@@ -11,7 +11,7 @@ use Rattle.std.proofs.lemmas.Str.{encode_ascii, inside_one}
 use Rattle.std.proofs.lemmas.List.Concat.{flat_map-append}
 use lib.Utf8.{low_scalar}
 use Rattle.nextest_filtering_escapes.specs.Text.{Plain, Escaped, Unicode, IsText, is_plain, is_blank, is_end, escape_of}
-use Rattle.nextest_filtering_escapes.specs.Printing.{by_number, letter_of, printed, printed_character, escaped, escaped_behind}
+use Rattle.nextest_filtering_escapes.specs.Printing.{by_number, letter_of, text_of_byte, printed_character, text_with_escapes, escaped_behind}
 use Rattle.nextest_filtering_escapes.specs.Laws.{BeginsAs, HasNoBlankEnds}
 use Rattle.nextest_filtering_escapes.proofs.Pieces.{text_none, text_piece, text-append}
 
@@ -80,7 +80,7 @@ each_way : (byte : ℕ) (P : List ℕ → Type 0)
     → (eqb byte 10 ≡ true → P (92 ∷ 110 ∷ [])) → (eqb byte 13 ≡ true → P (92 ∷ 114 ∷ [])) → (eqb byte 9 ≡ true → P (92 ∷ 116 ∷ []))
     → ((ltb byte 32 || eqb byte 127) ≡ true → P (by_number byte))
     → (((eqb byte 92 || eqb byte 47) || is_end byte) ≡ false → eqb byte 10 ≡ false → eqb byte 13 ≡ false → eqb byte 9 ≡ false → P (byte ∷ []))
-    → P (printed byte)
+    → P (text_of_byte byte)
 each_way byte P special feed return tab control plain =
     let L : Option ℕ → Type 0 = λ letter. P (option_map_or (λ l. 92 ∷ l ∷ []) letter (if ltb byte 32 || eqb byte 127 then by_number byte else byte ∷ [])) in
     cond_both ((eqb byte 92 || eqb byte 47) || is_end byte) (Some byte) _ L special (λ other.
@@ -89,7 +89,7 @@ each_way byte P special feed return tab control plain =
     cond_both (eqb byte 9) (Some 116) None L tab (λ no_tab.
     cond_both (ltb byte 32 || eqb byte 127) (by_number byte) (byte ∷ []) P control (λ _. plain other no_feed no_return no_tab)))))
 
-printed_text : (byte : ℕ) → IsText (printed byte) (byte ∷ [])
+printed_text : (byte : ℕ) → IsText (text_of_byte byte) (byte ∷ [])
 printed_text byte = each_way byte (λ shown. IsText shown (byte ∷ []))
     (λ yes. text_piece (Escaped byte byte) (special byte yes).0)
     (λ yes. letter_text byte 10 110 yes refl)
@@ -104,9 +104,9 @@ space_text byte same = subst (λ (b : ℕ). IsText (by_number 32) (b ∷ [])) (s
 behind_text : (bytes : List ℕ) → IsText (escaped_behind bytes) bytes
 behind_text [] = text_none
 behind_text (byte ∷ []) = cond_both (eqb byte 32) _ _ (λ (shown : List ℕ). IsText shown (byte ∷ [])) (space_text byte) (λ _. printed_text byte)
-behind_text (byte ∷ next ∷ rest) = text-append (printed byte) (byte ∷ []) (escaped_behind (next ∷ rest)) (next ∷ rest) (printed_text byte) (behind_text (next ∷ rest))
+behind_text (byte ∷ next ∷ rest) = text-append (text_of_byte byte) (byte ∷ []) (escaped_behind (next ∷ rest)) (next ∷ rest) (printed_text byte) (behind_text (next ∷ rest))
 
-pub escaped_reads_back : (text : List ℕ) → IsText (escaped text) text
+pub escaped_reads_back : (text : List ℕ) → IsText (text_with_escapes text) text
 escaped_reads_back [] = text_none
 escaped_reads_back (byte ∷ rest) = cond_both (eqb byte 32) _ _ (λ (shown : List ℕ). IsText shown (byte ∷ rest))
     (λ yes. text-append (by_number 32) (byte ∷ []) (escaped_behind rest) rest (space_text byte yes) (behind_text rest))
@@ -126,7 +126,7 @@ plain_no_blank : (byte : ℕ) → eqb byte 32 ≡ false → eqb byte 10 ≡ fals
 plain_no_blank byte space feed return tab =
     or_from _ _ (or_from _ _ (or_from _ _ space tab) feed) return
 
-printed_front : (byte : ℕ) → eqb byte 32 ≡ false → Front byte (printed byte)
+printed_front : (byte : ℕ) → eqb byte 32 ≡ false → Front byte (text_of_byte byte)
 printed_front byte space = each_way byte (Front byte)
     (λ yes. inl (byte ∷ [], refl))
     (λ yes. inl (110 ∷ [], refl))
@@ -140,7 +140,7 @@ printed_front byte space = each_way byte (Front byte)
       eqb-false byte 47 (or_parts (eqb byte 92) (eqb byte 47) (or_parts (eqb byte 92 || eqb byte 47) (is_end byte) other).0).1,
     ))
 
-printed_back : (byte : ℕ) → eqb byte 32 ≡ false → Back (printed byte)
+printed_back : (byte : ℕ) → eqb byte 32 ≡ false → Back (text_of_byte byte)
 printed_back byte space = each_way byte Back
     (λ yes. (92 ∷ [], byte, refl, (special byte yes).1))
     (λ yes. (92 ∷ [], 110, refl, refl))
@@ -162,20 +162,20 @@ number_back byte = (92 ∷ 117 ∷ 123 ∷ digits 16 false byte, 125, refl, refl
 
 behind_back : (byte : ℕ) (rest : List ℕ) → Back (escaped_behind (byte ∷ rest))
 behind_back byte [] = cond_both (eqb byte 32) _ _ Back (λ _. number_back 32) (printed_back byte)
-behind_back byte (next ∷ rest) = back-append (printed byte) (escaped_behind (next ∷ rest)) (behind_back next rest)
+behind_back byte (next ∷ rest) = back-append (text_of_byte byte) (escaped_behind (next ∷ rest)) (behind_back next rest)
 
 behind_front : (byte : ℕ) (rest : List ℕ) → eqb byte 32 ≡ false → Front byte (escaped_behind (byte ∷ rest))
 behind_front byte [] space = cond_both (eqb byte 32) _ _ (Front byte) (λ yes. absurd (false≢true (sym space ∙ yes))) (λ _. printed_front byte space)
-behind_front byte (next ∷ rest) space = front-append byte (printed byte) (escaped_behind (next ∷ rest)) (printed_front byte space)
+behind_front byte (next ∷ rest) space = front-append byte (text_of_byte byte) (escaped_behind (next ∷ rest)) (printed_front byte space)
 
 opened_back : (rest : List ℕ) → Back (by_number 32 ++ escaped_behind rest)
 opened_back [] = subst Back (sym (append-nil (by_number 32))) (number_back 32)
 opened_back (byte ∷ rest) = back-append (by_number 32) (escaped_behind (byte ∷ rest)) (behind_back byte rest)
 
-escaped_back : (byte : ℕ) (rest : List ℕ) → Back (escaped (byte ∷ rest))
+escaped_back : (byte : ℕ) (rest : List ℕ) → Back (text_with_escapes (byte ∷ rest))
 escaped_back byte rest = cond_both (eqb byte 32) _ _ Back (λ _. opened_back rest) (λ _. behind_back byte rest)
 
-escaped_front : (byte : ℕ) (rest : List ℕ) → Front byte (escaped (byte ∷ rest))
+escaped_front : (byte : ℕ) (rest : List ℕ) → Front byte (text_with_escapes (byte ∷ rest))
 escaped_front byte rest = cond_both (eqb byte 32) _ _ (Front byte)
     (λ _. inl (117 ∷ 123 ∷ (digits 16 false 32 ++ 125 ∷ []) ++ escaped_behind rest, refl)) (behind_front byte rest)
 
@@ -208,8 +208,8 @@ last_bare shown (f, l, is, blank) front last same =
 not_shown_empty : (shown : List ℕ) → Back shown → shown ≡ [] → ⊥
 not_shown_empty shown (f, l, is, blank) same = snoc_not_nil f l (sym is ∙ same)
 
-pub escaped_has_no_blank_ends : (text : List ℕ) → ((escaped text ≡ []) ↔ (text ≡ [])) × BeginsAs text (escaped text)
-    × ((rest : List ℕ) → escaped text ≡ 47 ∷ rest → ⊥) × HasNoBlankEnds (escaped text)
+pub escaped_has_no_blank_ends : (text : List ℕ) → ((text_with_escapes text ≡ []) ↔ (text ≡ [])) × BeginsAs text (text_with_escapes text)
+    × ((rest : List ℕ) → text_with_escapes text ≡ 47 ∷ rest → ⊥) × HasNoBlankEnds (text_with_escapes text)
 escaped_has_no_blank_ends [] = (
   (λ same. same, λ same. same),
   (λ first rest same. cc),
@@ -217,7 +217,7 @@ escaped_has_no_blank_ends [] = (
   ((λ first rest same. cc), (λ front last same. absurd (snoc_not_nil front last (sym same)))),
 )
 escaped_has_no_blank_ends (byte ∷ rest) =
-    let shown = escaped (byte ∷ rest) in
+    let shown = text_with_escapes (byte ∷ rest) in
     let front = escaped_front byte rest in
     let back = escaped_back byte rest in (
       ((λ same. absurd (not_shown_empty shown back same)), (λ same. cc)),
@@ -233,11 +233,11 @@ unfolding digits
 number_space = refl
 
 -- a space in front
-pub opened : (text rest : List ℕ) → text ≡ 32 ∷ rest → escaped text ≡ 92 ∷ 117 ∷ 123 ∷ 50 ∷ 48 ∷ 125 ∷ escaped_behind rest
-opened text rest is = ap escaped is ∙ ap (λ (x : List ℕ). x ++ escaped_behind rest) number_space
+pub opened : (text rest : List ℕ) → text ≡ 32 ∷ rest → text_with_escapes text ≡ 92 ∷ 117 ∷ 123 ∷ 50 ∷ 48 ∷ 125 ∷ escaped_behind rest
+opened text rest is = ap text_with_escapes is ∙ ap (λ (x : List ℕ). x ++ escaped_behind rest) number_space
 
 -- none in front
-pub not_opened : (text : List ℕ) → ((rest : List ℕ) → text ≢ 32 ∷ rest) → escaped text ≡ escaped_behind text
+pub not_opened : (text : List ℕ) → ((rest : List ℕ) → text ≢ 32 ∷ rest) → text_with_escapes text ≡ escaped_behind text
 not_opened [] none = refl
 not_opened (byte ∷ rest) none =
     cond-false (eqb byte 32) (by_number 32 ++ escaped_behind rest) (escaped_behind (byte ∷ rest))
@@ -245,29 +245,29 @@ not_opened (byte ∷ rest) none =
 
 -- a space at the end
 pub closed : (rest middle : List ℕ) → rest ≡ middle ++ 32 ∷ []
-    → escaped_behind rest ≡ flat_map printed middle ++ 92 ∷ 117 ∷ 123 ∷ 50 ∷ 48 ∷ 125 ∷ []
+    → escaped_behind rest ≡ flat_map text_of_byte middle ++ 92 ∷ 117 ∷ 123 ∷ 50 ∷ 48 ∷ 125 ∷ []
 closed rest middle is = ap escaped_behind is ∙ behind_space middle where
-  behind_space : (middle : List ℕ) → escaped_behind (middle ++ 32 ∷ []) ≡ flat_map printed middle ++ 92 ∷ 117 ∷ 123 ∷ 50 ∷ 48 ∷ 125 ∷ []
+  behind_space : (middle : List ℕ) → escaped_behind (middle ++ 32 ∷ []) ≡ flat_map text_of_byte middle ++ 92 ∷ 117 ∷ 123 ∷ 50 ∷ 48 ∷ 125 ∷ []
   behind_space [] = number_space
-  behind_space (byte ∷ []) = ap (λ (x : List ℕ). printed byte ++ x) number_space
-      ∙ ap (λ (x : List ℕ). x ++ 92 ∷ 117 ∷ 123 ∷ 50 ∷ 48 ∷ 125 ∷ []) (sym (append-nil (printed byte)))
-  behind_space (byte ∷ next ∷ middle) = ap (λ (x : List ℕ). printed byte ++ x) (behind_space (next ∷ middle))
-      ∙ sym (append_assoc (printed byte) (flat_map printed (next ∷ middle)) (92 ∷ 117 ∷ 123 ∷ 50 ∷ 48 ∷ 125 ∷ []))
+  behind_space (byte ∷ []) = ap (λ (x : List ℕ). text_of_byte byte ++ x) number_space
+      ∙ ap (λ (x : List ℕ). x ++ 92 ∷ 117 ∷ 123 ∷ 50 ∷ 48 ∷ 125 ∷ []) (sym (append-nil (text_of_byte byte)))
+  behind_space (byte ∷ next ∷ middle) = ap (λ (x : List ℕ). text_of_byte byte ++ x) (behind_space (next ∷ middle))
+      ∙ sym (append_assoc (text_of_byte byte) (flat_map text_of_byte (next ∷ middle)) (92 ∷ 117 ∷ 123 ∷ 50 ∷ 48 ∷ 125 ∷ []))
 
 -- none at the end
-pub not_closed : (rest : List ℕ) → ((front : List ℕ) → rest ≢ front ++ 32 ∷ []) → escaped_behind rest ≡ flat_map printed rest ++ []
-not_closed rest none = behind_bare rest none ∙ sym (append-nil (flat_map printed rest)) where
-  behind_bare : (rest : List ℕ) → ((front : List ℕ) → rest ≢ front ++ 32 ∷ []) → escaped_behind rest ≡ flat_map printed rest
+pub not_closed : (rest : List ℕ) → ((front : List ℕ) → rest ≢ front ++ 32 ∷ []) → escaped_behind rest ≡ flat_map text_of_byte rest ++ []
+not_closed rest none = behind_bare rest none ∙ sym (append-nil (flat_map text_of_byte rest)) where
+  behind_bare : (rest : List ℕ) → ((front : List ℕ) → rest ≢ front ++ 32 ∷ []) → escaped_behind rest ≡ flat_map text_of_byte rest
   behind_bare [] none = refl
   behind_bare (byte ∷ []) none =
-      cond-false (eqb byte 32) (by_number 32) (printed byte) (ne_eqb byte 32 (λ same. none [] (ap (λ (x : ℕ). x ∷ []) same)))
-      ∙ sym (append-nil (printed byte))
-  behind_bare (byte ∷ next ∷ rest) none = ap (λ (x : List ℕ). printed byte ++ x)
+      cond-false (eqb byte 32) (by_number 32) (text_of_byte byte) (ne_eqb byte 32 (λ same. none [] (ap (λ (x : ℕ). x ∷ []) same)))
+      ∙ sym (append-nil (text_of_byte byte))
+  behind_bare (byte ∷ next ∷ rest) none = ap (λ (x : List ℕ). text_of_byte byte ++ x)
       (behind_bare (next ∷ rest) (λ front same. none (byte ∷ front) (ap (λ (x : List ℕ). byte ∷ x) same)))
 
 -- ---- characters inside a text
 
-printed_high : (byte : ℕ) → 128 ≤ byte → printed byte ≡ byte ∷ []
+printed_high : (byte : ℕ) → 128 ≤ byte → text_of_byte byte ≡ byte ∷ []
 printed_high byte high = each_way byte (λ shown. shown ≡ byte ∷ [])
     (λ yes. let small = special_small byte yes in absurd (omega (arith, high, small)))
     (at 10 (lit< tt))
@@ -279,17 +279,17 @@ printed_high byte high = each_way byte (λ shown. shown ≡ byte ∷ [])
     at : {shown : List ℕ} (n : ℕ) → n < 128 → eqb byte n ≡ true → shown ≡ byte ∷ []
     at n small same = let is = eqb-true byte n same in absurd (omega arith)
 
-all_high : (bytes : List ℕ) → ((i : ℕ) → i < length bytes → 128 ≤ get_or bytes i 0) → flat_map printed bytes ≡ bytes
+all_high : (bytes : List ℕ) → ((i : ℕ) → i < length bytes → 128 ≤ get_or bytes i 0) → flat_map text_of_byte bytes ≡ bytes
 all_high [] high = refl
 all_high (byte ∷ bytes) high =
-    ap (λ (x : List ℕ). x ++ flat_map printed bytes) (printed_high byte (high 0 (omega arith)))
+    ap (λ (x : List ℕ). x ++ flat_map text_of_byte bytes) (printed_high byte (high 0 (omega arith)))
     ∙ ap (λ (x : List ℕ). byte ∷ x) (all_high bytes (λ i small. high (suc i) (omega arith)))
 
 -- what the bytes of a character print as
-character_printed : (character : ℕ) → flat_map printed (encode_utf8 character) ≡ printed_character character
+character_printed : (character : ℕ) → flat_map text_of_byte (encode_utf8 character) ≡ printed_character character
 character_printed character =
-    cond_both (ltb character 128) (printed character) (encode_utf8 character) (λ (x : List ℕ). flat_map printed (encode_utf8 character) ≡ x)
-    (λ yes. ap (λ (x : List ℕ). flat_map printed x) (encode_ascii character (ltb-true character 128 yes)) ∙ append-nil (printed character))
+    cond_both (ltb character 128) (text_of_byte character) (encode_utf8 character) (λ (x : List ℕ). flat_map text_of_byte (encode_utf8 character) ≡ x)
+    (λ yes. ap (λ (x : List ℕ). flat_map text_of_byte x) (encode_ascii character (ltb-true character 128 yes)) ∙ append-nil (text_of_byte character))
     (λ other. let high = ltb-false character 128 other in
     all_high (encode_utf8 character) (λ i small. elim (cases_lt (get_or (encode_utf8 character) i 0) 128) [
       | inl low ↦ let same = inside_one character [] (encode_utf8 character) i (sym (append-nil (encode_utf8 character))) small low in absurd (omega arith)
@@ -297,13 +297,13 @@ character_printed character =
     ]))
 
 -- one character more
-pub printed_more : (whole done rest ahead : List ℕ) (character : ℕ) → whole ≡ done ++ flat_map printed rest → rest ≡ encode_utf8 character ++ ahead
-    → whole ≡ (done ++ printed_character character) ++ flat_map printed ahead
+pub printed_more : (whole done rest ahead : List ℕ) (character : ℕ) → whole ≡ done ++ flat_map text_of_byte rest → rest ≡ encode_utf8 character ++ ahead
+    → whole ≡ (done ++ printed_character character) ++ flat_map text_of_byte ahead
 printed_more whole done rest ahead character known parted =
     known ∙ ap (λ (x : List ℕ). done ++ x)
-    (ap (λ (x : List ℕ). flat_map printed x) parted ∙ flat_map-append printed (encode_utf8 character) ahead
-    ∙ ap (λ (x : List ℕ). x ++ flat_map printed ahead) (character_printed character))
-    ∙ sym (append_assoc done (printed_character character) (flat_map printed ahead))
+    (ap (λ (x : List ℕ). flat_map text_of_byte x) parted ∙ flat_map-append text_of_byte (encode_utf8 character) ahead
+    ∙ ap (λ (x : List ℕ). x ++ flat_map text_of_byte ahead) (character_printed character))
+    ∙ sym (append_assoc done (printed_character character) (flat_map text_of_byte ahead))
 
 -- how a character prints, by the letter that it prints as
 letter_small : (character letter : ℕ) → Some letter ≡ letter_of character → (character < 128) × (letter < 128)
@@ -326,7 +326,7 @@ by_letter character found =
 
 low_printed : (character : ℕ) (found : Option ℕ) → character < 128 → found ≡ letter_of character → printed_character character ≡ by_letter character found
 low_printed character found small is =
-    ap (λ (low : Bool). if low then printed character else encode_utf8 character) (lt-ltb character 128 small) ∙ ap (by_letter character) (sym is)
+    ap (λ (low : Bool). if low then text_of_byte character else encode_utf8 character) (lt-ltb character 128 small) ∙ ap (by_letter character) (sym is)
 
 pub printed_letter : (character letter : ℕ) → Some letter ≡ letter_of character → 92 ∷ encode_utf8 letter ≡ printed_character character
 printed_letter character letter is =
@@ -342,12 +342,12 @@ printed_control character none control = sym (
 pub printed_plain : (character : ℕ) → None ≡ letter_of character → (ltb character 32 || eqb character 127) ≡ false
     → encode_utf8 character ≡ printed_character character
 printed_plain character none other =
-    cond_both (ltb character 128) (printed character) (encode_utf8 character) (λ (shown : List ℕ). encode_utf8 character ≡ shown)
+    cond_both (ltb character 128) (text_of_byte character) (encode_utf8 character) (λ (shown : List ℕ). encode_utf8 character ≡ shown)
     (λ yes. encode_ascii character (ltb-true character 128 yes) ∙ sym (
     ap (by_letter character) (sym none) ∙ ap (λ (controls : Bool). if controls then by_number character else character ∷ []) other))
     (λ _. refl)
 
 -- nothing is left to print
-pub printed_none : (whole done rest : List ℕ) → whole ≡ done ++ flat_map printed rest → length rest ≡ 0 → done ≡ whole
+pub printed_none : (whole done rest : List ℕ) → whole ≡ done ++ flat_map text_of_byte rest → length rest ≡ 0 → done ≡ whole
 printed_none whole done [] known none = sym (known ∙ append-nil done)
 printed_none whole done (byte ∷ rest) known none = absurd (omega (arith, none))

@@ -7,25 +7,25 @@ use Rattle.std.proofs.lemmas.List.{append_assoc, append_cancel_right, length-app
 use Rattle.std.proofs.lemmas.Grind.{common_steps}
 use Rattle.nextest_filtering_escapes.proofs.Fronts.{front_ends, front_all}
 use Rattle.std.proofs.lemmas.List.Concat.{flat_map-append}
-use Rattle.nextest_filtering_escapes.specs.Printing.{slashed, slashed_byte}
+use Rattle.nextest_filtering_escapes.specs.Printing.{regex_text_of, slashed_byte}
 use Rattle.nextest_filtering_escapes.specs.Regex.{EndsBare, IsRegexText, HasRegexText}
 
 -- ---- printing
 
-pub slashed_slash : (byte : ℕ) (text : List ℕ) → eqb byte 47 ≡ true → slashed (byte ∷ text) ≡ 92 ∷ 47 ∷ slashed text
-slashed_slash byte text slash = ap (λ (x : List ℕ). x ++ slashed text) (cond-true (eqb byte 47) (92 ∷ 47 ∷ []) (byte ∷ []) slash)
+pub slashed_slash : (byte : ℕ) (text : List ℕ) → eqb byte 47 ≡ true → regex_text_of (byte ∷ text) ≡ 92 ∷ 47 ∷ regex_text_of text
+slashed_slash byte text slash = ap (λ (x : List ℕ). x ++ regex_text_of text) (cond-true (eqb byte 47) (92 ∷ 47 ∷ []) (byte ∷ []) slash)
 
-pub slashed_other : (byte : ℕ) (text : List ℕ) → eqb byte 47 ≡ false → slashed (byte ∷ text) ≡ byte ∷ slashed text
-slashed_other byte text other = ap (λ (x : List ℕ). x ++ slashed text) (cond-false (eqb byte 47) (92 ∷ 47 ∷ []) (byte ∷ []) other)
+pub slashed_other : (byte : ℕ) (text : List ℕ) → eqb byte 47 ≡ false → regex_text_of (byte ∷ text) ≡ byte ∷ regex_text_of text
+slashed_other byte text other = ap (λ (x : List ℕ). x ++ regex_text_of text) (cond-false (eqb byte 47) (92 ∷ 47 ∷ []) (byte ∷ []) other)
 
-pub slashed-append : (x y : List ℕ) → slashed (x ++ y) ≡ slashed x ++ slashed y
+pub slashed-append : (x y : List ℕ) → regex_text_of (x ++ y) ≡ regex_text_of x ++ regex_text_of y
 slashed-append x y = flat_map-append slashed_byte x y
 
 abbrev first_of : List ℕ → ℕ
 first_of bytes = get_or bytes 0 0
 
 -- what is printed begins with no `/`
-pub no_slash_first : (text rest : List ℕ) → slashed text ≡ 47 ∷ rest → ⊥
+pub no_slash_first : (text rest : List ℕ) → regex_text_of text ≡ 47 ∷ rest → ⊥
 no_slash_first [] rest same = cc
 no_slash_first (byte ∷ text) rest same =
     elim (cases_Bool (eqb byte 47)) [
@@ -33,7 +33,7 @@ no_slash_first (byte ∷ text) rest same =
       | inr other ↦ eqb-false byte 47 other (ap (λ (x : List ℕ). get_or x 0 0) (sym (slashed_other byte text other) ∙ same))
     ]
 
-slashed_nil : (text : List ℕ) → slashed text ≡ [] → text ≡ []
+slashed_nil : (text : List ℕ) → regex_text_of text ≡ [] → text ≡ []
 slashed_nil [] same = refl
 slashed_nil (byte ∷ text) same =
     elim (cases_Bool (eqb byte 47)) [
@@ -41,28 +41,28 @@ slashed_nil (byte ∷ text) same =
       | inr other ↦ let whole = sym (slashed_other byte text other) ∙ same in cc
     ]
 
-pub slashed_same : (a b : List ℕ) → slashed a ≡ slashed b → a ≡ b
+pub slashed_same : (a b : List ℕ) → regex_text_of a ≡ regex_text_of b → a ≡ b
 slashed_same [] b same = sym (slashed_nil b (sym same))
 slashed_same (x ∷ a) [] same = slashed_nil (x ∷ a) same
 slashed_same (x ∷ a) (y ∷ b) same =
     elim (cases_Bool (eqb x 47)) [
       | inl x_slash ↦ let left = slashed_slash x a x_slash in elim (cases_Bool (eqb y 47)) [
-        | inl y_slash ↦ let both : 92 ∷ 47 ∷ slashed a ≡ 92 ∷ 47 ∷ slashed b = sym left ∙ same ∙ slashed_slash y b y_slash in
-            let tails : slashed a ≡ slashed b = cc in
+        | inl y_slash ↦ let both : 92 ∷ 47 ∷ regex_text_of a ≡ 92 ∷ 47 ∷ regex_text_of b = sym left ∙ same ∙ slashed_slash y b y_slash in
+            let tails : regex_text_of a ≡ regex_text_of b = cc in
             let rest = slashed_same a b tails in
             let x_is = eqb-true x 47 x_slash in
             let y_is = eqb-true y 47 y_slash in
             cc
-        | inr y_other ↦ let both : 92 ∷ 47 ∷ slashed a ≡ y ∷ slashed b = sym left ∙ same ∙ slashed_other y b y_other in
-            let tails : slashed b ≡ 47 ∷ slashed a = cc in
-            absurd (no_slash_first b (slashed a) tails)
+        | inr y_other ↦ let both : 92 ∷ 47 ∷ regex_text_of a ≡ y ∷ regex_text_of b = sym left ∙ same ∙ slashed_other y b y_other in
+            let tails : regex_text_of b ≡ 47 ∷ regex_text_of a = cc in
+            absurd (no_slash_first b (regex_text_of a) tails)
       ]
       | inr x_other ↦ let left = slashed_other x a x_other in elim (cases_Bool (eqb y 47)) [
-        | inl y_slash ↦ let both : x ∷ slashed a ≡ 92 ∷ 47 ∷ slashed b = sym left ∙ same ∙ slashed_slash y b y_slash in
-            let tails : slashed a ≡ 47 ∷ slashed b = cc in
-            absurd (no_slash_first a (slashed b) tails)
-        | inr y_other ↦ let both : x ∷ slashed a ≡ y ∷ slashed b = sym left ∙ same ∙ slashed_other y b y_other in
-            let tails : slashed a ≡ slashed b = cc in
+        | inl y_slash ↦ let both : x ∷ regex_text_of a ≡ 92 ∷ 47 ∷ regex_text_of b = sym left ∙ same ∙ slashed_slash y b y_slash in
+            let tails : regex_text_of a ≡ 47 ∷ regex_text_of b = cc in
+            absurd (no_slash_first a (regex_text_of b) tails)
+        | inr y_other ↦ let both : x ∷ regex_text_of a ≡ y ∷ regex_text_of b = sym left ∙ same ∙ slashed_other y b y_other in
+            let tails : regex_text_of a ≡ regex_text_of b = cc in
             let heads : x ≡ y = cc in
             let rest = slashed_same a b tails in
             cc
@@ -92,7 +92,7 @@ ends_bare_tail byte text bare front same = bare (byte ∷ front) (ap (λ (x : Li
 
 -- what is printed of a regular expression ends at the `/` behind it
 slashed_front : (text rest : List ℕ) (escaped : Bool) → EndsBare text → (text ≡ [] → escaped ≡ false)
-    → regex_front escaped (slashed text ++ 47 ∷ rest) ≡ slashed text
+    → regex_front escaped (regex_text_of text ++ 47 ∷ rest) ≡ regex_text_of text
 slashed_front [] rest escaped bare alone = ap (λ (b : Bool). regex_front b (47 ∷ rest)) (alone refl)
 slashed_front (byte ∷ text) rest escaped bare alone =
     elim (cases_Bool (eqb byte 47)) [
@@ -102,7 +102,7 @@ slashed_front (byte ∷ text) rest escaped bare alone =
           ∙ sym (slashed_slash byte text slash)
       | inr other ↦
           ap (λ (x : List ℕ). regex_front escaped (x ++ 47 ∷ rest)) (slashed_other byte text other)
-          ∙ cond-false (eqb byte 47 && not escaped) [] (byte ∷ regex_front (eqb byte 92) (slashed text ++ 47 ∷ rest)) (and_left (eqb byte 47) (not escaped) other)
+          ∙ cond-false (eqb byte 47 && not escaped) [] (byte ∷ regex_front (eqb byte 92) (regex_text_of text ++ 47 ∷ rest)) (and_left (eqb byte 47) (not escaped) other)
           ∙ ap (λ (x : List ℕ). byte ∷ x) (slashed_front text rest (eqb byte 92) (ends_bare_tail byte text bare)
           (λ none. ne_eqb byte 92 (λ back. bare [] (cc))))
           ∙ sym (slashed_other byte text other)
@@ -187,8 +187,8 @@ has_front true (byte ∷ rest) tail same =
             )
           ]
     ] where
-      not_nil : (text : List ℕ) → text ≡ [] → 92 ∷ regex_front true rest ≡ slashed text → ⊥
-      not_nil text none is = let wrong : 92 ∷ regex_front true rest ≡ [] = is ∙ ap slashed none in cc
+      not_nil : (text : List ℕ) → text ≡ [] → 92 ∷ regex_front true rest ≡ regex_text_of text → ⊥
+      not_nil text none is = let wrong : 92 ∷ regex_front true rest ≡ [] = is ∙ ap regex_text_of none in cc
 
 pub has_regex : (bytes tail : List ℕ) → bytes ≡ regex_front false bytes ++ 47 ∷ tail → HasRegexText (regex_front false bytes)
 has_regex bytes tail same = has_front false bytes tail same
@@ -233,36 +233,36 @@ pub no_slash_from : (bytes : List ℕ) → ((i : ℕ) → i < length bytes → g
 no_slash_from [] none = tt
 no_slash_from (byte ∷ bytes) none = (none 0 (omega arith), no_slash_from bytes (λ i small. none (suc i) (omega arith)))
 
-pub slashed_none : (bytes : List ℕ) → HasNoSlash bytes → slashed bytes ≡ bytes
+pub slashed_none : (bytes : List ℕ) → HasNoSlash bytes → regex_text_of bytes ≡ bytes
 slashed_none [] none = refl
 slashed_none (byte ∷ bytes) none = slashed_other byte bytes (ne_eqb byte 47 none.0) ∙ ap (λ (x : List ℕ). byte ∷ x) (slashed_none bytes none.1)
 
-pub slashed_parts : (rest before behind done whole : List ℕ) → rest ≡ before ++ 47 ∷ behind → HasNoSlash before → whole ≡ done ++ slashed rest
-    → whole ≡ (done ++ (before ++ 92 ∷ 47 ∷ [])) ++ slashed behind
+pub slashed_parts : (rest before behind done whole : List ℕ) → rest ≡ before ++ 47 ∷ behind → HasNoSlash before → whole ≡ done ++ regex_text_of rest
+    → whole ≡ (done ++ (before ++ 92 ∷ 47 ∷ [])) ++ regex_text_of behind
 slashed_parts rest before behind done whole parted none known =
     known ∙ ap (λ (x : List ℕ). done ++ x)
-    (ap slashed parted ∙ slashed-append before (47 ∷ behind) ∙ ap (λ (x : List ℕ). x ++ slashed (47 ∷ behind)) (slashed_none before none)
-    ∙ sym (append_assoc before (92 ∷ 47 ∷ []) (slashed behind)))
-    ∙ sym (append_assoc done (before ++ 92 ∷ 47 ∷ []) (slashed behind))
+    (ap regex_text_of parted ∙ slashed-append before (47 ∷ behind) ∙ ap (λ (x : List ℕ). x ++ regex_text_of (47 ∷ behind)) (slashed_none before none)
+    ∙ sym (append_assoc before (92 ∷ 47 ∷ []) (regex_text_of behind)))
+    ∙ sym (append_assoc done (before ++ 92 ∷ 47 ∷ []) (regex_text_of behind))
 
 -- where what is printed is parted at its first `/`
-parted_more : (before behind more : List ℕ) → HasNoSlash before → before ++ 47 ∷ behind ≡ slashed more
-    → (front : List ℕ) × (after : List ℕ) × (before ≡ front ++ 92 ∷ []) × (behind ≡ slashed after) × (more ≡ front ++ 47 ∷ after)
+parted_more : (before behind more : List ℕ) → HasNoSlash before → before ++ 47 ∷ behind ≡ regex_text_of more
+    → (front : List ℕ) × (after : List ℕ) × (before ≡ front ++ 92 ∷ []) × (behind ≡ regex_text_of after) × (more ≡ front ++ 47 ∷ after)
 parted_more [] behind more none same = absurd (no_slash_first more behind (sym same))
 parted_more (b ∷ before) behind [] none same = cc
 parted_more (b ∷ before) behind (x ∷ more) none same =
     elim (cases_Bool (eqb x 47)) [
       | inl slash ↦
           let x_is = eqb-true x 47 slash in
-          let both : b ∷ (before ++ 47 ∷ behind) ≡ 92 ∷ 47 ∷ slashed more = same ∙ slashed_slash x more slash in
+          let both : b ∷ (before ++ 47 ∷ behind) ≡ 92 ∷ 47 ∷ regex_text_of more = same ∙ slashed_slash x more slash in
           let back : b ≡ 92 = ap first_of both in
-          let tail : before ++ 47 ∷ behind ≡ 47 ∷ slashed more = cc in
+          let tail : before ++ 47 ∷ behind ≡ 47 ∷ regex_text_of more = cc in
           let ends = alone before tail none.1 in
           ([], more, ap (λ (l : List ℕ). b ∷ l) ends.0 ∙ ap (λ (y : ℕ). y ∷ []) back, ends.1, ap (λ (y : ℕ). y ∷ more) x_is)
       | inr other ↦
-          let both : b ∷ (before ++ 47 ∷ behind) ≡ x ∷ slashed more = same ∙ slashed_other x more other in
+          let both : b ∷ (before ++ 47 ∷ behind) ≡ x ∷ regex_text_of more = same ∙ slashed_other x more other in
           let heads : b ≡ x = cc in
-          let tail : before ++ 47 ∷ behind ≡ slashed more = cc in
+          let tail : before ++ 47 ∷ behind ≡ regex_text_of more = cc in
           let next = parted_more before behind more none.1 tail in (
             b ∷ next.0,
             next.1,
@@ -271,17 +271,17 @@ parted_more (b ∷ before) behind (x ∷ more) none same =
             ap (λ (y : ℕ). y ∷ more) (sym heads) ∙ ap (λ (l : List ℕ). b ∷ l) next.4,
           )
     ] where
-      alone : (before : List ℕ) → before ++ 47 ∷ behind ≡ 47 ∷ slashed more → HasNoSlash before → (before ≡ []) × (behind ≡ slashed more)
+      alone : (before : List ℕ) → before ++ 47 ∷ behind ≡ 47 ∷ regex_text_of more → HasNoSlash before → (before ≡ []) × (behind ≡ regex_text_of more)
       alone [] same none = (refl, (cc))
       alone (c ∷ before) same none = absurd (none.0 (ap first_of same))
 
 -- what is left of the text before a `/` without the `\` at its end
 pub unslashed_more : (raw rest before behind stripped text after : List ℕ) (found : Option (Bor (List ℕ)))
-    → ((whole : List ℕ) → raw ≡ slashed whole → (more : List ℕ) × (rest ≡ slashed more) × (whole ≡ text ++ more))
+    → ((whole : List ℕ) → raw ≡ regex_text_of whole → (more : List ℕ) × (rest ≡ regex_text_of more) × (whole ≡ text ++ more))
     → rest ≡ before ++ 47 ∷ behind → HasNoSlash before
     → MatchOption found ((front : List ℕ) → before ≢ front ++ 92 ∷ []) (λ x. before ≡ x.now ++ 92 ∷ [])
     → MatchOption found Unit (λ x. stripped ≡ x.now) → after ≡ (text ++ stripped) ++ 47 ∷ []
-    → (whole : List ℕ) → raw ≡ slashed whole → (more : List ℕ) × (behind ≡ slashed more) × (whole ≡ after ++ more)
+    → (whole : List ℕ) → raw ≡ regex_text_of whole → (more : List ℕ) × (behind ≡ regex_text_of more) × (whole ≡ after ++ more)
 unslashed_more raw rest before behind stripped text after None known parted none ends taken after_is whole is =
     let has = known whole is in
     let next = parted_more before behind has.0 none (sym parted ∙ has.1) in
@@ -298,7 +298,7 @@ unslashed_more raw rest before behind stripped text after (Some x) known parted 
     )
 
 -- all was read
-pub unslashed_all : (raw rest text after : List ℕ) → ((whole : List ℕ) → raw ≡ slashed whole → (more : List ℕ) × (rest ≡ slashed more) × (whole ≡ text ++ more))
+pub unslashed_all : (raw rest text after : List ℕ) → ((whole : List ℕ) → raw ≡ regex_text_of whole → (more : List ℕ) × (rest ≡ regex_text_of more) × (whole ≡ text ++ more))
     → HasNoSlash rest → after ≡ text ++ rest → HasRegexText raw → IsRegexText raw after
 unslashed_all raw rest text after known none after_is (meant, stands) =
     let has = known meant stands.0 in

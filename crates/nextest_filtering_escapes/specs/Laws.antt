@@ -5,7 +5,7 @@ use Rattle.nextest_filtering_escapes.specs.Text.{IsText, is_blank}
 use Rattle.nextest_filtering_escapes.specs.Ends.{IsUnended, IsEnded}
 use Rattle.nextest_filtering_escapes.specs.Spans.{IsSpanOf}
 use Rattle.nextest_filtering_escapes.specs.Parts.{IsRead}
-use Rattle.nextest_filtering_escapes.specs.Printing.{escaped}
+use Rattle.nextest_filtering_escapes.specs.Printing.{text_with_escapes}
 use Rattle.nextest_filtering_escapes.specs.declared.escapes.EscapeSpan.{EscapeSpan}
 use Rattle.nextest_filtering_escapes.specs.Regex.{IsRegexText}
 
@@ -28,7 +28,7 @@ OneRegex = (raw a b : List ℕ) → IsRegexText raw a → IsRegexText raw b → 
 
 -- a text that was printed is read as what it was
 abbrev pub EscapedReadsBack : Type 0
-EscapedReadsBack = (text : List ℕ) → IsText (escaped text) text
+EscapedReadsBack = (text : List ℕ) → IsText (text_with_escapes text) text
 
 -- the first byte of what is printed is that of the text, or a `\`
 abbrev pub BeginsAs : List ℕ → List ℕ → Type 0
@@ -41,8 +41,8 @@ HasNoBlankEnds shown = ((first : ℕ) (rest : List ℕ) → shown ≡ first ∷ 
 
 -- a text that was printed is empty just where the text is, begins as it or with a `\`, never with a `/`, and has no blank ends
 abbrev pub EscapedHasNoBlankEnds : Type 0
-EscapedHasNoBlankEnds = (text : List ℕ) → ((escaped text ≡ []) ↔ (text ≡ [])) × BeginsAs text (escaped text)
-    × ((rest : List ℕ) → escaped text ≡ 47 ∷ rest → ⊥) × HasNoBlankEnds (escaped text)
+EscapedHasNoBlankEnds = (text : List ℕ) → ((text_with_escapes text ≡ []) ↔ (text ≡ [])) × BeginsAs text (text_with_escapes text)
+    × ((rest : List ℕ) → text_with_escapes text ≡ 47 ∷ rest → ⊥) × HasNoBlankEnds (text_with_escapes text)
 
 -- blanks around a text stand for themselves
 abbrev pub PlainAround : Type 0

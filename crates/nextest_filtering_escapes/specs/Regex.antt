@@ -1,6 +1,6 @@
 -- What stands between the slashes of a regular expression.
 use Rattle.std.specs.Prelude.{◌≡◌, ◌≢◌, ℕ, List, [], ◌∷◌, ◌++◌}
-use Rattle.nextest_filtering_escapes.specs.Printing.{slashed}
+use Rattle.nextest_filtering_escapes.specs.Printing.{regex_text_of}
 
 -- the last byte is no `\`
 abbrev pub EndsBare : List ℕ → Type 0
@@ -8,7 +8,7 @@ EndsBare text = (front : List ℕ) → text ≢ front ++ 92 ∷ []
 
 -- raw stands for the regular expression text
 abbrev pub IsRegexText : List ℕ → List ℕ → Type 0
-IsRegexText raw text = (raw ≡ slashed text) × EndsBare text
+IsRegexText raw text = (raw ≡ regex_text_of text) × EndsBare text
 
 -- raw stands for some regular expression
 abbrev pub HasRegexText : List ℕ → Type 0

@@ -74,7 +74,8 @@ fn read_escape(behind: &str) -> (Option<char>, &str)
 fn span_of(raw: &str, behind: &str, ahead: &str) -> EscapeSpan
     requires within { length behind.now < length raw.now }
     requires ends { length ahead.now ≤ length behind.now }
-    ensures { result ≡ span_at (length raw.now - length behind.now - 1) (length behind.now - length ahead.now + 1) }
+    ensures { result ≡ span_at (length raw.now - length behind.now - 1)
+        (length behind.now - length ahead.now + 1) }
 {
     EscapeSpan {
         offset: raw.len() - behind.len() - 1,
@@ -84,7 +85,8 @@ fn span_of(raw: &str, behind: &str, ahead: &str) -> EscapeSpan
 
 /// What `raw` stands for, as `split_text` gives it, and its bad escapes. It fails only on allocation.
 pub fn unescape(alloc: Global, raw: &str) -> Result<Unescaped, AllocError>
-    ensures text { IfOk result (λ read. read.bad ≡ [] → IsUnended raw.now → IsText raw.now read.text) }
+    ensures text { IfOk result
+        (λ read. read.bad ≡ [] → IsUnended raw.now → IsText raw.now read.text) }
     ensures bad { IfOk result (λ read. read.bad ≢ [] → (text : List ℕ) → IsText raw.now text → ⊥) }
     ensures spans { IfOk result (λ read. AllByRecursion (IsSpanOf raw.now) read.bad) }
     ensures read { IfOk result (λ read. IsRead raw.now read.text read.bad) }

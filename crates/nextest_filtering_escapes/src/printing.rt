@@ -1,7 +1,7 @@
 // How a text and a regular expression print.
 ghost use Rattle.std.specs.Prelude.{◌≡◌, ◌==◌, ◌||◌, ◌++◌, Some, nat_lt};
 ghost use Rattle.std.specs.List.{flat_map};
-ghost use Rattle.nextest_filtering_escapes.specs.Printing.{escaped, escaped_behind, letter_of, printed, printed_character, slashed};
+ghost use Rattle.nextest_filtering_escapes.specs.Printing.{text_with_escapes, escaped_behind, letter_of, text_of_byte, printed_character, regex_text_of};
 
 use std::fmt;
 
@@ -68,7 +68,7 @@ impl fmt::Display for Inside {
 struct Middle<'a>(&'a str);
 
 impl fmt::Display for Middle<'_> {
-    ghost output = { λ middle. Some (flat_map printed middle.0.now) };
+    ghost output = { λ middle. Some (flat_map text_of_byte middle.0.now) };
 
     fn fmt<W: fmt::Write>(&self, f: &mut fmt::Formatter<W>) -> fmt::Result {
         for character in self.0.chars() {
@@ -80,7 +80,7 @@ impl fmt::Display for Middle<'_> {
 
 /// How a space at the start of a text prints, and what follows it.
 fn opening_of(text: &str) -> (&str, &str)
-    ensures { escaped text.now ≡ result.0.now ++ escaped_behind result.1.now }
+    ensures { text_with_escapes text.now ≡ result.0.now ++ escaped_behind result.1.now }
 {
     match text.strip_prefix(' ') {
         Some(rest) => ("\\u{20}", rest),
@@ -90,7 +90,7 @@ fn opening_of(text: &str) -> (&str, &str)
 
 /// What stands before a space at the end of a text, and how that space prints.
 fn closing_of(rest: &str) -> (&str, &str)
-    ensures { escaped_behind rest.now ≡ flat_map printed result.0.now ++ result.1.now }
+    ensures { escaped_behind rest.now ≡ flat_map text_of_byte result.0.now ++ result.1.now }
 {
     match rest.strip_suffix(' ') {
         Some(middle) => (middle, "\\u{20}"),
@@ -99,7 +99,7 @@ fn closing_of(rest: &str) -> (&str, &str)
 }
 
 impl fmt::Display for EscapedText<'_> {
-    ghost output = { λ text. Some (escaped text.0.now) };
+    ghost output = { λ text. Some (text_with_escapes text.0.now) };
 
     fn fmt<W: fmt::Write>(&self, f: &mut fmt::Formatter<W>) -> fmt::Result {
         let (opening, rest) = opening_of(self.0);
@@ -109,7 +109,7 @@ impl fmt::Display for EscapedText<'_> {
 }
 
 impl fmt::Display for SlashedText<'_> {
-    ghost output = { λ text. Some (slashed text.0.now) };
+    ghost output = { λ text. Some (regex_text_of text.0.now) };
 
     fn fmt<W: fmt::Write>(&self, f: &mut fmt::Formatter<W>) -> fmt::Result {
         let mut rest = self.0;

@@ -11,8 +11,8 @@ use Rattle.nextest_filtering_filters.specs.Formula.{AreValues, Formula, Gives, I
 use Rattle.nextest_filtering_filters.specs.Steps.{after, after_step}
 use Rattle.nextest_filtering_filters.specs.Values.{IsSome, both_values, either_values, may_by, negated_values}
 use Rattle.nextest_filtering_filters.specs.Waiting.{Takes, Wait, over}
-use Rattle.nextest_filtering_filters.specs.declared.step.Step.{Step}
-use Rattle.nextest_filtering_filters.specs.declared.step.Step.TheVariants as step
+use Rattle.nextest_filtering_filters.specs.declared.step.FormulaStep.{FormulaStep}
+use Rattle.nextest_filtering_filters.specs.declared.step.FormulaStep.TheVariants as step
 use Rattle.nextest_filtering_filters.specs.declared.values.Values.{Values}
 use Rattle.nextest_filtering_filters.proofs.Giving.{is_value, may_exactly}
 use Rattle.nextest_filtering_filters.proofs.Waiting.{last_waits, next_step, takes_both, takes_either, takes_leaf, takes_not}
@@ -59,19 +59,19 @@ more_long count columns all column is long own = subst (All (IsLong count)) (sym
 
 -- ---- one step, at one place
 
-pub leaf_at_place : (leaves : ℕ → Values) (place number : ℕ) (it : Step) (old new : List (Vec Bool)) (column : Vec Bool) → it ≡ step.Leaf number → new ≡ old ++ column ∷ []
+pub leaf_at_place : (leaves : ℕ → Values) (place number : ℕ) (it : FormulaStep) (old new : List (Vec Bool)) (column : Vec Bool) → it ≡ step.Leaf number → new ≡ old ++ column ∷ []
     → just (value_at column.items place) ≡ leaves number → Takes (may_by leaves) it (values_in old place) (values_in new place)
 leaf_at_place leaves place number it old new column is ends same =
     takes_leaf (may_by leaves) it number (values_in old place) (values_in new place) (just (value_at column.items place)) is
     (subst (AreValues (may_by leaves number)) (sym same) (may_exactly leaves number)) (some_value (value_at column.items place)) (one_more place old new column ends)
 
-pub not_at_place : (May : ℕ → Bool → Type 0) (place : ℕ) (it : Step) (front old new : List (Vec Bool)) (inside made : Vec Bool) → it ≡ step.Not → old ≡ front ++ inside ∷ [] → new ≡ front ++ made ∷ []
+pub not_at_place : (May : ℕ → Bool → Type 0) (place : ℕ) (it : FormulaStep) (front old new : List (Vec Bool)) (inside made : Vec Bool) → it ≡ step.Not → old ≡ front ++ inside ∷ [] → new ≡ front ++ made ∷ []
     → value_at made.items place ≡ not (value_at inside.items place) → Takes May it (values_in old place) (values_in new place)
 not_at_place May place it front old new inside made is at ends same =
     takes_not May it (values_in front place) (values_in old place) (values_in new place) (just (value_at inside.items place)) (just (value_at made.items place)) is (one_more place front old inside at)
     (ap just same ∙ just_not (value_at inside.items place)) (one_more place front new made ends)
 
-pub either_at_place : (May : ℕ → Bool → Type 0) (place : ℕ) (it : Step) (front middle old new : List (Vec Bool)) (left right made : Vec Bool) → it ≡ step.Either → old ≡ middle ++ right ∷ []
+pub either_at_place : (May : ℕ → Bool → Type 0) (place : ℕ) (it : FormulaStep) (front middle old new : List (Vec Bool)) (left right made : Vec Bool) → it ≡ step.Either → old ≡ middle ++ right ∷ []
     → middle ≡ front ++ left ∷ [] → new ≡ front ++ made ∷ [] → value_at made.items place ≡ (value_at left.items place || value_at right.items place)
     → Takes May it (values_in old place) (values_in new place)
 either_at_place May place it front middle old new left right made is at then_at ends same =
@@ -80,7 +80,7 @@ either_at_place May place it front middle old new left right made is at then_at 
     takes_either May it (values_in front place) (values_in middle place) (values_in old place) (values_in new place) (just a) (just b) (just (value_at made.items place)) is (one_more place middle old right at)
     (one_more place front middle left then_at) (ap just same ∙ just_either a b) (one_more place front new made ends)
 
-pub both_at_place : (May : ℕ → Bool → Type 0) (place : ℕ) (it : Step) (front middle old new : List (Vec Bool)) (left right made : Vec Bool) → it ≡ step.Both → old ≡ middle ++ right ∷ []
+pub both_at_place : (May : ℕ → Bool → Type 0) (place : ℕ) (it : FormulaStep) (front middle old new : List (Vec Bool)) (left right made : Vec Bool) → it ≡ step.Both → old ≡ middle ++ right ∷ []
     → middle ≡ front ++ left ∷ [] → new ≡ front ++ made ∷ [] → value_at made.items place ≡ (value_at left.items place && value_at right.items place)
     → Takes May it (values_in old place) (values_in new place)
 both_at_place May place it front middle old new left right made is at then_at ends same =
@@ -105,7 +105,7 @@ last_written count front old new last lent now at ends same kept long =
     let own = last_long count front old last at long in
     more_long count front new (with_items last now) ends own.0 (written_long count last lent now same kept own.1)
 
-pub not_taken : (May : ℕ → ℕ → Bool → Type 0) (count : ℕ) (it : Step) (front old new : List (Vec Bool)) (inside : Vec Bool) (lent now : List Bool) → it ≡ step.Not → old ≡ front ++ inside ∷ []
+pub not_taken : (May : ℕ → ℕ → Bool → Type 0) (count : ℕ) (it : FormulaStep) (front old new : List (Vec Bool)) (inside : Vec Bool) (lent now : List Bool) → it ≡ step.Not → old ≡ front ++ inside ∷ []
     → new ≡ front ++ with_items inside now ∷ [] → lent ≡ inside.items → length now ≡ length lent → All (IsLong count) old
     → ((place : ℕ) → place < length lent → value_at now place ≡ not (value_at lent place))
     → (place : ℕ) → place < count → Takes (May place) it (values_in old place) (values_in new place)
@@ -126,7 +126,7 @@ module _ (count : ℕ) (join : Bool → Bool → Bool) (front middle old new : L
       ap (λ (l : List Bool). value_at l place) (written left one now same kept)
       ∙ (so ∙ (ap (λ (l : List Bool). join (value_at l place) (value_at other place)) same ∙ ap (λ (l : List Bool). join (value_at left.items place) (value_at l place)) same_right))
 
-pub either_taken : (May : ℕ → ℕ → Bool → Type 0) (count : ℕ) (it : Step) (front middle old new : List (Vec Bool)) (left right : Vec Bool) (one other now : List Bool) → it ≡ step.Either
+pub either_taken : (May : ℕ → ℕ → Bool → Type 0) (count : ℕ) (it : FormulaStep) (front middle old new : List (Vec Bool)) (left right : Vec Bool) (one other now : List Bool) → it ≡ step.Either
     → old ≡ middle ++ right ∷ [] → middle ≡ front ++ left ∷ [] → new ≡ front ++ with_items left now ∷ [] → one ≡ left.items → other ≡ right.items → length now ≡ length one → All (IsLong count) old
     → ((place : ℕ) → place < length one → value_at now place ≡ (value_at one place || value_at other place))
     → (place : ℕ) → place < count → Takes (May place) it (values_in old place) (values_in new place)
@@ -134,7 +134,7 @@ either_taken May count it front middle old new left right one other now is at th
     either_at_place (May place) place it front middle old new left right (with_items left now) is at then_at ends
     (joined_at count (λ a b. a || b) front middle old new left right one other now at then_at same same_right kept long joined place within)
 
-pub both_taken : (May : ℕ → ℕ → Bool → Type 0) (count : ℕ) (it : Step) (front middle old new : List (Vec Bool)) (left right : Vec Bool) (one other now : List Bool) → it ≡ step.Both
+pub both_taken : (May : ℕ → ℕ → Bool → Type 0) (count : ℕ) (it : FormulaStep) (front middle old new : List (Vec Bool)) (left right : Vec Bool) (one other now : List Bool) → it ≡ step.Both
     → old ≡ middle ++ right ∷ [] → middle ≡ front ++ left ∷ [] → new ≡ front ++ with_items left now ∷ [] → one ≡ left.items → other ≡ right.items → length now ≡ length one → All (IsLong count) old
     → ((place : ℕ) → place < length one → value_at now place ≡ (value_at one place && value_at other place))
     → (place : ℕ) → place < count → Takes (May place) it (values_in old place) (values_in new place)
@@ -146,7 +146,7 @@ both_taken May count it front middle old new left right one other now is at then
 
 -- What a walk over steps has got to: the formulas that wait, as many columns, whose values are theirs at each place, and
 -- what the steps that are left make of them.
-pub record Reaches (May : ℕ → ℕ → Bool → Type 0) (steps : List Step) (at : ℕ) (formula : Formula ℕ) (count : ℕ) (waiting : List (Vec Bool)) : Type 0 where
+pub record Reaches (May : ℕ → ℕ → Bool → Type 0) (steps : List FormulaStep) (at : ℕ) (formula : Formula ℕ) (count : ℕ) (waiting : List (Vec Bool)) : Type 0 where
   pub formulas : List (Formula ℕ)
   pub ahead : after (drop at steps) formulas ≡ Some (formula ∷ [])
   pub many : length waiting ≡ length formulas
@@ -154,7 +154,7 @@ pub record Reaches (May : ℕ → ℕ → Bool → Type 0) (steps : List Step) (
   pub long : All (IsLong count) waiting
 
 -- as many formulas less or more as values
-as_many : (it : Step) (formulas next : List (Formula ℕ)) → after_step it formulas ≡ Some next → length next + over it ≡ length formulas + 1
+as_many : (it : FormulaStep) (formulas next : List (Formula ℕ)) → after_step it formulas ≡ Some next → length next + over it ≡ length formulas + 1
 as_many (step.Leaf number) formulas next made = let same : leaf number ∷ formulas ≡ next = cc in omega (arith, ap length same)
 as_many step.Not [] next made = cc
 as_many step.Not (last ∷ formulas) next made = let same : negated last ∷ formulas ≡ next = cc in omega (arith, ap length same)
@@ -165,7 +165,7 @@ as_many step.Both [] next made = cc
 as_many step.Both (last ∷ []) next made = cc
 as_many step.Both (last ∷ first ∷ formulas) next made = let same : both first last ∷ formulas ≡ next = cc in omega (arith, ap length same)
 
-pub got_nothing : (May : ℕ → ℕ → Bool → Type 0) (steps : List Step) (formula : Formula ℕ) (count : ℕ) (waiting : List (Vec Bool)) → after steps [] ≡ Some (formula ∷ []) → waiting ≡ [] → Reaches May steps 0 formula count waiting
+pub got_nothing : (May : ℕ → ℕ → Bool → Type 0) (steps : List FormulaStep) (formula : Formula ℕ) (count : ℕ) (waiting : List (Vec Bool)) → after steps [] ≡ Some (formula ∷ []) → waiting ≡ [] → Reaches May steps 0 formula count waiting
 got_nothing May steps formula count waiting made none =
     record {
       formulas = [];
@@ -175,7 +175,7 @@ got_nothing May steps formula count waiting made none =
       long = subst (All (IsLong count)) (sym none) (All-nil (IsLong count));
     }
 
-pub reaches_more : (May : ℕ → ℕ → Bool → Type 0) (steps : List Step) (at : ℕ) (formula : Formula ℕ) (count : ℕ) (waiting new : List (Vec Bool)) (other : Step) → at < length steps
+pub reaches_more : (May : ℕ → ℕ → Bool → Type 0) (steps : List FormulaStep) (at : ℕ) (formula : Formula ℕ) (count : ℕ) (waiting new : List (Vec Bool)) (other : FormulaStep) → at < length steps
     → Reaches May steps at formula count waiting → ((place : ℕ) → place < count → Takes (May place) (get_or steps at other) (values_in waiting place) (values_in new place))
     → length new + over (get_or steps at other) ≡ length waiting + 1 → All (IsLong count) new → Reaches May steps (at + 1) formula count new
 reaches_more May steps at formula count waiting new other less got takes many long =
@@ -195,16 +195,16 @@ record Ends (May : ℕ → ℕ → Bool → Type 0) (formula : Formula ℕ) (cou
   one : length waiting ≡ 1
   waits : (place : ℕ) → place < count → Wait (May place) (formula ∷ []) (values_in waiting place)
 
-ends : (May : ℕ → ℕ → Bool → Type 0) (steps : List Step) (at : ℕ) (formula : Formula ℕ) (count : ℕ) (waiting : List (Vec Bool)) → at ≡ length steps → Reaches May steps at formula count waiting → Ends May formula count waiting
+ends : (May : ℕ → ℕ → Bool → Type 0) (steps : List FormulaStep) (at : ℕ) (formula : Formula ℕ) (count : ℕ) (waiting : List (Vec Bool)) → at ≡ length steps → Reaches May steps at formula count waiting → Ends May formula count waiting
 ends May steps at formula count waiting ended got =
-    let same : Some got.formulas ≡ Some (formula ∷ []) = subst (λ (l : List Step). after l got.formulas ≡ Some (formula ∷ [])) (ap (λ (n : ℕ). drop n steps) ended ∙ drop-length steps) got.ahead in
+    let same : Some got.formulas ≡ Some (formula ∷ []) = subst (λ (l : List FormulaStep). after l got.formulas ≡ Some (formula ∷ [])) (ap (λ (n : ℕ). drop n steps) ended ∙ drop-length steps) got.ahead in
     let formulas : got.formulas ≡ formula ∷ [] = cc in
     record {
       one = got.many ∙ ap length formulas;
       waits = λ place within. subst (λ (f : List (Formula ℕ)). Wait (May place) f (values_in waiting place)) formulas (got.waits place within);
     }
 
-pub column_told : (May : ℕ → ℕ → Bool → Type 0) (steps : List Step) (at : ℕ) (formula : Formula ℕ) (count : ℕ) (front waiting : List (Vec Bool)) (column : Vec Bool) → at ≡ length steps → waiting ≡ front ++ column ∷ []
+pub column_told : (May : ℕ → ℕ → Bool → Type 0) (steps : List FormulaStep) (at : ℕ) (formula : Formula ℕ) (count : ℕ) (front waiting : List (Vec Bool)) (column : Vec Bool) → at ≡ length steps → waiting ≡ front ++ column ∷ []
     → Reaches May steps at formula count waiting → (place : ℕ) → place < count → IsValue (Gives (May place) formula) (Some (value_at column.items place))
 column_told May steps at formula count front waiting column ended is got place within =
     let value = value_at column.items place in

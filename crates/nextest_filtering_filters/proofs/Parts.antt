@@ -5,7 +5,7 @@ use Rattle.std.specs.Prelude.{◌||◌, IfSome}
 use Rattle.nextest_filtering_filters.specs.Formula.{AreValues, Formula, Gives, IsValue}
 use Rattle.nextest_filtering_filters.specs.Steps.{formula_of}
 use Rattle.nextest_filtering_filters.specs.Values.{IsSome, may_by, nowhere, values_at}
-use Rattle.nextest_filtering_filters.specs.declared.step.Step.{Step}
+use Rattle.nextest_filtering_filters.specs.declared.step.FormulaStep.{FormulaStep}
 use Rattle.nextest_filtering_filters.specs.declared.values.Values.{Values}
 use Rattle.nextest_filtering_filters.proofs.Giving.{gives_less, gives_one, gives_with, with_gives}
 use Rattle.nextest_filtering_ast.specs.Meaning.{MatchesName}
@@ -66,12 +66,12 @@ nowhere_false : (Can : Bool → Type 0) → Can false → (Can true → ⊥) →
 nowhere_false Can fails never = (((λ so. absurd cc), (λ can. absurd (never can))), ((λ so. fails), (λ can. refl)))
 
 -- of lists that are lent
-lent_value : (values lent : List Values) (steps other : List Step) (value : Option Bool) → lent ≡ values → other ≡ steps → IsValue (Gives (may_by (values_at lent)) (formula_of other)) value
+lent_value : (values lent : List Values) (steps other : List FormulaStep) (value : Option Bool) → lent ≡ values → other ≡ steps → IsValue (Gives (may_by (values_at lent)) (formula_of other)) value
     → IsValue (Gives (may_by (values_at values)) (formula_of steps)) value
 lent_value values lent steps other value same is it =
     subst (λ s. IsValue (Gives (may_by (values_at values)) (formula_of s)) value) is (subst (λ l. IsValue (Gives (may_by (values_at l)) (formula_of other)) value) same it)
 
-pub on_binary : (it : Compiled) (binary : Binary) (default : Values) (values lent : List Values) (steps : List Step) → AllZip (AreOn binary default) it.leaves values → lent ≡ values → steps ≡ it.steps
+pub on_binary : (it : Compiled) (binary : Binary) (default : Values) (values lent : List Values) (steps : List FormulaStep) → AllZip (AreOn binary default) it.leaves values → lent ≡ values → steps ≡ it.steps
     → (value : Option Bool) → IsValue (Gives (may_by (values_at lent)) (formula_of steps)) value → IsValue (Gives (MayBe binary Either Either (values_may default)) (filter_of it)) value
 on_binary it binary default values lent steps all same is value one =
     let May = MayBe binary Either Either (values_may default) in
@@ -117,7 +117,7 @@ one_of : (Can : Bool → Type 0) → ((a b : Bool) → Can a → Can b → a ≡
 one_of Can single None it is both = absurd (let no_way = single true false both.0 both.1 in cc)
 one_of Can single (Some one) it is can = subst (λ v. IsValue Can (Some v)) (sym (is one refl)) can
 
-pub on_test : (it : Compiled) (binary : Binary) (name : List ℕ) (Member : Matcher → Type 0) (default : Bool) (values lent : List Values) (steps : List Step) → AllZip (AreTold binary name Member default) it.leaves values
+pub on_test : (it : Compiled) (binary : Binary) (name : List ℕ) (Member : Matcher → Type 0) (default : Bool) (values lent : List Values) (steps : List FormulaStep) → AllZip (AreTold binary name Member default) it.leaves values
     → lent ≡ values → steps ≡ it.steps → (value : Option Bool) (one : Bool) → ((other : Bool) → value ≡ Some other → one ≡ other) → IsValue (Gives (may_by (values_at lent)) (formula_of steps)) value
     → IsValue (Gives (IsTold binary name Member default) (filter_of it)) (Some one)
 on_test it binary name Member default values lent steps all same is value one answered given =

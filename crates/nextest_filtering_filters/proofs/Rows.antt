@@ -3,21 +3,21 @@ use Rattle.std.proofs.Common.{inl, inr, refl}
 use Rattle.nextest_filtering_filters.specs.Formula.{Gives, leaf, negated, either, both}
 use Rattle.nextest_filtering_filters.specs.Values.{may_by, nowhere, both_values, either_values, negated_values}
 use Rattle.nextest_filtering_filters.specs.Waiting.{AreOf}
-use Rattle.nextest_filtering_filters.specs.WorkedRows.{WorkedRows, everywhere, known, unknown}
+use Rattle.nextest_filtering_filters.specs.WorkedRows.{WorkedRows, everywhere, values_of_leaf, unknown}
 use Rattle.nextest_filtering_filters.proofs.Giving.{is_value, may_exactly, leaf_values, values_both, values_either, values_negated}
 
-test_a : AreOf (may_by known) (leaf 0) unknown
-test_a = leaf_values (may_by known) 0 unknown (may_exactly known 0) (inl refl)
+test_a : AreOf (may_by values_of_leaf) (leaf 0) unknown
+test_a = leaf_values (may_by values_of_leaf) 0 unknown (may_exactly values_of_leaf 0) (inl refl)
 
-all : AreOf (may_by known) (leaf 1) everywhere
-all = leaf_values (may_by known) 1 everywhere (may_exactly known 1) (inl refl)
+all : AreOf (may_by values_of_leaf) (leaf 1) everywhere
+all = leaf_values (may_by values_of_leaf) 1 everywhere (may_exactly values_of_leaf 1) (inl refl)
 
-none : AreOf (may_by known) (leaf 2) nowhere
-none = leaf_values (may_by known) 2 nowhere (may_exactly known 2) (inr refl)
+none : AreOf (may_by values_of_leaf) (leaf 2) nowhere
+none = leaf_values (may_by values_of_leaf) 2 nowhere (may_exactly values_of_leaf 2) (inr refl)
 
 pub worked_rows : WorkedRows
 worked_rows =
-    let may = may_by known in
+    let may = may_by values_of_leaf in
     let or_all = values_either may (leaf 0) (leaf 1) unknown everywhere test_a all in
     let and_none = values_both may (leaf 0) (leaf 2) unknown nowhere test_a none in
     let both_a = values_both may (leaf 0) (leaf 0) unknown unknown test_a test_a in

@@ -1,12 +1,12 @@
 -- What holds of all filters.
-use Rattle.std.proofs.Common.{◌≡◌, Bool, false, refl}
+use Rattle.std.proofs.Common.{◌≡◌, Bool, true, false, refl}
 use Rattle.std.specs.List.{list_any}
 use Rattle.nextest_filtering_filters.specs.Formula.{Formula, Gives}
 use Rattle.nextest_filtering_filters.proofs.Giving.{gives_less}
 use Rattle.nextest_filtering_ast.specs.Meaning.{MatchesName}
 use Rattle.nextest_filtering_ast.specs.Tree.{Matcher}
 use Rattle.nextest_filtering_filters.specs.Filter.{Compiled, filter_of, is_group, leaf_at}
-use Rattle.nextest_filtering_filters.specs.Laws.{OneAnswer, SameWithoutGroups, SureOfTests}
+use Rattle.nextest_filtering_filters.specs.Laws.{OneAnswer, SameWithoutGroups, SameWithoutLookup, SureOfTests}
 use Rattle.nextest_filtering_filters.specs.Meaning.{CanBeOn, Either, IsOn, MayBe, Never, Tells}
 use Rattle.nextest_filtering_filters.specs.Query.{Binary, Test}
 use Rattle.nextest_filtering_filters.specs.declared.leaf.FiltersetLeaf.{FiltersetLeaf}
@@ -73,6 +73,14 @@ same_without_groups Member Else groups others filter default test value none non
     let Again = MayBe test.binary Name Other in
     without_groups filter test.binary Name Group Other (Gives (Known Never) (filter_of default)) (Gives (Again Never) (filter_of default))
     (without_groups default test.binary Name Group Other Never Never (λ v never. never) none_there) none value on
+
+-- the look-up of nobody has any value that it is asked with
+pub same_without_lookup : {G : Type 0} (Member : G → Test → Matcher → Type 0) → SameWithoutLookup Member
+same_without_lookup {G} Member groups filter default test value none none_there =
+    let Nobody : Bool → Test → Matcher → Type 0 = λ nobody t m. ⊥ in (
+      same_without_groups Member Nobody groups true filter default test value none none_there,
+      same_without_groups Nobody Member true groups filter default test value none none_there,
+    )
 
 -- a filter is one value on a test
 pub one_on_test : (filter default : Formula FiltersetLeaf) (test : Test) (Member : Matcher → Type 0) (a b : Bool) → IsOn filter default test Member a → IsOn filter default test Member b → a ≡ b

@@ -20,7 +20,7 @@ use Rattle.nextest_filtering_filters.specs.declared.asked.Asked.{Asked}
 use Rattle.nextest_filtering_filters.specs.declared.asked.Asked.TheVariants as asked
 use Rattle.nextest_filtering_filters.specs.declared.leaf.FiltersetLeaf.{FiltersetLeaf}
 use Rattle.nextest_filtering_filters.specs.declared.leaf.FiltersetLeaf.TheVariants as predicate
-use Rattle.nextest_filtering_filters.specs.declared.step.Step.{Step}
+use Rattle.nextest_filtering_filters.specs.declared.step.FormulaStep.{FormulaStep}
 use Rattle.nextest_filtering_filters.proofs.Deciding.{decided_on_test, not_itself}
 use Rattle.nextest_filtering_filters.proofs.EachTest.{some_value}
 use Rattle.nextest_filtering_filters.proofs.Lists.{all_second, as_long, within, zip_at, zip_by_places, zip_map, zip_same}
@@ -70,7 +70,7 @@ told_at binary names default leaves columns all place name at =
 
 -- ---- a filter
 
-pub on_tests : (it : Compiled) (binary : Binary) (names : List (Bor (List ℕ))) (default : List Bool) (columns lent : List (Vec Bool)) (steps : List Step) (column : Vec Bool)
+pub on_tests : (it : Compiled) (binary : Binary) (names : List (Bor (List ℕ))) (default : List Bool) (columns lent : List (Vec Bool)) (steps : List FormulaStep) (column : Vec Bool)
     → AllZip (IsColumn binary names default) it.leaves columns → lent ≡ columns → steps ≡ it.steps
     → ((place : ℕ) → place < length names → IsValue (Gives (may_by (values_at (values_in lent place))) (formula_of steps)) (Some (value_at column.items place)))
     → OnEach names (λ place name. IsValue (Gives (IsTold binary name (λ m. ⊥) (value_at default place)) (filter_of it)) (Some (value_at column.items place)))

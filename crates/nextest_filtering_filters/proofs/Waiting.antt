@@ -5,8 +5,8 @@ use Rattle.nextest_filtering_filters.specs.Formula.{AreValues, Formula, both, ei
 use Rattle.nextest_filtering_filters.specs.Steps.{after, after_step, and_then}
 use Rattle.nextest_filtering_filters.specs.Values.{IsSome, both_values, either_values, negated_values}
 use Rattle.nextest_filtering_filters.specs.Waiting.{AreOf, Takes, Wait, over}
-use Rattle.nextest_filtering_filters.specs.declared.step.Step.{Step}
-use Rattle.nextest_filtering_filters.specs.declared.step.Step.TheVariants as step
+use Rattle.nextest_filtering_filters.specs.declared.step.FormulaStep.{FormulaStep}
+use Rattle.nextest_filtering_filters.specs.declared.step.FormulaStep.TheVariants as step
 use Rattle.nextest_filtering_filters.specs.declared.values.Values.{Values}
 use Rattle.nextest_filtering_filters.proofs.Giving.{leaf_values, values_both, values_either, values_negated}
 
@@ -64,24 +64,24 @@ both_waits May front middle old new left right is at ends (last ∷ first ∷ fo
     let same : both first last ∷ formulas ≡ next = cc in
     subst (λ (f : List (Formula ℕ)). Wait May f new) same (front, (both_values left right, ends, values_both May first last left right two.0 one.0, two.1))
 
-pub takes_leaf : (May : ℕ → Bool → Type 0) (it : Step) (number : ℕ) (old new : List Values) (values : Values) → it ≡ step.Leaf number → AreValues (May number) values → IsSome values
+pub takes_leaf : (May : ℕ → Bool → Type 0) (it : FormulaStep) (number : ℕ) (old new : List Values) (values : Values) → it ≡ step.Leaf number → AreValues (May number) values → IsSome values
     → new ≡ old ++ values ∷ [] → Takes May it old new
-takes_leaf May it number old new values is exact some ends = subst (λ (s : Step). Takes May s old new) (sym is) (leaf_waits May number old new values exact some ends)
+takes_leaf May it number old new values is exact some ends = subst (λ (s : FormulaStep). Takes May s old new) (sym is) (leaf_waits May number old new values exact some ends)
 
-pub takes_not : (May : ℕ → Bool → Type 0) (it : Step) (front old new : List Values) (inside made : Values) → it ≡ step.Not → old ≡ front ++ inside ∷ [] → made ≡ negated_values inside
+pub takes_not : (May : ℕ → Bool → Type 0) (it : FormulaStep) (front old new : List Values) (inside made : Values) → it ≡ step.Not → old ≡ front ++ inside ∷ [] → made ≡ negated_values inside
     → new ≡ front ++ made ∷ [] → Takes May it old new
 takes_not May it front old new inside made is at same ends =
-    subst (λ (s : Step). Takes May s old new) (sym is) (not_waits May front old new inside at (ends ∙ ap (λ (v : Values). front ++ v ∷ []) same))
+    subst (λ (s : FormulaStep). Takes May s old new) (sym is) (not_waits May front old new inside at (ends ∙ ap (λ (v : Values). front ++ v ∷ []) same))
 
-pub takes_either : (May : ℕ → Bool → Type 0) (it : Step) (front middle old new : List Values) (left right made : Values) → it ≡ step.Either → old ≡ middle ++ right ∷ []
+pub takes_either : (May : ℕ → Bool → Type 0) (it : FormulaStep) (front middle old new : List Values) (left right made : Values) → it ≡ step.Either → old ≡ middle ++ right ∷ []
     → middle ≡ front ++ left ∷ [] → made ≡ either_values left right → new ≡ front ++ made ∷ [] → Takes May it old new
 takes_either May it front middle old new left right made is at then_at same ends =
-    subst (λ (s : Step). Takes May s old new) (sym is) (either_waits May front middle old new left right at then_at (ends ∙ ap (λ (v : Values). front ++ v ∷ []) same))
+    subst (λ (s : FormulaStep). Takes May s old new) (sym is) (either_waits May front middle old new left right at then_at (ends ∙ ap (λ (v : Values). front ++ v ∷ []) same))
 
-pub takes_both : (May : ℕ → Bool → Type 0) (it : Step) (front middle old new : List Values) (left right made : Values) → it ≡ step.Both → old ≡ middle ++ right ∷ []
+pub takes_both : (May : ℕ → Bool → Type 0) (it : FormulaStep) (front middle old new : List Values) (left right made : Values) → it ≡ step.Both → old ≡ middle ++ right ∷ []
     → middle ≡ front ++ left ∷ [] → made ≡ both_values left right → new ≡ front ++ made ∷ [] → Takes May it old new
 takes_both May it front middle old new left right made is at then_at same ends =
-    subst (λ (s : Step). Takes May s old new) (sym is) (both_waits May front middle old new left right at then_at (ends ∙ ap (λ (v : Values). front ++ v ∷ []) same))
+    subst (λ (s : FormulaStep). Takes May s old new) (sym is) (both_waits May front middle old new left right at then_at (ends ∙ ap (λ (v : Values). front ++ v ∷ []) same))
 
 -- ---- all steps
 
@@ -93,34 +93,34 @@ many_wait May (last ∷ formulas) waiting (front, (values, is, of, waits)) =
     omega (arith, ap length is, length-append front (values ∷ []), more)
 
 -- What a walk over steps has got to: the formulas that wait, their values, and what the steps that are left make of them.
-pub record GotTo (May : ℕ → Bool → Type 0) (steps : List Step) (place : ℕ) (formula : Formula ℕ) (waiting : List Values) : Type 0 where
+pub record GotTo (May : ℕ → Bool → Type 0) (steps : List FormulaStep) (place : ℕ) (formula : Formula ℕ) (waiting : List Values) : Type 0 where
   pub formulas : List (Formula ℕ)
   pub ahead : after (drop place steps) formulas ≡ Some (formula ∷ [])
   pub waits : Wait May formulas waiting
 
-pub got_nowhere : (May : ℕ → Bool → Type 0) (steps : List Step) (formula : Formula ℕ) (waiting : List Values) → after steps [] ≡ Some (formula ∷ []) → waiting ≡ [] → GotTo May steps 0 formula waiting
+pub got_nowhere : (May : ℕ → Bool → Type 0) (steps : List FormulaStep) (formula : Formula ℕ) (waiting : List Values) → after steps [] ≡ Some (formula ∷ []) → waiting ≡ [] → GotTo May steps 0 formula waiting
 got_nowhere May steps formula waiting made none = record { formulas = []; ahead = made; waits = none }
 
 -- what a step makes, where the steps make something
-pub record Makes (it : Step) (more : List Step) (formulas : List (Formula ℕ)) (formula : Formula ℕ) : Type 0 where
+pub record Makes (it : FormulaStep) (more : List FormulaStep) (formulas : List (Formula ℕ)) (formula : Formula ℕ) : Type 0 where
   pub next : List (Formula ℕ)
   pub made : after_step it formulas ≡ Some next
   pub ahead : after more next ≡ Some (formula ∷ [])
 
-makes : (it : Step) (more : List Step) (formulas : List (Formula ℕ)) (formula : Formula ℕ) → after (it ∷ more) formulas ≡ Some (formula ∷ []) → Makes it more formulas formula
+makes : (it : FormulaStep) (more : List FormulaStep) (formulas : List (Formula ℕ)) (formula : Formula ℕ) → after (it ∷ more) formulas ≡ Some (formula ∷ []) → Makes it more formulas formula
 makes it more formulas formula ahead = by_made (after_step it formulas) refl ahead
   where
     by_made : (made : Option (List (Formula ℕ))) → after_step it formulas ≡ made → and_then (after more) made ≡ Some (formula ∷ []) → Makes it more formulas formula
     by_made None is none = cc
     by_made (Some next) is some = record { next = next; made = is; ahead = some }
 
-pub next_step : (steps : List Step) (place : ℕ) (formula : Formula ℕ) (other : Step) → place < length steps → (formulas : List (Formula ℕ)) → after (drop place steps) formulas ≡ Some (formula ∷ [])
+pub next_step : (steps : List FormulaStep) (place : ℕ) (formula : Formula ℕ) (other : FormulaStep) → place < length steps → (formulas : List (Formula ℕ)) → after (drop place steps) formulas ≡ Some (formula ∷ [])
     → Makes (get_or steps place other) (drop (suc place) steps) formulas formula
 next_step steps place formula other less formulas ahead =
     makes (get_or steps place other) (drop (suc place) steps) formulas formula
-    (subst (λ (l : List Step). after l formulas ≡ Some (formula ∷ [])) (drop-cons steps place other less) ahead)
+    (subst (λ (l : List FormulaStep). after l formulas ≡ Some (formula ∷ [])) (drop-cons steps place other less) ahead)
 
-enough : (it : Step) (formulas next : List (Formula ℕ)) → after_step it formulas ≡ Some next → over it ≤ length formulas
+enough : (it : FormulaStep) (formulas next : List (Formula ℕ)) → after_step it formulas ≡ Some next → over it ≤ length formulas
 enough (step.Leaf number) formulas next made = omega arith
 enough step.Not [] next made = cc
 enough step.Not (last ∷ formulas) next made = omega arith
@@ -132,7 +132,7 @@ enough step.Both (last ∷ []) next made = cc
 enough step.Both (last ∷ first ∷ formulas) next made = omega arith
 
 -- a step has the values that it is over
-pub enough_wait : (May : ℕ → Bool → Type 0) (steps : List Step) (place : ℕ) (formula : Formula ℕ) (waiting : List Values) (other : Step) → place < length steps
+pub enough_wait : (May : ℕ → Bool → Type 0) (steps : List FormulaStep) (place : ℕ) (formula : Formula ℕ) (waiting : List Values) (other : FormulaStep) → place < length steps
     → GotTo May steps place formula waiting → over (get_or steps place other) ≤ length waiting
 enough_wait May steps place formula waiting other less got =
     let step_made = next_step steps place formula other less got.formulas got.ahead in
@@ -140,7 +140,7 @@ enough_wait May steps place formula waiting other less got =
     omega (arith, few, many_wait May got.formulas waiting got.waits)
 
 -- and the walk goes on behind it
-pub goes_on : (May : ℕ → Bool → Type 0) (steps : List Step) (place : ℕ) (formula : Formula ℕ) (waiting new : List Values) (other : Step) → place < length steps
+pub goes_on : (May : ℕ → Bool → Type 0) (steps : List FormulaStep) (place : ℕ) (formula : Formula ℕ) (waiting new : List Values) (other : FormulaStep) → place < length steps
     → GotTo May steps place formula waiting → Takes May (get_or steps place other) waiting new → GotTo May steps (place + 1) formula new
 goes_on May steps place formula waiting new other less got takes =
     let step_made = next_step steps place formula other less got.formulas got.ahead in

@@ -2,13 +2,13 @@
 use Rattle.std.specs.Prelude.{ℕ, Bool, true, false, List, slice_get, unwrap_or}
 use Rattle.nextest_filtering_filters.specs.Formula.{Formula, with_leaves}
 use Rattle.nextest_filtering_filters.specs.Steps.{formula_of}
-use Rattle.nextest_filtering_filters.specs.declared.step.Step.{Step}
+use Rattle.nextest_filtering_filters.specs.declared.step.FormulaStep.{FormulaStep}
 use Rattle.nextest_filtering_filters.specs.declared.leaf.FiltersetLeaf.{FiltersetLeaf}
 use Rattle.nextest_filtering_filters.specs.declared.leaf.FiltersetLeaf.TheVariants as leaf
 
 -- a formula over the places of predicates, by its steps
 pub record Compiled : Type 0 where
-  pub steps : List Step
+  pub steps : List FormulaStep
   pub leaves : List FiltersetLeaf
 
 -- the predicate at a place; where none stands, it holds nowhere

@@ -1,5 +1,5 @@
 -- What holds of all filters, whoever is asked for groups: a look-up says whose group has a name that a matcher matches.
-use Rattle.std.specs.Prelude.{◌≡◌, Bool, false, Some}
+use Rattle.std.specs.Prelude.{◌≡◌, ◌↔◌, Bool, false, Some}
 use Rattle.std.specs.List.{list_any}
 use Rattle.nextest_filtering_filters.specs.Formula.{Formula, IsValue}
 use Rattle.nextest_filtering_ast.specs.Tree.{Matcher}
@@ -21,6 +21,14 @@ SameWithoutGroups {G} {H} Member Other =
     → list_any is_group filter.leaves ≡ false → list_any is_group default.leaves ≡ false
     → IsOn (filter_of filter) (filter_of default) test (Member groups test) value
     → IsOn (filter_of filter) (filter_of default) test (Other others test) value
+
+-- where nobody asks for groups, what a filter is by a look-up it is where nobody knows of a group, and the other way round
+abbrev pub SameWithoutLookup : {G : Type 0} → (G → Test → Matcher → Type 0) → Type 0
+SameWithoutLookup {G} Member =
+    (groups : G) (filter default : Compiled) (test : Test) (value : Bool)
+    → list_any is_group filter.leaves ≡ false → list_any is_group default.leaves ≡ false
+    → IsOn (filter_of filter) (filter_of default) test (Member groups test) value
+    ↔ IsOn (filter_of filter) (filter_of default) test (λ matcher. ⊥) value
 
 -- a filter is at most one value on a test
 abbrev pub OneAnswer : {G : Type 0} → (G → Test → Matcher → Type 0) → Type 0

@@ -3,8 +3,8 @@ use Rattle.std.specs.Prelude.{◌≡◌, ℕ, Bool, List, [], ◌∷◌, ◌++�
 use Rattle.nextest_filtering_filters.specs.Formula.{Formula, Gives, AreValues}
 use Rattle.nextest_filtering_filters.specs.Steps.{after_step}
 use Rattle.nextest_filtering_filters.specs.Values.{IsSome}
-use Rattle.nextest_filtering_filters.specs.declared.step.Step.{Step}
-use Rattle.nextest_filtering_filters.specs.declared.step.Step.TheVariants as step
+use Rattle.nextest_filtering_filters.specs.declared.step.FormulaStep.{FormulaStep}
+use Rattle.nextest_filtering_filters.specs.declared.step.FormulaStep.TheVariants as step
 use Rattle.nextest_filtering_filters.specs.declared.values.Values.{Values}
 
 -- the values that a formula can take, of which there are some
@@ -17,11 +17,11 @@ Wait May [] waiting = waiting ≡ []
 Wait May (last ∷ formulas) waiting = (front : List Values) × ((values : Values) × (waiting ≡ front ++ values ∷ []) × AreOf May last values × Wait May formulas front)
 
 -- a step takes such values to those of what it makes of the formulas
-abbrev pub Takes : (ℕ → Bool → Type 0) → Step → List Values → List Values → Type 0
+abbrev pub Takes : (ℕ → Bool → Type 0) → FormulaStep → List Values → List Values → Type 0
 Takes May step old new = (formulas next : List (Formula ℕ)) → after_step step formulas ≡ Some next → Wait May formulas old → Wait May next new
 
 -- so many values a step is over
-abbrev pub over : Step → ℕ
+abbrev pub over : FormulaStep → ℕ
 over (step.Leaf number) = 0
 over step.Not = 1
 over step.Either = 2

@@ -81,7 +81,8 @@ impl<'f> Asked<'f> {
     // The values that the predicate may have on the binary, where the default filter may have these.
     pub(crate) fn on_binary(&self, default: Values) -> Values
         requires some { IsSome default }
-        ensures values { (binary : Binary) (leaf : FiltersetLeaf) → IsFor binary leaf self.now → AreValues (MayBe binary Either Either (values_may default) leaf) result }
+        ensures values { (binary : Binary) (leaf : FiltersetLeaf) → IsFor binary leaf self.now
+            → AreValues (MayBe binary Either Either (values_may default) leaf) result }
         ensures some { IsSome result }
     {
         match self {
@@ -104,8 +105,11 @@ impl<'f> Asked<'f> {
         default: bool,
         groups: &G,
     ) -> Result<bool, AllocError>
-        ensures value { IfOk result (λ value. (binary : Binary) (leaf : FiltersetLeaf) → IsFor binary leaf self.old → IsTold binary (test_of test.now).name (G.member groups.now (test_of test.now)) default leaf value) }
-        ensures stays { (binary : Binary) (leaf : FiltersetLeaf) → IsFor binary leaf self.old → IsFor binary leaf self.new }
+        ensures value { IfOk result (λ value. (binary : Binary) (leaf : FiltersetLeaf)
+            → IsFor binary leaf self.old → IsTold binary (test_of test.now).name
+            (G.member groups.now (test_of test.now)) default leaf value) }
+        ensures stays { (binary : Binary) (leaf : FiltersetLeaf) → IsFor binary leaf self.old
+            → IsFor binary leaf self.new }
     {
         match self {
             Asked::Known(value) => Ok(*value),

@@ -8,7 +8,7 @@ ghost use Rattle.nextest_filtering_filters.specs.Values.{may_by, values_at};
 ghost use Rattle.nextest_filtering_filters.specs.Waiting.{Takes, over};
 
 use crate::formula::{Formula, take_last};
-use crate::step::Step;
+use crate::step::FormulaStep;
 use std::alloc::{AllocError, Global};
 
 // A copy of a leaf's column. A leaf that has none holds nowhere.
@@ -64,7 +64,7 @@ fn join_both(left: &mut [bool], right: &[bool])
 // Takes one step over columns that wait, the last one last.
 fn take_step(
     alloc: Global,
-    step: Step,
+    step: FormulaStep,
     leaves: &[Vec<bool>],
     count: usize,
     waiting: &mut Vec<Vec<bool>>,
@@ -80,22 +80,22 @@ fn take_step(
     ensures long { IfOk result (λ _. All (IsLong count) waiting.new.items) }
 {
     match step {
-        Step::Leaf(leaf) => {
+        FormulaStep::Leaf(leaf) => {
             let column = column_of(alloc, leaves, leaf, count)?;
             Ok(waiting.push(column)?)
         }
-        Step::Not => {
+        FormulaStep::Not => {
             let mut inside = take_last(waiting);
             negate(inside.as_mut_slice());
             Ok(waiting.push(inside)?)
         }
-        Step::Either => {
+        FormulaStep::Either => {
             let right = take_last(waiting);
             let mut left = take_last(waiting);
             join_either(left.as_mut_slice(), right.as_slice());
             Ok(waiting.push(left)?)
         }
-        Step::Both => {
+        FormulaStep::Both => {
             let right = take_last(waiting);
             let mut left = take_last(waiting);
             join_both(left.as_mut_slice(), right.as_slice());
@@ -115,8 +115,8 @@ impl Formula {
     ) -> Result<Vec<bool>, AllocError>
         requires long { All (IsLong count) leaves.now }
         ensures long { IfOk result (IsLong count) }
-        ensures values { IfOk result (λ column. (place : ℕ) → place < count
-            → IsValue (Gives (may_by (values_at (values_in leaves.now place))) (formula_of self.now))
+        ensures values { IfOk result (λ column. (place : ℕ) → place < count → IsValue
+            (Gives (may_by (values_at (values_in leaves.now place))) (formula_of self.now))
             (Some (value_at column.items place))) }
     {
         let mut waiting = Vec::new(alloc);

@@ -171,7 +171,8 @@ impl<'f> BinaryEvaluator<'f> {
     /// The value that the filter has on the binary whatever its tests are, each place that asks for a test's name or group
     /// apart from all others; `None` where it can be true and can be false. It fails only on allocation.
     pub fn matches_binary(&mut self) -> Result<Option<bool>, AllocError>
-        ensures value { IfOk result (IsValue (CanBeOn (filter_of self.old.filter) (filter_of self.old.default) self.old.binary)) }
+        ensures value { IfOk result (IsValue
+            (CanBeOn (filter_of self.old.filter) (filter_of self.old.default) self.old.binary)) }
         ensures same { self.new ≡ self.old }
     {
         let default = default_values(&mut self.default)?;
@@ -184,7 +185,9 @@ impl<'f> BinaryEvaluator<'f> {
         test_name: &str,
         groups: &G,
     ) -> Result<bool, AllocError>
-        ensures value { IfOk result (λ value. IsValue (IsOn (filter_of self.old.filter) (filter_of self.old.default) (record { binary = self.old.binary; name = test_name.now }) (G.member groups.now (record { binary = self.old.binary; name = test_name.now }))) (Some value)) }
+        ensures value { IfOk result (λ value. IsValue (IsOn (filter_of self.old.filter) (filter_of
+            self.old.default) (record { binary = self.old.binary; name = test_name.now }) (G.member
+            groups.now (record { binary = self.old.binary; name = test_name.now }))) (Some value)) }
         ensures same { self.new ≡ self.old }
     {
         let test = TestQuery {

@@ -5,7 +5,7 @@ ghost use Rattle.nextest_filtering_filters.specs.Steps.{formula_of};
 ghost use Rattle.nextest_filtering_filters.specs.Values.{IsSome, may_by, values_at};
 ghost use Rattle.nextest_filtering_filters.specs.Waiting.{Takes, over};
 
-use crate::step::Step;
+use crate::step::FormulaStep;
 use crate::values::Values;
 use std::alloc::AllocError;
 use std::marker::Model;
@@ -13,15 +13,15 @@ use std::marker::Model;
 /// A formula over leaves that are known by their numbers. In a clause it is its steps, and what they make is `formula_of` them.
 #[derive(Drop)]
 pub struct Formula {
-    pub(crate) steps: Vec<Step>,
+    pub(crate) steps: Vec<FormulaStep>,
 }
 
 impl Model for Formula {
     ghost use Rattle.std.specs.Prelude.{List};
     ghost use Rattle.nextest_filtering_filters.specs.Steps.{IsOf, formula_of};
-    ghost use Rattle.nextest_filtering_filters.specs.declared.step.Step as words;
+    ghost use Rattle.nextest_filtering_filters.specs.declared.step.FormulaStep as words;
 
-    ghost Value = { List words.Step };
+    ghost Value = { List words.FormulaStep };
 
     ghost view = { λ it. it.steps.items };
 
@@ -55,23 +55,28 @@ fn values_of(leaves: &[Values], leaf: usize) -> Values
 }
 
 // Takes one step over values that wait, the last one last.
-fn take_step(step: Step, leaves: &[Values], waiting: &mut Vec<Values>) -> Result<(), AllocError>
+fn take_step(
+    step: FormulaStep,
+    leaves: &[Values],
+    waiting: &mut Vec<Values>,
+) -> Result<(), AllocError>
     requires few { over step ≤ vec_len waiting.old }
     requires some { All IsSome leaves.now }
-    ensures { IfOk result (λ _. Takes (may_by (values_at leaves.now)) step waiting.old.items waiting.new.items) }
+    ensures { IfOk result
+        (λ _. Takes (may_by (values_at leaves.now)) step waiting.old.items waiting.new.items) }
 {
     match step {
-        Step::Leaf(leaf) => Ok(waiting.push(values_of(leaves, leaf))?),
-        Step::Not => {
+        FormulaStep::Leaf(leaf) => Ok(waiting.push(values_of(leaves, leaf))?),
+        FormulaStep::Not => {
             let inside = take_last(waiting);
             Ok(waiting.push(inside.negated())?)
         }
-        Step::Either => {
+        FormulaStep::Either => {
             let right = take_last(waiting);
             let left = take_last(waiting);
             Ok(waiting.push(left.either(right))?)
         }
-        Step::Both => {
+        FormulaStep::Both => {
             let right = take_last(waiting);
             let left = take_last(waiting);
             Ok(waiting.push(left.both(right))?)
@@ -90,7 +95,8 @@ impl Formula {
         waiting: &mut Vec<Values>,
     ) -> Result<Option<bool>, AllocError>
         requires some { All IsSome leaves.now }
-        ensures { IfOk result (IsValue (Gives (may_by (values_at leaves.now)) (formula_of self.now))) }
+        ensures { IfOk result
+            (IsValue (Gives (may_by (values_at leaves.now)) (formula_of self.now))) }
     {
         waiting.clear();
         for step in &self.steps {

@@ -19,5 +19,6 @@ pub trait GroupLookup {
         test: &TestQuery<'_>,
         matcher: &NameMatcher,
     ) -> Result<bool, AllocError>
-        ensures { IfOk result (Tells (member self.now (test_of test.now) (matcher_of matcher.now))) };
+        ensures { IfOk result
+            (Tells (member self.now (test_of test.now) (matcher_of matcher.now))) };
 }

@@ -2,7 +2,7 @@
 use nextest_text::{Listing, Text};
 
 /// The groups that a filterset may name.
-#[derive(Debug)]
+#[derive(Clone, Debug)]
 pub enum KnownGroups {
     /// `@global`, and those of these names.
     Known(Listing<Text>),

@@ -1,5 +1,5 @@
 //! What holds of all filters. Each function does nothing, and its contract is the law.
-ghost use Rattle.nextest_filtering_filters.specs.Laws.{OneAnswer, SameWithoutGroups, SureOfTests};
+ghost use Rattle.nextest_filtering_filters.specs.Laws.{OneAnswer, SameWithoutGroups, SameWithoutLookup, SureOfTests};
 ghost use Rattle.nextest_filtering_filters.specs.FormulaLaws.{Stays};
 ghost use Rattle.nextest_filtering_filters.specs.WorkedRows.{WorkedRows};
 
@@ -14,6 +14,12 @@ pub fn sure_of_tests<G: GroupLookup>()
 /// Where neither a filter nor the default filter asks for a group, it is the same on a test whoever is asked for groups.
 pub fn same_without_groups<G: GroupLookup, H: GroupLookup>()
     ensures { SameWithoutGroups G.member H.member }
+{}
+
+/// Where neither a filter nor the default filter asks for a group, it is on a test by a look-up what it is where nobody knows
+/// of a group: `matches_test_with_groups` answers what `matches_test` does.
+pub fn same_without_lookup<G: GroupLookup>()
+    ensures { SameWithoutLookup G.member }
 {}
 
 /// A filter doesn't both hold and not hold on a test, whoever is asked for groups.

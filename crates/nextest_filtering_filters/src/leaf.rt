@@ -6,6 +6,7 @@ use nextest_filtering_ast::{BuildPlatform, NameMatcher, SourceSpan};
 use std::collections::BTreeSet;
 
 /// A predicate, as it is asked.
+#[derive(Clone)]
 pub enum FiltersetLeaf {
     /// The binary's package is one of these, by their ids.
     Packages(BTreeSet<String>),

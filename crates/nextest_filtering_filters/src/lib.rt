@@ -28,5 +28,5 @@ pub use group_lookup::GroupLookup;
 pub use known_groups::KnownGroups;
 pub use leaf::FiltersetLeaf;
 pub use query::{BinaryQuery, TestQuery};
-pub use step::Step;
+pub use step::FormulaStep;
 pub use values::Values;

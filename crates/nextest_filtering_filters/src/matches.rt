@@ -35,7 +35,8 @@ impl CompiledExpr {
         query: &BinaryQuery<'_>,
         ecx: &EvalContext<'_>,
     ) -> Result<Option<bool>, AllocError>
-        ensures { IfOk result (IsValue (CanBeOn (filter_of self.now) (filter_of ecx.now) (binary_of query.now))) }
+        ensures { IfOk result
+            (IsValue (CanBeOn (filter_of self.now) (filter_of ecx.now) (binary_of query.now))) }
     {
         let mut evaluator = BinaryEvaluator::new(alloc, self, ecx, query)?;
         evaluator.matches_binary()
@@ -50,7 +51,8 @@ impl CompiledExpr {
         ecx: &EvalContext<'_>,
     ) -> Result<bool, AllocError>
         requires no_group { list_any is_group self.now.leaves ≡ false }
-        ensures { IfOk result (λ value. IsValue (IsOn (filter_of self.now) (filter_of ecx.now) (test_of query.now) (λ matcher. ⊥)) (Some value)) }
+        ensures { IfOk result (λ value. IsValue (IsOn (filter_of self.now) (filter_of ecx.now)
+            (test_of query.now) (λ matcher. ⊥)) (Some value)) }
     {
         self.matches_test_with_groups(alloc, query, ecx, &NoGroups)
     }
@@ -65,10 +67,9 @@ impl CompiledExpr {
         ecx: &EvalContext<'_>,
     ) -> Result<Vec<bool>, AllocError>
         requires no_group { list_any is_group self.now.leaves ≡ false }
-        ensures { IfOk result (λ values. AllZip (λ name value. IsValue (IsOn
-            (filter_of self.now) (filter_of ecx.now)
-            (record { binary = binary_of binary.now; name = name.now }) (λ matcher. ⊥)) (Some value))
-            names.now values.items) }
+        ensures { IfOk result (λ values. AllZip (λ name value. IsValue (IsOn (filter_of self.now)
+            (filter_of ecx.now) (record { binary = binary_of binary.now; name = name.now })
+            (λ matcher. ⊥)) (Some value)) names.now values.items) }
     {
         let mut evaluator = BinaryEvaluator::new(alloc, self, ecx, binary)?;
         match evaluator.matches_binary()? {
@@ -90,7 +91,8 @@ impl CompiledExpr {
         ecx: &EvalContext<'_>,
         groups: &G,
     ) -> Result<bool, AllocError>
-        ensures { IfOk result (λ value. IsValue (IsOn (filter_of self.now) (filter_of ecx.now) (test_of query.now) (G.member groups.now (test_of query.now))) (Some value)) }
+        ensures { IfOk result (λ value. IsValue (IsOn (filter_of self.now) (filter_of ecx.now)
+            (test_of query.now) (G.member groups.now (test_of query.now))) (Some value)) }
     {
         let mut evaluator = BinaryEvaluator::new(alloc, self, ecx, &query.binary_query)?;
         evaluator.matches_test_with_groups(query.test_name, groups)

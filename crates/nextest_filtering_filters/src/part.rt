@@ -74,7 +74,8 @@ fn values_on_binary(
     values: &mut Vec<Values>,
 ) -> Result<(), AllocError>
     requires some { IsSome default }
-    ensures { IfOk result (λ _. (binary : Binary) (leaves : List FiltersetLeaf) → AllZip (IsFor binary) leaves asked.now → AllZip (AreOn binary default) leaves values.new.items) }
+    ensures { IfOk result (λ _. (binary : Binary) (leaves : List FiltersetLeaf) → AllZip
+        (IsFor binary) leaves asked.now → AllZip (AreOn binary default) leaves values.new.items) }
 {
     values.clear();
     for it in asked {
@@ -90,8 +91,11 @@ fn values_of_one<G: GroupLookup>(
     default: bool,
     groups: &G,
 ) -> Result<Values, AllocError>
-    ensures value { IfOk result (λ values. (binary : Binary) (leaf : FiltersetLeaf) → IsFor binary leaf asked.old → AreTold binary (test_of test.now).name (G.member groups.now (test_of test.now)) default leaf values) }
-    ensures stays { (binary : Binary) (leaf : FiltersetLeaf) → IsFor binary leaf asked.old → IsFor binary leaf asked.new }
+    ensures value { IfOk result (λ values. (binary : Binary) (leaf : FiltersetLeaf)
+        → IsFor binary leaf asked.old → AreTold binary (test_of test.now).name
+        (G.member groups.now (test_of test.now)) default leaf values) }
+    ensures stays { (binary : Binary) (leaf : FiltersetLeaf) → IsFor binary leaf asked.old
+        → IsFor binary leaf asked.new }
 {
     let value = asked.on_test(test, default, groups)?;
     Ok(Values {
@@ -108,8 +112,11 @@ fn values_on_test<G: GroupLookup>(
     groups: &G,
     values: &mut Vec<Values>,
 ) -> Result<(), AllocError>
-    ensures values { IfOk result (λ _. (binary : Binary) (leaves : List FiltersetLeaf) → AllZip (IsFor binary) leaves asked.old → AllZip (AreTold binary (test_of test.now).name (G.member groups.now (test_of test.now)) default) leaves values.new.items) }
-    ensures stays { (binary : Binary) (leaves : List FiltersetLeaf) → AllZip (IsFor binary) leaves asked.old → AllZip (IsFor binary) leaves asked.new }
+    ensures values { IfOk result (λ _. (binary : Binary) (leaves : List FiltersetLeaf)
+        → AllZip (IsFor binary) leaves asked.old → AllZip (AreTold binary (test_of test.now).name
+        (G.member groups.now (test_of test.now)) default) leaves values.new.items) }
+    ensures stays { (binary : Binary) (leaves : List FiltersetLeaf)
+        → AllZip (IsFor binary) leaves asked.old → AllZip (IsFor binary) leaves asked.new }
 {
     values.clear();
     for it in asked.iter_mut() {
@@ -168,7 +175,8 @@ impl<'f> Part<'f> {
     // What the filter is on the binary, where the default filter may have these values.
     pub(crate) fn on_binary(&mut self, default: Values) -> Result<Option<bool>, AllocError>
         requires some { IsSome default }
-        ensures value { IfOk result (IsValue (Gives (MayBe self.old.binary Either Either (values_may default)) (filter_of self.old.filter))) }
+        ensures value { IfOk result (IsValue (Gives (MayBe self.old.binary Either Either
+            (values_may default)) (filter_of self.old.filter))) }
         ensures same { self.new ≡ self.old }
     {
         values_on_binary(self.asked.as_slice(), default, &mut self.values)?;
@@ -184,7 +192,9 @@ impl<'f> Part<'f> {
         default: bool,
         groups: &G,
     ) -> Result<bool, AllocError>
-        ensures value { IfOk result (λ value. IsValue (Gives (IsTold self.old.binary (test_of test.now).name (G.member groups.now (test_of test.now)) default) (filter_of self.old.filter)) (Some value)) }
+        ensures value { IfOk result
+            (λ value. IsValue (Gives (IsTold self.old.binary (test_of test.now).name (G.member
+            groups.now (test_of test.now)) default) (filter_of self.old.filter)) (Some value)) }
         ensures same { self.new ≡ self.old }
     {
         values_on_test(

@@ -2,7 +2,7 @@
 use nextest_filtering_ast::BuildPlatform;
 
 /// A binary, as filters look at it.
-#[derive(Clone, Copy, Debug)]
+#[derive(Clone, Copy, Debug, PartialEq, Eq)]
 pub struct BinaryQuery<'q> {
     /// The id of its package.
     pub package_id: &'q str,
@@ -17,7 +17,7 @@ pub struct BinaryQuery<'q> {
 }
 
 /// A test, as filters look at it.
-#[derive(Clone, Copy, Debug)]
+#[derive(Clone, Copy, Debug, PartialEq, Eq)]
 pub struct TestQuery<'q> {
     /// Its binary.
     pub binary_query: BinaryQuery<'q>,

@@ -3,7 +3,7 @@
 /// A step of a formula in postfix order: it takes the formulas that it is over off the end of those that wait, and puts
 /// what it makes of them there.
 #[derive(Clone, Copy, Debug, PartialEq, Eq)]
-pub enum Step {
+pub enum FormulaStep {
     /// The leaf of this number.
     Leaf(usize),
     /// The negation of the last one.

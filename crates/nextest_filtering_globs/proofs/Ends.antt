@@ -6,17 +6,17 @@ use mathlib.Core.Logic.{inl, inr}
 use Rattle.nextest_filtering_globs.specs.declared.token.GlobToken.{GlobToken}
 use Rattle.nextest_filtering_globs.specs.declared.token.GlobToken.TheVariants as token
 use Rattle.nextest_filtering_globs.specs.Meaning.{Token, literal, any, zero_or_more, class, alternates, Tokens, no_tokens, next_token, Alternatives, last_alternative, next_alternative, MatchesOne, MatchesAll, MatchesSome}
-use Rattle.nextest_filtering_globs.specs.Inside.{fits, moved, later, either_of, none_of}
+use Rattle.nextest_filtering_globs.specs.Inside.{fits, next_places, later, either_of, none_of}
 use Rattle.nextest_filtering_globs.proofs.Classes.{of_class, class_of, same_number}
 use Rattle.nextest_filtering_globs.proofs.Sets.{Covers, Has, moved_has, has_moved, length-moved, later_has, has_later, length-later, either_has, has_first, has_second, length-either, none_has, length-none}
 
 -- the places where a match from one of these may end
 abbrev mutual
   pub ends_one : List ℕ → Token → List Bool → List Bool
-  ends_one text (literal c) places = moved (fits (token.Literal c)) false text places
-  ends_one text any places = moved (fits token.Any) false text places
+  ends_one text (literal c) places = next_places (fits (token.Literal c)) false text places
+  ends_one text any places = next_places (fits token.Any) false text places
   ends_one text zero_or_more places = later false places
-  ends_one text (class negated ranges) places = moved (fits (token.Class negated ranges)) false text places
+  ends_one text (class negated ranges) places = next_places (fits (token.Class negated ranges)) false text places
   ends_one text (alternates all) places = ends_some text all places (none_of places)
 
   pub ends_all : List ℕ → Tokens → List Bool → List Bool
@@ -65,7 +65,7 @@ reached Meant text places rest word h k = record { word = word; begun = h; meant
 -- one character
 moved_reached : (Meant : List ℕ → Type 0) (t : GlobToken) (text : List ℕ) (places : List Bool) (rest : List ℕ)
     → Covers text places → ((c : ℕ) → fits t c ≡ true → Meant (c ∷ []))
-    → Has text (moved (fits t) false text places) rest → Reached Meant text places rest
+    → Has text (next_places (fits t) false text places) rest → Reached Meant text places rest
 moved_reached Meant t text places rest e means h =
     elim (moved_has (fits t) false text places rest e h) [
       | inl k ↦ absurd (false≢true k.0)
@@ -74,7 +74,7 @@ moved_reached Meant t text places rest e means h =
 
 reached_moved : (t : GlobToken) (text : List ℕ) (places : List Bool) (rest word : List ℕ) (c : ℕ)
     → Covers text places → word ≡ c ∷ [] → fits t c ≡ true → Has text places (word ++ rest)
-    → Has text (moved (fits t) false text places) rest
+    → Has text (next_places (fits t) false text places) rest
 reached_moved t text places rest word c e w f h =
     has_moved (fits t) false text places c rest e (subst (λ x. Has text places (x ++ rest)) w h) f
 

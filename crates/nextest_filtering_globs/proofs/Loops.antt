@@ -6,7 +6,7 @@ use Rattle.std.proofs.Math.ListN.{set, drop_of_length-le}
 use Rattle.std.proofs.Math.Seq.{drop-cons, take-length}
 use Rattle.std.proofs.lemmas.List.{append_assoc, append-nil, length-drop, take_all, take_more_set, drop-set-lt, set_split}
 use Rattle.nextest_filtering_globs.specs.declared.token.ClassRange.{ClassRange}
-use Rattle.nextest_filtering_globs.specs.Inside.{moved, later, either_of, none_of, start_of, has_last, is_in_some}
+use Rattle.nextest_filtering_globs.specs.Inside.{next_places, later, either_of, none_of, start_of, has_last, is_in_some}
 
 -- a list from a place on
 pub from_here : {A : Type 0} (xs : List A) (i : ℕ) (default : A) → i < length xs
@@ -24,26 +24,26 @@ ahead : (now : List Bool) (i : ℕ) (written : Bool) → drop (i + 1) (set now i
 ahead now i written = drop-set-lt (i + 1) now i written (omega arith)
 
 pub moved_step : (goes : ℕ → Bool) (carried : Bool) (text : List ℕ) (whole now : List Bool) (i : ℕ) → i < length text
-    → length now ≡ length text + 1 → whole ≡ take i now ++ moved goes carried (drop i text) (drop i now)
+    → length now ≡ length text + 1 → whole ≡ take i now ++ next_places goes carried (drop i text) (drop i now)
     → whole ≡ take (i + 1) (set now i carried)
-    ++ moved goes (get_or now i false && goes (get_or text i 0)) (drop (i + 1) text) (drop (i + 1) (set now i carried))
+    ++ next_places goes (get_or now i false && goes (get_or text i 0)) (drop (i + 1) text) (drop (i + 1) (set now i carried))
 moved_step goes carried text whole now i h wide e =
     let within : i < length now = omega arith in
-    let turn : moved goes carried (drop i text) (drop i now)
-    ≡ carried ∷ moved goes (get_or now i false && goes (get_or text i 0)) (drop (i + 1) text) (drop (i + 1) now) =
-    ap (λ x. moved goes carried x (drop i now)) (from_here text i 0 h)
-    ∙ ap (λ x. moved goes carried (get_or text i 0 ∷ drop (i + 1) text) x) (from_here now i false within) in
+    let turn : next_places goes carried (drop i text) (drop i now)
+    ≡ carried ∷ next_places goes (get_or now i false && goes (get_or text i 0)) (drop (i + 1) text) (drop (i + 1) now) =
+    ap (λ x. next_places goes carried x (drop i now)) (from_here text i 0 h)
+    ∙ ap (λ x. next_places goes carried (get_or text i 0 ∷ drop (i + 1) text) x) (from_here now i false within) in
     one_written whole now
-    (moved goes (get_or now i false && goes (get_or text i 0)) (drop (i + 1) text) (drop (i + 1) (set now i carried))) i
+    (next_places goes (get_or now i false && goes (get_or text i 0)) (drop (i + 1) text) (drop (i + 1) (set now i carried))) i
     carried within
     (e ∙ ap (λ x. take i now ++ x) (turn
-    ∙ ap (λ x. carried ∷ moved goes (get_or now i false && goes (get_or text i 0)) (drop (i + 1) text) x)
+    ∙ ap (λ x. carried ∷ next_places goes (get_or now i false && goes (get_or text i 0)) (drop (i + 1) text) x)
     (sym (ahead now i carried))))
 
 moved_back : (goes : ℕ → Bool) (carried : Bool) (text : List ℕ) (now : List Bool) (i default : ℕ) → i < length text
     → length now ≡ length text + 1
-    → moved goes carried (take (suc i) text) now ++ drop (suc (suc i)) now
-    ≡ moved goes carried (take i text) (set now (suc i) (get_or now i false && goes (get_or text i default)))
+    → next_places goes carried (take (suc i) text) now ++ drop (suc (suc i)) now
+    ≡ next_places goes carried (take i text) (set now (suc i) (get_or now i false && goes (get_or text i default)))
     ++ drop (suc i) (set now (suc i) (get_or now i false && goes (get_or text i default)))
 moved_back goes carried [] now i default h wide = absurd (omega arith)
 moved_back goes carried (c ∷ more) [] i default h wide = absurd (omega (arith, wide))
@@ -56,26 +56,26 @@ moved_back goes carried (c ∷ more) (here ∷ next ∷ places) (suc i) default 
 -- from the end on: what is in front of the place that is written is left
 pub moved_turn : (goes : ℕ → Bool) (text : List ℕ) (whole now : List Bool) (i j here : ℕ) → i ≡ suc j → i ≤ length text
     → length now ≡ length text + 1 → here ≡ get_or text j here
-    → whole ≡ moved goes false (take i text) now ++ drop (i + 1) now
-    → whole ≡ moved goes false (take j text) (set now (j + 1) (get_or now j false && goes here))
+    → whole ≡ next_places goes false (take i text) now ++ drop (i + 1) now
+    → whole ≡ next_places goes false (take j text) (set now (j + 1) (get_or now j false && goes here))
     ++ drop (j + 1) (set now (j + 1) (get_or now j false && goes here))
 moved_turn goes text whole now i j here count within wide is e =
     let written : Bool = get_or now j false && goes here in
-    e ∙ (ap (λ n. moved goes false (take n text) now ++ drop (n + 1) now) count
-    ∙ (ap (λ n. moved goes false (take (suc j) text) now ++ drop n now) (add-one (suc j))
+    e ∙ (ap (λ n. next_places goes false (take n text) now ++ drop (n + 1) now) count
+    ∙ (ap (λ n. next_places goes false (take (suc j) text) now ++ drop n now) (add-one (suc j))
     ∙ (moved_back goes false text now j here (omega arith) wide
-    ∙ (ap (λ x. moved goes false (take j text) (set now (suc j) (get_or now j false && goes x))
+    ∙ (ap (λ x. next_places goes false (take j text) (set now (suc j) (get_or now j false && goes x))
     ++ drop (suc j) (set now (suc j) (get_or now j false && goes x))) (sym is)
-    ∙ ap (λ n. moved goes false (take j text) (set now n written) ++ drop n (set now n written)) (sym (add-one j))))))
+    ∙ ap (λ n. next_places goes false (take j text) (set now n written) ++ drop n (set now n written)) (sym (add-one j))))))
 
 pub moved_end : (goes : ℕ → Bool) (carried : Bool) (text : List ℕ) (whole now : List Bool) (i : ℕ) → i ≡ length text
-    → length now ≡ length text + 1 → whole ≡ take i now ++ moved goes carried (drop i text) (drop i now)
+    → length now ≡ length text + 1 → whole ≡ take i now ++ next_places goes carried (drop i text) (drop i now)
     → set now i carried ≡ whole
 moved_end goes carried text whole now i h wide e =
     let none_left : drop i text ≡ [] = drop_of_length-le text {i = i} (omega arith) in
     let last : drop (suc i) now ≡ [] = drop_of_length-le now {i = suc i} (omega arith) in
     set_split now i carried (omega arith) ∙ (ap (λ x. take i now ++ carried ∷ x) last
-    ∙ (ap (λ x. take i now ++ moved goes carried x (drop i now)) (sym none_left) ∙ sym e))
+    ∙ (ap (λ x. take i now ++ next_places goes carried x (drop i now)) (sym none_left) ∙ sym e))
 
 seen_later : (places : List Bool) → later true places ≡ replicate (length places) true
 seen_later [] = refl
@@ -153,7 +153,7 @@ and_true true = refl
 and_true false = refl
 
 moved_on : (carried : Bool) (text : List ℕ) (places : List Bool) → length places ≡ length text + 1
-    → moved (λ _. true) carried text places ≡ carried ∷ take (length text) places
+    → next_places (λ _. true) carried text places ≡ carried ∷ take (length text) places
 moved_on carried [] places e = refl
 moved_on carried (c ∷ more) [] e = absurd (omega (arith, e))
 moved_on carried (c ∷ more) (here ∷ places) e =
@@ -161,7 +161,7 @@ moved_on carried (c ∷ more) (here ∷ places) e =
     ∙ ap (λ x. x ∷ take (length more) places) (and_true here))
 
 moved_whole : (text : List ℕ) (places : List Bool) (n : ℕ) → length places ≡ length text + 1 → n ≡ length text
-    → set (take 1 places ++ take n places ++ drop (1 + n) places) 0 false ≡ moved (λ _. true) false text places
+    → set (take 1 places ++ take n places ++ drop (1 + n) places) 0 false ≡ next_places (λ _. true) false text places
 moved_whole text [] n e k = absurd (omega (arith, e))
 moved_whole text (here ∷ places) n e k =
     let none_left : drop (1 + n) (here ∷ places) ≡ [] = drop_of_length-le (here ∷ places) {i = 1 + n} (omega (arith, e)) in
@@ -171,7 +171,7 @@ moved_whole text (here ∷ places) n e k =
 
 -- all places but the last, one place on
 pub all_moved : (text : List ℕ) (places : List Bool) → length places ≡ length text + 1
-    → set (copy_within places 0 (length text) 1) 0 false ≡ moved (λ _. true) false text places
+    → set (copy_within places 0 (length text) 1) 0 false ≡ next_places (λ _. true) false text places
 all_moved text places e = moved_whole text places (length text - 0) e (omega arith)
 
 -- a slice of the whole of a list is written back

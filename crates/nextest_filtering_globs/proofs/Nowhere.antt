@@ -5,7 +5,7 @@ use Rattle.std.proofs.lemmas.Bool.{false≢true}
 use Rattle.std.proofs.lemmas.List.{length-append}
 use Rattle.nextest_filtering_globs.specs.declared.token.GlobToken.{GlobToken}
 use Rattle.nextest_filtering_globs.specs.declared.token.GlobToken.TheVariants as token
-use Rattle.nextest_filtering_globs.specs.Inside.{fits, moved, later, either_of, none_of, Level, State, state, further, closed, step, run, IsStack}
+use Rattle.nextest_filtering_globs.specs.Inside.{fits, next_places, later, either_of, none_of, Level, State, state, further, state_after_close, step, run, IsStack}
 use Rattle.nextest_filtering_globs.proofs.Loops.{all_false, from_here}
 use Rattle.nextest_filtering_globs.proofs.Walks.{Walked}
 
@@ -43,7 +43,7 @@ none_again zero = refl
 none_again (suc n) = ap (λ x. false ∷ x) (none_again n)
 
 moved_nowhere : (goes : ℕ → Bool) (text : List ℕ)
-    → moved goes false text (nowhere (suc (length text))) ≡ nowhere (suc (length text))
+    → next_places goes false text (nowhere (suc (length text))) ≡ nowhere (suc (length text))
 moved_nowhere goes [] = refl
 moved_nowhere goes (c ∷ more) = ap (λ x. false ∷ x) (moved_nowhere goes more)
 
@@ -76,13 +76,13 @@ further_nowhere n current (inner ∷ outer) e h =
     (h.0, (h.0, either_both n inner.reached current h.1 e, h.2))
 
 closed_nowhere : (n : ℕ) (current : List Bool) (levels : List Level) → current ≡ nowhere n → AllNowhere n levels
-    → IsNowhere n (closed current levels)
+    → IsNowhere n (state_after_close current levels)
 closed_nowhere n current [] e h = (e, h)
 closed_nowhere n current (inner ∷ outer) e h = (either_both n current inner.reached e h.1, h.2)
 
 fits_nowhere : (text : List ℕ) (goes : ℕ → Bool) (current : List Bool) → current ≡ nowhere (suc (length text))
-    → moved goes false text current ≡ nowhere (suc (length text))
-fits_nowhere text goes current e = ap (moved goes false text) e ∙ moved_nowhere goes text
+    → next_places goes false text current ≡ nowhere (suc (length text))
+fits_nowhere text goes current e = ap (next_places goes false text) e ∙ moved_nowhere goes text
 
 step_nowhere : (text : List ℕ) (t : GlobToken) (it : State) → IsNowhere (suc (length text)) it
     → IsNowhere (suc (length text)) (step text t it)

@@ -3,7 +3,7 @@ use Rattle.std.proofs.Common.{◌≡◌, ℕ, suc, Bool, true, false, List, [], 
 use Rattle.std.specs.Prelude.{◌&&◌, ◌||◌}
 use Rattle.std.proofs.lemmas.Bool.{and_parts, or_cases, false≢true}
 use mathlib.Core.Logic.{inl, inr}
-use Rattle.nextest_filtering_globs.specs.Inside.{moved, later, either_of, none_of, start_of, has_last}
+use Rattle.nextest_filtering_globs.specs.Inside.{next_places, later, either_of, none_of, start_of, has_last}
 
 -- a set has a place for each character, and one for the end
 abbrev pub Covers : List ℕ → List Bool → Type 0
@@ -39,7 +39,7 @@ abbrev pub Moved : (ℕ → Bool) → List ℕ → List Bool → List ℕ → Ty
 Moved goes text places rest = (c : ℕ) × Has text places (c ∷ rest) × (goes c ≡ true)
 
 pub moved_has : (goes : ℕ → Bool) (carried : Bool) (text : List ℕ) (places : List Bool) (rest : List ℕ)
-    → Covers text places → Has text (moved goes carried text places) rest
+    → Covers text places → Has text (next_places goes carried text places) rest
     → ((carried ≡ true) × (rest ≡ text)) ⊎ Moved goes text places rest
 moved_has goes carried [] places rest e h = inl h
 moved_has goes carried (c ∷ more) [] rest e h = none_covers (c ∷ more) e
@@ -52,13 +52,13 @@ moved_has goes carried (c ∷ more) (here ∷ places) rest e (inr h) =
     ]
 
 pub has_carried : (goes : ℕ → Bool) (carried : Bool) (text : List ℕ) (places : List Bool) (rest : List ℕ)
-    → Covers text places → carried ≡ true → rest ≡ text → Has text (moved goes carried text places) rest
+    → Covers text places → carried ≡ true → rest ≡ text → Has text (next_places goes carried text places) rest
 has_carried goes carried [] places rest e h k = (h, k)
 has_carried goes carried (c ∷ more) [] rest e h k = none_covers (c ∷ more) e
 has_carried goes carried (c ∷ more) (here ∷ places) rest e h k = inl (h, k)
 
 pub has_moved : (goes : ℕ → Bool) (carried : Bool) (text : List ℕ) (places : List Bool) (c : ℕ) (rest : List ℕ)
-    → Covers text places → Has text places (c ∷ rest) → goes c ≡ true → Has text (moved goes carried text places) rest
+    → Covers text places → Has text places (c ∷ rest) → goes c ≡ true → Has text (next_places goes carried text places) rest
 has_moved goes carried text [] c rest e h k = absurd h
 has_moved goes carried [] (here ∷ places) c rest e h k = let f = h.1 in absurd cc
 has_moved goes carried (d ∷ more) (here ∷ places) c rest e (inl h) k =
@@ -70,7 +70,7 @@ has_moved goes carried (d ∷ more) (here ∷ places) c rest e (inr h) k =
     inr (has_moved goes (here && goes d) more places c rest (tail_covers d more here places e) h k)
 
 pub length-moved : (goes : ℕ → Bool) (carried : Bool) (text : List ℕ) (places : List Bool) → Covers text places
-    → Covers text (moved goes carried text places)
+    → Covers text (next_places goes carried text places)
 length-moved goes carried [] places e = refl
 length-moved goes carried (c ∷ more) [] e = none_covers (c ∷ more) e
 length-moved goes carried (c ∷ more) (here ∷ places) e =

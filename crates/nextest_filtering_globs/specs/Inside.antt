@@ -25,10 +25,10 @@ fits (token.Class negated ranges) c = is_of_class negated ranges c
 fits other c = false
 
 -- each place goes on by one where its character fits; `carried` says whether one comes to the first place
-abbrev pub moved : (ℕ → Bool) → Bool → List ℕ → List Bool → List Bool
-moved goes carried [] places = carried ∷ []
-moved goes carried (c ∷ more) [] = []
-moved goes carried (c ∷ more) (here ∷ places) = carried ∷ moved goes (here && goes c) more places
+abbrev pub next_places : (ℕ → Bool) → Bool → List ℕ → List Bool → List Bool
+next_places goes carried [] places = carried ∷ []
+next_places goes carried (c ∷ more) [] = []
+next_places goes carried (c ∷ more) (here ∷ places) = carried ∷ next_places goes (here && goes c) more places
 
 -- with each place all later ones; `seen` says whether one was there before
 abbrev pub later : Bool → List Bool → List Bool
@@ -77,17 +77,17 @@ further current [] = state current []
 further current (inner ∷ outer) = state inner.start (level inner.start (either_of inner.reached current) ∷ outer)
 
 -- the innermost brace closes
-abbrev pub closed : List Bool → List Level → State
-closed current [] = state current []
-closed current (inner ∷ outer) = state (either_of current inner.reached) outer
+abbrev pub state_after_close : List Bool → List Level → State
+state_after_close current [] = state current []
+state_after_close current (inner ∷ outer) = state (either_of current inner.reached) outer
 
 -- what one token makes of it
 abbrev pub step : List ℕ → GlobToken → State → State
 step text token.ZeroOrMore it = state (later false it.current) it.levels
 step text token.Open it = state it.current (level it.current (none_of it.current) ∷ it.levels)
 step text token.Or it = further it.current it.levels
-step text token.Close it = closed it.current it.levels
-step text other it = state (moved (fits other) false text it.current) it.levels
+step text token.Close it = state_after_close it.current it.levels
+step text other it = state (next_places (fits other) false text it.current) it.levels
 
 -- what tokens make of it
 abbrev pub run : List ℕ → List GlobToken → State → State

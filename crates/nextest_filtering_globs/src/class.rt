@@ -64,7 +64,8 @@ fn read_ranges(
     alloc: Global,
     text: &[char],
 ) -> Result<(Vec<ClassRange>, &[char]), GlobConstructError>
-    ensures { Reads (λ read. (read.0.items, read.1.now)) (λ ranges rest. SpellsRanges ranges text.now rest) result }
+    ensures { Reads (λ read. (read.0.items, read.1.now))
+        (λ ranges rest. SpellsRanges ranges text.now rest) result }
 {
     let Some((body, rest)) = split_class(text) else {
         return Err(GlobConstructError::InvalidGlob);
@@ -87,7 +88,8 @@ pub fn read_class(
     alloc: Global,
     text: &[char],
 ) -> Result<(bool, Vec<ClassRange>, &[char]), GlobConstructError>
-    ensures exact { Reads {B = Bool × List ClassRange} (λ read. ((read.0, read.1.items), read.2.now))
+    ensures exact { Reads {B = Bool × List ClassRange}
+        (λ read. ((read.0, read.1.items), read.2.now))
         (λ class rest. SpellsClass class.0 class.1 text.now rest) result }
     ensures left { IfOk result (λ read. length read.2.now ≤ length text.now) }
 {

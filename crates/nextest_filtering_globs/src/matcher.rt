@@ -43,7 +43,8 @@ impl<'g> GlobMatcher<'g> {
     /// Whether the glob matches the whole text. It fails only on allocation. It takes at most about the time of the
     /// text's characters times the glob's.
     pub fn is_match(&mut self, text: &str) -> Result<bool, AllocError>
-        ensures exact { IfOk result (λ answer. IsTrue answer ↔ Matches self.old.tokens (chars text.now)) }
+        ensures exact { IfOk result
+            (λ answer. IsTrue answer ↔ Matches self.old.tokens (chars text.now)) }
         ensures spelled { IfOk result (λ _. IsGlob self.old.text self.old.tokens) }
         ensures same { self.new ≡ self.old }
     {

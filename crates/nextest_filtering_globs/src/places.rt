@@ -1,6 +1,6 @@
 // Sets of places in a text. A set has a `bool` for the place in front of each character, and one for the end.
 ghost use Rattle.std.specs.Prelude.{◌≡◌, ◌+◌, ◌-◌, ◌≤◌, ◌==◌, ◌↔◌, true, false, ◌++◌, length, take, replicate, chars, IsTrue, OnOk};
-ghost use Rattle.nextest_filtering_globs.specs.Inside.{fits, moved, later, either_of, none_of, start_of, has_last};
+ghost use Rattle.nextest_filtering_globs.specs.Inside.{fits, next_places, later, either_of, none_of, start_of, has_last};
 
 use super::fitting::fits;
 use super::token::GlobToken;
@@ -69,7 +69,7 @@ pub fn is_nowhere(places: &[bool]) -> bool
 /// Moves each place on by one where the token fits the character behind it, and takes it away elsewhere.
 pub fn advance(token: &GlobToken, text: &[char], places: &mut [bool])
     requires { length places.old ≡ length text.now + 1 }
-    ensures { places.new ≡ moved (fits token.now) false text.now places.old }
+    ensures { places.new ≡ next_places (fits token.now) false text.now places.old }
 {
     match token {
         GlobToken::Literal(letter) => advance_letter(*letter, text, places),
@@ -81,7 +81,7 @@ pub fn advance(token: &GlobToken, text: &[char], places: &mut [bool])
 // Where the character is this one.
 fn advance_letter(letter: char, text: &[char], places: &mut [bool])
     requires { length places.old ≡ length text.now + 1 }
-    ensures { places.new ≡ moved (λ c. c == letter) false text.now places.old }
+    ensures { places.new ≡ next_places (λ c. c == letter) false text.now places.old }
 {
     for place in (0..text.len()).rev() {
         places[place + 1] = places[place] & (text[place] == letter);
@@ -92,7 +92,7 @@ fn advance_letter(letter: char, text: &[char], places: &mut [bool])
 // Whatever the character is.
 fn advance_any(text: &[char], places: &mut [bool])
     requires { length places.old ≡ length text.now + 1 }
-    ensures { places.new ≡ moved (λ _. true) false text.now places.old }
+    ensures { places.new ≡ next_places (λ _. true) false text.now places.old }
 {
     places.copy_within(..text.len(), 1);
     places[0] = false;
@@ -101,7 +101,7 @@ fn advance_any(text: &[char], places: &mut [bool])
 // Where the token fits the character.
 fn advance_fitting(token: &GlobToken, text: &[char], places: &mut [bool])
     requires { length places.old ≡ length text.now + 1 }
-    ensures { places.new ≡ moved (fits token.now) false text.now places.old }
+    ensures { places.new ≡ next_places (fits token.now) false text.now places.old }
 {
     let mut carried = false;
     for (place, c) in text.iter().enumerate() {
@@ -115,7 +115,8 @@ fn advance_fitting(token: &GlobToken, text: &[char], places: &mut [bool])
 // The first place that is in the set, or how many places there are.
 fn first_place(places: &[bool]) -> usize
     ensures within { result ≤ length places.now }
-    ensures first { later false places.now ≡ take result places.now ++ replicate (length places.now - result) true }
+    ensures first { later false places.now
+        ≡ take result places.now ++ replicate (length places.now - result) true }
 {
     for (place, is_there) in places.iter().enumerate() {
         if *is_there {

@@ -1,7 +1,7 @@
 // What the tokens of a glob make of a set of places. The opened braces wait in a stack, which has two sets for each:
 // the places in front of the brace, and those behind one of its alternatives so far.
 ghost use Rattle.std.specs.Prelude.{◌≡◌, ◌+◌, ◌*◌, ◌≤◌, ◌++◌, [], length, vec_len, IsTrue, OnOk};
-ghost use Rattle.nextest_filtering_globs.specs.Inside.{closed, further, none_of, run, state, step, Changes, HasRoom, IsBalanced};
+ghost use Rattle.nextest_filtering_globs.specs.Inside.{state_after_close, further, none_of, run, state, step, Changes, HasRoom, IsBalanced};
 
 use super::places::{add_later, advance, is_nowhere, join};
 use super::token::GlobToken;
@@ -9,7 +9,8 @@ use std::alloc::AllocError;
 
 // A brace opens.
 fn open(current: &[bool], stack: &mut Vec<bool>) -> Result<(), AllocError>
-    ensures { OnOk result (stack.new.items ≡ (stack.old.items ++ current.now) ++ none_of current.now) }
+    ensures { OnOk result
+        (stack.new.items ≡ (stack.old.items ++ current.now) ++ none_of current.now) }
 {
     stack.extend_from_slice(current)?;
     let size = stack.len() + current.len();
@@ -19,7 +20,8 @@ fn open(current: &[bool], stack: &mut Vec<bool>) -> Result<(), AllocError>
 // A further alternative begins.
 fn next_alternative(current: &mut [bool], stack: &mut [bool])
     requires { 2 * length current.old ≤ length stack.old }
-    ensures { Changes (λ it. further it.current it.levels) current.old stack.old current.new stack.new }
+    ensures { Changes
+        (λ it. further it.current it.levels) current.old stack.old current.new stack.new }
 {
     let reached_at = stack.len() - current.len();
     let start_at = reached_at - current.len();
@@ -30,7 +32,8 @@ fn next_alternative(current: &mut [bool], stack: &mut [bool])
 // The innermost brace closes.
 fn close(current: &mut [bool], stack: &mut Vec<bool>)
     requires { 2 * length current.old ≤ vec_len stack.old }
-    ensures { Changes (λ it. closed it.current it.levels) current.old stack.old.items current.new stack.new.items }
+    ensures { Changes (λ it. state_after_close it.current it.levels) current.old stack.old.items
+        current.new stack.new.items }
 {
     let reached_at = stack.len() - current.len();
     let start_at = reached_at - current.len();
@@ -47,7 +50,8 @@ fn take_one(
 ) -> Result<(), AllocError>
     requires covers { length current.old ≡ length text.now + 1 }
     requires room { HasRoom token.now (length current.old) (vec_len stack.old) }
-    ensures { OnOk result (Changes (step text.now token.now) current.old stack.old.items current.new stack.new.items) }
+    ensures { OnOk result (Changes
+        (step text.now token.now) current.old stack.old.items current.new stack.new.items) }
 {
     match token {
         GlobToken::Open => open(current, stack)?,

@@ -14,19 +14,19 @@ use Rattle.std.proofs.lemmas.List.Folds.{list_any-append, list_any_at}
 use Rattle.std.proofs.lemmas.Map.Text.{btree_map_updates_text}
 use Rattle.std.proofs.lemmas.Slice.Eq.{bytes_eq-Decides}
 use denote.Ref.{Bor}
-use Rattle.nextest_filtering_graph.specs.Graph.{ids, place_of, has_repeat, placed, both, IsIndex}
-use Rattle.nextest_filtering_graph.specs.Making.{lent, has_unknown}
+use Rattle.nextest_filtering_graph.specs.Graph.{ids, place_of, has_repeat, places_of_link, both, IsIndex}
+use Rattle.nextest_filtering_graph.specs.Making.{lent_pairs, has_unknown}
 
 -- one more pair is lent
 pub lent_more : (pairs : List (Bor (List ℕ) × Bor (List ℕ))) (i : ℕ) (d : Bor (List ℕ) × Bor (List ℕ)) → i < length pairs
-    → lent (take (i + 1) pairs) ≡ lent (take i pairs) ++ ((get_or pairs i d).0.now, (get_or pairs i d).1.now) ∷ []
+    → lent_pairs (take (i + 1) pairs) ≡ lent_pairs (take i pairs) ++ ((get_or pairs i d).0.now, (get_or pairs i d).1.now) ∷ []
 lent_more pairs i d within =
-    ap lent (take_more pairs i d within) ∙ map-append (λ (pair : Bor (List ℕ) × Bor (List ℕ)). (pair.0.now, pair.1.now)) (take i pairs) (get_or pairs i d ∷ [])
+    ap lent_pairs (take_more pairs i d within) ∙ map-append (λ (pair : Bor (List ℕ) × Bor (List ℕ)). (pair.0.now, pair.1.now)) (take i pairs) (get_or pairs i d ∷ [])
 
 pub ids_more : (pairs : List (Bor (List ℕ) × Bor (List ℕ))) (i : ℕ) (d : Bor (List ℕ) × Bor (List ℕ)) → i < length pairs
-    → ids (lent (take (i + 1) pairs)) ≡ ids (lent (take i pairs)) ++ (get_or pairs i d).0.now ∷ []
+    → ids (lent_pairs (take (i + 1) pairs)) ≡ ids (lent_pairs (take i pairs)) ++ (get_or pairs i d).0.now ∷ []
 ids_more pairs i d within =
-    ap ids (lent_more pairs i d within) ∙ map-append (λ (it : List ℕ × List ℕ). it.0) (lent (take i pairs)) (((get_or pairs i d).0.now, (get_or pairs i d).1.now) ∷ [])
+    ap ids (lent_more pairs i d within) ∙ map-append (λ (it : List ℕ × List ℕ). it.0) (lent_pairs (take i pairs)) (((get_or pairs i d).0.now, (get_or pairs i d).1.now) ∷ [])
 
 -- the place of an id in a list with one more at its end
 pub found_later : (test : List ℕ → Bool) (n : ℕ) (known : List (List ℕ)) (one : List ℕ)
@@ -104,30 +104,30 @@ has_repeat_kept (id ∷ known) more e =
     (λ any. list_any-append (bytes_eq id) known more ∙ ap (λ (b : Bool). b || list_any (bytes_eq id) more) any) (has_repeat_kept known more) e
 
 -- the first pairs' ids stand at the front of all ids
-pub ids_within : (pairs : List (Bor (List ℕ) × Bor (List ℕ))) (i : ℕ) → has_repeat (ids (lent (take i pairs))) ≡ true → has_repeat (ids (lent pairs)) ≡ true
+pub ids_within : (pairs : List (Bor (List ℕ) × Bor (List ℕ))) (i : ℕ) → has_repeat (ids (lent_pairs (take i pairs))) ≡ true → has_repeat (ids (lent_pairs pairs)) ≡ true
 ids_within pairs i e =
-    ap (λ (xs : List (Bor (List ℕ) × Bor (List ℕ))). has_repeat (ids (lent xs))) (sym (take-append-drop i pairs))
+    ap (λ (xs : List (Bor (List ℕ) × Bor (List ℕ))). has_repeat (ids (lent_pairs xs))) (sym (take-append-drop i pairs))
     ∙ ap (λ (xs : List (List ℕ × List ℕ)). has_repeat (ids xs)) (map-append (λ (pair : Bor (List ℕ) × Bor (List ℕ)). (pair.0.now, pair.1.now)) (take i pairs) (drop i pairs))
-    ∙ ap has_repeat (map-append (λ (it : List ℕ × List ℕ). it.0) (lent (take i pairs)) (lent (drop i pairs)))
-    ∙ has_repeat_kept (ids (lent (take i pairs))) (ids (lent (drop i pairs))) e
+    ∙ ap has_repeat (map-append (λ (it : List ℕ × List ℕ). it.0) (lent_pairs (take i pairs)) (lent_pairs (drop i pairs)))
+    ∙ has_repeat_kept (ids (lent_pairs (take i pairs))) (ids (lent_pairs (drop i pairs))) e
 
 -- an id that has a place among the first ones stands twice
 pub stands_twice : (pairs : List (Bor (List ℕ) × Bor (List ℕ))) (i : ℕ) (d : Bor (List ℕ) × Bor (List ℕ)) → i < length pairs
-    → is_some (place_of (ids (lent (take i pairs))) (get_or pairs i d).0.now) ≡ true → has_repeat (ids (lent pairs)) ≡ true
+    → is_some (place_of (ids (lent_pairs (take i pairs))) (get_or pairs i d).0.now) ≡ true → has_repeat (ids (lent_pairs pairs)) ≡ true
 stands_twice pairs i d within found =
     let id : List ℕ = (get_or pairs i d).0.now in
     ids_within pairs (i + 1)
-    (ap has_repeat (ids_more pairs i d within) ∙ has_repeat-push (ids (lent (take i pairs))) id
-    ∙ ap (λ (b : Bool). b || has_repeat (ids (lent (take i pairs)))) (sym (has_place (bytes_eq id) 0 (ids (lent (take i pairs)))) ∙ found))
+    (ap has_repeat (ids_more pairs i d within) ∙ has_repeat-push (ids (lent_pairs (take i pairs))) id
+    ∙ ap (λ (b : Bool). b || has_repeat (ids (lent_pairs (take i pairs)))) (sym (has_place (bytes_eq id) 0 (ids (lent_pairs (take i pairs)))) ∙ found))
 
 -- an id that has no place among the first ones stands once so far
 pub stands_once : (pairs : List (Bor (List ℕ) × Bor (List ℕ))) (i : ℕ) (d : Bor (List ℕ) × Bor (List ℕ)) → i < length pairs
-    → is_some (place_of (ids (lent (take i pairs))) (get_or pairs i d).0.now) ≡ false → has_repeat (ids (lent (take i pairs))) ≡ false
-    → has_repeat (ids (lent (take (i + 1) pairs))) ≡ false
+    → is_some (place_of (ids (lent_pairs (take i pairs))) (get_or pairs i d).0.now) ≡ false → has_repeat (ids (lent_pairs (take i pairs))) ≡ false
+    → has_repeat (ids (lent_pairs (take (i + 1) pairs))) ≡ false
 stands_once pairs i d within found before =
     let id : List ℕ = (get_or pairs i d).0.now in
-    ap has_repeat (ids_more pairs i d within) ∙ has_repeat-push (ids (lent (take i pairs))) id
-    ∙ ap (λ (b : Bool). b || has_repeat (ids (lent (take i pairs)))) (sym (has_place (bytes_eq id) 0 (ids (lent (take i pairs)))) ∙ found) ∙ before
+    ap has_repeat (ids_more pairs i d within) ∙ has_repeat-push (ids (lent_pairs (take i pairs))) id
+    ∙ ap (λ (b : Bool). b || has_repeat (ids (lent_pairs (take i pairs)))) (sym (has_place (bytes_eq id) 0 (ids (lent_pairs (take i pairs)))) ∙ found) ∙ before
 
 fresh : (place : ℕ) (before : Option ℕ) (b : Bool) → (b ≡ true → is_some before ≡ false) → cond b (Some place) before ≡ option_or before (cond b (Some place) None)
 fresh place (Some other) true h = let e : true ≡ false = h refl in cc
@@ -158,35 +158,35 @@ looked_up {Y} index known key id old answer b is_index is_key at is_answer e =
 
 -- a link with an end that is no package
 pub unknown_among : (pairs : List (Bor (List ℕ) × Bor (List ℕ))) (i : ℕ) (d : Bor (List ℕ) × Bor (List ℕ)) (known : List (List ℕ)) → i < length pairs
-    → placed known ((get_or pairs i d).0.now, (get_or pairs i d).1.now) ≡ None → has_unknown known (lent pairs) ≡ true
+    → places_of_link known ((get_or pairs i d).0.now, (get_or pairs i d).1.now) ≡ None → has_unknown known (lent_pairs pairs) ≡ true
 unknown_among pairs i d known within none =
-    list_any_at (λ (link : List ℕ × List ℕ). is_none (placed known link)) (lent pairs) i (d.0.now, d.1.now)
+    list_any_at (λ (link : List ℕ × List ℕ). is_none (places_of_link known link)) (lent_pairs pairs) i (d.0.now, d.1.now)
     (subst (λ (n : ℕ). i < n) (sym (length-map pairs (λ (pair : Bor (List ℕ) × Bor (List ℕ)). (pair.0.now, pair.1.now)))) within)
-    (ap (λ (link : List ℕ × List ℕ). is_none (placed known link)) (get_or-map (λ (pair : Bor (List ℕ) × Bor (List ℕ)). (pair.0.now, pair.1.now)) pairs i d)
+    (ap (λ (link : List ℕ × List ℕ). is_none (places_of_link known link)) (get_or-map (λ (pair : Bor (List ℕ) × Bor (List ℕ)). (pair.0.now, pair.1.now)) pairs i d)
     ∙ ap (λ (o : Option (ℕ × ℕ)). is_none o) none)
 
 -- one more link is placed
 pub placed_more : (pairs : List (Bor (List ℕ) × Bor (List ℕ))) (i : ℕ) (d : Bor (List ℕ) × Bor (List ℕ)) (known : List (List ℕ)) (places : List (ℕ × ℕ)) (link : ℕ × ℕ)
-    → i < length pairs → map Some places ≡ map (placed known) (lent (take i pairs))
-    → placed known ((get_or pairs i d).0.now, (get_or pairs i d).1.now) ≡ Some link
-    → map Some (places ++ link ∷ []) ≡ map (placed known) (lent (take (i + 1) pairs))
+    → i < length pairs → map Some places ≡ map (places_of_link known) (lent_pairs (take i pairs))
+    → places_of_link known ((get_or pairs i d).0.now, (get_or pairs i d).1.now) ≡ Some link
+    → map Some (places ++ link ∷ []) ≡ map (places_of_link known) (lent_pairs (take (i + 1) pairs))
 placed_more pairs i d known places link within before here =
     map-append (λ (it : ℕ × ℕ). Some it) places (link ∷ [])
     ∙ ap (λ (xs : List (Option (ℕ × ℕ))). xs ++ Some link ∷ []) before
-    ∙ ap (λ (o : Option (ℕ × ℕ)). map (placed known) (lent (take i pairs)) ++ o ∷ []) (sym here)
-    ∙ sym (map-append (placed known) (lent (take i pairs)) (((get_or pairs i d).0.now, (get_or pairs i d).1.now) ∷ []))
-    ∙ ap (map (placed known)) (sym (lent_more pairs i d within))
+    ∙ ap (λ (o : Option (ℕ × ℕ)). map (places_of_link known) (lent_pairs (take i pairs)) ++ o ∷ []) (sym here)
+    ∙ sym (map-append (places_of_link known) (lent_pairs (take i pairs)) (((get_or pairs i d).0.now, (get_or pairs i d).1.now) ∷ []))
+    ∙ ap (map (places_of_link known)) (sym (lent_more pairs i d within))
 
 -- a link is placed by an index as by the ids
 pub placed_by : {Y : Type 0} (index : BTreeMap (String Y) ℕ) (known : List (List ℕ)) (from to : List ℕ) → IsIndex index known
-    → both (get_by_text index from) (get_by_text index to) ≡ placed known (from, to)
+    → both (get_by_text index from) (get_by_text index to) ≡ places_of_link known (from, to)
 placed_by {Y} index known from to is_index =
     ap (λ (o : Option ℕ). both o (get_by_text index to)) (is_index from) ∙ ap (both (place_of known from)) (is_index to)
 
 -- there are as many ids among the first pairs as pairs
-pub ids_length : (pairs : List (Bor (List ℕ) × Bor (List ℕ))) (i : ℕ) → i < length pairs → length (ids (lent (take i pairs))) ≡ i
+pub ids_length : (pairs : List (Bor (List ℕ) × Bor (List ℕ))) (i : ℕ) → i < length pairs → length (ids (lent_pairs (take i pairs))) ≡ i
 ids_length pairs i within =
-    length-map (lent (take i pairs)) (λ (it : List ℕ × List ℕ). it.0)
+    length-map (lent_pairs (take i pairs)) (λ (it : List ℕ × List ℕ). it.0)
     ∙ length-map (take i pairs) (λ (pair : Bor (List ℕ) × Bor (List ℕ)). (pair.0.now, pair.1.now)) ∙ length-take-le i pairs (omega arith)
 
 both_below : (a b : Option ℕ) (n : ℕ) (link : ℕ × ℕ) → IfSome a (λ place. place < n) → IfSome b (λ place. place < n) → both a b ≡ Some link → (link.0 < n) × (link.1 < n)
@@ -197,14 +197,14 @@ both_below (Some from) None n link first second e = cc
 both_below None b n link first second e = cc
 
 -- links that are placed lie below the number of packages
-pub links_below : (known : List (List ℕ)) (links : List (List ℕ × List ℕ)) (places : List (ℕ × ℕ)) → map Some places ≡ map (placed known) links → LinksBelow (length known) places
+pub links_below : (known : List (List ℕ)) (links : List (List ℕ × List ℕ)) (places : List (ℕ × ℕ)) → map Some places ≡ map (places_of_link known) links → LinksBelow (length known) places
 links_below known links places same = λ k d within.
     let none : List ℕ × List ℕ = ([], []) in
     let link : List ℕ × List ℕ = get_or links k none in
-    let here : placed known link ≡ Some (get_or places k d)
-    = sym (get_or-map (placed known) links k none)
-    ∙ ap (λ (xs : List (Option (ℕ × ℕ))). get_or xs k (placed known none)) (sym same)
-    ∙ get_or_default (map Some places) k (placed known none) (Some d) (subst (λ (n : ℕ). k < n) (sym (length-map places (λ (it : ℕ × ℕ). Some it))) within)
+    let here : places_of_link known link ≡ Some (get_or places k d)
+    = sym (get_or-map (places_of_link known) links k none)
+    ∙ ap (λ (xs : List (Option (ℕ × ℕ))). get_or xs k (places_of_link known none)) (sym same)
+    ∙ get_or_default (map Some places) k (places_of_link known none) (Some d) (subst (λ (n : ℕ). k < n) (sym (length-map places (λ (it : ℕ × ℕ). Some it))) within)
     ∙ get_or-map (λ (it : ℕ × ℕ). Some it) places k d in
     both_below (place_of known link.0) (place_of known link.1) (length known) (get_or places k d) (below known link.0) (below known link.1) here
   where
@@ -213,7 +213,7 @@ links_below known links places same = λ k d within.
 
 -- the index, the packages and the links of a graph that is made
 pub graph_holds : {Y : Type 0} (index : BTreeMap (String Y) ℕ) (packages links owned : List (List ℕ × List ℕ)) (places : List (ℕ × ℕ))
-    → IsIndex index (ids packages) → has_repeat (ids packages) ≡ false → owned ≡ packages → map Some places ≡ map (placed (ids packages)) links
+    → IsIndex index (ids packages) → has_repeat (ids packages) ≡ false → owned ≡ packages → map Some places ≡ map (places_of_link (ids packages)) links
     → IsIndex index (ids owned) × LinksBelow (length owned) places × (has_repeat (ids owned) ≡ false)
 graph_holds {Y} index packages links owned places is_index once same placed_all = (
   subst (λ (all : List (List ℕ × List ℕ)). IsIndex index (ids all)) (sym same) is_index,

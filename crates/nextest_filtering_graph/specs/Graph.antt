@@ -27,8 +27,8 @@ both (Some from) None = None
 both None to = None
 
 -- a link by the places of its ends, where both are known
-abbrev pub placed : List (List ℕ) → List ℕ × List ℕ → Option (ℕ × ℕ)
-placed known link = both (place_of known link.0) (place_of known link.1)
+abbrev pub places_of_link : List (List ℕ) → List ℕ × List ℕ → Option (ℕ × ℕ)
+places_of_link known link = both (place_of known link.0) (place_of known link.1)
 
 -- an index leads from each id to its place
 abbrev pub IsIndex : {Y : Type 0} → BTreeMap (String Y) ℕ → List (List ℕ) → Type 0

@@ -3,14 +3,14 @@ use Rattle.std.specs.Prelude.{◌≡◌, ℕ, List, true, false, Some, Result, O
 use Rattle.std.specs.List.{list_any}
 use Rattle.std.specs.BTreeMap.{BTreeMap}
 use denote.Ref.{Bor}
-use Rattle.nextest_filtering_graph.specs.Graph.{Graph, ids, has_repeat, placed, IsIndex}
+use Rattle.nextest_filtering_graph.specs.Graph.{Graph, ids, has_repeat, places_of_link, IsIndex}
 use Rattle.nextest_filtering_graph.specs.declared.graph_error.GraphError.{GraphError}
 use Rattle.nextest_filtering_graph.specs.declared.graph_error.GraphError.TheVariants as error
 use Rattle.nextest_filtering_graph.specs.declared.graph_fault.GraphFault.TheVariants as refused
 
 -- pairs of texts that are lent
-abbrev pub lent : List (Bor (List ℕ) × Bor (List ℕ)) → List (List ℕ × List ℕ)
-lent pairs = map (λ pair. (pair.0.now, pair.1.now)) pairs
+abbrev pub lent_pairs : List (Bor (List ℕ) × Bor (List ℕ)) → List (List ℕ × List ℕ)
+lent_pairs pairs = map (λ pair. (pair.0.now, pair.1.now)) pairs
 
 -- an index of ids that each stand once; an id that stands twice is told
 abbrev pub Indexes : {Y : Type 0} → List (List ℕ) → Result (BTreeMap (String Y) ℕ) GraphError → Type 0
@@ -21,12 +21,12 @@ Indexes known (Err error.OutOfMemory) = ⊤
 
 -- some link has an end that is no package
 abbrev pub has_unknown : List (List ℕ) → List (List ℕ × List ℕ) → Bool
-has_unknown known links = list_any (λ link. is_none (placed known link)) links
+has_unknown known links = list_any (λ link. is_none (places_of_link known link)) links
 
 -- links by the places of their ends; an end that is no package is told
 abbrev pub Places : {V : Type 0} → (V → List (ℕ × ℕ)) → List (List ℕ) → List (List ℕ × List ℕ) → Result V GraphError
     → Type 0
-Places items known links (Ok places) = map Some (items places) ≡ map (placed known) links
+Places items known links (Ok places) = map Some (items places) ≡ map (places_of_link known) links
 Places items known links (Err (error.Refused refused.RepeatedPackage)) = ⊥
 Places items known links (Err (error.Refused refused.UnknownLink)) = has_unknown known links ≡ true
 Places items known links (Err error.OutOfMemory) = ⊤
@@ -36,7 +36,7 @@ Places items known links (Err error.OutOfMemory) = ⊤
 pub record IsGraphOf (packages links : List (List ℕ × List ℕ)) (graph : Graph) : Type 0 where
   pub distinct : has_repeat (ids packages) ≡ false
   pub packages_are : graph.packages ≡ packages
-  pub links_are : map Some graph.links ≡ map (placed (ids packages)) links
+  pub links_are : map Some graph.links ≡ map (places_of_link (ids packages)) links
 
 -- what packages and links give: their graph; else the reason, a repeated id before an unknown end; want of memory
 -- says nothing

@@ -10,7 +10,8 @@ use std::alloc::{AllocError, Global};
 // Rows by which each place reaches itself alone.
 fn rows_of_places(alloc: Global, width: usize, count: usize) -> Result<Vec<u64>, AllocError>
     requires room { count ≤ 64 * width }
-    ensures { IfOk result (λ words. (links : List (ℕ × ℕ)) → AreRows links width count words.items) }
+    ensures { IfOk result
+        (λ words. (links : List (ℕ × ℕ)) → AreRows links width count words.items) }
 {
     let Some(size) = count.checked_mul(width) else {
         return Err(AllocError);

@@ -1,7 +1,7 @@
 // Packages and the links between them.
 ghost use Rattle.std.specs.Prelude.{◌≡◌, ◌<◌, false, length, IfSome};
 ghost use Rattle.nextest_filtering_graph.specs.Graph.{has_repeat, ids, place_of};
-ghost use Rattle.nextest_filtering_graph.specs.Making.{lent, Makes};
+ghost use Rattle.nextest_filtering_graph.specs.Making.{lent_pairs, Makes};
 ghost use Rattle.nextest_filtering_graph.specs.Reaching.{LinksBelow};
 
 use crate::graph_error::GraphError;
@@ -50,7 +50,7 @@ impl PackageGraph {
         packages: &[(&str, &str)],
         links: &[(&str, &str)],
     ) -> Result<PackageGraph, GraphError>
-        ensures exact { Makes (lent packages.now) (lent links.now) result }
+        ensures exact { Makes (lent_pairs packages.now) (lent_pairs links.now) result }
     {
         let index = index_of(alloc, packages)?;
         let places = placed_links(alloc, &index, links)?;

@@ -2,7 +2,7 @@
 ghost use Rattle.std.specs.Prelude.{◌≡◌, ℕ, List, IfOk};
 ghost use Rattle.std.specs.BTreeMap.{get_by_text};
 ghost use Rattle.nextest_filtering_graph.specs.Graph.{IsIndex, both, ids};
-ghost use Rattle.nextest_filtering_graph.specs.Making.{lent, Indexes, Places};
+ghost use Rattle.nextest_filtering_graph.specs.Making.{lent_pairs, Indexes, Places};
 
 use crate::graph_error::GraphError;
 use crate::graph_fault::GraphFault;
@@ -15,7 +15,7 @@ pub(crate) fn index_of(
     alloc: Global,
     packages: &[(&str, &str)],
 ) -> Result<BTreeMap<String, usize>, GraphError>
-    ensures { Indexes (ids (lent packages.now)) result }
+    ensures { Indexes (ids (lent_pairs packages.now)) result }
 {
     let mut index = BTreeMap::new(alloc);
     for (place, (id, _)) in packages.iter().enumerate() {
@@ -31,7 +31,7 @@ pub(crate) fn owned(
     alloc: Global,
     packages: &[(&str, &str)],
 ) -> Result<Vec<(Text, Text)>, AllocError>
-    ensures { IfOk result (λ copy. copy.items ≡ lent packages.now) }
+    ensures { IfOk result (λ copy. copy.items ≡ lent_pairs packages.now) }
 {
     let mut copy = Vec::new(alloc);
     for (id, name) in packages {
@@ -56,7 +56,7 @@ pub(crate) fn placed_links(
     links: &[(&str, &str)],
 ) -> Result<Vec<(usize, usize)>, GraphError>
     ensures { (known : List (List ℕ)) → IsIndex index.now known
-        → Places (λ it. it.items) known (lent links.now) result }
+        → Places (λ it. it.items) known (lent_pairs links.now) result }
 {
     let mut places = Vec::new(alloc);
     for (from, to) in links {

@@ -4,7 +4,7 @@ use Rattle.std.specs.Borrow.{Bor}
 use Rattle.std.proofs.Common.{arith, inl, inr}
 use Rattle.std.proofs.Math.Path.{ap, sym, subst}
 use Rattle.nextest_filtering_ast.specs.Tree.{Tree, union}
-use Rattle.nextest_filtering_ast.specs.Grammar.{joined, ReadsOr, ReadsJoint, Unary, Conjunction, first_operand, next_operand, Expression, first_conjunction, next_conjunction}
+use Rattle.nextest_filtering_ast.specs.Grammar.{joint_of, ReadsOr, ReadsJoint, Unary, Conjunction, first_operand, next_operand, Expression, first_conjunction, next_conjunction}
 use Rattle.nextest_filtering_arguments.specs.Faults.{IsSuffix}
 use Rattle.nextest_filtering_syntax.specs.Parsing.{Anywhere, Closes, ClosesConjunction, IsPart, IsOperator, IsNoOperator, FindsOperator}
 use Rattle.nextest_filtering_syntax.specs.Waiting.{After, stop, link, AfterOperand, AfterConjunction}
@@ -43,10 +43,10 @@ pub record Level {Op : Type 0} (Reads : Op → List ℕ → List ℕ → Type 0)
   pub split : (text : List ℕ) (t : Tree) (rest : List ℕ) → Whole text t rest → (a : Tree) × (middle : List ℕ) × Operand text a middle × After Reads Operand join t rest a middle
   pub ends : (t : Tree) (rest : List ℕ) (a : Tree) (middle : List ℕ) → After Reads Operand join t rest a middle → Stops rest → Ends middle
 
-pub conjunction_level : Level ReadsJoint Unary joined Anywhere Conjunction ClosesConjunction
+pub conjunction_level : Level ReadsJoint Unary joint_of Anywhere Conjunction ClosesConjunction
 conjunction_level = record {
   first = λ text t rest u. first_operand t text rest u;
-  more = λ op a b text middle behind rest c j u. next_operand op a b (joined op a b) text middle behind rest c j u refl;
+  more = λ op a b text middle behind rest c j u. next_operand op a b (joint_of op a b) text middle behind rest c j u refl;
   split = operands;
   ends = λ t rest a middle after stops. tt;
 }

@@ -3,14 +3,14 @@ use Rattle.std.specs.Prelude.{◌≡◌, refl, ℕ, ◌+◌, ◌≤◌, List, []
 use Rattle.std.proofs.Common.{arith, length-append}
 use Rattle.std.proofs.Math.Path.{ap, sym, subst, ◌∙◌}
 use Rattle.std.proofs.lemmas.List.{take-append-drop, append-nil}
-use Rattle.nextest_filtering_ast.specs.Grammar.{unblanked}
+use Rattle.nextest_filtering_ast.specs.Grammar.{after_blanks}
 use Rattle.nextest_filtering_arguments.specs.Blanks.{IsTrimmed}
 use Rattle.nextest_filtering_arguments.specs.Faults.{IsSuffix}
 use Rattle.nextest_filtering_arguments.proofs.Fronts.{apart, same_rest}
 use Rattle.nextest_filtering_arguments.proofs.Spans.{suffix_token, suffix_trans, suffix_unblanked}
 use Rattle.nextest_filtering_syntax.specs.Parsing.{IsClosed}
 
-pub closed : (text ahead rest : List ℕ) (n : ℕ) → ahead ≡ unblanked text → ahead ≡ 41 ∷ rest → IsClosed text n n rest
+pub closed : (text ahead rest : List ℕ) (n : ℕ) → ahead ≡ after_blanks text → ahead ≡ 41 ∷ rest → IsClosed text n n rest
 closed text ahead rest n is e = record {
   more = Prim.omega arith;
   behind = suffix_token (41 ∷ []) rest text (sym is ∙ e);
@@ -18,7 +18,7 @@ closed text ahead rest n is e = record {
   only = λ end f. (refl, same_rest 41 41 _ _ _ f (sym is ∙ e));
 }
 
-pub not_closed : (text ahead : List ℕ) (old new : ℕ) → ahead ≡ unblanked text → ((rest : List ℕ) → ahead ≡ 41 ∷ rest → ⊥) → new ≡ old + 1 → IsClosed text old new text
+pub not_closed : (text ahead : List ℕ) (old new : ℕ) → ahead ≡ after_blanks text → ((rest : List ℕ) → ahead ≡ 41 ∷ rest → ⊥) → new ≡ old + 1 → IsClosed text old new text
 not_closed text ahead old new is none more = record {
   more = Prim.omega (arith, more);
   behind = ([], refl);
@@ -27,7 +27,7 @@ not_closed text ahead old new is none more = record {
 }
 
 -- where a comma stands, no `)` does
-pub comma_closed : (text ahead behind part rest : List ℕ) (old now new : ℕ) → ahead ≡ unblanked text → ahead ≡ 44 ∷ behind → IsSuffix part behind → now ≡ old + 1
+pub comma_closed : (text ahead behind part rest : List ℕ) (old now new : ℕ) → ahead ≡ after_blanks text → ahead ≡ 44 ∷ behind → IsSuffix part behind → now ≡ old + 1
     → IsClosed part now new rest → IsClosed text old new rest
 comma_closed text ahead behind part rest old now new is e within more closed = record {
   more = Prim.omega (arith, more, closed.more);
@@ -48,7 +48,7 @@ pub suffix_cut : (front rest text : List ℕ) → text ≡ front ++ rest → IsS
 suffix_cut front rest text e = (front, e)
 
 -- and what stands behind its blanks
-pub suffix_front : (ahead text : List ℕ) → ahead ≡ unblanked text → IsSuffix ahead text
+pub suffix_front : (ahead text : List ℕ) → ahead ≡ after_blanks text → IsSuffix ahead text
 suffix_front ahead text is = subst (λ l. IsSuffix l text) (sym is) (suffix_unblanked text)
 
 -- what is left of the first part without blanks at its end is no longer than the text

@@ -9,7 +9,7 @@ use Rattle.nextest_filtering_escapes.specs.Text.{is_blank}
 use Rattle.nextest_filtering_syntax.specs.declared.tree.ParsedExpr.{ParsedExpr}
 use Rattle.nextest_filtering_ast.specs.Tree.{Leaf, matching, built_for, Tree, set, matcher_of}
 use Rattle.nextest_filtering_syntax.specs.Parsed.{tree_of}
-use Rattle.nextest_filtering_ast.specs.Grammar.{unblanked, leaf_word, ReadsLeaf, ReadsArgument, ReadsMatcher}
+use Rattle.nextest_filtering_ast.specs.Grammar.{after_blanks, leaf_word, ReadsLeaf, ReadsArgument, ReadsMatcher}
 use Rattle.nextest_filtering_arguments.specs.declared.stop.Stop.{Stop}
 use Rattle.nextest_filtering_arguments.specs.declared.stop.Stop.TheVariants.{NoTree, Memory}
 use Rattle.nextest_filtering_ast.specs.declared.leaf.SourceSpan.{SourceSpan}
@@ -114,7 +114,7 @@ matcher_passes s text old new e r found is =
     subst (FindsArgument (name.About s) text old new) (sym p.1) (subst (λ y. FindsArgument (name.About s) text old new (Err y)) (sym p.2) (stops_so s text old new e found))
 
 -- what stands where no argument belongs isn't followed by the predicate's `)`
-pub unexpected : (text ahead part rest : List ℕ) (old now new : ℕ) → ahead ≡ unblanked text → ((end : List ℕ) → ahead ≡ 41 ∷ end → ⊥) → IsSuffix part ahead → now ≡ old + 1
+pub unexpected : (text ahead part rest : List ℕ) (old now new : ℕ) → ahead ≡ after_blanks text → ((end : List ℕ) → ahead ≡ 41 ∷ end → ⊥) → IsSuffix part ahead → now ≡ old + 1
     → IsClosed part now new rest → IsClosed text old new rest
 unexpected text ahead part rest old now new is none within more closed = record {
   more = Prim.omega (arith, more, closed.more);
@@ -138,28 +138,28 @@ word_of name.Default leaf has = ap leaf_word has
 word_of name.All leaf has = ap leaf_word has
 word_of name.None leaf has = ap leaf_word has
 
-blank_ends_name : (byte : ℕ) (rest : List ℕ) (b : Bool) → is_blank byte ≡ b → (opened : List ℕ) → (if b then unblanked rest else byte ∷ rest) ≡ 40 ∷ opened → is_name_byte byte ≡ false
+blank_ends_name : (byte : ℕ) (rest : List ℕ) (b : Bool) → is_blank byte ≡ b → (opened : List ℕ) → (if b then after_blanks rest else byte ∷ rest) ≡ 40 ∷ opened → is_name_byte byte ≡ false
 blank_ends_name byte rest true blank opened e = Prim.grind (arith, blank)
 blank_ends_name byte rest false blank opened e = Prim.grind (arith, first) where
   first : byte ≡ 40
   first = same_first byte 40 (byte ∷ rest) rest opened refl e
 
 -- a name ends where a `(` follows
-pub opens_ends : (text opened : List ℕ) → unblanked text ≡ 40 ∷ opened → goes_on text ≡ false
+pub opens_ends : (text opened : List ℕ) → after_blanks text ≡ 40 ∷ opened → goes_on text ≡ false
 opens_ends [] opened e = refl
 opens_ends (byte ∷ rest) opened e = blank_ends_name byte rest (is_blank byte) refl opened e
 
 -- which predicate a text may begin with, by the name that it begins with
-named_leaf : (it : Name) (text start named : List ℕ) (leaf : Leaf) (end : List ℕ) → start ≡ unblanked text → ReadsName it start named → (read : ReadsLeaf leaf text end)
+named_leaf : (it : Name) (text start named : List ℕ) (leaf : Leaf) (end : List ℕ) → start ≡ after_blanks text → ReadsName it start named → (read : ReadsLeaf leaf text end)
     → HasName it leaf × (read.named ≡ named)
 named_leaf it text start named leaf end is reads read =
     let so = named_so it leaf start named read.named reads (is ∙ read.name) (opens_ends read.named read.opened read.opens) in
     (has_kind it leaf so.0, so.1)
 
-name_behind : (it : Name) (text start named : List ℕ) → start ≡ unblanked text → ReadsName it start named → IsSuffix named text × (length named < length text)
+name_behind : (it : Name) (text start named : List ℕ) → start ≡ after_blanks text → ReadsName it start named → IsSuffix named text × (length named < length text)
 name_behind it text start named is reads =
     let e = sym is ∙ reads.0 in
-    (suffix_token (name_word it) named text e, Prim.omega (arith, some_name it, ap length e, length-append (name_word it) named, suffix_len (unblanked text) text (suffix_unblanked text))) where
+    (suffix_token (name_word it) named text e, Prim.omega (arith, some_name it, ap length e, length-append (name_word it) named, suffix_len (after_blanks text) text (suffix_unblanked text))) where
       some_name : (n : Name) → 0 < length (name_word n)
       some_name (name.About subject.Package) = Prim.omega arith
       some_name (name.About subject.Deps) = Prim.omega arith
@@ -178,8 +178,8 @@ name_behind it text start named is reads =
 same_opened : {u x y : List ℕ} → u ≡ 40 ∷ x → u ≡ 40 ∷ y → y ≡ x
 same_opened e f = same_rest 40 40 _ _ _ f e
 
-predicate_part : (it : Name) (text start named before opened : List ℕ) (old new : ℕ) (found : Tree) (rest : List ℕ) → start ≡ unblanked text → ReadsName it start named
-    → before ≡ unblanked named → before ≡ 40 ∷ opened → IsArgued it opened old new found rest → IsPart ReadsPredicate Anywhere text old new found rest
+predicate_part : (it : Name) (text start named before opened : List ℕ) (old new : ℕ) (found : Tree) (rest : List ℕ) → start ≡ after_blanks text → ReadsName it start named
+    → before ≡ after_blanks named → before ≡ 40 ∷ opened → IsArgued it opened old new found rest → IsPart ReadsPredicate Anywhere text old new found rest
 predicate_part it text start named before opened old new found rest is reads here opens part = record {
   more = part.more;
   behind = suffix_trans rest opened text part.behind (suffix_trans opened named text (suffix_token (40 ∷ []) opened named (sym here ∙ opens)) (name_behind it text start named is reads).0);
@@ -201,31 +201,31 @@ predicate_part it text start named before opened old new found rest is reads her
   only = λ other end reads_other anywhere.
       let leaf = reads_other.2 in
       let one = named_leaf it text start named reads_other.0 end is reads leaf in
-      let opened_same = same_opened (ap unblanked one.1 ∙ (sym here ∙ opens)) leaf.opens in
+      let opened_same = same_opened (ap after_blanks one.1 ∙ (sym here ∙ opens)) leaf.opens in
       let ends = part.only reads_other.0 leaf.read end one.0 (subst (λ l. ReadsArgument reads_other.0 l leaf.read) opened_same leaf.argument) leaf.closes in
       (ends.0, reads_other.1 ∙ ends.1, ends.2);
 }
 
-predicate_not : (it : Name) (text start named before opened : List ℕ) (old new : ℕ) → start ≡ unblanked text → ReadsName it start named
-    → before ≡ unblanked named → before ≡ 40 ∷ opened → IsNotArgued it opened old new → IsNoPart ReadsPredicate Anywhere text old new
+predicate_not : (it : Name) (text start named before opened : List ℕ) (old new : ℕ) → start ≡ after_blanks text → ReadsName it start named
+    → before ≡ after_blanks named → before ≡ 40 ∷ opened → IsNotArgued it opened old new → IsNoPart ReadsPredicate Anywhere text old new
 predicate_not it text start named before opened old new is reads here opens none = record {
   more = none.more;
   never = λ other end reads_other anywhere.
       let leaf = reads_other.2 in
       let one = named_leaf it text start named reads_other.0 end is reads leaf in
-      let opened_same = same_opened (ap unblanked one.1 ∙ (sym here ∙ opens)) leaf.opens in
+      let opened_same = same_opened (ap after_blanks one.1 ∙ (sym here ∙ opens)) leaf.opens in
       none.never reads_other.0 leaf.read end one.0 (subst (λ l. ReadsArgument reads_other.0 l leaf.read) opened_same leaf.argument) leaf.closes;
 }
 
-pub predicate_finds_so : (it : Name) (text start named before opened : List ℕ) (old new : ℕ) (r : Result (ParsedExpr × Bor (List ℕ)) Stop) → start ≡ unblanked text → ReadsName it start named
-    → before ≡ unblanked named → before ≡ 40 ∷ opened → FindsArgument it opened old new r → Finds ReadsPredicate Anywhere text old new r
+pub predicate_finds_so : (it : Name) (text start named before opened : List ℕ) (old new : ℕ) (r : Result (ParsedExpr × Bor (List ℕ)) Stop) → start ≡ after_blanks text → ReadsName it start named
+    → before ≡ after_blanks named → before ≡ 40 ∷ opened → FindsArgument it opened old new r → Finds ReadsPredicate Anywhere text old new r
 predicate_finds_so it text start named before opened old new (Ok found) is reads here opens part = predicate_part it text start named before opened old new (tree_of found.0) found.1.now is reads here opens part
 predicate_finds_so it text start named before opened old new (Err NoTree) is reads here opens none = predicate_not it text start named before opened old new is reads here opens none
 predicate_finds_so it text start named before opened old new (Err Memory) is reads here opens none = none
 
 -- without a `(` behind its name there is no predicate
-pub unopened_finds : (it : Name) (text start named before : List ℕ) (old new : ℕ) (r : Result (ParsedExpr × Bor (List ℕ)) Stop) → start ≡ unblanked text → ReadsName it start named
-    → before ≡ unblanked named → ((opened : List ℕ) → before ≡ 40 ∷ opened → ⊥) → IfToldOf old new r → IfOk r (λ it. it.1.now ≡ named) → Finds ReadsPredicate Anywhere text old new r
+pub unopened_finds : (it : Name) (text start named before : List ℕ) (old new : ℕ) (r : Result (ParsedExpr × Bor (List ℕ)) Stop) → start ≡ after_blanks text → ReadsName it start named
+    → before ≡ after_blanks named → ((opened : List ℕ) → before ≡ 40 ∷ opened → ⊥) → IfToldOf old new r → IfOk r (λ it. it.1.now ≡ named) → Finds ReadsPredicate Anywhere text old new r
 unopened_finds it text start named before old new (Ok found) is reads here closed told same = record {
   more = Prim.omega (arith, told);
   behind = subst (λ l. IsSuffix l text) (sym same) (name_behind it text start named is reads).0;
@@ -234,19 +234,19 @@ unopened_finds it text start named before old new (Ok found) is reads here close
   only = λ other end reads_other anywhere.
       let leaf = reads_other.2 in
       let one = named_leaf it text start named reads_other.0 end is reads leaf in
-      absurd (closed leaf.opened (here ∙ (ap unblanked (sym one.1) ∙ leaf.opens)));
+      absurd (closed leaf.opened (here ∙ (ap after_blanks (sym one.1) ∙ leaf.opens)));
 }
 unopened_finds it text start named before old new (Err NoTree) is reads here closed told same = record {
   more = told;
   never = λ other end reads_other anywhere.
       let leaf = reads_other.2 in
       let one = named_leaf it text start named reads_other.0 end is reads leaf in
-      closed leaf.opened (here ∙ (ap unblanked (sym one.1) ∙ leaf.opens));
+      closed leaf.opened (here ∙ (ap after_blanks (sym one.1) ∙ leaf.opens));
 }
 unopened_finds it text start named before old new (Err Memory) is reads here closed told same = tt
 
 -- without a name there is no predicate
-pub unnamed_finds : (text start : List ℕ) (old new : ℕ) → start ≡ unblanked text → ((it : Name) (rest : List ℕ) → ReadsName it start rest → ⊥) → new ≡ old + 1
+pub unnamed_finds : (text start : List ℕ) (old new : ℕ) → start ≡ after_blanks text → ((it : Name) (rest : List ℕ) → ReadsName it start rest → ⊥) → new ≡ old + 1
     → IsNoPart ReadsPredicate Anywhere text old new
 unnamed_finds text start old new is none more = record {
   more = Prim.omega (arith, more);

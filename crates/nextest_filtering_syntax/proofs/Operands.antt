@@ -9,7 +9,7 @@ use Rattle.nextest_filtering_ast.specs.declared.operators.NotOperator.{NotOperat
 use Rattle.nextest_filtering_ast.specs.declared.operators.NotOperator.TheVariants.{LiteralNot, Exclamation}
 use Rattle.nextest_filtering_syntax.specs.declared.tree.ParsedExpr.{ParsedExpr}
 use Rattle.nextest_filtering_ast.specs.Tree.{package_name, dependencies, dependents, kind, binary_name, binary_id, test_name, group, Leaf, matching, built_for, default_filter, everything, nothing, Tree, negation, parens}
-use Rattle.nextest_filtering_ast.specs.Grammar.{unblanked, ReadsNot, Unary, a_negation, a_group, a_predicate, Expression, ReadsLeaf}
+use Rattle.nextest_filtering_ast.specs.Grammar.{after_blanks, ReadsNot, Unary, a_negation, a_group, a_predicate, Expression, ReadsLeaf}
 use Rattle.nextest_filtering_arguments.specs.declared.stop.Stop.{Stop}
 use Rattle.nextest_filtering_arguments.specs.declared.stop.Stop.TheVariants.{NoTree, Memory}
 use Rattle.nextest_filtering_syntax.specs.Parsing.{Anywhere, Closes, IsPart, IsNoPart, Finds, IsClosed, ReadsPredicate}
@@ -18,7 +18,7 @@ use Rattle.nextest_filtering_arguments.proofs.Spans.{suffix_trans, suffix_token,
 use Rattle.nextest_filtering_syntax.proofs.Single.{one_not, not_behind}
 
 -- a predicate begins with none of these bytes
-leaf_apart : (it : Leaf) (text rest x : List ℕ) → ReadsLeaf it text rest → unblanked text ≡ 40 ∷ x → ⊥
+leaf_apart : (it : Leaf) (text rest x : List ℕ) → ReadsLeaf it text rest → after_blanks text ≡ 40 ∷ x → ⊥
 leaf_apart (matching package_name m) text rest x read e = apart 40 112 _ _ _ refl e read.name
 leaf_apart (matching dependencies m) text rest x read e = apart 40 100 _ _ _ refl e read.name
 leaf_apart (matching dependents m) text rest x read e = apart 40 114 _ _ _ refl e read.name
@@ -32,7 +32,7 @@ leaf_apart default_filter text rest x read e = apart 40 100 _ _ _ refl e read.na
 leaf_apart everything text rest x read e = apart 40 97 _ _ _ refl e read.name
 leaf_apart nothing text rest x read e = apart 40 110 _ _ _ refl e read.name
 
-leaf_no_sign : (it : Leaf) (text rest x : List ℕ) → ReadsLeaf it text rest → unblanked text ≡ 33 ∷ x → ⊥
+leaf_no_sign : (it : Leaf) (text rest x : List ℕ) → ReadsLeaf it text rest → after_blanks text ≡ 33 ∷ x → ⊥
 leaf_no_sign (matching package_name m) text rest x read e = apart 33 112 _ _ _ refl e read.name
 leaf_no_sign (matching dependencies m) text rest x read e = apart 33 100 _ _ _ refl e read.name
 leaf_no_sign (matching dependents m) text rest x read e = apart 33 114 _ _ _ refl e read.name
@@ -46,7 +46,7 @@ leaf_no_sign default_filter text rest x read e = apart 33 100 _ _ _ refl e read.
 leaf_no_sign everything text rest x read e = apart 33 97 _ _ _ refl e read.name
 leaf_no_sign nothing text rest x read e = apart 33 110 _ _ _ refl e read.name
 
-leaf_no_word : (it : Leaf) (text rest x : List ℕ) → ReadsLeaf it text rest → unblanked text ≡ 110 ∷ 111 ∷ 116 ∷ x → ⊥
+leaf_no_word : (it : Leaf) (text rest x : List ℕ) → ReadsLeaf it text rest → after_blanks text ≡ 110 ∷ 111 ∷ 116 ∷ x → ⊥
 leaf_no_word (matching package_name m) text rest x read e = apart 110 112 _ _ _ refl e read.name
 leaf_no_word (matching dependencies m) text rest x read e = apart 110 100 _ _ _ refl e read.name
 leaf_no_word (matching dependents m) text rest x read e = apart 110 114 _ _ _ refl e read.name
@@ -61,7 +61,7 @@ leaf_no_word everything text rest x read e = apart 110 97 _ _ _ refl e read.name
 leaf_no_word nothing text rest x read e =
     apart 116 110 _ _ _ refl (same_rest 111 111 _ _ _ refl (same_rest 110 110 _ _ _ read.name e)) refl
 
-not_is_no_group : (op : NotOperator) (text behind inside : List ℕ) → ReadsNot op text behind → unblanked text ≡ 40 ∷ inside → ⊥
+not_is_no_group : (op : NotOperator) (text behind inside : List ℕ) → ReadsNot op text behind → after_blanks text ≡ 40 ∷ inside → ⊥
 not_is_no_group LiteralNot text behind inside e f = apart 110 40 _ _ _ refl e.0 f
 not_is_no_group Exclamation text behind inside e f = apart 33 40 _ _ _ refl e f
 
@@ -79,8 +79,8 @@ is_negation op _ behind _ _ found (a_group t text inside middle end e reads f) =
 is_negation op _ behind _ _ found (a_predicate it text end read) = absurd (not_is_no_leaf op it text behind end found read)
 
 -- behind `(` stands an expression
-pub is_group : (text inside : List ℕ) (other : Tree) (end : List ℕ) → unblanked text ≡ 40 ∷ inside → Unary text other end
-    → (t : Tree) × (middle : List ℕ) × (other ≡ parens t) × Expression inside t middle × (unblanked middle ≡ 41 ∷ end)
+pub is_group : (text inside : List ℕ) (other : Tree) (end : List ℕ) → after_blanks text ≡ 40 ∷ inside → Unary text other end
+    → (t : Tree) × (middle : List ℕ) × (other ≡ parens t) × Expression inside t middle × (after_blanks middle ≡ 41 ∷ end)
 is_group _ inside _ _ found (a_negation op t text behind end e reads) = absurd (not_is_no_group op text behind inside e found)
 is_group _ inside _ _ found (a_group t text inside1 middle end e reads f) =
     (t, middle, refl, subst (λ l. Expression l t middle) (same_rest 40 40 _ _ _ e found) reads, f)
@@ -88,7 +88,7 @@ is_group _ inside _ _ found (a_predicate it text end read) = absurd (leaf_apart 
 
 -- else a predicate stands there
 is_predicate : (text : List ℕ) (other : Tree) (end : List ℕ) → ((op : NotOperator) (rest : List ℕ) → ReadsNot op text rest → ⊥)
-    → ((rest : List ℕ) → unblanked text ≡ 40 ∷ rest → ⊥) → Unary text other end → ReadsPredicate text other end
+    → ((rest : List ℕ) → after_blanks text ≡ 40 ∷ rest → ⊥) → Unary text other end → ReadsPredicate text other end
 is_predicate _ _ _ no_not no_group (a_negation op t text behind end e reads) = absurd (no_not op behind e)
 is_predicate _ _ _ no_not no_group (a_group t text inside middle end e reads f) = absurd (no_group inside e)
 is_predicate _ _ _ no_not no_group (a_predicate it text end read) = (it, refl, read)
@@ -106,7 +106,7 @@ negated op text behind old new inside rest reads part = record {
       (is.0, n.1 ∙ ap (negation op) is.1, is.2);
 }
 
-pub grouped : (text inside middle rest : List ℕ) (old now new : ℕ) (found : Tree) → unblanked text ≡ 40 ∷ inside
+pub grouped : (text inside middle rest : List ℕ) (old now new : ℕ) (found : Tree) → after_blanks text ≡ 40 ∷ inside
     → IsPart Expression Closes inside old now found middle → IsClosed middle now new rest → IsPart Unary Anywhere text old new (parens found) rest
 grouped text inside middle rest old now new found opens part closes = record {
   more = Prim.omega (arith, part.more, closes.more);
@@ -118,12 +118,12 @@ grouped text inside middle rest old now new found opens part closes = record {
   only = λ other end reads anywhere.
       let g = is_group text inside other end opens reads in
       let is = part.only g.0 g.1 g.3 (inr (end, g.4)) in
-      let ends = closes.only end (ap unblanked (sym is.2) ∙ g.4) in
+      let ends = closes.only end (ap after_blanks (sym is.2) ∙ g.4) in
       (Prim.omega (arith, is.0, ends.0), g.2 ∙ ap parens is.1, ends.1);
 }
 
 pub predicate_finds : (text : List ℕ) (old new : ℕ) (r : Result (ParsedExpr × Bor (List ℕ)) Stop)
-    → ((op : NotOperator) (rest : List ℕ) → ReadsNot op text rest → ⊥) → ((rest : List ℕ) → unblanked text ≡ 40 ∷ rest → ⊥)
+    → ((op : NotOperator) (rest : List ℕ) → ReadsNot op text rest → ⊥) → ((rest : List ℕ) → after_blanks text ≡ 40 ∷ rest → ⊥)
     → Finds ReadsPredicate Anywhere text old new r → Finds Unary Anywhere text old new r
 predicate_finds text old new (Ok found) no_not no_group part = record {
   more = part.more;

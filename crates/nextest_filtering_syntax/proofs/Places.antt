@@ -1,11 +1,11 @@
 -- Where predicates stand.
 use Rattle.std.proofs.Common.{◌≡◌, refl, ℕ, zero, suc, ◌-◌, ◌≤◌, List, [], ◌∷◌, ◌++◌, length, take, Some, IfSome, IfOk, Result, Ok, Err, sym, ap, subst, ◌∙◌, arith, length-append}
-use Rattle.nextest_filtering_ast.specs.Grammar.{unblanked, leaf_word, ReadsLeaf}
+use Rattle.nextest_filtering_ast.specs.Grammar.{after_blanks, leaf_word, ReadsLeaf}
 use Rattle.nextest_filtering_ast.specs.Tree.{Leaf, Tree, negation, union, intersection, difference, parens, set, leaf_of}
 use Rattle.nextest_filtering_syntax.specs.Parsed.{tree_of}
 use Rattle.nextest_filtering_ast.specs.declared.leaf.SourceSpan.{SourceSpan}
 use Rattle.nextest_filtering_ast.specs.declared.leaf.ParsedLeaf.{ParsedLeaf}
-use Rattle.nextest_filtering_arguments.specs.Faults.{IsSuffix, Lies, here, spanned}
+use Rattle.nextest_filtering_arguments.specs.Faults.{IsSuffix, Lies, here, bytes_in_span}
 use Rattle.nextest_filtering_arguments.proofs.Spans.{here_lies, here_spans, suffix_len, suffix_trans}
 use Rattle.nextest_filtering_syntax.specs.declared.tree.ParsedExpr.{ParsedExpr}
 use Rattle.nextest_filtering_syntax.specs.declared.tree.ParsedExpr.TheVariants as tree
@@ -29,7 +29,7 @@ begins input start rest named word span is within e behind =
     let fits : length word ≤ n = Prim.omega (arith, ap length e, length-append word named, suffix_len rest named behind) in
     let short : n ≤ length start = Prim.omega arith in
     let front = take_word word named n fits in
-    (subst (Lies input) (sym is) (here_lies input start n within short), (front.0, ap (spanned input) is ∙ (here_spans input start n within ∙ (ap (take n) e ∙ front.1))))
+    (subst (Lies input) (sym is) (here_lies input start n within short), (front.0, ap (bytes_in_span input) is ∙ (here_spans input start n within ∙ (ap (take n) e ∙ front.1))))
 
 -- the span from a name to where the text goes on
 pub begins_so : (input now start text rest word : List ℕ) (span : SourceSpan) → now ≡ input → span ≡ here now start (length start - length rest)
@@ -57,7 +57,7 @@ spanned_so input now start rest it span same has is =
     subst (λ o. IfSome o (λ s. s ≡ here input start (length start - length rest))) (sym has) (is ∙ ap (λ l. here l start (length start - length rest)) same)
 
 -- a predicate with such a span stands where it is read
-set_stands : (input text start rest : List ℕ) (t : ParsedExpr) (it : Leaf) → start ≡ unblanked text → IsSpanned input start rest t → tree_of t ≡ set it → ReadsLeaf it text rest
+set_stands : (input text start rest : List ℕ) (t : ParsedExpr) (it : Leaf) → start ≡ after_blanks text → IsSpanned input start rest t → tree_of t ≡ set it → ReadsLeaf it text rest
     → Stands input t text rest
 set_stands input text start rest (tree.Set leaf) it at span is read =
     let same : it ≡ leaf_of leaf = sym (ap leaf_in is) in
@@ -76,11 +76,11 @@ set_stands input text start rest (tree.Intersection' op p a q b) it at none is r
 set_stands input text start rest (tree.Difference' op p a q b) it at none is read = absurd none
 set_stands input text start rest (tree.Parens' p t) it at none is read = absurd none
 
-pub stands_as : (input text start : List ℕ) (old new : ℕ) (r : Result (ParsedExpr × Bor (List ℕ)) Stop) → start ≡ unblanked text → Finds ReadsPredicate Anywhere text old new r
+pub stands_as : (input text start : List ℕ) (old new : ℕ) (r : Result (ParsedExpr × Bor (List ℕ)) Stop) → start ≡ after_blanks text → Finds ReadsPredicate Anywhere text old new r
     → IfOk r (λ it. IsSpanned input start it.1.now it.0) → new ≡ old → IfOk r (λ it. Stands input it.0 text it.1.now)
-stands_as input text start old new (Ok found) at part spanned same =
+stands_as input text start old new (Ok found) at part bytes_in_span same =
     let p = part.reads same in
-    set_stands input text start found.1.now found.0 p.0 at spanned p.1 p.2
+    set_stands input text start found.1.now found.0 p.0 at bytes_in_span p.1 p.2
 stands_as input text start old new (Err e) at part spanned same = tt
 
 -- in an input that stayed

@@ -1,7 +1,7 @@
 -- A predicate that a text begins with is the only one.
 use Rattle.std.proofs.Common.{◌≡◌, ℕ, ◌<◌, List, [], ◌∷◌, ◌++◌, length, sym, ap, subst, ◌∙◌, inl, inr, arith}
 use Rattle.nextest_filtering_ast.specs.Tree.{Comparison, equal, contains, glob, regex, Matcher, Subject, Leaf, matching, built_for, default_filter, everything, nothing}
-use Rattle.nextest_filtering_ast.specs.Grammar.{unblanked, ReadsSigned, ReadsMatcher, leaf_word, ReadsArgument, ReadsLeaf}
+use Rattle.nextest_filtering_ast.specs.Grammar.{after_blanks, ReadsSigned, ReadsMatcher, leaf_word, ReadsArgument, ReadsLeaf}
 use Rattle.nextest_filtering_arguments.specs.Faults.{IsSuffix}
 use Rattle.nextest_filtering_arguments.proofs.Fronts.{same_rest}
 use Rattle.nextest_filtering_arguments.proofs.Spans.{suffix_trans, suffix_token, shorter_token, suffix_len}
@@ -47,19 +47,19 @@ same_kind : (it other : Leaf) (text rest end : List ℕ) (read : ReadsLeaf it te
     → (kind_of other ≡ kind_of it) × (found.opened ≡ read.opened)
 same_kind it other text rest end read found =
     let ends = opens_ends read.named read.opened read.opens in
-    let known = has_name it (unblanked text) read.named read.name ends in
-    let mine = named_so known.0 it (unblanked text) read.named read.named known.1 read.name ends in
-    let its = named_so known.0 other (unblanked text) read.named found.named known.1 found.name (opens_ends found.named found.opened found.opens) in
-    (its.0 ∙ sym mine.0, same_rest 40 40 _ _ _ found.opens (ap unblanked its.1 ∙ read.opens))
+    let known = has_name it (after_blanks text) read.named read.name ends in
+    let mine = named_so known.0 it (after_blanks text) read.named read.named known.1 read.name ends in
+    let its = named_so known.0 other (after_blanks text) read.named found.named known.1 found.name (opens_ends found.named found.opened found.opens) in
+    (its.0 ∙ sym mine.0, same_rest 40 40 _ _ _ found.opens (ap after_blanks its.1 ∙ read.opens))
 
 -- ---- one predicate
 
 -- behind one argument of no bytes stands one `)`
-same_close : (argument end x stop y : List ℕ) → argument ≡ end → unblanked end ≡ 41 ∷ x → argument ≡ stop → unblanked stop ≡ 41 ∷ y → y ≡ x
-same_close argument end x stop y is closes is_too closes_too = same_rest 41 41 _ _ _ closes_too (ap unblanked (sym is_too ∙ is) ∙ closes)
+same_close : (argument end x stop y : List ℕ) → argument ≡ end → after_blanks end ≡ 41 ∷ x → argument ≡ stop → after_blanks stop ≡ 41 ∷ y → y ≡ x
+same_close argument end x stop y is closes is_too closes_too = same_rest 41 41 _ _ _ closes_too (ap after_blanks (sym is_too ∙ is) ∙ closes)
 
-one_argument : (it other : Leaf) (argument end x stop y : List ℕ) → kind_of other ≡ kind_of it → ReadsArgument it argument end → unblanked end ≡ 41 ∷ x
-    → ReadsArgument other argument stop → unblanked stop ≡ 41 ∷ y → (other ≡ it) × (y ≡ x)
+one_argument : (it other : Leaf) (argument end x stop y : List ℕ) → kind_of other ≡ kind_of it → ReadsArgument it argument end → after_blanks end ≡ 41 ∷ x
+    → ReadsArgument other argument stop → after_blanks stop ≡ 41 ∷ y → (other ≡ it) × (y ≡ x)
 one_argument (matching subject m) other argument end x stop y same reads closes reads_too closes_too =
     let is = is_matching subject other same in
     let one = one_matcher subject m is.0 argument end x stop y reads closes (subst (λ (l : Leaf). ReadsArgument l argument stop) is.1 reads_too) closes_too in

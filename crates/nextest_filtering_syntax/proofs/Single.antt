@@ -14,7 +14,7 @@ use Rattle.nextest_filtering_ast.specs.declared.operators.Joint.{Joint}
 use Rattle.nextest_filtering_ast.specs.declared.operators.Joint.TheVariants.{And}
 use Rattle.nextest_filtering_ast.specs.declared.operators.Joint.TheVariants as joint
 use Rattle.nextest_filtering_ast.specs.Tree.{package_name, dependencies, dependents, kind, binary_name, binary_id, test_name, group, Leaf, matching, built_for, default_filter, everything, nothing, Tree}
-use Rattle.nextest_filtering_ast.specs.Grammar.{unblanked, leaf_word, ReadsNot, ReadsOr, ReadsJoint, Unary, a_negation, a_group, a_predicate, Conjunction, first_operand, next_operand}
+use Rattle.nextest_filtering_ast.specs.Grammar.{after_blanks, leaf_word, ReadsNot, ReadsOr, ReadsJoint, Unary, a_negation, a_group, a_predicate, Conjunction, first_operand, next_operand}
 use Rattle.nextest_filtering_arguments.specs.Faults.{IsSuffix}
 use Rattle.nextest_filtering_syntax.specs.Parsing.{Closes, ClosesConjunction, IsOperator, FindsOperator}
 use Rattle.nextest_filtering_arguments.proofs.Fronts.{apart, same_rest}
@@ -53,7 +53,7 @@ one_joint (joint.Minus Minus) (joint.Minus Minus) text x y e f = (refl, same_res
 abbrev IsBehind : List ℕ → List ℕ → Type 0
 IsBehind rest text = IsSuffix rest text × (length rest < length text)
 
-token_behind : (front rest text : List ℕ) → unblanked text ≡ front ++ rest → 0 < length front → IsBehind rest text
+token_behind : (front rest text : List ℕ) → after_blanks text ≡ front ++ rest → 0 < length front → IsBehind rest text
 token_behind front rest text e some = (suffix_token front rest text e, shorter_token front rest text e some)
 
 pub not_behind : (op : NotOperator) (text rest : List ℕ) → ReadsNot op text rest → IsBehind rest text
@@ -71,7 +71,7 @@ joint_behind (And Ampersand) text rest e = token_behind (codes "&") rest text e 
 joint_behind (joint.Minus Minus) text rest e = token_behind (codes "-") rest text e (Prim.omega arith)
 
 -- a text that closes begins with none of the other bytes
-closes_apart : (a : ℕ) (text x : List ℕ) → (a == 41) ≡ false → unblanked text ≡ a ∷ x → Closes text → ⊥
+closes_apart : (a : ℕ) (text x : List ℕ) → (a == 41) ≡ false → after_blanks text ≡ a ∷ x → Closes text → ⊥
 closes_apart a text x test e (inl empty) = Prim.omega (arith, ap length e, ap length empty)
 closes_apart a text x test e (inr (y, f)) = apart a 41 _ _ _ test e f
 
@@ -82,7 +82,7 @@ or_goes_on Plus text rest e = closes_apart 43 text _ refl e
 
 -- a byte that begins no operator of a union and closes nothing
 goes_on_by : (a : ℕ) (text x : List ℕ) → (a == 41) ≡ false → (a == 111) ≡ false → (a == 124) ≡ false → (a == 43) ≡ false
-    → unblanked text ≡ a ∷ x → ClosesConjunction text → ⊥
+    → after_blanks text ≡ a ∷ x → ClosesConjunction text → ⊥
 goes_on_by a text x t41 t111 t124 t43 e (inl closes) = closes_apart a text x t41 e closes
 goes_on_by a text x t41 t111 t124 t43 e (inr (LiteralOr, rest, f)) = apart a 111 _ _ _ t111 e f.0
 goes_on_by a text x t41 t111 t124 t43 e (inr (Pipe, rest, f)) = apart a 124 _ _ _ t124 e f
@@ -112,13 +112,13 @@ leaf_starts default_filter rest = refl
 leaf_starts everything rest = refl
 leaf_starts nothing rest = refl
 
-unary_starts : (text : List ℕ) (t : Tree) (rest : List ℕ) → Unary text t rest → starts (unblanked text) ≡ true
+unary_starts : (text : List ℕ) (t : Tree) (rest : List ℕ) → Unary text t rest → starts (after_blanks text) ≡ true
 unary_starts _ _ _ (a_negation LiteralNot u text behind rest e r) = ap starts e.0
 unary_starts _ _ _ (a_negation Exclamation u text behind rest e r) = ap starts e
 unary_starts _ _ _ (a_group u text inside behind rest e r f) = ap starts e
 unary_starts _ _ _ (a_predicate it text rest read) = ap starts read.name ∙ leaf_starts it read.named
 
-conjunction_starts : (text : List ℕ) (t : Tree) (rest : List ℕ) → Conjunction text t rest → starts (unblanked text) ≡ true
+conjunction_starts : (text : List ℕ) (t : Tree) (rest : List ℕ) → Conjunction text t rest → starts (after_blanks text) ≡ true
 conjunction_starts _ _ _ (first_operand t text rest u) = unary_starts text t rest u
 conjunction_starts _ _ _ (next_operand op a b t text middle behind rest c j u e) = conjunction_starts text a middle c
 
@@ -143,11 +143,11 @@ right_joint_step op text rest n reads = record {
 }
 
 -- behind the first of two signs stands no operand
-no_operand : (text rest : List ℕ) (byte : ℕ) → starts (byte ∷ rest) ≡ false → unblanked (byte ∷ rest) ≡ byte ∷ rest → text ≡ byte ∷ rest
-    → starts (unblanked text) ≡ true → ⊥
-no_operand text rest byte test same e begins = true_is_not_false (sym begins ∙ (ap (λ l. starts (unblanked l)) e ∙ (ap starts same ∙ test)))
+no_operand : (text rest : List ℕ) (byte : ℕ) → starts (byte ∷ rest) ≡ false → after_blanks (byte ∷ rest) ≡ byte ∷ rest → text ≡ byte ∷ rest
+    → starts (after_blanks text) ≡ true → ⊥
+no_operand text rest byte test same e begins = true_is_not_false (sym begins ∙ (ap (λ l. starts (after_blanks l)) e ∙ (ap starts same ∙ test)))
 
-wrong_or_only : (text rest : List ℕ) → (unblanked text ≡ 124 ∷ 124 ∷ rest) ⊎ (unblanked text ≡ 79 ∷ 82 ∷ rest)
+wrong_or_only : (text rest : List ℕ) → (after_blanks text ≡ 124 ∷ 124 ∷ rest) ⊎ (after_blanks text ≡ 79 ∷ 82 ∷ rest)
     → (op : OrOperator) (next : List ℕ) (t : Tree) (end : List ℕ) → ReadsOr op text next → Conjunction next t end → ⊥
 wrong_or_only text rest (inl e) LiteralOr next t end f c = apart 124 111 _ _ _ refl e f.0
 wrong_or_only text rest (inl e) Pipe next t end f c = no_operand next rest 124 refl refl (same_rest 124 124 _ _ _ f e) (conjunction_starts next t end c)
@@ -156,15 +156,15 @@ wrong_or_only text rest (inr e) LiteralOr next t end f c = apart 79 111 _ _ _ re
 wrong_or_only text rest (inr e) Pipe next t end f c = apart 79 124 _ _ _ refl e f
 wrong_or_only text rest (inr e) Plus next t end f c = apart 79 43 _ _ _ refl e f
 
-wrong_or_behind : (text rest : List ℕ) → (unblanked text ≡ 124 ∷ 124 ∷ rest) ⊎ (unblanked text ≡ 79 ∷ 82 ∷ rest) → IsBehind rest text
+wrong_or_behind : (text rest : List ℕ) → (after_blanks text ≡ 124 ∷ 124 ∷ rest) ⊎ (after_blanks text ≡ 79 ∷ 82 ∷ rest) → IsBehind rest text
 wrong_or_behind text rest (inl e) = token_behind (codes "||") rest text e (Prim.omega arith)
 wrong_or_behind text rest (inr e) = token_behind (codes "OR") rest text e (Prim.omega arith)
 
-wrong_or_goes_on : (text rest : List ℕ) → (unblanked text ≡ 124 ∷ 124 ∷ rest) ⊎ (unblanked text ≡ 79 ∷ 82 ∷ rest) → Closes text → ⊥
+wrong_or_goes_on : (text rest : List ℕ) → (after_blanks text ≡ 124 ∷ 124 ∷ rest) ⊎ (after_blanks text ≡ 79 ∷ 82 ∷ rest) → Closes text → ⊥
 wrong_or_goes_on text rest (inl e) = closes_apart 124 text _ refl e
 wrong_or_goes_on text rest (inr e) = closes_apart 79 text _ refl e
 
-pub wrong_or_step : (text rest : List ℕ) (old new : ℕ) → new ≡ old + 1 → (unblanked text ≡ 124 ∷ 124 ∷ rest) ⊎ (unblanked text ≡ 79 ∷ 82 ∷ rest)
+pub wrong_or_step : (text rest : List ℕ) (old new : ℕ) → new ≡ old + 1 → (after_blanks text ≡ 124 ∷ 124 ∷ rest) ⊎ (after_blanks text ≡ 79 ∷ 82 ∷ rest)
     → IsOperator ReadsOr Conjunction Closes text old new Pipe rest
 wrong_or_step text rest old new more wrong = record {
   more = Prim.omega (arith, more);
@@ -175,7 +175,7 @@ wrong_or_step text rest old new more wrong = record {
   only = λ op next t end f c. absurd (wrong_or_only text rest wrong op next t end f c);
 }
 
-wrong_and_only : (text rest : List ℕ) → (unblanked text ≡ 38 ∷ 38 ∷ rest) ⊎ (unblanked text ≡ 65 ∷ 78 ∷ 68 ∷ rest)
+wrong_and_only : (text rest : List ℕ) → (after_blanks text ≡ 38 ∷ 38 ∷ rest) ⊎ (after_blanks text ≡ 65 ∷ 78 ∷ 68 ∷ rest)
     → (op : Joint) (next : List ℕ) (t : Tree) (end : List ℕ) → ReadsJoint op text next → Unary next t end → ⊥
 wrong_and_only text rest (inl e) (And LiteralAnd) next t end f c = apart 38 97 _ _ _ refl e f.0
 wrong_and_only text rest (inl e) (And Ampersand) next t end f c = no_operand next rest 38 refl refl (same_rest 38 38 _ _ _ f e) (unary_starts next t end c)
@@ -184,15 +184,15 @@ wrong_and_only text rest (inr e) (And LiteralAnd) next t end f c = apart 65 97 _
 wrong_and_only text rest (inr e) (And Ampersand) next t end f c = apart 65 38 _ _ _ refl e f
 wrong_and_only text rest (inr e) (joint.Minus Minus) next t end f c = apart 65 45 _ _ _ refl e f
 
-wrong_and_behind : (text rest : List ℕ) → (unblanked text ≡ 38 ∷ 38 ∷ rest) ⊎ (unblanked text ≡ 65 ∷ 78 ∷ 68 ∷ rest) → IsBehind rest text
+wrong_and_behind : (text rest : List ℕ) → (after_blanks text ≡ 38 ∷ 38 ∷ rest) ⊎ (after_blanks text ≡ 65 ∷ 78 ∷ 68 ∷ rest) → IsBehind rest text
 wrong_and_behind text rest (inl e) = token_behind (codes "&&") rest text e (Prim.omega arith)
 wrong_and_behind text rest (inr e) = token_behind (codes "AND") rest text e (Prim.omega arith)
 
-wrong_and_goes_on : (text rest : List ℕ) → (unblanked text ≡ 38 ∷ 38 ∷ rest) ⊎ (unblanked text ≡ 65 ∷ 78 ∷ 68 ∷ rest) → ClosesConjunction text → ⊥
+wrong_and_goes_on : (text rest : List ℕ) → (after_blanks text ≡ 38 ∷ 38 ∷ rest) ⊎ (after_blanks text ≡ 65 ∷ 78 ∷ 68 ∷ rest) → ClosesConjunction text → ⊥
 wrong_and_goes_on text rest (inl e) = goes_on_by 38 text _ refl refl refl refl e
 wrong_and_goes_on text rest (inr e) = goes_on_by 65 text _ refl refl refl refl e
 
-pub wrong_and_step : (text rest : List ℕ) (old new : ℕ) → new ≡ old + 1 → (unblanked text ≡ 38 ∷ 38 ∷ rest) ⊎ (unblanked text ≡ 65 ∷ 78 ∷ 68 ∷ rest)
+pub wrong_and_step : (text rest : List ℕ) (old new : ℕ) → new ≡ old + 1 → (after_blanks text ≡ 38 ∷ 38 ∷ rest) ⊎ (after_blanks text ≡ 65 ∷ 78 ∷ 68 ∷ rest)
     → IsOperator ReadsJoint Unary ClosesConjunction text old new (And Ampersand) rest
 wrong_and_step text rest old new more wrong = record {
   more = Prim.omega (arith, more);
@@ -217,12 +217,12 @@ right_joint_finds text n (Some it) some none = right_joint_step it.0 text it.1.n
 right_joint_finds text n None some none = record { same = refl; never = none }
 
 -- what was found with one
-pub wrong_or_finds : (text ahead rest : List ℕ) (old new : ℕ) → ahead ≡ unblanked text → new ≡ old + 1 → (ahead ≡ 124 ∷ 124 ∷ rest) ⊎ (ahead ≡ 79 ∷ 82 ∷ rest)
+pub wrong_or_finds : (text ahead rest : List ℕ) (old new : ℕ) → ahead ≡ after_blanks text → new ≡ old + 1 → (ahead ≡ 124 ∷ 124 ∷ rest) ⊎ (ahead ≡ 79 ∷ 82 ∷ rest)
     → IsOperator ReadsOr Conjunction Closes text old new Pipe rest
 wrong_or_finds text ahead rest old new is more (inl e) = wrong_or_step text rest old new more (inl (sym is ∙ e))
 wrong_or_finds text ahead rest old new is more (inr e) = wrong_or_step text rest old new more (inr (sym is ∙ e))
 
-pub wrong_and_finds : (text ahead rest : List ℕ) (n old new : ℕ) → ahead ≡ unblanked text → new ≡ old + 1
+pub wrong_and_finds : (text ahead rest : List ℕ) (n old new : ℕ) → ahead ≡ after_blanks text → new ≡ old + 1
     → ((ahead ≡ 38 ∷ 38 ∷ rest) × (n ≡ 2)) ⊎ ((ahead ≡ 65 ∷ 78 ∷ 68 ∷ rest) × (n ≡ 3))
     → IsOperator ReadsJoint Unary ClosesConjunction text old new (And Ampersand) rest
 wrong_and_finds text ahead rest n old new is more (inl e) = wrong_and_step text rest old new more (inl (sym is ∙ e.0))

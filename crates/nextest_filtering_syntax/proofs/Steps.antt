@@ -9,7 +9,7 @@ use Rattle.nextest_filtering_ast.specs.declared.operators.NotOperator.{NotOperat
 use Rattle.nextest_filtering_ast.specs.declared.operators.OrOperator.{OrOperator}
 use Rattle.nextest_filtering_ast.specs.declared.operators.Joint.{Joint}
 use Rattle.nextest_filtering_ast.specs.Tree.{Tree, negation, union, parens}
-use Rattle.nextest_filtering_ast.specs.Grammar.{Behind, joined, ReadsNot, ReadsOr, ReadsJoint, Unary, Conjunction}
+use Rattle.nextest_filtering_ast.specs.Grammar.{Behind, joint_of, ReadsNot, ReadsOr, ReadsJoint, Unary, Conjunction}
 use Rattle.nextest_filtering_arguments.specs.Faults.{IsSuffix}
 use Rattle.nextest_filtering_arguments.proofs.Spans.{suffix_token, suffix_trans, shorter_token}
 use Rattle.nextest_filtering_syntax.specs.declared.tree.ParsedExpr.{ParsedExpr}
@@ -104,7 +104,7 @@ makes_negation old tree op now stack t u given top is places stands =
     }
 
 pub makes_joint : (left : Box ParsedExpr Global) (op : Joint) (old stack : List Waiting) (tree u : ParsedExpr) → old ≡ waits.Joint left op ∷ stack
-    → tree_of u ≡ joined op (tree_of left.value) (tree_of tree)
+    → tree_of u ≡ joint_of op (tree_of left.value) (tree_of tree)
     → ((input : List ℕ) → ArePlaced input left.value → ArePlaced input tree → ArePlaced input u)
     → ((input text middle behind rest : List ℕ) → Stands input left.value text middle → ReadsJoint op middle behind → Stands input tree behind rest → Stands input u text rest)
     → MakesUp (Has operand) (Has conjunction) old tree stack u
@@ -168,7 +168,7 @@ ok_known (Ok it) known = known
 ok_known (Err e) known = tt
 
 pub ok_makes_joint : {E : Type 0} (left : Box ParsedExpr Global) (op : Joint) (old stack : List Waiting) (tree : ParsedExpr) (r : Result ParsedExpr E) → old ≡ waits.Joint left op ∷ stack
-    → IfOk r (λ u. tree_of u ≡ joined op (tree_of left.value) (tree_of tree))
+    → IfOk r (λ u. tree_of u ≡ joint_of op (tree_of left.value) (tree_of tree))
     → ((input : List ℕ) → ArePlaced input left.value → ArePlaced input tree → IfOk r (ArePlaced input))
     → ((input text middle behind rest : List ℕ) → Stands input left.value text middle → ReadsJoint op middle behind → Stands input tree behind rest → IfOk r (λ u. Stands input u text rest))
     → IfOk r (MakesUp (Has operand) (Has conjunction) old tree stack)
@@ -198,8 +198,8 @@ leads_by_joint old tree one first two second left op new text rest before after 
           (then (Has operand one (tree_of first) text) (Has conjunction two (tree_of second) text) (Awaits (waits.Joint left op ∷ two) rest) before before after (joins.becomes text before)
           (joint_waits two (waits.Joint left op) (tree_of second) text rest before after op
           (λ whole end u next. (
-            (λ it. subst (λ x. GoesOn whole end two conjunction (joined op (tree_of x) u) next) holds it),
-            (λ it. subst (λ x. GoesOn whole end two conjunction (joined op (tree_of x) u) next) (sym holds) it),
+            (λ it. subst (λ x. GoesOn whole end two conjunction (joint_of op (tree_of x) u) next) holds it),
+            (λ it. subst (λ x. GoesOn whole end two conjunction (joint_of op (tree_of x) u) next) (sym holds) it),
           )) operator));
       placed = λ input waiting it.
           let a = makes.placed input waiting it in

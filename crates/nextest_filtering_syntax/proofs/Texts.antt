@@ -6,13 +6,13 @@ use Rattle.std.proofs.lemmas.Bool.{or_from, false≢true, cond-false, ne_eqb}
 use Rattle.std.proofs.lemmas.List.{append_assoc}
 use Rattle.std.proofs.lemmas.Str.{length-encode, len_utf8_bounds}
 use Rattle.nextest_filtering_escapes.specs.Text.{Piece, Plain, Escaped, Unicode, spelling, meaning, is_blank}
-use Rattle.nextest_filtering_escapes.specs.Printing.{escaped, slashed}
+use Rattle.nextest_filtering_escapes.specs.Printing.{text_with_escapes, regex_text_of}
 use Rattle.nextest_filtering_escapes.proofs.Shown.{escaped_reads_back, escaped_has_no_blank_ends}
 use Rattle.nextest_filtering_ast.specs.declared.leaf.BuildPlatform.{BuildPlatform}
 use Rattle.nextest_filtering_ast.specs.declared.leaf.BuildPlatform.TheVariants.{Host, Target}
 use Rattle.nextest_filtering_ast.specs.Tree.{Comparison, equal, contains, glob, regex, Matcher, Subject, package_name, dependencies, dependents, kind, binary_name, binary_id, test_name, group, Leaf, matching, built_for, default_filter, everything, nothing}
 use Rattle.nextest_filtering_ast.specs.Words.{platform_word}
-use Rattle.nextest_filtering_ast.specs.Grammar.{unblanked, Behind, is_sign, bare, Spells, ReadsSigned, ReadsBare, ReadsMatcher, leaf_word, ReadsArgument, ReadsLeaf}
+use Rattle.nextest_filtering_ast.specs.Grammar.{after_blanks, Behind, is_sign, bare, Spells, ReadsSigned, ReadsBare, ReadsMatcher, leaf_word, ReadsArgument, ReadsLeaf}
 use Rattle.nextest_filtering_ast.specs.Printing.{printed_as, printed_argument, printed_leaf}
 use Rattle.nextest_filtering_syntax.specs.Laws.{is_text_sign, IsUnsigned, HasUnsignedText}
 
@@ -34,7 +34,7 @@ some_pieces raw text (piece ∷ pieces) some spelled meant none =
 some_text : (raw text : List ℕ) → Spells raw text → text ≢ []
 some_text raw text spells = some_pieces raw text spells.stands.pieces spells.some spells.stands.spelled spells.stands.meant
 
-escaped_spells : (text : List ℕ) → text ≢ [] → Spells (escaped text) text
+escaped_spells : (text : List ℕ) → text ≢ [] → Spells (text_with_escapes text) text
 escaped_spells text some =
     let shown = escaped_has_no_blank_ends text in record {
       begins = λ rest byte is. shown.3.0 byte rest is;
@@ -43,28 +43,28 @@ escaped_spells text some =
       stands = escaped_reads_back text;
     }
 
-unblanked_front : (front rest : List ℕ) → front ≢ [] → ((behind : List ℕ) (byte : ℕ) → front ≡ byte ∷ behind → is_blank byte ≡ false) → unblanked (front ++ rest) ≡ front ++ rest
+unblanked_front : (front rest : List ℕ) → front ≢ [] → ((behind : List ℕ) (byte : ℕ) → front ≡ byte ∷ behind → is_blank byte ≡ false) → after_blanks (front ++ rest) ≡ front ++ rest
 unblanked_front [] rest some begins = absurd (some refl)
-unblanked_front (byte ∷ front) rest some begins = cond-false (is_blank byte) (unblanked (front ++ rest)) (byte ∷ (front ++ rest)) (begins front byte refl)
+unblanked_front (byte ∷ front) rest some begins = cond-false (is_blank byte) (after_blanks (front ++ rest)) (byte ∷ (front ++ rest)) (begins front byte refl)
 
-escaped_stands : (text rest : List ℕ) → text ≢ [] → Behind (escaped text) (escaped text ++ rest) rest
-escaped_stands text rest some = let spelled = escaped_spells text some in unblanked_front (escaped text) rest spelled.some spelled.begins
+escaped_stands : (text rest : List ℕ) → text ≢ [] → Behind (text_with_escapes text) (text_with_escapes text ++ rest) rest
+escaped_stands text rest some = let spelled = escaped_spells text some in unblanked_front (text_with_escapes text) rest spelled.some spelled.begins
 
 -- ---- a matcher
 
 signed_prints : (c : Comparison) (text argument end rest : List ℕ) → ReadsSigned c text argument end
     → ReadsSigned c text (printed_as c false text ++ 41 ∷ rest) (41 ∷ rest)
 signed_prints equal text argument end rest (raw, behind, opens, place, spells) =
-    let some = some_text raw text spells in (escaped text, escaped text ++ 41 ∷ rest, refl, escaped_stands text (41 ∷ rest) some, escaped_spells text some)
+    let some = some_text raw text spells in (text_with_escapes text, text_with_escapes text ++ 41 ∷ rest, refl, escaped_stands text (41 ∷ rest) some, escaped_spells text some)
 signed_prints contains text argument end rest (raw, behind, opens, place, spells) =
-    let some = some_text raw text spells in (escaped text, escaped text ++ 41 ∷ rest, refl, escaped_stands text (41 ∷ rest) some, escaped_spells text some)
+    let some = some_text raw text spells in (text_with_escapes text, text_with_escapes text ++ 41 ∷ rest, refl, escaped_stands text (41 ∷ rest) some, escaped_spells text some)
 signed_prints glob text argument end rest (raw, behind, opens, place, spells) =
-    let some = some_text raw text spells in (escaped text, escaped text ++ 41 ∷ rest, refl, escaped_stands text (41 ∷ rest) some, escaped_spells text some)
-signed_prints regex text argument end rest (raw, place, is) = (slashed text, refl, (refl, is.1))
+    let some = some_text raw text spells in (text_with_escapes text, text_with_escapes text ++ 41 ∷ rest, refl, escaped_stands text (41 ∷ rest) some, escaped_spells text some)
+signed_prints regex text argument end rest (raw, place, is) = (regex_text_of text, refl, (refl, is.1))
 
 -- a text without a sign prints without one
 bare_unsigned : (text : List ℕ) → ((first : ℕ) (rest : List ℕ) → text ≡ first ∷ rest → is_text_sign first ≡ false)
-    → (behind : List ℕ) (byte : ℕ) → escaped text ≡ byte ∷ behind → is_sign byte ≡ false
+    → (behind : List ℕ) (byte : ℕ) → text_with_escapes text ≡ byte ∷ behind → is_sign byte ≡ false
 bare_unsigned text unsigned behind byte is =
     let shown = escaped_has_no_blank_ends text in
     elim (shown.1 byte behind is) [
@@ -74,10 +74,10 @@ bare_unsigned text unsigned behind byte is =
     ]
 
 bare_prints : (text argument end rest : List ℕ) → ((first : ℕ) (more : List ℕ) → text ≡ first ∷ more → is_text_sign first ≡ false)
-    → ReadsBare text argument end → ReadsBare text (escaped text ++ 41 ∷ rest) (41 ∷ rest)
+    → ReadsBare text argument end → ReadsBare text (text_with_escapes text ++ 41 ∷ rest) (41 ∷ rest)
 bare_prints text argument end rest unsigned reads =
     let some = some_text reads.raw text reads.spelled in record {
-      raw = escaped text;
+      raw = text_with_escapes text;
       place = escaped_stands text (41 ∷ rest) some;
       spelled = escaped_spells text some;
       unsigned = bare_unsigned text unsigned;
@@ -94,7 +94,7 @@ bare_is_no_regex binary_id same = cc
 bare_is_no_regex test_name same = cc
 bare_is_no_regex group same = cc
 
-pub printed_bare : (subject : Subject) (c : Comparison) (text : List ℕ) → c ≡ bare subject → printed_as c true text ≡ escaped text
+pub printed_bare : (subject : Subject) (c : Comparison) (text : List ℕ) → c ≡ bare subject → printed_as c true text ≡ text_with_escapes text
 printed_bare subject equal text same = refl
 printed_bare subject contains text same = refl
 printed_bare subject glob text same = refl
@@ -139,7 +139,7 @@ argument_prints default_filter argument end rest unsigned reads = refl
 argument_prints everything argument end rest unsigned reads = refl
 argument_prints nothing argument end rest unsigned reads = refl
 
-pub word_stands : (it : Leaf) (rest : List ℕ) → unblanked (leaf_word it ++ rest) ≡ leaf_word it ++ rest
+pub word_stands : (it : Leaf) (rest : List ℕ) → after_blanks (leaf_word it ++ rest) ≡ leaf_word it ++ rest
 word_stands (matching package_name m) rest = refl
 word_stands (matching dependencies m) rest = refl
 word_stands (matching dependents m) rest = refl
@@ -163,7 +163,7 @@ leaf_prints it text end rest unsigned reads = record {
   named = 40 ∷ (printed_argument it ++ 41 ∷ rest);
   opened = printed_argument it ++ 41 ∷ rest;
   read = 41 ∷ rest;
-  name = ap unblanked (parts_of (leaf_word it) (printed_argument it) rest) ∙ word_stands it (40 ∷ (printed_argument it ++ 41 ∷ rest));
+  name = ap after_blanks (parts_of (leaf_word it) (printed_argument it) rest) ∙ word_stands it (40 ∷ (printed_argument it ++ 41 ∷ rest));
   opens = refl;
   argument = argument_prints it reads.opened reads.read rest unsigned reads.argument;
   closes = refl;

@@ -5,7 +5,7 @@ use Rattle.std.proofs.lemmas.Bool.{false≢true}
 use Rattle.nextest_filtering_ast.specs.declared.operators.NotOperator.{NotOperator}
 use Rattle.nextest_filtering_ast.specs.declared.operators.NotOperator.TheVariants.{LiteralNot, Exclamation}
 use Rattle.nextest_filtering_ast.specs.Tree.{package_name, dependencies, dependents, kind, binary_name, binary_id, test_name, group, Leaf, matching, built_for, default_filter, everything, nothing, Tree, set, union}
-use Rattle.nextest_filtering_ast.specs.Grammar.{unblanked, leaf_word, joined, ReadsNot, ReadsOr, ReadsJoint, ReadsLeaf, Unary, a_negation, a_group, a_predicate, Conjunction, first_operand, next_operand, Expression, first_conjunction, next_conjunction, IsFilterset}
+use Rattle.nextest_filtering_ast.specs.Grammar.{after_blanks, leaf_word, joint_of, ReadsNot, ReadsOr, ReadsJoint, ReadsLeaf, Unary, a_negation, a_group, a_predicate, Conjunction, first_operand, next_operand, Expression, first_conjunction, next_conjunction, IsFilterset}
 use Rattle.nextest_filtering_syntax.specs.Parsing.{Anywhere, Closes, ClosesConjunction, IsPart, IsNoOperator}
 use Rattle.nextest_filtering_syntax.proofs.Chains.{HasRead, conjunction_level, expression_level, begins, goes_on, ends_here, read_as}
 use Rattle.nextest_filtering_syntax.proofs.Closings.{closed}
@@ -33,11 +33,11 @@ leaf_opens default_filter rest = refl
 leaf_opens everything rest = refl
 leaf_opens nothing rest = refl
 
-not_opens : (op : NotOperator) (text behind : List ℕ) → ReadsNot op text behind → opens (unblanked text) ≡ true
+not_opens : (op : NotOperator) (text behind : List ℕ) → ReadsNot op text behind → opens (after_blanks text) ≡ true
 not_opens LiteralNot text behind reads = ap opens reads.0
 not_opens Exclamation text behind reads = ap opens reads
 
-no_leaf : (it : Leaf) (text rest : List ℕ) → ReadsLeaf it text rest → opens (unblanked text) ≡ true → ⊥
+no_leaf : (it : Leaf) (text rest : List ℕ) → ReadsLeaf it text rest → opens (after_blanks text) ≡ true → ⊥
 no_leaf it text rest read holds = false≢true (sym (ap opens read.name ∙ leaf_opens it read.named) ∙ holds)
 
 -- where a predicate stands, it is all that an operand can be
@@ -68,7 +68,7 @@ no_or rest closes = record { same = refl; never = λ op behind reads. or_goes_on
 -- ---- trees
 
 abbrev ReadConjunction : List ℕ → Tree → List ℕ → Type 0
-ReadConjunction text t rest = HasRead ReadsJoint Unary joined Conjunction ClosesConjunction text 0 0 t rest
+ReadConjunction text t rest = HasRead ReadsJoint Unary joint_of Conjunction ClosesConjunction text 0 0 t rest
 
 abbrev ReadExpression : List ℕ → Tree → List ℕ → Type 0
 ReadExpression text t rest = HasRead ReadsOr Conjunction union Expression Closes text 0 0 t rest
@@ -79,13 +79,13 @@ mutual
   one_operand _ _ _ (a_group t text inside behind rest first read closes) =
       grouped text inside behind rest 0 0 0 t first
       (ends_here inside 0 0 0 t behind (expression_read inside t behind read (inl (inr (rest, closes)))) (no_or behind (inr (rest, closes))))
-      (closed behind (unblanked behind) rest 0 refl closes)
+      (closed behind (after_blanks behind) rest 0 refl closes)
   one_operand _ _ _ (a_predicate it text rest read) = leaf_part it text rest read
 
   conjunction_read : (text : List ℕ) (t : Tree) (rest : List ℕ) → Conjunction text t rest → ReadConjunction text t rest
   conjunction_read _ _ _ (first_operand t text rest operand) = begins text 0 0 t rest conjunction_level (one_operand text t rest operand)
   conjunction_read _ _ _ (next_operand op a b t text middle behind rest left reads right is) =
-      read_as text 0 0 t (joined op a b) rest is
+      read_as text 0 0 t (joint_of op a b) rest is
       (goes_on text 0 0 0 0 a b op middle behind rest conjunction_level (conjunction_read text a middle left)
       (right_joint_step op middle behind 0 reads) (one_operand behind b rest right))
 

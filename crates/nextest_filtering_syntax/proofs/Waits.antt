@@ -6,7 +6,7 @@ use Rattle.nextest_filtering_ast.specs.declared.operators.NotOperator.{NotOperat
 use Rattle.nextest_filtering_ast.specs.declared.operators.OrOperator.{OrOperator}
 use Rattle.nextest_filtering_ast.specs.declared.operators.Joint.{Joint}
 use Rattle.nextest_filtering_ast.specs.Tree.{Tree, negation, union, parens}
-use Rattle.nextest_filtering_ast.specs.Grammar.{Behind, joined, ReadsNot, ReadsOr, ReadsJoint, Unary, a_negation, a_group, Conjunction, first_operand, Expression, first_conjunction}
+use Rattle.nextest_filtering_ast.specs.Grammar.{Behind, joint_of, ReadsNot, ReadsOr, ReadsJoint, Unary, a_negation, a_group, Conjunction, first_operand, Expression, first_conjunction}
 use Rattle.nextest_filtering_syntax.specs.declared.waiting.Waiting.{Waiting}
 use Rattle.nextest_filtering_syntax.specs.declared.waiting.Waiting.TheVariants as waits
 use Rattle.nextest_filtering_syntax.specs.Parsed.{tree_of}
@@ -112,18 +112,18 @@ closes_expression whole end (waits.Union left op ∷ more) t rest closes none = 
 joint_only : (GoesOn : Tree → List ℕ → Type 0) (t : Tree) (rest behind : List ℕ) (now new : ℕ) (op : Joint)
     → ((found : Tree) (last : List ℕ) → GoesOn found last → ClosesConjunction last)
     → IsOperator ReadsJoint Unary ClosesConjunction rest now new op behind → AsConjunction GoesOn t rest
-    → (new ≡ now) × (b : Tree) × (next : List ℕ) × Unary behind b next × AsConjunction GoesOn (joined op t b) next
+    → (new ≡ now) × (b : Tree) × (next : List ℕ) × Unary behind b next × AsConjunction GoesOn (joint_of op t b) next
 joint_only GoesOn t rest behind now new op closes operator (found, last, after, goes) =
     let it = goes_behind {Ends = Anywhere} t rest now new op behind found last (λ x y a m more stops. tt) operator after (closes found last goes) in
     (it.0, it.1, it.2, it.3, (found, last, it.5, goes))
 
 joint_reads : (GoesOn : Tree → List ℕ → Type 0) (t : Tree) (rest behind : List ℕ) (op : Joint) (b : Tree) (next : List ℕ)
-    → ReadsJoint op rest behind → Unary behind b next → AsConjunction GoesOn (joined op t b) next → AsConjunction GoesOn t rest
+    → ReadsJoint op rest behind → Unary behind b next → AsConjunction GoesOn (joint_of op t b) next → AsConjunction GoesOn t rest
 joint_reads GoesOn t rest behind op b next reads read (found, last, after, goes) = (found, last, link op t b rest behind next reads read after, goes)
 
 from_joint : (whole : Tree) (end : List ℕ) (stack : List Waiting) (t : Tree) (rest behind : List ℕ) (now new : ℕ) (op : Joint) → Closes end
     → IsOperator ReadsJoint Unary ClosesConjunction rest now new op behind → GoesOn whole end stack conjunction t rest
-    → (new ≡ now) × (b : Tree) × (next : List ℕ) × Unary behind b next × GoesOn whole end stack conjunction (joined op t b) next
+    → (new ≡ now) × (b : Tree) × (next : List ℕ) × Unary behind b next × GoesOn whole end stack conjunction (joint_of op t b) next
 from_joint whole end [] t rest behind now new op closes operator goes =
     joint_only (GoesOn whole end [] expression) t rest behind now new op (λ found last it. closes_expression whole end [] found last closes it) operator goes
 from_joint whole end (waits.Not by ∷ more) t rest behind now new op closes operator goes = absurd goes
@@ -136,7 +136,7 @@ from_joint whole end (waits.Union left by ∷ more) t rest behind now new op clo
     (λ found last it. closes_expression whole end more (union by (tree_of left.value) found) last closes it) operator goes
 
 to_joint : (whole : Tree) (end : List ℕ) (stack : List Waiting) (t : Tree) (rest behind : List ℕ) (op : Joint) (b : Tree) (next : List ℕ)
-    → ReadsJoint op rest behind → Unary behind b next → GoesOn whole end stack conjunction (joined op t b) next → GoesOn whole end stack conjunction t rest
+    → ReadsJoint op rest behind → Unary behind b next → GoesOn whole end stack conjunction (joint_of op t b) next → GoesOn whole end stack conjunction t rest
 to_joint whole end [] t rest behind op b next reads read goes = joint_reads (GoesOn whole end [] expression) t rest behind op b next reads read goes
 to_joint whole end (waits.Not by ∷ more) t rest behind op b next reads read goes = goes
 to_joint whole end (waits.Parens ∷ more) t rest behind op b next reads read goes =
@@ -147,8 +147,8 @@ to_joint whole end (waits.Union left by ∷ more) t rest behind op b next reads 
 
 -- an operator was read, and waits with its left operand
 pub joint_waits : (stack : List Waiting) (waiting : Waiting) (t : Tree) (rest behind : List ℕ) (now new : ℕ) (op : Joint)
-    → ((whole : Tree) (end : List ℕ) (u : Tree) (next : List ℕ) → (GoesOn whole end (waiting ∷ stack) operand u next → GoesOn whole end stack conjunction (joined op t u) next)
-    × (GoesOn whole end stack conjunction (joined op t u) next → GoesOn whole end (waiting ∷ stack) operand u next))
+    → ((whole : Tree) (end : List ℕ) (u : Tree) (next : List ℕ) → (GoesOn whole end (waiting ∷ stack) operand u next → GoesOn whole end stack conjunction (joint_of op t u) next)
+    × (GoesOn whole end stack conjunction (joint_of op t u) next → GoesOn whole end (waiting ∷ stack) operand u next))
     → IsOperator ReadsJoint Unary ClosesConjunction rest now new op behind → Becomes (Has conjunction stack t rest) (Awaits (waiting ∷ stack) behind) now new
 joint_waits stack waiting t rest behind now new op alike operator = record {
   more = operator.more;

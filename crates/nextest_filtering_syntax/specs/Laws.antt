@@ -2,7 +2,7 @@
 use Rattle.std.specs.Prelude.{◌≡◌, ◌↔◌, ℕ, ◌==◌, Bool, true, false, ◌||◌, List, ◌∷◌, ⊤}
 use Rattle.nextest_filtering_ast.specs.Tree.{Matcher, Leaf, matching, built_for, default_filter, everything, nothing, Tree, negation, union, intersection, difference, parens, set}
 use Rattle.nextest_filtering_ast.specs.Grammar.{IsFilterset}
-use Rattle.nextest_filtering_ast.specs.Printing.{printed}
+use Rattle.nextest_filtering_ast.specs.Printing.{text_of_tree}
 
 -- `=`, `~` and `#`
 abbrev pub is_text_sign : ℕ → Bool
@@ -37,11 +37,11 @@ pub record IsWellFormed (tree : Tree) : Type 0 where
 
 -- what is printed of such a filterset is this filterset
 abbrev pub ReadsBack : Type 0
-ReadsBack = (tree : Tree) → IsWellFormed tree → IsFilterset (printed tree) tree
+ReadsBack = (tree : Tree) → IsWellFormed tree → IsFilterset (text_of_tree tree) tree
 
 -- and so it is of no other: what is printed of a tree is read as that tree exactly where the tree is well formed
 abbrev pub ReadsBackExactly : Type 0
-ReadsBackExactly = (tree : Tree) → IsFilterset (printed tree) tree ↔ IsWellFormed tree
+ReadsBackExactly = (tree : Tree) → IsFilterset (text_of_tree tree) tree ↔ IsWellFormed tree
 
 -- a text is one filterset at most
 abbrev pub OneTree : Type 0

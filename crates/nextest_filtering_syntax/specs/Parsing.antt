@@ -5,7 +5,7 @@ use Rattle.nextest_filtering_ast.specs.declared.operators.OrOperator.{OrOperator
 use Rattle.nextest_filtering_syntax.specs.declared.tree.ParsedExpr.{ParsedExpr}
 use Rattle.nextest_filtering_ast.specs.Tree.{Matcher, Leaf, matching, built_for, default_filter, everything, nothing, Tree, set}
 use Rattle.nextest_filtering_syntax.specs.Parsed.{tree_of}
-use Rattle.nextest_filtering_ast.specs.Grammar.{unblanked, Behind, ReadsOr, ReadsLeaf, ReadsArgument}
+use Rattle.nextest_filtering_ast.specs.Grammar.{after_blanks, Behind, ReadsOr, ReadsLeaf, ReadsArgument}
 use Rattle.nextest_filtering_ast.specs.declared.leaf.BuildPlatform.{BuildPlatform}
 use Rattle.nextest_filtering_arguments.specs.Matchers.{subject_of}
 use Rattle.nextest_filtering_arguments.specs.declared.stop.Stop.{Stop}
@@ -16,7 +16,7 @@ use Rattle.nextest_filtering_syntax.specs.declared.name.Name.TheVariants as name
 
 -- nothing but blanks is left, or a `)` comes next
 abbrev pub Closes : List ℕ → Type 0
-Closes text = (unblanked text ≡ []) ⊎ ((rest : List ℕ) × (unblanked text ≡ 41 ∷ rest))
+Closes text = (after_blanks text ≡ []) ⊎ ((rest : List ℕ) × (after_blanks text ≡ 41 ∷ rest))
 
 -- or an operator of a union
 abbrev pub ClosesConjunction : List ℕ → Type 0

@@ -2,22 +2,22 @@
 use Rattle.std.specs.Prelude.{ℕ, ◌+◌, ◌*◌, List, [], ◌∷◌, ◌++◌, codes, String, string_bytes}
 use Rattle.std.specs.declared.alloc.Global.{Global}
 use Rattle.nextest_filtering_ast.specs.Words.{or_word, and_word, minus_word}
-use Rattle.nextest_filtering_ast.specs.Printing.{printed}
+use Rattle.nextest_filtering_ast.specs.Printing.{text_of_tree}
 use Rattle.nextest_filtering_syntax.specs.declared.text.Piece.{Piece}
 use Rattle.nextest_filtering_syntax.specs.declared.text.Piece.TheVariants as piece
 use Rattle.nextest_filtering_syntax.specs.Parsed.{tree_of}
 use Rattle.nextest_filtering_syntax.specs.Walking.{weight}
 
 -- an operator's word between spaces
-abbrev pub spaced : List ℕ → List ℕ
-spaced word = codes " " ++ word ++ codes " "
+abbrev pub between_spaces : List ℕ → List ℕ
+between_spaces word = codes " " ++ word ++ codes " "
 
 -- how a piece prints
 abbrev pub piece_text : Piece → List ℕ
-piece_text (piece.Tree t) = printed (tree_of t.now)
-piece_text (piece.Or op) = spaced (or_word op)
-piece_text (piece.And op) = spaced (and_word op)
-piece_text (piece.Minus op) = spaced (minus_word op)
+piece_text (piece.Tree t) = text_of_tree (tree_of t.now)
+piece_text (piece.Or op) = between_spaces (or_word op)
+piece_text (piece.And op) = between_spaces (and_word op)
+piece_text (piece.Minus op) = between_spaces (minus_word op)
 piece_text piece.Close = codes ")"
 
 -- how pieces print of which the last one comes first

@@ -1,6 +1,6 @@
 -- Where the predicates of a tree stand.
 use Rattle.std.specs.Prelude.{◌≡◌, ℕ, ◌-◌, List, [], ◌++◌, length, codes, Option, Some, None, IfSome}
-use Rattle.nextest_filtering_ast.specs.Grammar.{unblanked, leaf_word, Behind, ReadsNot, ReadsOr, ReadsJoint, ReadsLeaf}
+use Rattle.nextest_filtering_ast.specs.Grammar.{after_blanks, leaf_word, Behind, ReadsNot, ReadsOr, ReadsJoint, ReadsLeaf}
 use Rattle.nextest_filtering_ast.specs.Tree.{leaf_of}
 use Rattle.nextest_filtering_ast.specs.declared.operators.Joint.TheVariants.{And, Minus}
 use Rattle.nextest_filtering_ast.specs.declared.leaf.SourceSpan.{SourceSpan}
@@ -8,7 +8,7 @@ use Rattle.nextest_filtering_ast.specs.declared.leaf.ParsedLeaf.{ParsedLeaf}
 use Rattle.nextest_filtering_ast.specs.declared.leaf.ParsedLeaf.TheVariants as leaf
 use Rattle.nextest_filtering_syntax.specs.declared.tree.ParsedExpr.{ParsedExpr}
 use Rattle.nextest_filtering_syntax.specs.declared.tree.ParsedExpr.TheVariants as tree
-use Rattle.nextest_filtering_arguments.specs.Faults.{IsSuffix, Lies, here, spanned}
+use Rattle.nextest_filtering_arguments.specs.Faults.{IsSuffix, Lies, here, bytes_in_span}
 
 -- the span of a predicate; `all` and `none` have none
 abbrev pub span_of : ParsedLeaf → Option SourceSpan
@@ -27,7 +27,7 @@ span_of leaf.None = None
 
 -- a part of the input that begins with the word
 abbrev pub Begins : List ℕ → List ℕ → SourceSpan → Type 0
-Begins input word span = Lies input span × ((rest : List ℕ) × (spanned input span ≡ word ++ rest))
+Begins input word span = Lies input span × ((rest : List ℕ) × (bytes_in_span input span ≡ word ++ rest))
 
 -- a predicate's span is a part of the input that begins with its name
 abbrev pub IsPlacedLeaf : List ℕ → ParsedLeaf → Type 0
@@ -63,11 +63,11 @@ Stands input (tree.Union' op p a q b) text rest = (middle behind : List ℕ) × 
 Stands input (tree.Intersection' op p a q b) text rest = (middle behind : List ℕ) × Stands input a text middle × ReadsJoint (And op) middle behind × Stands input b behind rest
 Stands input (tree.Difference' op p a q b) text rest = (middle behind : List ℕ) × Stands input a text middle × ReadsJoint (Minus op) middle behind × Stands input b behind rest
 Stands input (tree.Parens' p t) text rest = (inside behind : List ℕ) × Behind (codes "(") text inside × Stands input t inside behind × Behind (codes ")") behind rest
-Stands input (tree.Set it) text rest = ReadsLeaf (leaf_of it) text rest × Spans input (unblanked text) rest it
+Stands input (tree.Set it) text rest = ReadsLeaf (leaf_of it) text rest × Spans input (after_blanks text) rest it
 
 -- so stands the whole text, but for blanks behind it
 abbrev pub StandsWhole : List ℕ → ParsedExpr → Type 0
-StandsWhole text t = (rest : List ℕ) × Stands text t text rest × (unblanked rest ≡ [])
+StandsWhole text t = (rest : List ℕ) × Stands text t text rest × (after_blanks rest ≡ [])
 
 -- start begins with the word, and text stands behind it
 abbrev pub IsNamed : List ℕ → List ℕ → List ℕ → Type 0

@@ -2,7 +2,7 @@
 use Rattle.std.specs.Prelude.{◌≡◌, ℕ, ◌≤◌, Bool, true, false, List, [], ◌∷◌, length, codes, ⊤}
 use Rattle.nextest_filtering_ast.specs.declared.operators.NotOperator.{NotOperator}
 use Rattle.nextest_filtering_ast.specs.Tree.{Tree, negation, union, parens}
-use Rattle.nextest_filtering_ast.specs.Grammar.{unblanked, Behind, joined, ReadsNot, ReadsOr, ReadsJoint, Unary, Conjunction}
+use Rattle.nextest_filtering_ast.specs.Grammar.{after_blanks, Behind, joint_of, ReadsNot, ReadsOr, ReadsJoint, Unary, Conjunction}
 use Rattle.nextest_filtering_arguments.specs.Faults.{IsSuffix}
 use Rattle.nextest_filtering_syntax.specs.declared.tree.ParsedExpr.{ParsedExpr}
 use Rattle.nextest_filtering_syntax.specs.declared.ahead.Ahead.{Ahead}
@@ -69,7 +69,7 @@ pub data After {Op : Type 0} (Reads : Op → List ℕ → List ℕ → Type 0) (
   link : (op : Op) (so_far b : Tree) (middle behind next : List ℕ) → Reads op middle behind → Operand behind b next → After Reads Operand join t rest (join op so_far b) next → After Reads Operand join t rest so_far middle
 
 abbrev pub AfterOperand : Tree → List ℕ → Tree → List ℕ → Type 0
-AfterOperand = After ReadsJoint Unary joined
+AfterOperand = After ReadsJoint Unary joint_of
 
 abbrev pub AfterConjunction : Tree → List ℕ → Tree → List ℕ → Type 0
 AfterConjunction = After ReadsOr Conjunction union
@@ -114,7 +114,7 @@ abbrev pub GoesOn : Tree → List ℕ → List Waiting → Part → Tree → Lis
 GoesOn whole end [] part = FromPart part (λ t rest. (whole ≡ t) × (end ≡ rest))
 GoesOn whole end (waits.Not op ∷ more) part = FromOperand part (λ t. GoesOn whole end more operand (negation op t))
 GoesOn whole end (waits.Parens ∷ more) part = FromPart part (AsGroup (GoesOn whole end more operand))
-GoesOn whole end (waits.Joint left op ∷ more) part = FromOperand part (λ t. GoesOn whole end more conjunction (joined op (tree_of left.value) t))
+GoesOn whole end (waits.Joint left op ∷ more) part = FromOperand part (λ t. GoesOn whole end more conjunction (joint_of op (tree_of left.value) t))
 GoesOn whole end (waits.Union left op ∷ more) part = FromUnion part (λ t. GoesOn whole end more expression (union op (tree_of left.value) t))
 
 -- a whole conjunction was read
@@ -166,7 +166,7 @@ IsOpening (waits.Union left op) text rest = ⊥
 -- neither a negation nor a `(` comes next
 pub record OpensNothing (text : List ℕ) : Type 0 where
   pub no_negation : (op : NotOperator) (rest : List ℕ) → ReadsNot op text rest → ⊥
-  pub no_group : (rest : List ℕ) → unblanked text ≡ 40 ∷ rest → ⊥
+  pub no_group : (rest : List ℕ) → after_blanks text ≡ 40 ∷ rest → ⊥
 
 -- ---- where predicates stand
 

@@ -28,11 +28,6 @@ weight (tree.Difference' op p a q b) = 2 * weight a + weight b + 1
 weight (tree.Parens' p t) = weight t + 1
 weight (tree.Set it) = 1
 
--- that of a tree and what waits behind it
-abbrev pub weight_with : ParsedExpr → Option Boxed → ℕ
-weight_with t None = weight t
-weight_with t (Some behind) = 2 * weight t + weight behind.value
-
 -- that of all trees that wait
 abbrev pub waiting_weight : List (Bor ParsedExpr) → ℕ
 waiting_weight [] = 0

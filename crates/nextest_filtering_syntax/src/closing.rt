@@ -1,6 +1,6 @@
 // The ends of predicates and of parentheses.
 ghost use Rattle.std.specs.Prelude.{◌≡◌, ◌≤◌, ◌⊎◌, ◌∷◌, ◌++◌, ◌+◌, ℕ, List, IfOk};
-ghost use Rattle.nextest_filtering_ast.specs.Grammar.{unblanked};
+ghost use Rattle.nextest_filtering_ast.specs.Grammar.{after_blanks};
 ghost use Rattle.nextest_filtering_arguments.specs.Faults.{IsSuffix, count};
 ghost use Rattle.nextest_filtering_syntax.specs.Parsing.{IsClosed};
 
@@ -11,7 +11,8 @@ use std::alloc::AllocError;
 pub(crate) fn close<'i>(faults: &mut Faults<'_>, text: &'i str) -> Result<&'i str, AllocError>
     requires suffix { IsSuffix text.now faults.old.input }
     ensures input { faults.new.input ≡ faults.old.input }
-    ensures closes { IfOk result (λ rest. IsClosed text.now (count faults.old) (count faults.new) rest.now) }
+    ensures closes { IfOk result
+        (λ rest. IsClosed text.now (count faults.old) (count faults.new) rest.now) }
 {
     let ahead = skip_blanks(text);
     if let Some(rest) = behind(ahead, ")") {
@@ -39,7 +40,8 @@ pub(crate) fn close_argument<'i>(
 ) -> Result<&'i str, AllocError>
     requires suffix { IsSuffix text.now faults.old.input }
     ensures input { faults.new.input ≡ faults.old.input }
-    ensures closes { IfOk result (λ rest. IsClosed text.now (count faults.old) (count faults.new) rest.now) }
+    ensures closes { IfOk result
+        (λ rest. IsClosed text.now (count faults.old) (count faults.new) rest.now) }
 {
     let ahead = skip_blanks(text);
     let Some(behind_comma) = behind(ahead, ",") else {

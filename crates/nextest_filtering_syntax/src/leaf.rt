@@ -49,7 +49,8 @@ fn about<'i>(
     requires suffix { IsSuffix text.now start.now }
     requires named { IsNamed (subject_word (subject_of subject)) start.now text.now }
     ensures input { faults.new.input ≡ faults.old.input }
-    ensures finds { FindsArgument (About subject) text.now (count faults.old) (count faults.new) result }
+    ensures finds { FindsArgument (About subject) text.now (count faults.old)
+        (count faults.new) result }
     ensures placed { IfOk result (λ it. ArePlaced faults.old.input it.0) }
     ensures spanned { IfOk result (λ it. IsSpanned faults.old.input start.now it.1.now it.0) }
 {
@@ -92,7 +93,8 @@ fn built_for<'i>(
 fn no_argument<'i>(faults: &mut Faults<'_>, text: &'i str) -> Result<&'i str, AllocError>
     requires suffix { IsSuffix text.now faults.old.input }
     ensures input { faults.new.input ≡ faults.old.input }
-    ensures closes { IfOk result (λ rest. IsClosed text.now (count faults.old) (count faults.new) rest.now) }
+    ensures closes { IfOk result
+        (λ rest. IsClosed text.now (count faults.old) (count faults.new) rest.now) }
 {
     let ahead = skip_blanks(text);
     if ahead.is_empty() {
@@ -179,9 +181,11 @@ pub(crate) fn predicate<'i>(
 ) -> Result<(ParsedExpr, &'i str), Stop>
     requires suffix { IsSuffix text.now faults.old.input }
     ensures input { faults.new.input ≡ faults.old.input }
-    ensures finds { Finds ReadsPredicate Anywhere text.now (count faults.old) (count faults.new) result }
+    ensures finds { Finds ReadsPredicate Anywhere text.now (count faults.old)
+        (count faults.new) result }
     ensures placed { IfOk result (λ it. ArePlaced faults.old.input it.0) }
-    ensures stands { count faults.new ≡ count faults.old → IfOk result (λ it. Stands faults.old.input it.0 text.now it.1.now) }
+    ensures stands { count faults.new ≡ count faults.old
+        → IfOk result (λ it. Stands faults.old.input it.0 text.now it.1.now) }
 {
     let start = skip_blanks(text);
     let Some((name, named)) = predicate_name(start) else {

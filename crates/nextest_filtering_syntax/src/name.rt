@@ -34,8 +34,10 @@ fn goes_on(text: &str) -> bool
 
 // What follows the word, where it is the whole name.
 fn behind_name<'i>(text: &'i str, word: &str) -> Option<&'i str>
-    ensures some { IfSome result (λ rest. (text.now ≡ word.now ++ rest.now) × (goes_on rest.now ≡ false)) }
-    ensures none { IfNone result ((rest : List ℕ) → text.now ≡ word.now ++ rest → goes_on rest ≡ false → ⊥) }
+    ensures some { IfSome result
+        (λ rest. (text.now ≡ word.now ++ rest.now) × (goes_on rest.now ≡ false)) }
+    ensures none { IfNone result
+        ((rest : List ℕ) → text.now ≡ word.now ++ rest → goes_on rest ≡ false → ⊥) }
 {
     let rest = behind(text, word)?;
     if goes_on(rest) { None } else { Some(rest) }
@@ -44,7 +46,8 @@ fn behind_name<'i>(text: &'i str, word: &str) -> Option<&'i str>
 // The name of a predicate with a matcher, and what follows it.
 fn subject_name(text: &str) -> Option<(Subject, &str)>
     ensures some { IfSome result (λ it. ReadsName (About it.0) text.now it.1.now) }
-    ensures none { IfNone result ((subject : Subject) (rest : List ℕ) → ReadsName (About subject) text.now rest → ⊥) }
+    ensures none { IfNone result
+        ((subject : Subject) (rest : List ℕ) → ReadsName (About subject) text.now rest → ⊥) }
 {
     if let Some(rest) = behind_name(text, "package") {
         return Some((Subject::Package, rest));
@@ -76,7 +79,8 @@ fn subject_name(text: &str) -> Option<(Subject, &str)>
 /// The name of a predicate that comes next, and what follows it.
 pub(crate) fn predicate_name(text: &str) -> Option<(Name, &str)>
     ensures some { IfSome result (λ it. ReadsName it.0 text.now it.1.now) }
-    ensures none { IfNone result ((name : Name) (rest : List ℕ) → ReadsName name text.now rest → ⊥) }
+    ensures none { IfNone result
+        ((name : Name) (rest : List ℕ) → ReadsName name text.now rest → ⊥) }
 {
     if let Some((subject, rest)) = subject_name(text) {
         return Some((Name::About(subject), rest));

@@ -1,6 +1,6 @@
 // The operators between operands, and what is taken for one.
 ghost use Rattle.std.specs.Prelude.{◌≡◌, ◌⊎◌, ◌++◌, ◌∷◌, ℕ, List, true, IfOk, IfSome, IfNone};
-ghost use Rattle.nextest_filtering_ast.specs.Grammar.{unblanked, ends_word, ReadsNot, ReadsOr, ReadsJoint, Unary, Conjunction};
+ghost use Rattle.nextest_filtering_ast.specs.Grammar.{after_blanks, ends_word, ReadsNot, ReadsOr, ReadsJoint, Unary, Conjunction};
 ghost use Rattle.nextest_filtering_ast.specs.declared.operators.NotOperator.{NotOperator};
 ghost use Rattle.nextest_filtering_ast.specs.declared.operators.OrOperator.{OrOperator};
 ghost use Rattle.nextest_filtering_ast.specs.declared.operators.Joint.{Joint};
@@ -27,7 +27,8 @@ fn ends_word(text: &str) -> bool
 fn behind_word<'i>(text: &'i str, front: &str) -> Option<&'i str>
     ensures some { IfSome result (λ rest. text.now ≡ front.now ++ rest.now) }
     ensures ends { IfSome result (λ rest. ends_word rest.now ≡ true) }
-    ensures none { IfNone result ((rest : List ℕ) → text.now ≡ front.now ++ rest → ends_word rest ≡ true → ⊥) }
+    ensures none { IfNone result
+        ((rest : List ℕ) → text.now ≡ front.now ++ rest → ends_word rest ≡ true → ⊥) }
 {
     let rest = behind(text, front)?;
     if ends_word(rest) { Some(rest) } else { None }
@@ -36,7 +37,8 @@ fn behind_word<'i>(text: &'i str, front: &str) -> Option<&'i str>
 /// The negation that comes next, and what follows it.
 pub(crate) fn not_operator(text: &str) -> Option<(NotOperator, &str)>
     ensures some { IfSome result (λ it. ReadsNot it.0 text.now it.1.now) }
-    ensures none { IfNone result ((op : NotOperator) (rest : List ℕ) → ReadsNot op text.now rest → ⊥) }
+    ensures none { IfNone result
+        ((op : NotOperator) (rest : List ℕ) → ReadsNot op text.now rest → ⊥) }
 {
     let ahead = skip_blanks(text);
     if let Some(rest) = behind_word(ahead, "not") {
@@ -51,7 +53,8 @@ pub(crate) fn not_operator(text: &str) -> Option<(NotOperator, &str)>
 // The operator of a union that comes next, and what follows it.
 fn right_or(text: &str) -> Option<(OrOperator, &str)>
     ensures some { IfSome result (λ it. ReadsOr it.0 text.now it.1.now) }
-    ensures none { IfNone result ((op : OrOperator) (rest : List ℕ) → ReadsOr op text.now rest → ⊥) }
+    ensures none { IfNone result
+        ((op : OrOperator) (rest : List ℕ) → ReadsOr op text.now rest → ⊥) }
 {
     let ahead = skip_blanks(text);
     if let Some(rest) = behind_word(ahead, "or") {
@@ -68,7 +71,8 @@ fn right_or(text: &str) -> Option<(OrOperator, &str)>
 
 // What follows `||` or `OR` at the start of `text`.
 fn wrong_or(text: &str) -> Option<&str>
-    ensures some { IfSome result (λ rest. (text.now ≡ 124 ∷ 124 ∷ rest.now) ⊎ (text.now ≡ 79 ∷ 82 ∷ rest.now)) }
+    ensures some { IfSome result
+        (λ rest. (text.now ≡ 124 ∷ 124 ∷ rest.now) ⊎ (text.now ≡ 79 ∷ 82 ∷ rest.now)) }
 {
     if let Some(rest) = behind(text, "||") {
         return Some(rest);
@@ -86,7 +90,8 @@ pub(crate) fn or_operator<'i>(
 ) -> Result<Option<(OrOperator, &'i str)>, AllocError>
     requires suffix { IsSuffix text.now faults.old.input }
     ensures input { faults.new.input ≡ faults.old.input }
-    ensures finds { IfOk result (λ it. FindsOperator ReadsOr Conjunction Closes text.now (count faults.old) (count faults.new) it) }
+    ensures finds { IfOk result (λ it. FindsOperator ReadsOr Conjunction Closes text.now
+        (count faults.old) (count faults.new) it) }
 {
     let ahead = skip_blanks(text);
     let Some(rest) = wrong_or(ahead) else {
@@ -117,7 +122,8 @@ fn right_joint(text: &str) -> Option<(Joint, &str)>
 
 // How long `&&` or `AND` at the start of `text` is, and what follows it.
 fn wrong_and(text: &str) -> Option<(usize, &str)>
-    ensures some { IfSome result (λ it. ((text.now ≡ 38 ∷ 38 ∷ it.1.now) × (it.0 ≡ 2)) ⊎ ((text.now ≡ 65 ∷ 78 ∷ 68 ∷ it.1.now) × (it.0 ≡ 3))) }
+    ensures some { IfSome result (λ it. ((text.now ≡ 38 ∷ 38 ∷ it.1.now) × (it.0 ≡ 2))
+        ⊎ ((text.now ≡ 65 ∷ 78 ∷ 68 ∷ it.1.now) × (it.0 ≡ 3))) }
 {
     if let Some(rest) = behind(text, "&&") {
         return Some((2, rest));
@@ -136,7 +142,8 @@ pub(crate) fn joint_operator<'i>(
 ) -> Result<Option<(Joint, &'i str)>, AllocError>
     requires suffix { IsSuffix text.now faults.old.input }
     ensures input { faults.new.input ≡ faults.old.input }
-    ensures finds { IfOk result (λ it. FindsOperator ReadsJoint Unary ClosesConjunction text.now (count faults.old) (count faults.new) it) }
+    ensures finds { IfOk result (λ it. FindsOperator ReadsJoint Unary ClosesConjunction text.now
+        (count faults.old) (count faults.new) it) }
 {
     let ahead = skip_blanks(text);
     let Some((length, rest)) = wrong_and(ahead) else {

@@ -2,7 +2,7 @@
 ghost use Rattle.std.specs.Prelude.{◌≡◌, ◌<◌, ℕ, List, length, IfOk, IfSome, IfNone, codes};
 ghost use Rattle.nextest_filtering_ast.specs.Tree.{negation, union, parens};
 ghost use Rattle.nextest_filtering_syntax.specs.Parsed.{tree_of};
-ghost use Rattle.nextest_filtering_ast.specs.Grammar.{Behind, ReadsJoint, ReadsNot, ReadsOr, Expression, joined};
+ghost use Rattle.nextest_filtering_ast.specs.Grammar.{Behind, ReadsJoint, ReadsNot, ReadsOr, Expression, joint_of};
 ghost use Rattle.nextest_filtering_arguments.specs.Faults.{IsSuffix, count};
 ghost use Rattle.nextest_filtering_syntax.specs.Places.{ArePlaced, Stands};
 ghost use Rattle.nextest_filtering_syntax.specs.Parsing.{Closes, Finds};
@@ -27,8 +27,11 @@ fn union(
     right: ParsedExpr,
 ) -> Result<ParsedExpr, AllocError>
     ensures tree { IfOk result (λ it. tree_of it ≡ union op (tree_of left.value) (tree_of right)) }
-    ensures placed { (input : List ℕ) → ArePlaced input left.value → ArePlaced input right → IfOk result (ArePlaced input) }
-    ensures stands { (input text middle behind rest : List ℕ) → Stands input left.value text middle → ReadsOr op middle behind → Stands input right behind rest → IfOk result (λ it. Stands input it text rest) }
+    ensures placed { (input : List ℕ) → ArePlaced input left.value → ArePlaced input right
+        → IfOk result (ArePlaced input) }
+    ensures stands { (input text middle behind rest : List ℕ) → Stands input left.value text middle
+        → ReadsOr op middle behind → Stands input right behind rest
+        → IfOk result (λ it. Stands input it text rest) }
 {
     let right = Box::new(alloc, right)?;
     Ok(ParsedExpr::Union(op, left, right))
@@ -41,9 +44,13 @@ fn join(
     left: Box<ParsedExpr>,
     right: ParsedExpr,
 ) -> Result<ParsedExpr, AllocError>
-    ensures tree { IfOk result (λ it. tree_of it ≡ joined op (tree_of left.value) (tree_of right)) }
-    ensures placed { (input : List ℕ) → ArePlaced input left.value → ArePlaced input right → IfOk result (ArePlaced input) }
-    ensures stands { (input text middle behind rest : List ℕ) → Stands input left.value text middle → ReadsJoint op middle behind → Stands input right behind rest → IfOk result (λ it. Stands input it text rest) }
+    ensures tree { IfOk result
+        (λ it. tree_of it ≡ joint_of op (tree_of left.value) (tree_of right)) }
+    ensures placed { (input : List ℕ) → ArePlaced input left.value → ArePlaced input right
+        → IfOk result (ArePlaced input) }
+    ensures stands { (input text middle behind rest : List ℕ) → Stands input left.value text middle
+        → ReadsJoint op middle behind → Stands input right behind rest
+        → IfOk result (λ it. Stands input it text rest) }
 {
     let right = Box::new(alloc, right)?;
     match op {
@@ -56,7 +63,8 @@ fn join(
 fn negate(alloc: Global, op: NotOperator, operand: ParsedExpr) -> Result<ParsedExpr, AllocError>
     ensures tree { IfOk result (λ it. tree_of it ≡ negation op (tree_of operand)) }
     ensures placed { (input : List ℕ) → ArePlaced input operand → IfOk result (ArePlaced input) }
-    ensures stands { (input text inside rest : List ℕ) → ReadsNot op text inside → Stands input operand inside rest → IfOk result (λ it. Stands input it text rest) }
+    ensures stands { (input text inside rest : List ℕ) → ReadsNot op text inside
+        → Stands input operand inside rest → IfOk result (λ it. Stands input it text rest) }
 {
     Ok(ParsedExpr::Not(op, Box::new(alloc, operand)?))
 }
@@ -65,7 +73,9 @@ fn negate(alloc: Global, op: NotOperator, operand: ParsedExpr) -> Result<ParsedE
 fn enclose(alloc: Global, inside: ParsedExpr) -> Result<ParsedExpr, AllocError>
     ensures tree { IfOk result (λ it. tree_of it ≡ parens (tree_of inside)) }
     ensures placed { (input : List ℕ) → ArePlaced input inside → IfOk result (ArePlaced input) }
-    ensures stands { (input text within behind rest : List ℕ) → Behind (codes "(") text within → Stands input inside within behind → Behind (codes ")") behind rest → IfOk result (λ it. Stands input it text rest) }
+    ensures stands { (input text within behind rest : List ℕ) → Behind
+        (codes "(") text within → Stands input inside within behind → Behind (codes ")") behind rest
+        → IfOk result (λ it. Stands input it text rest) }
 {
     Ok(ParsedExpr::Parens(Box::new(alloc, inside)?))
 }
@@ -100,7 +110,8 @@ fn descend<'i>(stack: &mut Stack, text: &'i str) -> Result<&'i str, AllocError>
 
 // An operand with the negations that wait for it.
 fn negated(alloc: Global, stack: &mut Stack, tree: ParsedExpr) -> Result<ParsedExpr, AllocError>
-    ensures makes { IfOk result (MakesUp (Has part.operand) (Has part.operand) stack.old tree stack.new) }
+    ensures makes { IfOk result
+        (MakesUp (Has part.operand) (Has part.operand) stack.old tree stack.new) }
     ensures takes { IfOk result (λ _. TakesOperands stack.new) }
 {
     let mut operand = tree;
@@ -113,7 +124,8 @@ fn negated(alloc: Global, stack: &mut Stack, tree: ParsedExpr) -> Result<ParsedE
 // An operand with the left operand of an intersection or a difference that waits for it, if one does.
 fn with_joint(alloc: Global, stack: &mut Stack, tree: ParsedExpr) -> Result<ParsedExpr, AllocError>
     requires takes { TakesOperands stack.old }
-    ensures makes { IfOk result (MakesUp (Has part.operand) (Has part.conjunction) stack.old tree stack.new) }
+    ensures makes { IfOk result
+        (MakesUp (Has part.operand) (Has part.conjunction) stack.old tree stack.new) }
     ensures takes { IfOk result (λ _. TakesJoints stack.new) }
 {
     match stack.take_joint() {
@@ -125,7 +137,8 @@ fn with_joint(alloc: Global, stack: &mut Stack, tree: ParsedExpr) -> Result<Pars
 // A whole conjunction with the left operand of a union that waits for it, if one does.
 fn with_union(alloc: Global, stack: &mut Stack, tree: ParsedExpr) -> Result<ParsedExpr, AllocError>
     requires takes { TakesJoints stack.old }
-    ensures makes { IfOk result (MakesUp HasConjunction (Has part.expression) stack.old tree stack.new) }
+    ensures makes { IfOk result
+        (MakesUp HasConjunction (Has part.expression) stack.old tree stack.new) }
     ensures takes { IfOk result (λ _. TakesUnions stack.new) }
 {
     match stack.take_union() {
@@ -144,7 +157,8 @@ fn ahead_of<'i>(
 ) -> Result<Ahead<'i>, AllocError>
     requires suffix { IsSuffix text.now faults.old.input }
     ensures input { faults.new.input ≡ faults.old.input }
-    ensures follows { IfOk result (Follows stack.old tree text.now stack.new (count faults.old) (count faults.new)) }
+    ensures follows { IfOk result
+        (Follows stack.old tree text.now stack.new (count faults.old) (count faults.new)) }
 {
     let operand = negated(alloc, stack, tree)?;
     let conjunction = with_joint(alloc, stack, operand)?;
@@ -170,7 +184,8 @@ fn ascend<'i>(
 ) -> Result<Next<'i>, AllocError>
     requires suffix { IsSuffix text.now faults.old.input }
     ensures input { faults.new.input ≡ faults.old.input }
-    ensures ascends { IfOk result (Ascends stack.old tree text.now stack.new (count faults.old) (count faults.new)) }
+    ensures ascends { IfOk result
+        (Ascends stack.old tree text.now stack.new (count faults.old) (count faults.new)) }
 {
     let mut operand = tree;
     let mut rest = text;
@@ -198,7 +213,8 @@ pub(crate) fn expression<'i>(
     ensures input { faults.new.input ≡ faults.old.input }
     ensures finds { Finds Expression Closes text.now (count faults.old) (count faults.new) result }
     ensures placed { IfOk result (λ it. ArePlaced faults.old.input it.0) }
-    ensures stands { count faults.new ≡ count faults.old → IfOk result (λ it. Stands faults.old.input it.0 text.now it.1.now) }
+    ensures stands { count faults.new ≡ count faults.old
+        → IfOk result (λ it. Stands faults.old.input it.0 text.now it.1.now) }
 {
     let mut stack = Stack::new(alloc);
     let mut rest = text;

@@ -12,7 +12,8 @@ impl ParsedExpr {
     /// The predicates that only a test answers, from left to right, in linear time and constant stack. It fails only on
     /// allocation.
     pub fn runtime_only_leaves(&self, alloc: Global) -> Result<Vec<&ParsedLeaf>, AllocError>
-        ensures { IfOk result (λ found. map leaf_behind found.items ≡ runtime_leaves (tree_of self.now)) }
+        ensures { IfOk result
+            (λ found. map leaf_behind found.items ≡ runtime_leaves (tree_of self.now)) }
     {
         let mut found = Vec::new(alloc);
         let mut waiting = Vec::new(alloc);

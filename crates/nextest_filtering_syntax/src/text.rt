@@ -1,6 +1,6 @@
 // A filterset as a text, without recursion.
 ghost use Rattle.std.specs.Prelude.{◌≡◌, [], ◌∷◌, ◌++◌, ◌<◌, IfOk, OnOk, string_bytes};
-ghost use Rattle.nextest_filtering_ast.specs.Printing.{not_front, printed};
+ghost use Rattle.nextest_filtering_ast.specs.Printing.{not_front, text_of_tree};
 ghost use Rattle.nextest_filtering_syntax.specs.Parsed.{tree_of};
 ghost use Rattle.nextest_filtering_syntax.specs.Pieces.{whole_text, pieces_weight};
 
@@ -21,7 +21,7 @@ enum Piece<'t> {
 impl ParsedExpr {
     /// The filterset as it prints, in linear time and constant stack. It fails only on allocation.
     pub fn to_text(&self, alloc: Global) -> Result<String, AllocError>
-        ensures { IfOk result (λ text. string_bytes text ≡ printed (tree_of self.now)) }
+        ensures { IfOk result (λ text. string_bytes text ≡ text_of_tree (tree_of self.now)) }
     {
         let mut text = String::new(alloc);
         let mut waiting = Vec::new(alloc);

@@ -73,9 +73,9 @@ fn put_off(
 impl fmt::Display for ParsedExpr {
     ghost use Rattle.std.specs.Prelude.{Some};
     ghost use Rattle.nextest_filtering_syntax.specs.Parsed.{tree_of};
-    ghost use Rattle.nextest_filtering_ast.specs.Printing.{printed};
+    ghost use Rattle.nextest_filtering_ast.specs.Printing.{text_of_tree};
 
-    ghost output = { λ it. Some (printed (tree_of it)) };
+    ghost output = { λ it. Some (text_of_tree (tree_of it)) };
 
     fn fmt<W: fmt::Write>(&self, f: &mut fmt::Formatter<W>) -> fmt::Result {
         match self {

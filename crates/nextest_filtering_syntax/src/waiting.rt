@@ -82,7 +82,8 @@ impl Stack {
     pub(crate) fn take_joint(&mut self) -> Option<(Box<ParsedExpr>, Joint)>
         ensures some { IfSome result (λ it. self.old ≡ waits.Joint it.0 it.1 ∷ self.new) }
         ensures takes { IfSome result (λ _. TakesJoints self.new) }
-        ensures none { IfNone result ((self.new ≡ self.old) × (TakesOperands self.old → TakesJoints self.old)) }
+        ensures none { IfNone result
+            ((self.new ≡ self.old) × (TakesOperands self.old → TakesJoints self.old)) }
     {
         if !matches!(self.items.last(), Some(Waiting::Joint(_, _))) {
             return None;
@@ -97,7 +98,8 @@ impl Stack {
     pub(crate) fn take_union(&mut self) -> Option<(Box<ParsedExpr>, OrOperator)>
         ensures some { IfSome result (λ it. self.old ≡ waits.Union it.0 it.1 ∷ self.new) }
         ensures takes { IfSome result (λ _. TakesUnions self.new) }
-        ensures none { IfNone result ((self.new ≡ self.old) × (TakesJoints self.old → TakesUnions self.old)) }
+        ensures none { IfNone result
+            ((self.new ≡ self.old) × (TakesJoints self.old → TakesUnions self.old)) }
     {
         if !matches!(self.items.last(), Some(Waiting::Union(_, _))) {
             return None;
@@ -111,7 +113,8 @@ impl Stack {
     // Takes off a `(` that waits last, and answers whether it did.
     pub(crate) fn take_parens(&mut self) -> bool
         ensures yes { result ≡ true → self.old ≡ waits.Parens ∷ self.new }
-        ensures no { result ≡ false → (self.new ≡ self.old) × (TakesUnions self.old → self.old ≡ []) }
+        ensures no { result ≡ false
+            → (self.new ≡ self.old) × (TakesUnions self.old → self.old ≡ []) }
     {
         let waits = matches!(self.items.last(), Some(Waiting::Parens));
         if waits {

@@ -14,9 +14,9 @@ use Rattle.serde_json.specs.Read.{of_json, of_items}
 use Rattle.serde_json.specs.View.{view, items_of}
 use Rattle.serde_json.specs.declared.value.Value.{Value}
 use Rattle.nextest_json.specs.Found.{found_at}
-use Rattle.nextest_json.specs.Left.{left}
-use Rattle.nextest_json.specs.Listed.{listed, items}
-use Rattle.nextest_json.specs.Rest.{items_at, found}
+use Rattle.nextest_json.specs.Left.{items_left}
+use Rattle.nextest_json.specs.Listed.{list_of_items, items}
+use Rattle.nextest_json.specs.Rest.{items_at, data_of_rest}
 use Rattle.nextest_json.specs.declared.items.JsonItems.{JsonItems}
 use Rattle.nextest_json.specs.declared.items.Rest.TheVariants.{Places, Trees}
 use Rattle.nextest_json.proofs.Places.{Holds, held, found_held, begins, part_found}
@@ -49,7 +49,7 @@ pub record HoldsItems (tokens : List Token) (js : json.Items) (ds : Items) : Typ
   pub shallow : tree.items_depth js ≤ 126
   pub read : of_items js ≡ Some ds
 
-items_found : (tokens : List Token) (js : json.Items) (ds : Items) → HoldsItems tokens js ds → items_at tokens ≡ Some (listed ds)
+items_found : (tokens : List Token) (js : json.Items) (ds : Items) → HoldsItems tokens js ds → items_at tokens ≡ Some (list_of_items ds)
 items_found tokens js ds h =
     let spelled = items_spelled js tokens (after_end_array tokens) refl h.begin in
     let whole : found_at (begin_array ∷ tokens) ≡ Some (array ds) =
@@ -58,7 +58,7 @@ items_found tokens js ds h =
 
 -- the items of a value that is a list
 of_list : (tokens : List Token) (j : json.Json) (d : Data) (data_of_items : List Data) → Holds tokens j d → items d ≡ Some data_of_items
-    → (js : json.Items) × (ds : Items) × (j ≡ json.array js) × (of_items js ≡ Some ds) × (data_of_items ≡ listed ds)
+    → (js : json.Items) × (ds : Items) × (j ≡ json.array js) × (of_items js ≡ Some ds) × (data_of_items ≡ list_of_items ds)
 of_list tokens json.null d xs h e = let is = shape json.null d h.read in absurd (cc)
 of_list tokens (json.boolean b) d xs h e = let is = shape (json.boolean b) d h.read in absurd (cc)
 of_list tokens (json.number s) d xs h e = let is = shape (json.number s) d h.read in absurd (cc (ap items is.2))
@@ -66,7 +66,7 @@ of_list tokens (json.string s) d xs h e = let is = shape (json.string s) d h.rea
 of_list tokens (json.array js) d xs h e = let is = shape (json.array js) d h.read in (js, is.0, refl, is.1, cc (ap items is.2))
 of_list tokens (json.object ms) d xs h e = let is = shape (json.object ms) d h.read in absurd (cc (ap items is.2))
 
-items_held_in : (tokens : List Token) (xs : List Data) (o : Option Data) → found_at (begin_array ∷ tokens) ≡ o → option_and_then items o ≡ Some xs → (js : json.Items) × (ds : Items) × HoldsItems tokens js ds × (xs ≡ listed ds)
+items_held_in : (tokens : List Token) (xs : List Data) (o : Option Data) → found_at (begin_array ∷ tokens) ≡ o → option_and_then items o ≡ Some xs → (js : json.Items) × (ds : Items) × HoldsItems tokens js ds × (xs ≡ list_of_items ds)
 items_held_in tokens xs None is e = absurd (cc)
 items_held_in tokens xs (Some d) is e =
     let h = held (begin_array ∷ tokens) d is in
@@ -75,7 +75,7 @@ items_held_in tokens xs (Some d) is e =
     let depth : tree.depth (json.array parts.0) ≤ 127 = subst (λ i. tree.depth i ≤ 127) parts.2 h.1.shallow in
     (parts.0, parts.1, record { begin = inside; shallow = omega (arith, depth); read = parts.3 }, parts.4)
 
-items_held : (tokens : List Token) (xs : List Data) → items_at tokens ≡ Some xs → (js : json.Items) × (ds : Items) × HoldsItems tokens js ds × (xs ≡ listed ds)
+items_held : (tokens : List Token) (xs : List Data) → items_at tokens ≡ Some xs → (js : json.Items) × (ds : Items) × HoldsItems tokens js ds × (xs ≡ list_of_items ds)
 items_held tokens xs e = items_held_in tokens xs (found_at (begin_array ∷ tokens)) refl e
 
 -- ---- the items of a value
@@ -92,7 +92,7 @@ no_list (json.string s) d e none = ap items (shape (json.string s) d e)
 no_list (json.array js) d e none = absurd (cc)
 no_list (json.object ms) d e none = ap items (shape (json.object ms) d e).2
 
-of_array : (js : json.Items) (j : json.Json) (d : Data) → of_json j ≡ Some d → j ≡ json.array js → (ds : Items) × (of_items js ≡ Some ds) × (items d ≡ Some (listed ds))
+of_array : (js : json.Items) (j : json.Json) (d : Data) → of_json j ≡ Some d → j ≡ json.array js → (ds : Items) × (of_items js ≡ Some ds) × (items d ≡ Some (list_of_items ds))
 of_array js j d e is =
     let known = shape (json.array js) d (ap of_json (sym is) ∙ e) in
     (known.0, known.1, ap items known.2)
@@ -129,7 +129,7 @@ next_at old new None xs e says =
     let none = says h.0 h.2.begin in
     let empty : Some h.1 ≡ Some no_items = sym h.2.read ∙ ap of_items none in
     let is : h.1 ≡ no_items = cc in
-    h.3 ∙ ap listed is
+    h.3 ∙ ap list_of_items is
 next_at old new (Some tokens) xs e says =
     let h = items_held old xs e in
     let next = says h.0 h.2.begin in
@@ -139,7 +139,7 @@ next_at old new (Some tokens) xs e says =
     let depth : tree.items_depth (json.item next.0 next.1) ≤ 126 = subst (λ i. tree.items_depth i ≤ 126) next.2 h.2.shallow in
     let here = part_found tokens next.0 first.0 next.3 (omega (arith, depth)) first.1 in
     let after = items_found new next.1 more.0 (record { begin = next.4; shallow = omega (arith, depth); read = more.1 }) in
-    (ap is_some here, ap is_some after, first.0, listed more.0, here, after, h.3 ∙ ap listed more.2)
+    (ap is_some here, ap is_some after, first.0, list_of_items more.0, here, after, h.3 ∙ ap list_of_items more.2)
 
 -- ---- the data that is left
 
@@ -150,15 +150,15 @@ known (Some xs) e = refl
 pub left_of : (o : Option (List Data)) (xs : List Data) → o ≡ Some xs → unwrap_or o [] ≡ xs
 left_of o xs e = ap (λ p. unwrap_or p []) e
 
-pub at_places : (it : JsonItems) (tokens : List Token) → it.rest ≡ Places tokens → items_at tokens ≡ Some (left it)
-unfolding left
-at_places it tokens e = ap found (sym e) ∙ known (found it.rest) it.there
+pub at_places : (it : JsonItems) (tokens : List Token) → it.rest ≡ Places tokens → items_at tokens ≡ Some (items_left it)
+unfolding items_left
+at_places it tokens e = ap data_of_rest (sym e) ∙ known (data_of_rest it.rest) it.there
 
-pub in_trees : (it : JsonItems) (values : Bor (List Value)) → it.rest ≡ Trees values → map view values.now ≡ left it
-unfolding left
-in_trees it values e = ap (λ r. unwrap_or (found r) []) (sym e)
+pub in_trees : (it : JsonItems) (values : Bor (List Value)) → it.rest ≡ Trees values → map view values.now ≡ items_left it
+unfolding items_left
+in_trees it values e = ap (λ r. unwrap_or (data_of_rest r) []) (sym e)
 
-pub listed_items : (given : List Data) → listed (items_of given) ≡ given
+pub listed_items : (given : List Data) → list_of_items (items_of given) ≡ given
 listed_items [] = refl
 listed_items (first ∷ rest) = ap (λ more. first ∷ more) (listed_items rest)
 

@@ -15,8 +15,8 @@ use Rattle.serde_json.specs.View.{view, number_view}
 use Rattle.serde_json.specs.declared.number.Number.{Number}
 use Rattle.serde_json.specs.declared.value.Value.{Value}
 use Rattle.nextest_json.specs.Found.{found_at}
-use Rattle.nextest_json.specs.Place.{found}
-use Rattle.nextest_json.specs.Seen.{seen}
+use Rattle.nextest_json.specs.Place.{data_at_place}
+use Rattle.nextest_json.specs.Seen.{data_of}
 use Rattle.nextest_json.specs.declared.value.JsonValue.{JsonValue}
 use Rattle.nextest_json.specs.declared.value.Source.TheVariants.{Place, Tree}
 use Rattle.nextest_json.proofs.Shapes.{Finds, get_read, get_depth}
@@ -84,13 +84,13 @@ pub known : (o : Option Data) → is_some o ≡ true → o ≡ Some (unwrap_or o
 known None e = absurd (cc)
 known (Some d) e = refl
 
-pub at_place : (v : JsonValue) (tokens : List Token) → v.source ≡ Place tokens → found_at tokens ≡ Some (seen v)
-unfolding seen
-at_place v tokens e = ap found (sym e) ∙ known (found v.source) v.there
+pub at_place : (v : JsonValue) (tokens : List Token) → v.source ≡ Place tokens → found_at tokens ≡ Some (data_of v)
+unfolding data_of
+at_place v tokens e = ap data_at_place (sym e) ∙ known (data_at_place v.source) v.there
 
-pub in_tree : (v : JsonValue) (t : Bor Value) → v.source ≡ Tree t → view t.now ≡ seen v
-unfolding seen
-in_tree v t e = ap (λ s. unwrap_or (found s) null) (sym e)
+pub in_tree : (v : JsonValue) (t : Bor Value) → v.source ≡ Tree t → view t.now ≡ data_of v
+unfolding data_of
+in_tree v t e = ap (λ s. unwrap_or (data_at_place s) null) (sym e)
 
 pub is_object_by : (members : Option (List Token)) (j : json.Json) → MatchOption members (asked.as_object j ≡ None) (λ more. (ms : json.Members) × (j ≡ json.object ms) × asked.InMembers more ms) → is_some members ≡ is_some (asked.as_object j)
 is_object_by None j is = ap is_some (sym is)

@@ -6,6 +6,6 @@ use Rattle.nextest_json.specs.Found.{found_at}
 use Rattle.nextest_json.specs.declared.value.Source.{Source}
 use Rattle.nextest_json.specs.declared.value.Source.TheVariants.{Place, Tree}
 
-abbrev pub found : Source → Option Data
-found (Place tokens) = found_at tokens
-found (Tree value) = Some (view value.now)
+abbrev pub data_at_place : Source → Option Data
+data_at_place (Place tokens) = found_at tokens
+data_at_place (Tree value) = Some (view value.now)

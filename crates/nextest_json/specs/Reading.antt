@@ -48,8 +48,8 @@ abbrev pub defaulted : {A : Type 0} → List ℕ → (Data → Reading A) → A 
 defaulted name reads otherwise given = under name (option_map_or reads (member name given) (Ok otherwise))
 
 -- what the word of a member tells to read
-abbrev pub worded : {A : Type 0} → List ℕ → (List ℕ → Data → Reading A) → Data → Reading A
-worded name reads given = option_map_or (λ told. reads told given) (word name given) (Err (name ∷ []))
+abbrev pub by_word : {A : Type 0} → List ℕ → (List ℕ → Data → Reading A) → Data → Reading A
+by_word name reads given = option_map_or (λ told. reads told given) (word name given) (Err (name ∷ []))
 
 -- the item at a position
 abbrev pub element : {A : Type 0} → ℕ → (Data → Reading A) → Data → Reading A

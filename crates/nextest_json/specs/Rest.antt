@@ -12,6 +12,6 @@ use Rattle.nextest_json.specs.declared.items.Rest.TheVariants.{Places, Trees}
 abbrev pub items_at : List Token → Option (List Data)
 items_at tokens = option_and_then items (found_at (begin_array ∷ tokens))
 
-abbrev pub found : Rest → Option (List Data)
-found (Places tokens) = items_at tokens
-found (Trees values) = Some (map view values.now)
+abbrev pub data_of_rest : Rest → Option (List Data)
+data_of_rest (Places tokens) = items_at tokens
+data_of_rest (Trees values) = Some (map view values.now)

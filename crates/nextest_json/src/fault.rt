@@ -1,5 +1,5 @@
 // Where reading stopped, and why.
-use crate::steps::{Step, Steps};
+use crate::steps::{PathStep, Steps};
 use std::alloc::{AllocError, AllocFailed, Global};
 
 /// Why nothing was read.
@@ -46,7 +46,7 @@ impl Fault {
     }
 
     /// The same fault, told from one step further out; where there is no memory for that, want of memory.
-    pub fn below(self, step: Step) -> Fault
+    pub fn below(self, step: PathStep) -> Fault
         ensures { IsBelow self (step_text step) result }
     {
         match self {

@@ -3,15 +3,15 @@ ghost use Rattle.std.specs.Prelude.{◌≡◌, ◌==◌, length, option_map, sli
 ghost use Rattle.serde_json.specs.Data.{Data};
 ghost use Rattle.serde_json.specs.Find.{as_bool};
 ghost use Rattle.nextest_json.specs.Calls.{Gives};
-ghost use Rattle.nextest_json.specs.Left.{left};
+ghost use Rattle.nextest_json.specs.Left.{items_left};
 ghost use Rattle.nextest_json.specs.Parts as given;
 ghost use Rattle.nextest_json.specs.Paths.{step_text};
 ghost use Rattle.nextest_json.specs.Reading as read;
-ghost use Rattle.nextest_json.specs.Seen.{seen};
+ghost use Rattle.nextest_json.specs.Seen.{data_of};
 
 use crate::fault::Fault;
 use crate::items::JsonItems;
-use crate::steps::Step;
+use crate::steps::PathStep;
 use crate::value::JsonValue;
 use nextest_text::{Listing, Text};
 use std::alloc::Global;
@@ -25,7 +25,7 @@ pub trait Form<Whole>: Drop {
     /// What is read of a value. An `Err` says where the first thing stands, in the written order, that is missing,
     /// ill-typed or not allowed, or that there was no memory.
     fn from_value(alloc: Global, value: &JsonValue<'_, '_>) -> Result<Self, Fault>
-        ensures { Gives result (reading (seen value.now)) };
+        ensures { Gives result (reading (data_of value.now)) };
 }
 
 /// A member that must stand; null is none.
@@ -34,11 +34,11 @@ pub fn required<Whole, T: Form<Whole>>(
     object: &JsonValue<'_, '_>,
     name: &'static str,
 ) -> Result<T, Fault>
-    ensures { Gives result (read.required name.now T.reading (seen object.now)) }
+    ensures { Gives result (read.required name.now T.reading (data_of object.now)) }
 {
     match member(object, name) {
-        None => Err(Fault::here(alloc).below(Step::Name(name))),
-        Some(value) => part(alloc, &value, Step::Name(name)),
+        None => Err(Fault::here(alloc).below(PathStep::Name(name))),
+        Some(value) => part(alloc, &value, PathStep::Name(name)),
     }
 }
 
@@ -49,11 +49,11 @@ pub fn defaulted<Whole, T: Form<Whole>>(
     name: &'static str,
     otherwise: T,
 ) -> Result<T, Fault>
-    ensures { Gives result (read.defaulted name.now T.reading otherwise (seen object.now)) }
+    ensures { Gives result (read.defaulted name.now T.reading otherwise (data_of object.now)) }
 {
     match member(object, name) {
         None => Ok(otherwise),
-        Some(value) => part(alloc, &value, Step::Name(name)),
+        Some(value) => part(alloc, &value, PathStep::Name(name)),
     }
 }
 
@@ -63,11 +63,11 @@ pub fn optional<Whole, T: Form<Whole>>(
     object: &JsonValue<'_, '_>,
     name: &'static str,
 ) -> Result<Option<T>, Fault>
-    ensures { Gives result (read.optional name.now T.reading (seen object.now)) }
+    ensures { Gives result (read.optional name.now T.reading (data_of object.now)) }
 {
     match member(object, name) {
         None => Ok(None),
-        Some(value) => Ok(Some(part(alloc, &value, Step::Name(name))?)),
+        Some(value) => Ok(Some(part(alloc, &value, PathStep::Name(name))?)),
     }
 }
 
@@ -77,24 +77,24 @@ pub fn listed_member<Whole, T: Form<Whole>>(
     object: &JsonValue<'_, '_>,
     name: &'static str,
 ) -> Result<Listing<T>, Fault>
-    ensures { Gives result (read.listed_member name.now T.reading (seen object.now)) }
+    ensures { Gives result (read.listed_member name.now T.reading (data_of object.now)) }
 {
     match object.get(name) {
         None => Ok(Listing::new(alloc)),
-        Some(value) => part(alloc, &value, Step::Name(name)),
+        Some(value) => part(alloc, &value, PathStep::Name(name)),
     }
 }
 
 /// Whether an object has something under a name; null is nothing.
 pub fn has_member(object: &JsonValue<'_, '_>, name: &'static str) -> bool
-    ensures { result ≡ given.has_member name.now (seen object.now) }
+    ensures { result ≡ given.has_member name.now (data_of object.now) }
 {
     member(object, name).is_some()
 }
 
 /// The text that an object has under a name.
 pub fn word<'t>(object: &JsonValue<'t, '_>, name: &'static str) -> Option<&'t str>
-    ensures { option_map (λ word. word.now) result ≡ given.word name.now (seen object.now) }
+    ensures { option_map (λ word. word.now) result ≡ given.word name.now (data_of object.now) }
 {
     match object.get(name) {
         None => None,
@@ -104,7 +104,7 @@ pub fn word<'t>(object: &JsonValue<'t, '_>, name: &'static str) -> Option<&'t st
 
 // What an object has under a name; null is nothing.
 fn member<'t, 'a>(object: &JsonValue<'t, 'a>, name: &'static str) -> Option<JsonValue<'t, 'a>>
-    ensures { option_map seen result ≡ given.member name.now (seen object.now) }
+    ensures { option_map data_of result ≡ given.member name.now (data_of object.now) }
 {
     match object.get(name) {
         Some(value) if !value.is_null() => Some(value),
@@ -116,9 +116,9 @@ fn member<'t, 'a>(object: &JsonValue<'t, 'a>, name: &'static str) -> Option<Json
 fn part<Whole, T: Form<Whole>>(
     alloc: Global,
     value: &JsonValue<'_, '_>,
-    step: Step,
+    step: PathStep,
 ) -> Result<T, Fault>
-    ensures { Gives result (read.under (step_text step) (T.reading (seen value.now))) }
+    ensures { Gives result (read.under (step_text step) (T.reading (data_of value.now))) }
 {
     match T::from_value(alloc, value) {
         Ok(found) => Ok(found),
@@ -128,7 +128,7 @@ fn part<Whole, T: Form<Whole>>(
 
 /// Whether a value is a list of so many items.
 pub fn has_items(value: &JsonValue<'_, '_>, count: usize) -> bool
-    ensures { result ≡ given.has_items count (seen value.now) }
+    ensures { result ≡ given.has_items count (data_of value.now) }
 {
     match value.items() {
         Some(items) => are_so_many(items, count),
@@ -138,7 +138,7 @@ pub fn has_items(value: &JsonValue<'_, '_>, count: usize) -> bool
 
 // Whether so many items are left; no more than these are looked at.
 fn are_so_many(items: JsonItems<'_, '_>, count: usize) -> bool
-    ensures { result ≡ (length (left items.entry) == count) }
+    ensures { result ≡ (length (items_left items.entry) == count) }
 {
     let mut more = items;
     for _passed in 0..count {
@@ -155,17 +155,17 @@ pub fn element<Whole, T: Form<Whole>>(
     list: &JsonValue<'_, '_>,
     position: usize,
 ) -> Result<T, Fault>
-    ensures { Gives result (read.element position T.reading (seen list.now)) }
+    ensures { Gives result (read.element position T.reading (data_of list.now)) }
 {
     match item_at(list, position) {
-        Some(value) => part(alloc, &value, Step::Position(position)),
-        None => Err(Fault::here(alloc).below(Step::Position(position))),
+        Some(value) => part(alloc, &value, PathStep::Position(position)),
+        None => Err(Fault::here(alloc).below(PathStep::Position(position))),
     }
 }
 
 // What stands at a position of a list.
 fn item_at<'t, 'a>(list: &JsonValue<'t, 'a>, position: usize) -> Option<JsonValue<'t, 'a>>
-    ensures { option_map seen result ≡ given.item_at position (seen list.now) }
+    ensures { option_map data_of result ≡ given.item_at position (data_of list.now) }
 {
     match list.items() {
         Some(items) => nth(items, position),
@@ -175,7 +175,7 @@ fn item_at<'t, 'a>(list: &JsonValue<'t, 'a>, position: usize) -> Option<JsonValu
 
 // The item behind so many.
 fn nth<'t, 'a>(items: JsonItems<'t, 'a>, count: usize) -> Option<JsonValue<'t, 'a>>
-    ensures { option_map seen result ≡ slice_get (left items.entry) count }
+    ensures { option_map data_of result ≡ slice_get (items_left items.entry) count }
 {
     let mut more = items;
     for _passed in 0..count {
@@ -191,13 +191,13 @@ pub fn each<Whole, T: Form<Whole>>(
     alloc: Global,
     items: JsonItems<'_, '_>,
 ) -> Result<Listing<T>, Fault>
-    ensures { Gives result (read.each T.reading 0 (left items.entry)) }
+    ensures { Gives result (read.each T.reading 0 (items_left items.entry)) }
 {
     let mut more = items;
     let mut found = Listing::new(alloc);
     while let Some(item) = more.next() {
         let position = found.len();
-        found.push(part(alloc, &item, Step::Position(position))?)?;
+        found.push(part(alloc, &item, PathStep::Position(position))?)?;
     }
     Ok(found)
 }
@@ -215,7 +215,7 @@ impl<Whole, T: Form<Whole>> Form<Whole> for Listing<T> {
 
 /// A text.
 pub fn text(alloc: Global, value: &JsonValue<'_, '_>) -> Result<Text, Fault>
-    ensures { Gives result (read.text (seen value.now)) }
+    ensures { Gives result (read.text (data_of value.now)) }
 {
     match value.as_str() {
         Some(text) => Ok(Text::from_str(alloc, text)?),
@@ -225,7 +225,7 @@ pub fn text(alloc: Global, value: &JsonValue<'_, '_>) -> Result<Text, Fault>
 
 /// A truth value.
 pub fn truth(alloc: Global, value: &JsonValue<'_, '_>) -> Result<bool, Fault>
-    ensures { Gives result (read.leaf as_bool (seen value.now)) }
+    ensures { Gives result (read.leaf as_bool (data_of value.now)) }
 {
     match value.as_bool() {
         Some(truth) => Ok(truth),

@@ -1,6 +1,6 @@
 // The items of a list in JSON, one after another.
 ghost use Rattle.std.specs.Prelude.{◌≡◌, is_some, true};
-ghost use Rattle.nextest_json.specs.Rest.{found};
+ghost use Rattle.nextest_json.specs.Rest.{data_of_rest};
 
 mod next;
 
@@ -20,5 +20,5 @@ enum Rest<'t, 'a> {
 #[derive(Drop)]
 pub struct JsonItems<'t, 'a> {
     rest: Rest<'t, 'a>,
-    ghost there: { is_some (found rest) ≡ true },
+    ghost there: { is_some (data_of_rest rest) ≡ true },
 }

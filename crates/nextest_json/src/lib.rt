@@ -17,5 +17,5 @@ pub use form::{
     truth, word,
 };
 pub use items::JsonItems;
-pub use steps::{Step, Steps};
+pub use steps::{PathStep, Steps};
 pub use value::JsonValue;

@@ -10,7 +10,7 @@ use std::marker::Model;
 
 /// One step of a path.
 #[derive(Clone, Copy)]
-pub enum Step {
+pub enum PathStep {
     /// The name of a member.
     Name(&'static str),
     /// A position in a list, from 0.
@@ -21,7 +21,7 @@ pub enum Step {
 #[derive(Drop)]
 pub struct Steps {
     // the innermost first
-    steps: Vec<Step>,
+    steps: Vec<PathStep>,
 }
 
 impl Model for Steps {
@@ -33,7 +33,7 @@ impl Model for Steps {
     ghost view = { λ s. reverse (map step_text s.steps.items) };
 }
 
-impl fmt::Display for Step {
+impl fmt::Display for PathStep {
     ghost use Rattle.std.specs.Prelude.{Some};
     ghost use Rattle.nextest_json.specs.Paths.{step_text};
 
@@ -41,8 +41,8 @@ impl fmt::Display for Step {
 
     fn fmt<W: fmt::Write>(&self, f: &mut fmt::Formatter<W>) -> fmt::Result {
         match self {
-            Step::Name(name) => write!(f, "{name}"),
-            Step::Position(position) => write!(f, "{position}"),
+            PathStep::Name(name) => write!(f, "{name}"),
+            PathStep::Position(position) => write!(f, "{position}"),
         }
     }
 }
@@ -58,7 +58,7 @@ impl Steps {
     }
 
     /// The same path, one step further out. It fails only on allocation.
-    pub fn below(self, step: Step) -> Result<Steps, AllocError>
+    pub fn below(self, step: PathStep) -> Result<Steps, AllocError>
         ensures { IfOk result (λ steps. steps ≡ step_text step ∷ self) }
     {
         let Steps { mut steps } = self;
@@ -75,7 +75,7 @@ impl Steps {
 }
 
 // Steps, joined by dots, the last of them first.
-fn dotted(alloc: Global, steps: &[Step]) -> Result<Text, AllocError>
+fn dotted(alloc: Global, steps: &[PathStep]) -> Result<Text, AllocError>
     ensures { IfOk result (λ text. text ≡ join_with_byte 46 (reverse (map step_text steps.now))) }
 {
     let mut text = String::new(alloc);
@@ -86,7 +86,7 @@ fn dotted(alloc: Global, steps: &[Step]) -> Result<Text, AllocError>
 }
 
 // A step in front of a path, of which it may be the last.
-fn in_front(alloc: Global, step: Step, is_last: bool, rest: &str) -> Result<String, AllocError>
+fn in_front(alloc: Global, step: PathStep, is_last: bool, rest: &str) -> Result<String, AllocError>
     ensures { IfOk result (λ text. string_bytes text
         ≡ (if is_last then step_text step else step_text step ++ 46 ∷ rest.now)) }
 {

@@ -1,6 +1,6 @@
 // A value of JSON, of which its parts are asked.
 ghost use Rattle.std.specs.Prelude.{◌≡◌, is_some, true};
-ghost use Rattle.nextest_json.specs.Place.{found};
+ghost use Rattle.nextest_json.specs.Place.{data_at_place};
 
 mod asked;
 
@@ -20,5 +20,5 @@ enum Source<'t, 'a> {
 #[derive(Drop)]
 pub struct JsonValue<'t, 'a> {
     source: Source<'t, 'a>,
-    ghost there: { is_some (found source) ≡ true },
+    ghost there: { is_some (data_at_place source) ≡ true },
 }

@@ -24,11 +24,11 @@ abbrev pub with_test : rows.Finished → RunStats → RunStats
 with_test test stats =
     record stats {
       finished_count = stats.finished_count + 1;
-      passed = stats.passed + from_bool (rows.passed test);
+      passed = stats.passed + from_bool (rows.is_passed test);
       passed_slow = stats.passed_slow + from_bool (rows.passed_slow test);
       passed_timed_out = stats.passed_timed_out + from_bool (rows.passed_timed_out test);
       flaky = stats.flaky + from_bool (rows.flaky test);
-      failed = stats.failed + from_bool (rows.failed test);
+      failed = stats.failed + from_bool (rows.is_failed test);
       failed_slow = stats.failed_slow + from_bool (rows.failed_slow test);
       failed_timed_out = stats.failed_timed_out + from_bool (rows.failed_timed_out test);
       leaky = stats.leaky + from_bool (rows.leaky test);

@@ -76,23 +76,23 @@ forbids_late flaky_rule.TheVariants.Pass = false
 abbrev pub is_late_failure : Finished → Bool
 is_late_failure test = is_success test.result && test.late && forbids_late test.flaky
 
-abbrev pub passed : Finished → Bool
-passed test = is_success test.result && not (is_late_failure test)
+abbrev pub is_passed : Finished → Bool
+is_passed test = is_success test.result && not (is_late_failure test)
 
 abbrev pub passed_slow : Finished → Bool
-passed_slow test = passed test && not (is_timeout test.result) && test.slow
+passed_slow test = is_passed test && not (is_timeout test.result) && test.slow
 
 abbrev pub passed_timed_out : Finished → Bool
-passed_timed_out test = passed test && is_timeout test.result
+passed_timed_out test = is_passed test && is_timeout test.result
 
 abbrev pub flaky : Finished → Bool
-flaky test = passed test && test.late
+flaky test = is_passed test && test.late
 
-abbrev pub failed : Finished → Bool
-failed test = is_late_failure test || is_leak_fail test.result || is_fail test.result
+abbrev pub is_failed : Finished → Bool
+is_failed test = is_late_failure test || is_leak_fail test.result || is_fail test.result
 
 abbrev pub failed_slow : Finished → Bool
-failed_slow test = failed test && test.slow
+failed_slow test = is_failed test && test.slow
 
 abbrev pub failed_timed_out : Finished → Bool
 failed_timed_out test = is_timeout test.result && not (is_success test.result)
@@ -108,4 +108,4 @@ exec_failed test = is_exec_fail test.result
 
 -- a test that counts as failing
 abbrev pub fails_test : Finished → Bool
-fails_test test = failed test || exec_failed test || failed_timed_out test
+fails_test test = is_failed test || exec_failed test || failed_timed_out test

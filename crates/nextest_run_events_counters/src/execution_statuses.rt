@@ -131,7 +131,8 @@ impl<S: OutputSpec> ExecutionStatuses<S> {
 
     /// What the attempts come to. The last one decides.
     pub fn describe(&self) -> ExecutionDescription<'_, S>
-        ensures told { Some (told_by result) ≡ description_of self.now.statuses self.now.flaky_result }
+        ensures told { Some (told_by result)
+            ≡ description_of self.now.statuses self.now.flaky_result }
         ensures success { HoldsSuccess (told_by result) }
     {
         let last_status = self.last_status();

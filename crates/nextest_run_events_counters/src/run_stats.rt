@@ -56,7 +56,8 @@ impl RunStats {
     pub fn has_failures(&self) -> bool
         requires scripts_fit { failed_setup_script_count self.now < 2 ^ 64 }
         requires tests_fit { failed_count self.now < 2 ^ 64 }
-        ensures { IsTrue result ↔ ((0 < failed_setup_script_count self.now) ⊎ (0 < failed_count self.now)) }
+        ensures { IsTrue result
+            ↔ ((0 < failed_setup_script_count self.now) ⊎ (0 < failed_count self.now)) }
     {
         self.failed_setup_script_count() > 0 || self.failed_count() > 0
     }

@@ -13,7 +13,7 @@ use Rattle.nextest_run_events_outputs.specs.declared.output.ChildOutputDescripti
 use Rattle.nextest_run_events_outputs.specs.declared.output.ChildOutputDescription.TheVariants as written
 use Rattle.nextest_run_events_outputs.specs.declared.output.ChildExecutionOutputDescription.{ChildExecutionOutputDescription}
 use Rattle.nextest_run_events_outputs.specs.declared.output.ChildExecutionOutputDescription.TheVariants as came
-use Rattle.nextest_run_events_slices.specs.Slices.{captured, IsSlice}
+use Rattle.nextest_run_events_slices.specs.Slices.{bytes_of_output, IsSlice}
 use Rattle.nextest_run_events_slices.specs.declared.slices.TestOutputErrorSlice.{TestOutputErrorSlice}
 use Rattle.nextest_run_events_outcomes.specs.declared.unit_kind.UnitKind.{UnitKind}
 use Rattle.nextest_run_events_outcomes.specs.declared.unit_kind.UnitKind.TheVariants as unit
@@ -56,12 +56,12 @@ abort_of (came.Output ended output errors) = abort_in ended
 
 -- what it wrote to standard output and to standard error: both in one serve as either
 abbrev pub stdout_of : ChildOutputDescription → List ℕ
-stdout_of (written.Split stdout stderr) = captured stdout
+stdout_of (written.Split stdout stderr) = bytes_of_output stdout
 stdout_of (written.Combined output) = output
 stdout_of written.NotLoaded = []
 
 abbrev pub stderr_of : ChildOutputDescription → List ℕ
-stderr_of (written.Split stdout stderr) = captured stderr
+stderr_of (written.Split stdout stderr) = bytes_of_output stderr
 stderr_of (written.Combined output) = output
 stderr_of written.NotLoaded = []
 
@@ -88,8 +88,8 @@ pub record Collected : Type 0 where
   pub slice : Option TestOutputErrorSlice
 
 -- what a description has collected
-abbrev pub collected : UnitErrorDescription → Collected
-collected all = record {
+abbrev pub collection_of : UnitErrorDescription → Collected
+collection_of all = record {
   kind = all.kind;
   start = option_copied all.start_error;
   outputs = all.output_errors.now;

@@ -25,11 +25,11 @@ abbrev pub abort_value : UnitAbortDescription → Aborted
 abort_value abort = record { how = abort.description.now; leaked = abort.leaked }
 
 -- an error as a value
-abbrev pub described : DescribedError → Described
-described (error.Start why) = of_start why.now
-described (error.Output why) = of_output why.now
-described (error.Abort abort) = of_abort (abort_value abort)
-described (error.Slice slice) = of_slice slice
+abbrev pub description_of : DescribedError → Described
+description_of (error.Start why) = of_start why.now
+description_of (error.Output why) = of_output why.now
+description_of (error.Abort abort) = of_abort (abort_value abort)
+description_of (error.Slice slice) = of_slice slice
 
 -- the one, if there is one
 abbrev pub one_of : {A : Type 0} → (A → Described) → Option A → List Described

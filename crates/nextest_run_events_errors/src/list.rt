@@ -1,7 +1,7 @@
 // What went wrong, in order.
 ghost use Rattle.std.specs.Prelude.{◌≡◌, ◌↔◌, [], length, IsTrue};
 ghost use Rattle.std.specs.Iterator.{YieldsFirstBy, item_count};
-ghost use Rattle.nextest_run_events_errors.specs.Errors.{described};
+ghost use Rattle.nextest_run_events_errors.specs.Errors.{description_of};
 
 use crate::described::{DescribedError, UnitAbortDescription};
 use nextest_run_events_outputs::{ChildErrorDescription, ChildStartErrorDescription};
@@ -75,7 +75,7 @@ impl Clone for DescribedErrors<'_> {
 impl<'a> Iterator for DescribedErrors<'a> {
     type Item = DescribedError<'a>;
 
-    ghost next_gives = { YieldsFirstBy described (λ left. left) };
+    ghost next_gives = { YieldsFirstBy description_of (λ left. left) };
 
     ghost remaining = { item_count (λ left. left) };
 

@@ -3,7 +3,7 @@ ghost use Rattle.std.specs.Prelude.{◌≡◌, ◌≢◌, option_copied};
 ghost use Rattle.std.specs.Option.{option_map};
 ghost use Rattle.nextest_run_events_slices.specs.Slices.{IsSlice};
 ghost use Rattle.nextest_run_events_errors.specs.Errors.{abort_value};
-ghost use Rattle.nextest_run_events_errors.specs.Collected.{IsLoaded, start_error_of, errors_in, output_errors_of, abort_in, abort_of, stdout_of, stderr_of, is_failed_test, IsSliceOfEnd, IsSliceOf, collected, exec_fail_errors, child_process_errors, errors_of};
+ghost use Rattle.nextest_run_events_errors.specs.Collected.{IsLoaded, start_error_of, errors_in, output_errors_of, abort_in, abort_of, stdout_of, stderr_of, is_failed_test, IsSliceOfEnd, IsSliceOf, collection_of, exec_fail_errors, child_process_errors, errors_of};
 ghost use Rattle.nextest_run_events_errors.specs.Lists.{executing, IsListOf};
 
 use crate::described::UnitAbortDescription;
@@ -31,11 +31,11 @@ impl<'a> UnitErrorDescription<'a> {
     /// success it looks for the part of the output that tells of its error, in time in proportion to the output.
     pub fn new(kind: UnitKind, output: &'a ChildExecutionOutputDescription<LiveSpec>) -> Self
         requires { IsLoaded output.now }
-        ensures kind { (collected result).kind ≡ kind }
-        ensures start { (collected result).start ≡ start_error_of output.now }
-        ensures output { (collected result).outputs ≡ output_errors_of output.now }
-        ensures abort { (collected result).abort ≡ abort_of output.now }
-        ensures slice { IsSliceOf kind output.now (collected result).slice }
+        ensures kind { (collection_of result).kind ≡ kind }
+        ensures start { (collection_of result).start ≡ start_error_of output.now }
+        ensures output { (collection_of result).outputs ≡ output_errors_of output.now }
+        ensures abort { (collection_of result).abort ≡ abort_of output.now }
+        ensures slice { IsSliceOf kind output.now (collection_of result).slice }
     {
         match output {
             ChildExecutionOutputDescription::StartError(error) => UnitErrorDescription {
@@ -61,7 +61,7 @@ impl<'a> UnitErrorDescription<'a> {
 
     /// All that went wrong: the start error or the output errors, then the abort, then the slice.
     pub fn all_errors(&self) -> DescribedErrors<'a>
-        ensures { result ≡ errors_of (collected self.now) }
+        ensures { result ≡ errors_of (collection_of self.now) }
     {
         DescribedErrors {
             start: self.start_error,
@@ -73,21 +73,22 @@ impl<'a> UnitErrorDescription<'a> {
 
     /// The part of the output that tells of the error; `None` where none was looked for or found.
     pub fn output_slice(&self) -> Option<TestOutputErrorSlice<'a>>
-        ensures { result ≡ (collected self.now).slice }
+        ensures { result ≡ (collection_of self.now).slice }
     {
         self.output_slice
     }
 
     /// All that went wrong, under one description; `None` where nothing did.
     pub fn all_error_list(&self) -> Option<DescribedErrorList<'a>>
-        ensures { let all = collected self.now in IsListOf all.kind (errors_of all) result }
+        ensures { let all = collection_of self.now in IsListOf all.kind (errors_of all) result }
     {
         list_of(self.kind, self.all_errors())
     }
 
     /// The start error or the output errors, under one description; `None` where there are none.
     pub fn exec_fail_error_list(&self) -> Option<DescribedErrorList<'a>>
-        ensures { let all = collected self.now in IsListOf all.kind (exec_fail_errors all) result }
+        ensures { let all = collection_of self.now in IsListOf all.kind
+            (exec_fail_errors all) result }
     {
         let errors = DescribedErrors {
             start: self.start_error,
@@ -100,7 +101,8 @@ impl<'a> UnitErrorDescription<'a> {
 
     /// The abort and the slice, under one description; `None` where there is neither.
     pub fn child_process_error_list(&self) -> Option<DescribedErrorList<'a>>
-        ensures { let all = collected self.now in IsListOf all.kind (child_process_errors all) result }
+        ensures { let all = collection_of self.now in IsListOf all.kind
+            (child_process_errors all) result }
     {
         let errors = DescribedErrors {
             start: None,

@@ -1,7 +1,9 @@
 -- What is written is read as what it was.
-use Rattle.std.specs.Prelude.{◌≡◌, ℤ, ℕ, ◌+◌, codes, List, [], ◌∷◌, Bool, Some, None, Ok, FitsSigned, refl, map, ⊤}
+use Rattle.std.specs.Prelude.{◌≡◌, ℤ, pos, negsuc, ℕ, ◌+◌, ◌^◌, codes, List, [], ◌∷◌, Bool, true, ◌&&◌, Some, None, Ok, Err, FitsSigned, refl, map, ⊤, if◌then◌else◌, option_and_then}
+use Rattle.std.specs.Option.{option_map_or}
 use Rattle.std.specs.Int.{w32}
-use Rattle.std.proofs.Common.{rules, ap, ◌∙◌}
+use Rattle.std.proofs.Common.{ap, ◌∙◌, le_of_suc-le-suc, lt_of_lt_of_le}
+use Rattle.std.proofs.lemmas.Bool.{le-leb, leb-true, lt-ltb}
 use Rattle.serde_json.specs.Data.{boolean, string}
 use Rattle.nextest_json.specs.Reading.{Reading, ◌>>=◌, under, each, text}
 use Rattle.nextest_json.proofs.Lists.{listed_items}
@@ -33,7 +35,12 @@ timeout_back timeout_judged.TheVariants.Pass h = refl
 timeout_back timeout_judged.TheVariants.Fail h = refl
 
 pub whole_back : (value : ℤ) → FitsSigned w32 value → read.whole (form.whole value) ≡ Ok value
-whole_back value h = search rules
+whole_back (pos n) h =
+    ap (λ (fits : Bool). option_map_or Ok (option_and_then read.in_32_bits (if fits then Some (pos n) else None)) (Err []))
+    (lt-ltb n (2 ^ 63) (lt_of_lt_of_le h.sfits (leb-true (2 ^ 31) (2 ^ 63) refl)))
+    ∙ ap (λ (fits : Bool). option_map_or Ok (if fits then Some (pos n) else None) (Err [])) (le-leb n 2147483647 (le_of_suc-le-suc h.sfits))
+whole_back (negsuc n) h =
+    ap (λ (fits : Bool). option_map_or Ok (if fits && true then Some (negsuc n) else None) (Err [])) (le-leb n 2147483647 (le_of_suc-le-suc h.sfits))
 
 pub abort_back : (value : AbortDescription) → FitsAbort value → read.abort (form.abort value) ≡ Ok value
 abort_back (aborted.UnixSignal signal None) h = ap (λ whole. under (codes "signal") whole >>= λ signal. Ok (aborted.UnixSignal signal None)) (whole_back signal h)

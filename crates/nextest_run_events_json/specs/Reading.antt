@@ -3,7 +3,7 @@ use Rattle.std.specs.Prelude.{ℕ, Bool, negsuc, ℤ, pos, ◌&&◌, int_le, Lis
 use Rattle.std.specs.Str.{bytes_eq}
 use Rattle.serde_json.specs.Data.{Data}
 use Rattle.serde_json.specs.Find.{as_number, as_i64, as_str, as_bool}
-use Rattle.nextest_json.specs.Reading.{Reading, ◌>>=◌, leaf, text, required, optional, worded, listed_member}
+use Rattle.nextest_json.specs.Reading.{Reading, ◌>>=◌, leaf, text, required, optional, by_word, listed_member}
 use Rattle.nextest_config_elements_choices.specs.declared.timeouts.LeakTimeoutResult as leak_judged
 use Rattle.nextest_config_elements_choices.specs.declared.timeouts.SlowTimeoutResult as timeout_judged
 use Rattle.nextest_run_events_results.specs.declared.result.AbortDescription.{AbortDescription}
@@ -15,9 +15,9 @@ use Rattle.nextest_run_events_results.specs.declared.result.ExecutionResultDescr
 use Rattle.nextest_run_events_outputs.specs.declared.serializable_error.ErrorChain.{ErrorChain}
 
 -- what was read, without the path of what was refused
-abbrev pub kept : {A : Type 0} → Reading A → Option A
-kept (Ok value) = Some value
-kept (Err path) = None
+abbrev pub value_of : {A : Type 0} → Reading A → Option A
+value_of (Ok value) = Some value
+value_of (Err path) = None
 
 -- a number that fits 32 bits with sign
 abbrev pub in_32_bits : ℤ → Option ℤ
@@ -78,7 +78,7 @@ abort_of kind given =
     else Err (codes "kind" ∷ [])
 
 abbrev pub abort : Data → Reading AbortDescription
-abort = worded (codes "kind") abort_of
+abort = by_word (codes "kind") abort_of
 
 abbrev pub code_failure : Data → Reading FailureDescription
 code_failure given = do
@@ -98,7 +98,7 @@ failure_of kind given =
     else Err (codes "kind" ∷ [])
 
 abbrev pub failure : Data → Reading FailureDescription
-failure = worded (codes "kind") failure_of
+failure = by_word (codes "kind") failure_of
 
 abbrev pub leak_result : Data → Reading ExecutionResultDescription
 leak_result given = do
@@ -127,7 +127,7 @@ result_of status given =
     else Err (codes "status" ∷ [])
 
 abbrev pub result : Data → Reading ExecutionResultDescription
-result = worded (codes "status") result_of
+result = by_word (codes "status") result_of
 
 abbrev pub error : Data → Reading ErrorChain
 error given = do

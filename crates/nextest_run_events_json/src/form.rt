@@ -4,7 +4,7 @@ ghost use Rattle.serde_json.specs.Data.{Data};
 ghost use Rattle.serde_json.specs.View.{view};
 ghost use Rattle.nextest_run_events_json.specs.Calls.{Gives};
 ghost use Rattle.nextest_run_events_json.specs.Forms as form_of;
-ghost use Rattle.nextest_run_events_json.specs.Reading.{kept};
+ghost use Rattle.nextest_run_events_json.specs.Reading.{value_of};
 
 use crate::json_error::JsonError;
 use nextest_json::{Fault, Form, JsonValue};
@@ -28,7 +28,7 @@ pub trait JsonForm: Form<RunEvents> {
 
     /// The value that JSON has the form of.
     fn from_json(alloc: Global, value: &Value) -> Result<Self, JsonError>
-        ensures { Gives result (kept (Self.reading (view value.now))) }
+        ensures { Gives result (value_of (Self.reading (view value.now))) }
     {
         match Self::from_value(alloc, &JsonValue::of_tree(value)) {
             Ok(found) => Ok(found),

@@ -5,11 +5,11 @@ ghost use Rattle.serde_json.specs.Data.{boolean, string};
 ghost use Rattle.serde_json.specs.View.{view};
 ghost use Rattle.nextest_json.specs.Calls as read_as;
 ghost use Rattle.nextest_json.specs.Reading.{text};
-ghost use Rattle.nextest_json.specs.Seen.{seen};
+ghost use Rattle.nextest_json.specs.Seen.{data_of};
 ghost use Rattle.nextest_run_events_json.specs.Calls.{Gives};
 ghost use Rattle.nextest_run_events_json.specs.Forms as form_of;
 ghost use Rattle.nextest_run_events_json.specs.Reading as read;
-ghost use Rattle.nextest_run_events_json.specs.Reading.{kept};
+ghost use Rattle.nextest_run_events_json.specs.Reading.{value_of};
 ghost use Rattle.nextest_run_events_json.specs.ReadBack as back;
 
 use crate::form::{JsonForm, RunEvents};
@@ -22,7 +22,7 @@ use std::alloc::{AllocError, Global};
 
 // A number of 32 bits with sign.
 fn whole_of(value: &JsonValue<'_, '_>) -> Option<i32>
-    ensures { result ≡ read.whole_of (seen value.now) }
+    ensures { result ≡ read.whole_of (data_of value.now) }
 {
     match value.as_i64() {
         Some(number) if i64::from(i32::MIN) <= number && number <= i64::from(i32::MAX) => {
@@ -57,7 +57,7 @@ impl JsonForm for i32 {
     }
 
     fn from_json(_alloc: Global, value: &Value) -> Result<i32, JsonError>
-        ensures gives { Gives result (kept (read.whole (view value.now))) }
+        ensures gives { Gives result (value_of (read.whole (view value.now))) }
         ensures no_memory { result ≢ Err JsonError.OutOfMemory }
     {
         whole_of(&JsonValue::of_tree(value)).ok_or(JsonError::BadJson)
@@ -86,7 +86,7 @@ impl JsonForm for bool {
     }
 
     fn from_json(_alloc: Global, value: &Value) -> Result<bool, JsonError>
-        ensures gives { Gives result (kept (read.truth (view value.now))) }
+        ensures gives { Gives result (value_of (read.truth (view value.now))) }
         ensures no_memory { result ≢ Err JsonError.OutOfMemory }
     {
         value.as_bool().ok_or(JsonError::BadJson)
@@ -115,7 +115,7 @@ impl JsonForm for Text {
 
 // How a leak is judged.
 fn leak_of(value: &JsonValue<'_, '_>) -> Option<LeakTimeoutResult>
-    ensures { result ≡ read.leak_in (seen value.now) }
+    ensures { result ≡ read.leak_in (data_of value.now) }
 {
     match value.as_str()? {
         "pass" => Some(LeakTimeoutResult::Pass),
@@ -150,7 +150,7 @@ impl JsonForm for LeakTimeoutResult {
     }
 
     fn from_json(_alloc: Global, value: &Value) -> Result<LeakTimeoutResult, JsonError>
-        ensures gives { Gives result (kept (read.leak (view value.now))) }
+        ensures gives { Gives result (value_of (read.leak (view value.now))) }
         ensures no_memory { result ≢ Err JsonError.OutOfMemory }
     {
         leak_of(&JsonValue::of_tree(value)).ok_or(JsonError::BadJson)
@@ -159,7 +159,7 @@ impl JsonForm for LeakTimeoutResult {
 
 // How a timeout is judged.
 fn timeout_of(value: &JsonValue<'_, '_>) -> Option<SlowTimeoutResult>
-    ensures { result ≡ read.timeout_in (seen value.now) }
+    ensures { result ≡ read.timeout_in (data_of value.now) }
 {
     match value.as_str()? {
         "pass" => Some(SlowTimeoutResult::Pass),
@@ -194,7 +194,7 @@ impl JsonForm for SlowTimeoutResult {
     }
 
     fn from_json(_alloc: Global, value: &Value) -> Result<SlowTimeoutResult, JsonError>
-        ensures gives { Gives result (kept (read.timeout (view value.now))) }
+        ensures gives { Gives result (value_of (read.timeout (view value.now))) }
         ensures no_memory { result ≢ Err JsonError.OutOfMemory }
     {
         timeout_of(&JsonValue::of_tree(value)).ok_or(JsonError::BadJson)

@@ -1,14 +1,14 @@
 // The forms of how an attempt ended.
 ghost use Rattle.std.specs.Prelude.{[]};
 ghost use Rattle.nextest_json.specs.Calls.{Gives, IsBelow};
-ghost use Rattle.nextest_json.specs.Seen.{seen};
+ghost use Rattle.nextest_json.specs.Seen.{data_of};
 ghost use Rattle.nextest_run_events_json.specs.Forms as form_of;
 ghost use Rattle.nextest_run_events_json.specs.Laws as law;
 ghost use Rattle.nextest_run_events_json.specs.ReadBack as back;
 ghost use Rattle.nextest_run_events_json.specs.Reading as read;
 
 use crate::form::{JsonForm, RunEvents, unless_absent};
-use nextest_json::{Fault, Form, JsonValue, Step, optional, required, word};
+use nextest_json::{Fault, Form, JsonValue, PathStep, optional, required, word};
 use nextest_run_events_results::{
     AbortDescription, ExecutionResultDescription, FailureDescription,
 };
@@ -19,12 +19,12 @@ use std::alloc::{AllocError, Global};
 fn unknown(alloc: Global, name: &'static str) -> Fault
     ensures { IsBelow (Fault.At []) name.now result }
 {
-    Fault::here(alloc).below(Step::Name(name))
+    Fault::here(alloc).below(PathStep::Name(name))
 }
 
 // An abort by a signal.
 fn signal_abort(alloc: Global, value: &JsonValue<'_, '_>) -> Result<AbortDescription, Fault>
-    ensures { Gives result (read.signal_abort (seen value.now)) }
+    ensures { Gives result (read.signal_abort (data_of value.now)) }
 {
     Ok(AbortDescription::UnixSignal {
         signal: required(alloc, value, "signal")?,
@@ -34,7 +34,7 @@ fn signal_abort(alloc: Global, value: &JsonValue<'_, '_>) -> Result<AbortDescrip
 
 // An abort by a status.
 fn status_abort(alloc: Global, value: &JsonValue<'_, '_>) -> Result<AbortDescription, Fault>
-    ensures { Gives result (read.status_abort (seen value.now)) }
+    ensures { Gives result (read.status_abort (data_of value.now)) }
 {
     Ok(AbortDescription::WindowsNtStatus {
         code: required(alloc, value, "code")?,
@@ -124,7 +124,7 @@ fn fail_result(
     alloc: Global,
     value: &JsonValue<'_, '_>,
 ) -> Result<ExecutionResultDescription, Fault>
-    ensures { Gives result (read.fail_result (seen value.now)) }
+    ensures { Gives result (read.fail_result (data_of value.now)) }
 {
     Ok(ExecutionResultDescription::Fail {
         failure: required(alloc, value, "failure")?,

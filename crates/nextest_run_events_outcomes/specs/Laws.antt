@@ -1,21 +1,21 @@
 -- What holds of all outcomes.
 use Rattle.std.specs.Prelude.{◌≡◌, List, IsPermutation}
-use Rattle.nextest_run_events_outcomes.specs.Outcome.{combined, IsHighest}
+use Rattle.nextest_run_events_outcomes.specs.Outcome.{higher_of, IsHighest}
 use Rattle.nextest_run_events_outcomes.specs.declared.outcome.RunOutcome.{RunOutcome}
 use Rattle.nextest_run_events_outcomes.specs.declared.outcome.RunOutcome.TheVariants.{NoTestsRun}
 
 abbrev pub IsCommutative : Type 0
-IsCommutative = (a b : RunOutcome) → combined a b ≡ combined b a
+IsCommutative = (a b : RunOutcome) → higher_of a b ≡ higher_of b a
 
 abbrev pub IsAssociative : Type 0
-IsAssociative = (a b c : RunOutcome) → combined (combined a b) c ≡ combined a (combined b c)
+IsAssociative = (a b c : RunOutcome) → higher_of (higher_of a b) c ≡ higher_of a (higher_of b c)
 
 abbrev pub IsIdempotent : Type 0
-IsIdempotent = (a : RunOutcome) → combined a a ≡ a
+IsIdempotent = (a : RunOutcome) → higher_of a a ≡ a
 
 -- `NoTestsRun` changes nothing, on either side
 abbrev pub IsNeutral : Type 0
-IsNeutral = (a : RunOutcome) → (combined NoTestsRun a ≡ a) × (combined a NoTestsRun ≡ a)
+IsNeutral = (a : RunOutcome) → (higher_of NoTestsRun a ≡ a) × (higher_of a NoTestsRun ≡ a)
 
 -- of the same outcomes one is the highest
 abbrev pub OneHighest : Type 0

@@ -24,8 +24,8 @@ rank (Failed step.Test) = 4
 rank (Failed step.SetupScript) = 5
 
 -- the higher of two outcomes
-abbrev pub combined : RunOutcome → RunOutcome → RunOutcome
-combined a b = if nat_lt (rank a) (rank b) then b else a
+abbrev pub higher_of : RunOutcome → RunOutcome → RunOutcome
+higher_of a b = if nat_lt (rank a) (rank b) then b else a
 
 -- the highest of these outcomes, or `NoTestsRun` where there is none
 pub record IsHighest (outcomes : List RunOutcome) (it : RunOutcome) : Type 0 where

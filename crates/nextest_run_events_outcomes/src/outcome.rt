@@ -24,7 +24,7 @@ pub enum RunOutcome {
 }
 
 impl RunOutcome {
-    ghost use Rattle.nextest_run_events_outcomes.specs.Outcome.{outcome_of, rank, combined, IsHighest};
+    ghost use Rattle.nextest_run_events_outcomes.specs.Outcome.{outcome_of, rank, higher_of, IsHighest};
 
     /// What a run with this summary came to.
     pub fn from_final_stats(stats: FinalRunStats) -> Self
@@ -42,7 +42,7 @@ impl RunOutcome {
 
     /// The higher of two outcomes.
     pub fn combine(self, other: Self) -> Self
-        ensures { result ≡ combined self other }
+        ensures { result ≡ higher_of self other }
     {
         if self.rank() < other.rank() {
             other

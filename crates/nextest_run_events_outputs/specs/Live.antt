@@ -1,7 +1,7 @@
 -- How what a process that runs gives is described. Nothing of it is lost, and each error is told as its own kind.
 use Rattle.std.specs.Prelude.{map}
 use Rattle.std.specs.Option.{option_map}
-use Rattle.nextest_run_events_results.specs.Described.{described}
+use Rattle.nextest_run_events_results.specs.Described.{result_description_of}
 use Rattle.nextest_run_events_outputs.specs.declared.error_list.ErrorList.{ErrorList}
 use Rattle.nextest_run_events_outputs.specs.declared.live_error.ChildStartError.{ChildStartError}
 use Rattle.nextest_run_events_outputs.specs.declared.live_error.ChildStartError.TheVariants as no_start
@@ -42,5 +42,5 @@ described_output (wrote.Split streams) = written.Split streams.stdout streams.st
 described_output (wrote.Combined output) = written.Combined output
 
 abbrev pub described_run : ChildExecutionOutput → ChildExecutionOutputDescription LiveSpec ChildOutputDescription
-described_run (ran.Output result output errors) = came.Output (option_map described result) (described_output output) (option_map described_errors errors)
+described_run (ran.Output result output errors) = came.Output (option_map result_description_of result) (described_output output) (option_map described_errors errors)
 described_run (ran.StartError why) = came.StartError (described_start why)

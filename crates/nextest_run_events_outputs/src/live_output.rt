@@ -1,6 +1,6 @@
 // What a child process that runs gives, as a runner has it.
 ghost use Rattle.std.specs.Prelude.{◌≡◌, IfOk, option_map};
-ghost use Rattle.nextest_run_events_results.specs.Described.{described};
+ghost use Rattle.nextest_run_events_results.specs.Described.{result_description_of};
 ghost use Rattle.nextest_run_events_outputs.specs.Live.{described_errors, described_output, described_run};
 
 use super::boxed::Boxed;
@@ -72,7 +72,7 @@ fn told_end(
     alloc: Global,
     ended: Option<ExecutionResult>,
 ) -> Result<Option<Boxed<ExecutionResultDescription>>, AllocError>
-    ensures { IfOk result (λ told. told ≡ option_map described ended) }
+    ensures { IfOk result (λ told. told ≡ option_map result_description_of ended) }
 {
     match ended {
         Some(ended) => Ok(Some(Boxed::new(

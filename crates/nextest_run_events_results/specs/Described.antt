@@ -34,9 +34,9 @@ abbrev pub described_failure : FailureStatus → FailureDescription
 described_failure (failure_status.ExitCode code) = failed.ExitCode code
 described_failure (failure_status.Abort status) = failed.Abort (described_abort status)
 
-abbrev pub described : ExecutionResult → ExecutionResultDescription
-described came.Pass = ended.Pass
-described (came.Leak judged) = ended.Leak judged
-described (came.Fail status leaked) = ended.Fail (described_failure status) leaked
-described came.ExecFail = ended.ExecFail
-described (came.Timeout judged) = ended.Timeout judged
+abbrev pub result_description_of : ExecutionResult → ExecutionResultDescription
+result_description_of came.Pass = ended.Pass
+result_description_of (came.Leak judged) = ended.Leak judged
+result_description_of (came.Fail status leaked) = ended.Fail (described_failure status) leaked
+result_description_of came.ExecFail = ended.ExecFail
+result_description_of (came.Timeout judged) = ended.Timeout judged

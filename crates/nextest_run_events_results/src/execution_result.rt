@@ -1,6 +1,6 @@
 // How an attempt ended, as its process gives it, without texts.
 ghost use Rattle.std.specs.Prelude.{◌≡◌, IfOk};
-ghost use Rattle.nextest_run_events_results.specs.Described.{abort_of, failure_of, described_abort, described_failure, described};
+ghost use Rattle.nextest_run_events_results.specs.Described.{abort_of, failure_of, described_abort, described_failure, result_description_of};
 ghost use Rattle.nextest_run_events_results.specs.Result.{is_success};
 ghost use Rattle.nextest_run_events_results.specs.Signals.{signal_name};
 ghost use Rattle.nextest_run_events_results.specs.Texts.{kind_name};
@@ -89,7 +89,7 @@ pub enum ExecutionResult {
 impl ExecutionResult {
     /// Whether it is a success: a pass, or a leak or timeout that is judged as a pass.
     pub fn is_success(self) -> bool
-        ensures { result ≡ is_success (described self) }
+        ensures { result ≡ is_success (result_description_of self) }
     {
         match self {
             ExecutionResult::Pass => true,
@@ -101,7 +101,7 @@ impl ExecutionResult {
 
     /// The name of its kind.
     pub fn as_static_str(&self) -> &'static str
-        ensures { result.now ≡ kind_name (described self.now) }
+        ensures { result.now ≡ kind_name (result_description_of self.now) }
     {
         match self {
             ExecutionResult::Pass => "pass",
@@ -153,7 +153,7 @@ impl FailureDescription {
 impl ExecutionResultDescription {
     /// The same end of an attempt, with the name of its signal where one ended it. It fails only on allocation.
     pub fn from_result(alloc: Global, ended: ExecutionResult) -> Result<Self, AllocError>
-        ensures { IfOk result (λ description. description ≡ described ended) }
+        ensures { IfOk result (λ description. description ≡ result_description_of ended) }
     {
         match ended {
             ExecutionResult::Pass => Ok(ExecutionResultDescription::Pass),

@@ -8,5 +8,6 @@ use super::cancel_reason::CancelReason;
 
 /// The order of reasons is that of their gravity.
 pub fn reasons_rise()
-    ensures { (one other : Reason) → ⟦<CancelReason as Ord>⟧.cmp one other ≡ nat_cmp (gravity one) (gravity other) }
+    ensures { (one other : Reason)
+        → ⟦<CancelReason as Ord>⟧.cmp one other ≡ nat_cmp (gravity one) (gravity other) }
 {}

@@ -9,9 +9,9 @@ use Rattle.nextest_run_events_slices.specs.Notes.{HasNoNote, IsNote}
 use Rattle.nextest_run_events_slices.specs.Places.{Span, IsPanic, IsLastPanic, IsPanicStart, IsErrorPlace, IsFirstError}
 
 -- the bytes of an output: one that was not captured has none
-abbrev pub captured : Option (List ℕ) → List ℕ
-captured None = []
-captured (Some bytes) = bytes
+abbrev pub bytes_of_output : Option (List ℕ) → List ℕ
+bytes_of_output None = []
+bytes_of_output (Some bytes) = bytes
 
 -- the bytes from a place to the end of an output, without white space at their end
 abbrev pub IsPartFrom : List ℕ → ℕ → ByteSubslice → Type 0

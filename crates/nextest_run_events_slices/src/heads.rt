@@ -11,7 +11,8 @@ use ucd_category::GeneralCategory;
 
 /// What stands behind `part`, if `text` begins with it.
 fn behind<'a>(text: &'a [u8], part: &[u8]) -> Option<&'a [u8]>
-    ensures { MatchOption result ((rest : List ℕ) → text.now ≢ part.now ++ rest) (λ rest. text.now ≡ part.now ++ rest.now) }
+    ensures { MatchOption result ((rest : List ℕ) → text.now ≢ part.now ++ rest)
+        (λ rest. text.now ≡ part.now ++ rest.now) }
 {
     text.strip_prefix(part)
 }
@@ -25,7 +26,8 @@ fn is_name(text: &[u8]) -> bool
 
 /// What stands behind a name and the quote that ends it, if `text` begins with them.
 fn behind_name(text: &[u8]) -> Option<&[u8]>
-    ensures { MatchOption result ((rest : List ℕ) → ¬ (BeginsWith IsName text.now (39 ∷ rest))) (λ rest. BeginsWith IsName text.now (39 ∷ rest.now)) }
+    ensures { MatchOption result ((rest : List ℕ) → ¬ (BeginsWith IsName text.now (39 ∷ rest)))
+        (λ rest. BeginsWith IsName text.now (39 ∷ rest.now)) }
 {
     let end = text.find_byte(b'\'')?;
     if is_name(&text[..end]) {
@@ -43,7 +45,8 @@ fn is_digit(character: char) -> bool
 
 /// Whether each character is a decimal digit.
 fn are_digits(text: &str) -> bool
-    ensures { IsTrue result ↔ All (λ digit. general_category digit ≡ DecimalNumber) (chars text.now) }
+    ensures { IsTrue result
+        ↔ All (λ digit. general_category digit ≡ DecimalNumber) (chars text.now) }
 {
     for character in text.chars() {
         if !is_digit(character) {
@@ -66,7 +69,9 @@ fn is_number(text: &[u8]) -> bool
 /// What stands behind a number, `)` and a space, if `text` begins with them. A line feed ends the search, so that no line is
 /// searched from each panic message before it.
 fn behind_number(text: &[u8]) -> Option<&[u8]>
-    ensures { MatchOption result ((rest : List ℕ) → ¬ (BeginsWith IsNumber text.now (codes ") " ++ rest))) (λ rest. BeginsWith IsNumber text.now (codes ") " ++ rest.now)) }
+    ensures { MatchOption result
+        ((rest : List ℕ) → ¬ (BeginsWith IsNumber text.now (codes ") " ++ rest)))
+        (λ rest. BeginsWith IsNumber text.now (codes ") " ++ rest.now)) }
 {
     let end = text.find_byteset(b")\n")?;
     if is_number(&text[..end]) {
@@ -77,7 +82,9 @@ fn behind_number(text: &[u8]) -> Option<&[u8]>
 
 /// What stands behind `panicked at `, if `text` begins with it, perhaps with a number in parentheses before it.
 fn behind_verb(text: &[u8]) -> Option<&[u8]>
-    ensures { MatchOption result ((rest : List ℕ) → ¬ (BeginsWith IsId text.now (codes "panicked at " ++ rest))) (λ rest. BeginsWith IsId text.now (codes "panicked at " ++ rest.now)) }
+    ensures { MatchOption result
+        ((rest : List ℕ) → ¬ (BeginsWith IsId text.now (codes "panicked at " ++ rest)))
+        (λ rest. BeginsWith IsId text.now (codes "panicked at " ++ rest.now)) }
 {
     let Some(numbered) = behind(text, b"(") else {
         return behind(text, b"panicked at ");
@@ -88,7 +95,8 @@ fn behind_verb(text: &[u8]) -> Option<&[u8]>
 
 /// What stands behind the head of a panic message, if `text` begins with one.
 pub fn behind_panic_head(text: &[u8]) -> Option<&[u8]>
-    ensures { MatchOption result ((rest : List ℕ) → ¬ (BeginsWith IsPanicHead text.now rest)) (λ rest. BeginsWith IsPanicHead text.now rest.now) }
+    ensures { MatchOption result ((rest : List ℕ) → ¬ (BeginsWith IsPanicHead text.now rest))
+        (λ rest. BeginsWith IsPanicHead text.now rest.now) }
 {
     let named = behind(text, b"thread '")?;
     let quoted = behind_name(named)?;

@@ -31,7 +31,8 @@ fn line_text(line: &[u8]) -> &[u8]
 /// The first line in which `note` finds the note: where it begins, and the line without its end.
 fn first_found<'o>(note: &Finder<'_>, output: &'o [u8]) -> Option<(usize, &'o [u8])>
     requires { note.now ≡ codes "note: test did not panic as expected" }
-    ensures { MatchOption result (HasNoNote output.now) (λ found. IsNote output.now found.0 found.1.now) }
+    ensures { MatchOption result (HasNoNote output.now)
+        (λ found. IsNote output.now found.0 found.1.now) }
 {
     let mut start = 0;
     for line in output.lines_with_terminator() {
@@ -46,7 +47,8 @@ fn first_found<'o>(note: &Finder<'_>, output: &'o [u8]) -> Option<(usize, &'o [u
 
 /// The first line that has the note: where it begins, and the line without its end.
 pub fn first_note(output: &[u8]) -> Option<(usize, &[u8])>
-    ensures { MatchOption result (HasNoNote output.now) (λ found. IsNote output.now found.0 found.1.now) }
+    ensures { MatchOption result (HasNoNote output.now)
+        (λ found. IsNote output.now found.0 found.1.now) }
 {
     let note = Finder::new(NOTE);
     first_found(&note, output)

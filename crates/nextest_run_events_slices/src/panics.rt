@@ -9,7 +9,9 @@ use bstr::ByteSlice;
 fn panic_stop(output: &[u8], at: usize) -> Option<usize>
     requires within { at ≤ length output.now }
     requires line { IsLineStart output.now at }
-    ensures { MatchOption result ((span : Span) → IsPanic output.now span → span.start ≢ at) (λ stop. (stop ≤ length output.now) × IsPanic output.now (record { start = at; stop = stop })) }
+    ensures { MatchOption result ((span : Span) → IsPanic output.now span → span.start ≢ at)
+        (λ stop. (stop ≤ length output.now)
+        × IsPanic output.now (record { start = at; stop = stop })) }
 {
     let rest = behind_panic_head(&output[at..])?;
     Some(output.len() - rest.len())
@@ -19,7 +21,9 @@ fn panic_stop(output: &[u8], at: usize) -> Option<usize>
 fn next_line_start(output: &[u8], from: usize) -> Option<usize>
     requires some { 0 < from }
     requires within { from ≤ length output.now + 1 }
-    ensures { MatchOption result ((place : ℕ) → from ≤ place → ¬ (IsLineStart output.now place)) (λ start. (from ≤ start) × (start ≤ length output.now) × IsLineStart output.now start × ((place : ℕ) → from ≤ place → place < start → ¬ (IsLineStart output.now place))) }
+    ensures { MatchOption result ((place : ℕ) → from ≤ place → ¬ (IsLineStart output.now place))
+        (λ start. (from ≤ start) × (start ≤ length output.now) × IsLineStart output.now start
+        × ((place : ℕ) → from ≤ place → place < start → ¬ (IsLineStart output.now place))) }
 {
     let ahead = &output[from - 1..];
     let feed = ahead.find_byte(b'\n')?;
@@ -50,7 +54,8 @@ pub fn last_panic(output: &[u8]) -> Option<usize>
 /// Where the line above `at` begins, if it begins with `Error:`. Line ends between it and `at` are passed over.
 fn error_line_above(output: &[u8], at: usize) -> Option<usize>
     requires { at ≤ length output.now }
-    ensures { MatchOption result ((start : ℕ) → ¬ (IsErrorLineAbove output.now at start)) (λ start. IsErrorLineAbove output.now at start) }
+    ensures { MatchOption result ((start : ℕ) → ¬ (IsErrorLineAbove output.now at start))
+        (λ start. IsErrorLineAbove output.now at start) }
 {
     let before = &output[..at];
     let last = before.rfind_not_byteset(b"\r\n")?;

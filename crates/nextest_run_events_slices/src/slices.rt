@@ -1,7 +1,7 @@
 //! The part of a test's output that tells of its error.
 ghost use Rattle.std.specs.Prelude.{◌≡◌, ◌≤◌, length, MatchOption, IfSome, option_copied};
 ghost use Rattle.nextest_run_events_slices.specs.Notes.{HasNoNote};
-ghost use Rattle.nextest_run_events_slices.specs.Slices.{captured, HasNoPanic, HasNoError, IsPartFrom, IsPanicSlice, IsErrorSlice, IsNoteSlice, IsSlice, IsWithin, stderr_part, stdout_part, part_of};
+ghost use Rattle.nextest_run_events_slices.specs.Slices.{bytes_of_output, HasNoPanic, HasNoError, IsPartFrom, IsPanicSlice, IsErrorSlice, IsNoteSlice, IsSlice, IsWithin, stderr_part, stdout_part, part_of};
 
 use crate::errors::first_error;
 use crate::notes::first_note;
@@ -40,7 +40,7 @@ pub enum TestOutputErrorSlice<'a> {
 
 /// The bytes of an output: one that was not captured has none.
 fn bytes_of(output: Option<&[u8]>) -> &[u8]
-    ensures { result.now ≡ captured (option_copied output.entry) }
+    ensures { result.now ≡ bytes_of_output (option_copied output.entry) }
 {
     output.unwrap_or(&[])
 }
@@ -85,8 +85,10 @@ impl<'a> TestOutputErrorSlice<'a> {
     /// Looks for the part of an output that tells of its error. `None` as an output is one that was not captured. Takes no
     /// memory, and time in proportion to the outputs.
     pub fn heuristic_extract(stdout: Option<&'a [u8]>, stderr: Option<&'a [u8]>) -> Option<Self>
-        ensures slice { IsSlice (captured (option_copied stdout.entry)) (captured (option_copied stderr.entry)) result }
-        ensures within { IfSome result (λ found. IsWithin (captured (option_copied stdout.entry)) (captured (option_copied stderr.entry)) found) }
+        ensures slice { IsSlice (bytes_of_output (option_copied stdout.entry))
+            (bytes_of_output (option_copied stderr.entry)) result }
+        ensures within { IfSome result (λ found. IsWithin (bytes_of_output
+            (option_copied stdout.entry)) (bytes_of_output (option_copied stderr.entry)) found) }
     {
         let stderr = bytes_of(stderr);
         if let Some(stderr_subslice) = panic_part(stderr) {

@@ -5,7 +5,7 @@ use Rattle.nextest_config_elements_choices.specs.declared.status_level.FinalStat
 use Rattle.nextest_config_elements_choices.specs.declared.status_level.StatusLevel.{StatusLevel}
 use Rattle.nextest_run_events_results.specs.declared.cancel_reason.CancelReason.{CancelReason}
 use Rattle.nextest_run_events_results.specs.declared.result.ExecutionResultDescription.{ExecutionResultDescription}
-use Rattle.nextest_run_events_visibility.specs.Visibility.{weight, was_ended_by_run, shown}
+use Rattle.nextest_run_events_visibility.specs.Visibility.{weight, was_ended_by_run, visibility_of}
 use Rattle.nextest_run_events_visibility.specs.declared.visibility.OutputOnTestFinished.{OutputOnTestFinished}
 use Rattle.nextest_run_events_visibility.specs.declared.visibility.OutputStoreFinal.{OutputStoreFinal}
 use Rattle.nextest_run_events_visibility.specs.declared.visibility.OutputStoreFinal.TheVariants as kept
@@ -33,10 +33,10 @@ abbrev pub GraverHides : Type 0
 GraverHides =
     (levels : StatusLevels) (display : TestOutputDisplay) (lesser greater : Option CancelReason) (level : StatusLevel) (final_level : FinalStatusLevel) (came : ExecutionResultDescription) →
     weight lesser ≤ weight greater → IsFalse (was_ended_by_run lesser came) →
-    ShowsNoMore (shown levels display greater level final_level came) (shown levels display lesser level final_level came)
+    ShowsNoMore (visibility_of levels display greater level final_level came) (visibility_of levels display lesser level final_level came)
 
 -- under any reason no more is shown than under none
 abbrev pub NoneShowsMost : Type 0
 NoneShowsMost =
     (levels : StatusLevels) (display : TestOutputDisplay) (reason : Option CancelReason) (level : StatusLevel) (final_level : FinalStatusLevel) (came : ExecutionResultDescription) →
-    ShowsNoMore (shown levels display reason level final_level came) (shown levels display None level final_level came)
+    ShowsNoMore (visibility_of levels display reason level final_level came) (visibility_of levels display None level final_level came)

@@ -55,8 +55,8 @@ abbrev pub shows_output_at_end : TestOutputDisplay → Option CancelReason → B
 shows_output_at_end display reason = shown_at_end display && not (shown_at_once display && is_signal reason)
 
 -- all that is shown
-abbrev pub shown : StatusLevels → TestOutputDisplay → Option CancelReason → StatusLevel → FinalStatusLevel → ExecutionResultDescription → OutputOnTestFinished
-shown levels display reason level final_level came = record {
+abbrev pub visibility_of : StatusLevels → TestOutputDisplay → Option CancelReason → StatusLevel → FinalStatusLevel → ExecutionResultDescription → OutputOnTestFinished
+visibility_of levels display reason level final_level came = record {
   write_status_line = shows_line levels.status_level level;
   show_immediate = shows_at_once display reason came;
   store_final = if is_stored display reason levels.final_status_level final_level came then kept.Yes (shows_output_at_end display reason) else kept.No;

@@ -9,7 +9,8 @@ use nextest_run_events_results::CancelReason;
 
 /// The order of reasons, with no reason below all, is that of their weight.
 pub fn reasons_weigh()
-    ensures { (one other : Option Reason) → ⟦<Option<CancelReason> as Ord>⟧.cmp one other ≡ nat_cmp (weight one) (weight other) }
+    ensures { (one other : Option Reason)
+        → ⟦<Option<CancelReason> as Ord>⟧.cmp one other ≡ nat_cmp (weight one) (weight other) }
 {}
 
 /// A graver reason only ever hides: where the run did not end a test under the lesser of two reasons, no reason being the

@@ -1,6 +1,6 @@
 // What is shown of a finished test, when it ends and when the run ends.
 ghost use Rattle.std.specs.Prelude.{◌≡◌};
-ghost use Rattle.nextest_run_events_visibility.specs.Visibility.{ends_at_once, was_ended_by_run, shows_at_once, is_stored, shows_output_at_end, shown};
+ghost use Rattle.nextest_run_events_visibility.specs.Visibility.{ends_at_once, was_ended_by_run, shows_at_once, is_stored, shows_output_at_end, visibility_of};
 
 use nextest_config_elements_choices::{FinalStatusLevel, StatusLevel, TestOutputDisplay};
 use nextest_run_events_results::{CancelReason, ExecutionResultDescription};
@@ -49,7 +49,8 @@ impl StatusLevels {
         test_final_status_level: FinalStatusLevel,
         execution_result: &ExecutionResultDescription,
     ) -> OutputOnTestFinished
-        ensures { result ≡ shown self.now display cancel_status test_status_level test_final_status_level execution_result.now }
+        ensures { result ≡ visibility_of self.now display cancel_status test_status_level
+            test_final_status_level execution_result.now }
     {
         let store_final = if is_stored(
             self.final_status_level,

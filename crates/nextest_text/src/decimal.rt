@@ -26,7 +26,8 @@ pub fn u64_of_decimal(text: &str) -> Option<u64>
 /// other text, and outside the range of `i32`.
 pub fn i32_of_decimal(text: &str) -> Option<i32>
     ensures found { IfSome result (λ number. text.now ≡ signed_decimal number) }
-    ensures none { IfNone result ((number : ℤ) → FitsSigned w32 number → text.now ≢ signed_decimal number) }
+    ensures none { IfNone result
+        ((number : ℤ) → FitsSigned w32 number → text.now ≢ signed_decimal number) }
 {
     let Ok(number) = text.parse::<i32>() else {
         return None;

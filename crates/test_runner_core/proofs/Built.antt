@@ -15,7 +15,7 @@ use Rattle.test_runner_core_planning.specs.Checks.{Planned}
 use Rattle.test_runner_core_planning.specs.Plan.{IsPlanOf, Plans, plan_test}
 use Rattle.test_runner_core_plan.specs.declared.plan.Plan.{Plan}
 use Rattle.test_runner_core_plan.specs.declared.plan.PlanTest.{PlanTest}
-use Rattle.test_runner_core_run_model.specs.RunPlan.{IsLimit, IsPlan}
+use Rattle.test_runner_core_run_model.specs.RunPlan.{IsPositiveLimit, IsPlan}
 use Rattle.test_runner_core_run_model.specs.declared.run_test.RunTest.{RunTest}
 use Rattle.test_runner_core_session.specs.Session.{run_plan, run_test}
 use Rattle.test_runner_core_settings.specs.Laws.{IsOneAtLeast}
@@ -25,7 +25,7 @@ use Rattle.test_runner_core_workspace.specs.Lister.{Answer}
 use Rattle.test_runner_core_workspace.specs.declared.record.Binary.{Binary}
 
 -- a number of failing tests that is one at least is a limit
-is_limit : (limit : MaxFail) → IsOneAtLeast limit → IsLimit limit
+is_limit : (limit : MaxFail) → IsOneAtLeast limit → IsPositiveLimit limit
 is_limit (limits.Count max_fail terminate) one = one
 is_limit limits.All one = tt
 
@@ -60,6 +60,6 @@ built_is_plan answer inputs it plan planned built =
           no_scripts plan.scripts (λ id (test, has, needs). omega (arith, has.1, empty)) built.scripts;
       tries = each_has_a_try plan.tests (recursion_from_All HasTry plan.tests all);
       limit =
-          subst (λ (limit : MaxFail). IsLimit limit) (sym built.limit)
+          subst (λ (limit : MaxFail). IsPositiveLimit limit) (sym built.limit)
           (is_limit it.choice.run.max_fail (sets_limit (context_of inputs.workspace) inputs it.choice.run planned.found.answers.sets.run));
     }

@@ -3,7 +3,7 @@ use Rattle.std.proofs.Common.{◌≡◌, ℕ, ◌+◌, ◌≤◌, List, Option, 
 use Rattle.test_runner_core_log_reader.specs.declared.limits.TheConstants.{LOG_LIMIT}
 use Rattle.test_runner_core_log_reader.specs.declared.next.Next.TheVariants as found_is
 use Rattle.test_runner_core_log_reader.specs.Items.{Item, items}
-use Rattle.test_runner_core_log_reader.specs.Cursor.{Cursor, received, items_ahead}
+use Rattle.test_runner_core_log_reader.specs.Cursor.{Cursor, bytes_received, items_ahead}
 use Rattle.test_runner_core_log_reader.specs.Calls.{Hands}
 use Rattle.test_runner_core.specs.Check.{FirstRefused, IsReading}
 use Rattle.test_runner_core.specs.declared.refused_line.LineRefusal.{LineRefusal}
@@ -26,8 +26,8 @@ FindsAll (Some log) number cursor (Some left) = (found : Option RefusedLine) →
 
 pub record Checking (log : Option (List ℕ)) (first_calls first_failures number : ℕ) (cursor : Cursor) (left : Option (List ℕ)) (calls failures : ℕ) : Type 0 where
   pub finds : FindsAll log number cursor left
-  pub reads : calls ≤ first_calls + received cursor
-  pub within : received cursor ≤ LOG_LIMIT + 1
+  pub reads : calls ≤ first_calls + bytes_received cursor
+  pub within : bytes_received cursor ≤ LOG_LIMIT + 1
   pub unfailed : failures ≡ first_failures
   pub counted : number ≤ cursor.handed + 1
 

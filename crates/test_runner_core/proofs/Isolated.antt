@@ -5,7 +5,7 @@ use Rattle.test_runner_core_log_reader.specs.Items.{Item}
 use Rattle.test_runner_core_planning.specs.Plan.{Builds}
 use Rattle.test_runner_core_plan.specs.declared.plan.Plan.{Plan}
 use Rattle.test_runner_core_reporter.specs.Opening.{opening}
-use Rattle.test_runner_core_reporter.specs.Parts.{IsText, Part}
+use Rattle.test_runner_core_reporter.specs.Parts.{IsTextOf, Part}
 use Rattle.test_runner_core_workspace.specs.Lister.{Answer}
 use Rattle.test_runner_core_workspace.specs.declared.record.Binary.{Binary}
 use Rattle.test_runner_core.specs.Laws.{IsolatesReports}
@@ -31,8 +31,8 @@ isolates_reports answer inputs other log one second differ built built_other par
     let judged = judged_by answer other log second other_parts other_code built_other composed_other in
     let aside = judged_aside second.warnings one log other_parts other_code (subst (λ (p : Plan). Judged p log other_parts other_code) alike judged) in
     let once = judged_once one log parts (opening one ++ aside.behind) code other_code (judged_by answer inputs log one parts code built composed) aside.judged in
-    let first = parted (opening one) aside.behind text (subst (λ (p : List Part). IsText p text) once.0 is) in
-    let next = parted (opening second) aside.behind other_text (subst (λ (p : List Part). IsText p other_text) aside.whole is_other) in (
+    let first = parted (opening one) aside.behind text (subst (λ (p : List Part). IsTextOf p text) once.0 is) in
+    let next = parted (opening second) aside.behind other_text (subst (λ (p : List Part). IsTextOf p other_text) aside.whole is_other) in (
       once.1,
       record {
         warned = first.told;

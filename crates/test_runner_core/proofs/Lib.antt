@@ -1,5 +1,6 @@
 pub mod Checking
 pub mod Course
+pub mod Kept
 pub mod Walk
 pub mod NextLine
 pub mod Reported

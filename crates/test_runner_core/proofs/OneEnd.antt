@@ -15,7 +15,7 @@ use Rattle.test_runner_core_run_model.specs.Ends.{final_state}
 use Rattle.test_runner_core_run_model.specs.State.{State}
 use Rattle.test_runner_core_session.specs.Session.{run_plan}
 use Rattle.test_runner_core_reporter.specs.Final.{final_parts}
-use Rattle.test_runner_core_reporter.specs.Parts.{IsText, Part}
+use Rattle.test_runner_core_reporter.specs.Parts.{IsTextOf, Part}
 use Rattle.test_runner_core_workspace.specs.Lister.{Answer}
 use Rattle.test_runner_core_workspace.specs.declared.record.Binary.{Binary}
 use Rattle.test_runner_core.specs.Judging.{Finds}
@@ -43,14 +43,14 @@ due_parts_last answer inputs log parts code assigned whole free composed =
 pub record EndsText (plan : Plan) (assigned : Assignment) (text : List ℕ) : Type 0 where
   pub told : List ℕ
   pub final : List ℕ
-  pub is : IsText (due_parts plan assigned) final
+  pub is : IsTextOf (due_parts plan assigned) final
   pub whole : text ≡ told ++ final
 
 due_text_last : (answer : Binary → Answer) (inputs : Inputs) (log : List Item) (parts : List Part) (code : ℕ) (text : List ℕ) (assigned : Assignment) (whole : IsWholeRun answer inputs log assigned)
-    → IsUnstopped (run_plan whole.run.plan) assigned → Composed answer inputs log parts code → IsText parts text → EndsText whole.run.plan assigned text
+    → IsUnstopped (run_plan whole.run.plan) assigned → Composed answer inputs log parts code → IsTextOf parts text → EndsText whole.run.plan assigned text
 due_text_last answer inputs log parts code text assigned whole free composed is =
     let last = due_parts_last answer inputs log parts code assigned whole free composed in
-    let there = parted (told_of whole.run) (due_parts whole.run.plan assigned) text (subst (λ (p : List Part). IsText p text) last is) in
+    let there = parted (told_of whole.run) (due_parts whole.run.plan assigned) text (subst (λ (p : List Part). IsTextOf p text) last is) in
     record { told = there.told; final = there.more; is = there.also; whole = there.whole }
 
 -- whichever whole run of the assignment it is

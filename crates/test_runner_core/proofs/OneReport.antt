@@ -8,7 +8,7 @@ use Rattle.test_runner_core_planning.specs.declared.plan_fault.PlanFault.{PlanFa
 use Rattle.test_runner_core_reporter.proofs.Texts.{one_text}
 use Rattle.test_runner_core_run_model.specs.State.{State, initial}
 use Rattle.test_runner_core_session.specs.Session.{run_plan}
-use Rattle.test_runner_core_reporter.specs.Parts.{IsText, Part, Said}
+use Rattle.test_runner_core_reporter.specs.Parts.{IsTextOf, Part, Said}
 use Rattle.test_runner_core_reporter.specs.RunEnd.{LF, TAB}
 use Rattle.test_runner_core_workspace.specs.Lister.{Answer}
 use Rattle.test_runner_core_workspace.specs.declared.record.Binary.{Binary}
@@ -26,11 +26,11 @@ use Rattle.test_runner_core_planning.proofs.OnePlan.{one_plan}
 pub record Parted (parts others : List Part) (text : List ℕ) : Type 0 where
   pub told : List ℕ
   pub more : List ℕ
-  pub is : IsText parts told
-  pub also : IsText others more
+  pub is : IsTextOf parts told
+  pub also : IsTextOf others more
   pub whole : text ≡ told ++ more
 
-pub parted : (parts more : List Part) (text : List ℕ) → IsText (parts ++ more) text → Parted parts more text
+pub parted : (parts more : List Part) (text : List ℕ) → IsTextOf (parts ++ more) text → Parted parts more text
 parted [] more text is = record { told = []; more = text; is = refl; also = is; whole = refl }
 parted (part ∷ parts) more text (head, (tail, (is, behind, whole))) =
     let there = parted parts more tail behind in
@@ -43,7 +43,7 @@ parted (part ∷ parts) more text (head, (tail, (is, behind, whole))) =
     }
 
 -- the text of the first parts is a prefix of the text of all
-pub early_text : (parts more : List Part) (told text : List ℕ) → IsText parts told → IsText (parts ++ more) text → (behind : List ℕ) × (text ≡ told ++ behind)
+pub early_text : (parts more : List Part) (told text : List ℕ) → IsTextOf parts told → IsTextOf (parts ++ more) text → (behind : List ℕ) × (text ≡ told ++ behind)
 early_text parts more told text first whole =
     let there = parted parts more text whole in
     (there.more, there.whole ∙ ap (λ (t : List ℕ). t ++ there.more) (one_text parts there.told told there.is first))
@@ -125,7 +125,7 @@ composed_once answer inputs log parts others code other (inr (plan, built, judge
 pub ends_with_one_text : EndsWithOneText
 ends_with_one_text answer inputs log parts others code other text same first second is also =
     let once = composed_once answer inputs log parts others code other first second in
-    (one_text parts text same is (subst (λ (p : List Part). IsText p same) (sym once.0) also), once.1)
+    (one_text parts text same is (subst (λ (p : List Part). IsTextOf p same) (sym once.0) also), once.1)
 
 -- what was begun comes first of the whole report
 pub begun_first : (answer : Binary → Answer) (inputs : Inputs) (log : List Item) (parts whole : List Part) (code : ℕ)
@@ -143,4 +143,4 @@ pub nothing_taken_back : NothingTakenBack
 nothing_taken_back answer inputs log parts front rest whole code told text begun parted_at is composed is_whole =
     let behind = begun_first answer inputs log parts whole code begun composed in
     early_text front (rest ++ behind.0) told text is
-    (subst (λ (p : List Part). IsText p text) (behind.1 ∙ ap (λ (p : List Part). p ++ behind.0) parted_at ∙ append_assoc front rest behind.0) is_whole)
+    (subst (λ (p : List Part). IsTextOf p text) (behind.1 ∙ ap (λ (p : List Part). p ++ behind.0) parted_at ∙ append_assoc front rest behind.0) is_whole)

@@ -13,21 +13,20 @@ use Rattle.test_runner_core_reporter.specs.Parts.{Part}
 use Rattle.test_runner_core_reporter.specs.Steps.{all_done, step_parts}
 use Rattle.test_runner_core_reporter.specs.Writes.{WritesAll, WritesPrefix}
 use Rattle.test_runner_core_reporter.specs.declared.fault.ReportFault.{ReportFault}
-use Rattle.test_runner_core.specs.Inside.{Steps, StepsLine}
-use Rattle.test_runner_core.specs.Judging.{event_of}
-use Rattle.test_runner_core.specs.declared.judging_line.Step.TheVariants as it
+use Rattle.test_runner_core.specs.Inside.{Steps, StepsLine, kept_event}
+use Rattle.test_runner_core.specs.declared.judging_line.LineStep.TheVariants as it
 use Rattle.test_runner_core.specs.declared.refused_line.LineRefusal.{LineRefusal}
 
 -- what a step that is taken reports is reported of what it finished
 told_of : (old new : SessionState) (line : LogLine) (finished : Finished) → KeepsReasons old.run → Steps (it.Taken finished) old line new
-    → all_done new.plan new.run (finished_places finished new.run) ≡ step_parts old.plan (event_of old.plan line) old.run new.run
+    → all_done new.plan new.run (finished_places finished new.run) ≡ step_parts old.plan (kept_event old.plan line) old.run new.run
 told_of old new line finished reasons taken =
     ap (λ (plan : Plan). all_done plan new.run (finished_places finished new.run)) taken.0 ∙ ap (all_done old.plan new.run) (sym (taken.1.finishes reasons))
 
 -- what fails, by an exit of `?`
 pub line_fails : (result : Result (Option LineRefusal) ReportFault) (old new : SessionState) (line : LogLine) (before : Option (List ℕ)) (waited : List ℕ) (after : Option (List ℕ)) (waits : List ℕ) → IsErr result
     → WritesPrefix [] before waited after
-    ⊎ ((next : State) × (step old.run (event_of old.plan line) ≡ Ok next) × WritesPrefix (step_parts old.plan (event_of old.plan line) old.run next) before waited after)
+    ⊎ ((next : State) × (step old.run (kept_event old.plan line) ≡ Ok next) × WritesPrefix (step_parts old.plan (kept_event old.plan line) old.run next) before waited after)
     → StepsLine result old line new before waited after waits
 line_fails (Ok value) old new line before waited after waits is front = absurd (cc)
 line_fails (Err fault) old new line before waited after waits is front = front

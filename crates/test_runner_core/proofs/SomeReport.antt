@@ -24,7 +24,7 @@ use Rattle.test_runner_core_reporter.specs.Steps.{progress}
 use Rattle.test_runner_core_reporter.proofs.Texts.{some_text}
 use Rattle.test_runner_core_workspace.specs.Lister.{Answer}
 use Rattle.test_runner_core_workspace.specs.declared.record.Binary.{Binary}
-use Rattle.test_runner_core.specs.Judging.{Finds, Refuses, SpellEvents, event_of, refusal_of}
+use Rattle.test_runner_core.specs.Judging.{Finds, Refuses, SpellEvents, event_of, line_refusal_of}
 use Rattle.test_runner_core.specs.Laws.{EndsWithSomeText}
 use Rattle.test_runner_core.specs.Report.{Composed, Judged, ending, exit_status, refused_plan}
 use Rattle.test_runner_core.specs.declared.refused_line.LineRefusal.{LineRefusal}
@@ -79,7 +79,7 @@ module _ (plan : Plan) where
 
   walk : (log : List Item) (state : State) (number : ℕ) → ¬ ¬ Walked plan state number log
   walk [] state number never = never (stops state number [] None refl)
-  walk (Refused fault ∷ more) state number never = never (stops state number (Refused fault ∷ more) (Some (record { line = number; refusal = refusal_of fault })) refl)
+  walk (Refused fault ∷ more) state number never = never (stops state number (Refused fault ∷ more) (Some (record { line = number; refusal = line_refusal_of fault })) refl)
   walk (Line [] ∷ more) state number never = walk more state (number + 1) (λ it. never (onward state state number [] more it it.events (inl (refl, it.writes)) it.run))
   walk (Line (byte ∷ bytes) ∷ more) state number never =
       either_way ((line : LogLine) × Spells line (byte ∷ bytes)) (by_line (λ line spells mid is. walk more mid (number + 1) (λ it.

@@ -6,7 +6,7 @@ use Rattle.std.proofs.lemmas.Result.{err_from_is_err_and}
 use Rattle.std.proofs.lemmas.List.{map-append, length-append}
 use Rattle.test_runner_core_log_reader.proofs.WholeLines.{TakesLines, got_lines, takes_kept, takes_line}
 use Rattle.test_runner_core_log_reader.specs.Calls.{Hands, HandsAhead, KeepsAhead}
-use Rattle.test_runner_core_log_reader.specs.Cursor.{Cursor, received, items_ahead}
+use Rattle.test_runner_core_log_reader.specs.Cursor.{Cursor, bytes_received, items_ahead}
 use Rattle.test_runner_core_log_reader.specs.Feeds.{IsPlain}
 use Rattle.test_runner_core_log_reader.specs.Items.{Item, Line, Refused}
 use Rattle.test_runner_core_log_reader.specs.declared.limits.TheConstants.{LOG_LIMIT}
@@ -15,6 +15,7 @@ use Rattle.test_runner_core_log_reader.specs.declared.next.Next.TheVariants as f
 use Rattle.test_runner_core_plan.specs.declared.plan.Plan.{Plan}
 use Rattle.test_runner_core_run_model.specs.State.{State, initial}
 use Rattle.test_runner_core_session.specs.Session.{SessionState, run_plan}
+use Rattle.test_runner_core_reporter.specs.Keeping.{state_to_keep}
 use Rattle.test_runner_core_reporter.specs.Opening.{opening}
 use Rattle.test_runner_core_reporter.specs.Parts.{Part}
 use Rattle.test_runner_core_reporter.specs.Steps.{step_parts}
@@ -23,14 +24,15 @@ use Rattle.test_runner_core_reporter.specs.declared.fault.ReportFault.{ReportFau
 use Rattle.test_runner_core_reporter.specs.declared.fault.ReportFault.TheVariants as untold
 use Rattle.test_runner_core_reporter.proofs.Told.{all_then, front_then, moves_then}
 use Rattle.test_runner_core.specs.Faults.{fault_of_reporting}
-use Rattle.test_runner_core.specs.Inside.{BegunLines, GotLines, HandsNext, IsGotOf, IsLogOf, JudgedLines, JudgesLine, JudgesLines}
+use Rattle.test_runner_core.specs.Inside.{BegunLines, GotLines, HandsNext, IsGotOf, IsLogOf, JudgesLine, JudgesLines, KeepsJudged}
 use Rattle.test_runner_core.specs.declared.judge_fault.JudgeFault.{JudgeFault}
 use Rattle.test_runner_core.specs.declared.judge_fault.JudgeFault.TheVariants as fault
 use Rattle.test_runner_core.specs.declared.refused_line.RefusedLine.{RefusedLine}
-use Rattle.test_runner_core.specs.Judging.{Refuses, event_of, refusal_of}
+use Rattle.test_runner_core.specs.Judging.{event_of, line_refusal_of}
 use Rattle.test_runner_core.specs.Report.{SoFar}
 use Rattle.test_runner_core.specs.declared.refused_line.LineRefusal.{LineRefusal}
 use Rattle.test_runner_core.proofs.Course.{so_far_more, so_far_none, so_far_same}
+use Rattle.test_runner_core.proofs.Kept.{fails_as, refuses_as, steps_as}
 
 -- the items ahead are what these lines leave of the log, where its bytes are known
 abbrev pub LeavesAhead : Cursor → Option (List ℕ) → List (List ℕ) → Cursor → Option (List ℕ) → Type 0
@@ -42,12 +44,14 @@ pub nothing_ahead : (begin : Cursor) (known : Option (List ℕ)) → LeavesAhead
 nothing_ahead begin None = tt
 nothing_ahead begin (Some log) = refl
 
--- where the judging of a log is: these lines are judged, and what they report is reported
+-- where the judging of a log is: these lines are judged, what they report is reported, and what a report needs is kept of their run
 pub record Where (plan : Plan) (begin : Cursor) (known before : Option (List ℕ)) (session : SessionState) (cursor : Cursor) (left after : Option (List ℕ)) (waits : List ℕ) (number : ℕ) : Type 0 where
   pub front : List (List ℕ)
   pub parts : List Part
   pub planned : session.plan ≡ plan
-  pub so_far : SoFar plan front session.run parts
+  pub real : State
+  pub kept : session.run ≡ state_to_keep plan real
+  pub so_far : SoFar plan front real parts
   pub told : WritesAll parts before [] after waits
   pub items : LeavesAhead begin known front cursor left
   pub bytes : TakesLines begin known front cursor left
@@ -56,7 +60,7 @@ pub record Where (plan : Plan) (begin : Cursor) (known before : Option (List ℕ
 -- and how often reader and writer were called for it
 pub record Walking (plan : Plan) (begin : Cursor) (known before : Option (List ℕ)) (first_calls first_failures first_write_failures : ℕ) (session : SessionState) (cursor : Cursor) (left after : Option (List ℕ)) (waits : List ℕ) (number calls failures write_failures : ℕ) : Type 0 where
   pub here : Where plan begin known before session cursor left after waits number
-  pub reads : calls + received begin ≤ first_calls + received cursor
+  pub reads : calls + bytes_received begin ≤ first_calls + bytes_received cursor
   pub within : calls ≤ first_calls + LOG_LIMIT + 1
   pub unfailed : failures ≡ first_failures
   pub unfailed_writes : write_failures ≡ first_write_failures
@@ -149,21 +153,25 @@ line_accepted plan begin known before old new cursor next left rest middle later
       front = here.front ++ next.line ∷ [];
       parts = here.parts;
       planned = ap (λ (s : SessionState). s.plan) same ∙ here.planned;
-      so_far = subst (λ (s : SessionState). SoFar plan (here.front ++ next.line ∷ []) s.run here.parts) (sym same) (so_far_same plan here.front old.run here.parts next.line here.so_far empty);
+      real = here.real;
+      kept = ap (λ (s : SessionState). s.run) same ∙ here.kept;
+      so_far = so_far_same plan here.front here.real here.parts next.line here.so_far empty;
       told = told_still here.parts before later after later_waits waits (told_still here.parts before middle later mid later_waits here.told still) nothing;
       items = log_past_line begin cursor next known left rest here.front here.items hands;
       bytes = takes_line begin cursor next known left rest here.front here.bytes ahead;
       numbered = let size = length-append here.front (next.line ∷ []) in let numbered = here.numbered in omega (arith, size, numbered);
     }
-line_accepted plan begin known before old new cursor next left rest middle later after mid later_waits waits number here hands ahead still (inr (line, spells, (kept, taken, told))) =
+line_accepted plan begin known before old new cursor next left rest middle later after mid later_waits waits number here hands ahead still (inr (line, spells, (same, taken, told))) =
+    let it = steps_as plan old.plan here.real old.run new.run line later later_waits after waits here.planned here.kept taken told in
     record {
       front = here.front ++ next.line ∷ [];
-      parts = here.parts ++ step_parts old.plan (event_of old.plan line) old.run new.run;
-      planned = kept ∙ here.planned;
-      so_far = subst (λ (p : Plan). SoFar p (here.front ++ next.line ∷ []) new.run (here.parts ++ step_parts old.plan (event_of old.plan line) old.run new.run)) here.planned
-          (so_far_more old.plan here.front old.run new.run here.parts next.line line (subst (λ (p : Plan). SoFar p here.front old.run here.parts) (sym here.planned) here.so_far) spells taken);
-      told = all_then here.parts (step_parts old.plan (event_of old.plan line) old.run new.run) before later after [] later_waits waits
-          (told_still here.parts before middle later mid later_waits here.told still) told;
+      parts = here.parts ++ step_parts plan (event_of plan line) here.real it.next;
+      planned = same ∙ here.planned;
+      real = it.next;
+      kept = it.kept;
+      so_far = so_far_more plan here.front here.real it.next here.parts next.line line here.so_far spells it.taken;
+      told = all_then here.parts (step_parts plan (event_of plan line) here.real it.next) before later after [] later_waits waits
+          (told_still here.parts before middle later mid later_waits here.told still) it.told;
       items = log_past_line begin cursor next known left rest here.front here.items hands;
       bytes = takes_line begin cursor next known left rest here.front here.bytes ahead;
       numbered = let size = length-append here.front (next.line ∷ []) in let numbered = here.numbered in omega (arith, size, numbered);
@@ -173,50 +181,59 @@ line_accepted plan begin known before old new cursor next left rest middle later
 pub line_refused : (plan : Plan) (begin : Cursor) (known before : Option (List ℕ)) (old new : SessionState) (cursor next : Cursor) (left rest middle later after : Option (List ℕ)) (mid later_waits waits : List ℕ) (number : ℕ) (refusal : LineRefusal)
     → Where plan begin known before old cursor left middle mid number → Hands cursor left next rest (Ok found_is.Line)
     → WritesAll [] middle mid later later_waits → JudgesLine (Ok (Some refusal)) old next.line new later later_waits after waits
-    → JudgedLines plan new.run (Some (record { line = number; refusal = refusal })) begin known before after waits
-line_refused plan begin known before old new cursor next left rest middle later after mid later_waits waits number refusal here hands still (refuses, same, nothing) =
-    record {
-      front = here.front;
-      rest = Line next.line ∷ rest_behind next rest;
-      whole = log_at_line begin cursor next known left rest here.front here.items hands;
-      parts = here.parts;
-      so_far = subst (λ (s : SessionState). SoFar plan here.front s.run here.parts) (sym same) here.so_far;
-      finds = (
-        refusal,
-        subst (λ (s : SessionState). Refuses plan s.run next.line refusal) (sym same) (subst (λ (p : Plan). Refuses p old.run next.line refusal) here.planned refuses),
-        ap (λ (n : ℕ). Some (record { line = n; refusal = refusal })) here.numbered,
-      );
-      told = told_still here.parts before later after later_waits waits (told_still here.parts before middle later mid later_waits here.told still) nothing;
-    }
+    → KeepsJudged plan new.run (Some (record { line = number; refusal = refusal })) begin known before after waits
+line_refused plan begin known before old new cursor next left rest middle later after mid later_waits waits number refusal here hands still (refuses, same, nothing) = (
+  here.real,
+  ap (λ (s : SessionState). s.run) same ∙ here.kept,
+  record {
+    front = here.front;
+    rest = Line next.line ∷ rest_behind next rest;
+    whole = log_at_line begin cursor next known left rest here.front here.items hands;
+    parts = here.parts;
+    so_far = here.so_far;
+    finds = (
+      refusal,
+      refuses_as plan old.plan here.real old.run next.line refusal here.planned here.kept refuses,
+      ap (λ (n : ℕ). Some (record { line = n; refusal = refusal })) here.numbered,
+    );
+    told = told_still here.parts before later after later_waits waits (told_still here.parts before middle later mid later_waits here.told still) nothing;
+  },
+)
 
 -- at the log's end, or where it is too long or cut
 pub log_faulty : (plan : Plan) (begin : Cursor) (known before : Option (List ℕ)) (session : SessionState) (cursor next : Cursor) (left rest middle after : Option (List ℕ)) (mid waits : List ℕ) (number : ℕ) (fault : LineFault)
     → Where plan begin known before session cursor left middle mid number → Hands cursor left next rest (Ok (found_is.Refused fault)) → WritesAll [] middle mid after waits
-    → JudgedLines plan session.run (Some (record { line = number; refusal = refusal_of fault })) begin known before after waits
-log_faulty plan begin known before session cursor next left rest middle after mid waits number fault here hands still =
-    record {
-      front = here.front;
-      rest = Refused fault ∷ [];
-      whole = log_at_fault begin cursor next known left rest here.front fault here.items hands;
-      parts = here.parts;
-      so_far = here.so_far;
-      finds = ap (λ (n : ℕ). Some (record { line = n; refusal = refusal_of fault })) here.numbered;
-      told = told_still here.parts before middle after mid waits here.told still;
-    }
+    → KeepsJudged plan session.run (Some (record { line = number; refusal = line_refusal_of fault })) begin known before after waits
+log_faulty plan begin known before session cursor next left rest middle after mid waits number fault here hands still = (
+  here.real,
+  here.kept,
+  record {
+    front = here.front;
+    rest = Refused fault ∷ [];
+    whole = log_at_fault begin cursor next known left rest here.front fault here.items hands;
+    parts = here.parts;
+    so_far = here.so_far;
+    finds = ap (λ (n : ℕ). Some (record { line = n; refusal = line_refusal_of fault })) here.numbered;
+    told = told_still here.parts before middle after mid waits here.told still;
+  },
+)
 
 pub log_over : (plan : Plan) (begin : Cursor) (known before : Option (List ℕ)) (session : SessionState) (cursor next : Cursor) (left rest middle after : Option (List ℕ)) (mid waits : List ℕ) (number : ℕ)
     → Where plan begin known before session cursor left middle mid number → Hands cursor left next rest (Ok found_is.End) → WritesAll [] middle mid after waits
-    → JudgedLines plan session.run None begin known before after waits
-log_over plan begin known before session cursor next left rest middle after mid waits number here hands still =
-    record {
-      front = here.front;
-      rest = [];
-      whole = log_at_end begin cursor next known left rest here.front here.items hands;
-      parts = here.parts;
-      so_far = here.so_far;
-      finds = refl;
-      told = told_still here.parts before middle after mid waits here.told still;
-    }
+    → KeepsJudged plan session.run None begin known before after waits
+log_over plan begin known before session cursor next left rest middle after mid waits number here hands still = (
+  here.real,
+  here.kept,
+  record {
+    front = here.front;
+    rest = [];
+    whole = log_at_end begin cursor next known left rest here.front here.items hands;
+    parts = here.parts;
+    so_far = here.so_far;
+    finds = refl;
+    told = told_still here.parts before middle after mid waits here.told still;
+  },
+)
 
 -- where a read fails
 pub read_failed : (plan : Plan) (begin : Cursor) (known before : Option (List ℕ)) (session : SessionState) (cursor next : Cursor) (left rest middle after : Option (List ℕ)) (mid : List ℕ) (number : ℕ)
@@ -228,7 +245,7 @@ read_failed plan begin known before session cursor next left rest middle after m
       rest = rest_behind cursor left;
       whole = log_somewhere begin cursor known left here.front here.items;
       got = lines_got begin next known rest here.front (takes_kept begin cursor next known left rest here.front here.bytes kept) plain;
-      last = session.run;
+      last = here.real;
       parts = here.parts;
       so_far = here.so_far;
       written =
@@ -250,7 +267,7 @@ next_failed plan begin known before session cursor left middle after mid number 
       front = here.front;
       rest = rest_behind cursor left;
       whole = log_somewhere begin cursor known left here.front here.items;
-      last = session.run;
+      last = here.real;
       parts = here.parts;
       so_far = here.so_far;
       told = subst (λ (p : List Part). WritesPrefix p before [] after) (append-nil here.parts) (front_then here.parts [] before middle after [] mid here.told front);
@@ -265,23 +282,23 @@ line_failed plan begin known before old new cursor next left rest middle later a
       front = here.front;
       rest = rest_behind cursor left;
       whole = log_somewhere begin cursor known left here.front here.items;
-      last = old.run;
+      last = here.real;
       parts = here.parts;
       so_far = here.so_far;
       told = subst (λ (p : List Part). WritesPrefix p before [] after) (append-nil here.parts)
           (front_then here.parts [] before later after [] later_waits (told_still here.parts before middle later mid later_waits here.told still) front);
     }
 line_failed plan begin known before old new cursor next left rest middle later after mid later_waits waits number fault here hands still (line, spells, inr (state, taken, front)) =
+    let it = fails_as plan old.plan here.real old.run state line later later_waits after here.planned here.kept taken front in
     record {
       front = here.front ++ next.line ∷ [];
       rest = rest_behind next rest;
       whole = log_behind_line begin cursor next known left rest here.front here.items hands;
-      last = state;
-      parts = here.parts ++ step_parts old.plan (event_of old.plan line) old.run state;
-      so_far = subst (λ (p : Plan). SoFar p (here.front ++ next.line ∷ []) state (here.parts ++ step_parts old.plan (event_of old.plan line) old.run state)) here.planned
-          (so_far_more old.plan here.front old.run state here.parts next.line line (subst (λ (p : Plan). SoFar p here.front old.run here.parts) (sym here.planned) here.so_far) spells taken);
-      told = front_then here.parts (step_parts old.plan (event_of old.plan line) old.run state) before later after [] later_waits
-          (told_still here.parts before middle later mid later_waits here.told still) front;
+      last = it.next;
+      parts = here.parts ++ step_parts plan (event_of plan line) here.real it.next;
+      so_far = so_far_more plan here.front here.real it.next here.parts next.line line here.so_far spells it.taken;
+      told = front_then here.parts (step_parts plan (event_of plan line) here.real it.next) before later after [] later_waits
+          (told_still here.parts before middle later mid later_waits here.told still) it.told;
     }
 
 -- what fails, by an exit of `?`

@@ -3,7 +3,7 @@ use Rattle.std.proofs.Common.{◌≡◌, ℕ, List, [], ◌++◌, Option, Ok, Er
 use Rattle.std.specs.Io.KnownBytes.{Appends}
 use Rattle.test_runner_core_inputs.specs.declared.inputs.Inputs.{Inputs}
 use Rattle.test_runner_core_log_reader.specs.Items.{Item}
-use Rattle.test_runner_core_reporter.specs.Parts.{IsText, Part}
+use Rattle.test_runner_core_reporter.specs.Parts.{IsTextOf, Part}
 use Rattle.test_runner_core_reporter.specs.Writes.{WritesPrefix}
 use Rattle.test_runner_core_workspace.specs.Lister.{Answer}
 use Rattle.test_runner_core_workspace.specs.declared.record.Binary.{Binary}
@@ -18,14 +18,14 @@ BeginsWritten text before after = (written more : List ℕ) × Appends before af
 
 -- what was begun and written whole
 begun_whole : (answer : Binary → Answer) (inputs : Inputs) (log : List Item) (before after : Option (List ℕ)) (parts whole : List Part) (code : ℕ) (text : List ℕ)
-    → Begun answer inputs log parts → IsWritten parts before after → Composed answer inputs log whole code → IsText whole text → BeginsWritten text before after
+    → Begun answer inputs log parts → IsWritten parts before after → Composed answer inputs log whole code → IsTextOf whole text → BeginsWritten text before after
 begun_whole answer inputs log before after parts whole code text begun (told, is, appends) composed is_whole =
     let first = nothing_taken_back answer inputs log parts parts [] whole code told text begun (sym (append-nil parts)) is composed is_whole in
     (told, first.0, appends, first.1)
 
 -- what was begun, and written in front
 begun_front : (answer : Binary → Answer) (inputs : Inputs) (log : List Item) (before after : Option (List ℕ)) (parts whole : List Part) (code : ℕ) (text : List ℕ)
-    → Begun answer inputs log parts → WritesPrefix parts before [] after → Composed answer inputs log whole code → IsText whole text → BeginsWritten text before after
+    → Begun answer inputs log parts → WritesPrefix parts before [] after → Composed answer inputs log whole code → IsTextOf whole text → BeginsWritten text before after
 begun_front answer inputs log before after parts whole code text begun writes composed is_whole =
     let first = nothing_taken_back answer inputs log parts writes.front writes.rest whole code writes.told text begun writes.whole writes.text composed is_whole in
     let written = writes.moved.written in

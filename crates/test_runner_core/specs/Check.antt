@@ -4,7 +4,7 @@ use Rattle.test_runner_core_log_reader.specs.Items.{Item, Line, Refused}
 use Rattle.test_runner_core_line_syntax.specs.Reading.{ReadsLine}
 use Rattle.test_runner_core_line_syntax.specs.declared.log_line.LogLine.{LogLine}
 use Rattle.test_runner_core_line_syntax.specs.declared.parse_line_error.ParseLineError.TheVariants as unread
-use Rattle.test_runner_core.specs.Judging.{refusal_of}
+use Rattle.test_runner_core.specs.Judging.{line_refusal_of}
 use Rattle.test_runner_core.specs.declared.refused_line.LineRefusal.{LineRefusal}
 use Rattle.test_runner_core.specs.declared.refused_line.LineRefusal.TheVariants as refused
 use Rattle.test_runner_core.specs.declared.refused_line.RefusedLine.{RefusedLine}
@@ -26,4 +26,4 @@ FirstRefused number [] (Some found) = ⊥
 FirstRefused number (Line bytes ∷ more) found =
     (IsReading bytes None × FirstRefused (number + 1) more found)
     ⊎ ((refusal : LineRefusal) × IsReading bytes (Some refusal) × (found ≡ Some (record { line = number; refusal = refusal })))
-FirstRefused number (Refused fault ∷ more) found = found ≡ Some (record { line = number; refusal = refusal_of fault })
+FirstRefused number (Refused fault ∷ more) found = found ≡ Some (record { line = number; refusal = line_refusal_of fault })

@@ -1,48 +1,71 @@
 -- What the parts of judging answer and leave.
 use Rattle.std.specs.Prelude.{◌≡◌, ◌⊎◌, ℕ, ◌+◌, ◌≤◌, List, [], ◌++◌, map, length, Option, None, Some, Result, Ok, Err, ⊤}
+use Rattle.test_runner_core_line_syntax.specs.Reading.{ReadsLine}
 use Rattle.test_runner_core_line_syntax.specs.Spelling.{Spells}
+use Rattle.test_runner_core_line_syntax.specs.declared.parse_line_error.ParseLineError.TheVariants as unread
 use Rattle.test_runner_core_line_syntax.specs.declared.log_line.LogLine.{LogLine}
 use Rattle.test_runner_core_log_reader.specs.Calls.{Hands, HandsAhead, HandsBytes, KeepsAhead, idle_reads}
-use Rattle.test_runner_core_log_reader.specs.Cursor.{Cursor, items_ahead, received}
+use Rattle.test_runner_core_log_reader.specs.Cursor.{Cursor, items_ahead, bytes_received}
 use Rattle.test_runner_core_log_reader.specs.Feeds.{IsPlain}
 use Rattle.test_runner_core_log_reader.specs.Items.{Item, Line, whole_lines}
 use Rattle.test_runner_core_log_reader.specs.Limits.{log_reads}
 use Rattle.test_runner_core_log_reader.specs.declared.next.Next.{Next}
+use Rattle.nextest_run_events_results.specs.declared.record.Record.{Record}
+use Rattle.nextest_run_events_results.specs.declared.record.RecordOutput.TheVariants as wrote
 use Rattle.test_runner_core_plan.specs.declared.plan.Plan.{Plan}
 use Rattle.test_runner_core_run_state.specs.Progress.{TakesStep}
 use Rattle.test_runner_core_run_model.specs.State.{State}
 use Rattle.test_runner_core_run_model.specs.Step.{step}
+use Rattle.test_runner_core_run_model.specs.declared.event.Event.{Event}
 use Rattle.test_runner_core_session.specs.Session.{SessionState}
+use Rattle.test_runner_core_reporter.specs.Keeping.{event_to_keep, state_to_keep}
 use Rattle.test_runner_core_reporter.specs.Parts.{Part}
 use Rattle.test_runner_core_reporter.specs.Steps.{step_parts}
 use Rattle.test_runner_core_reporter.specs.Writes.{MovesOn, WritesAll, WritesPrefix}
 use Rattle.test_runner_core_reporter.specs.declared.fault.ReportFault.{ReportFault}
-use Rattle.test_runner_core.specs.Judging.{Finds, Refuses, event_of}
+use Rattle.test_runner_core.specs.Judging.{Finds, event_of}
 use Rattle.test_runner_core.specs.Report.{IsWritten, Judged, SoFar}
 use Rattle.test_runner_core.specs.declared.judge_fault.JudgeFault.{JudgeFault}
 use Rattle.test_runner_core.specs.declared.judge_fault.JudgeFault.TheVariants as fault
-use Rattle.test_runner_core.specs.declared.judging_line.Step.TheVariants as it
-use Rattle.test_runner_core.specs.declared.judging_line.Step.{Step}
+use Rattle.test_runner_core.specs.declared.judging_line.LineStep.TheVariants as it
+use Rattle.test_runner_core.specs.declared.judging_line.LineStep.{LineStep}
 use Rattle.test_runner_core.specs.declared.refused_line.LineRefusal.{LineRefusal}
 use Rattle.test_runner_core.specs.declared.refused_line.LineRefusal.TheVariants as refused
 use Rattle.test_runner_core.specs.declared.refused_line.RefusedLine.{RefusedLine}
 
+-- a record without what was written
+abbrev pub unwritten : Record → Record
+unwritten told = record told { output = wrote.Streams None None }
+
+-- the event of a line, as it is kept
+abbrev pub kept_event : Plan → LogLine → Event
+kept_event plan line = event_to_keep plan (event_of plan line)
+
 -- what the step of a line answers and leaves
-abbrev pub Steps : Step → SessionState → LogLine → SessionState → Type 0
-Steps (it.Taken finished) old line new = (new.plan ≡ old.plan) × TakesStep old.run (event_of old.plan line) finished new.run
-Steps (it.Refused refusal) old line new = (step old.run (event_of old.plan line) ≡ Err refusal) × (new ≡ old)
+abbrev pub Steps : LineStep → SessionState → LogLine → SessionState → Type 0
+Steps (it.Taken finished) old line new = (new.plan ≡ old.plan) × TakesStep old.run (kept_event old.plan line) finished new.run
+Steps (it.Refused refusal) old line new = (step old.run (kept_event old.plan line) ≡ Err refusal) × (new ≡ old)
 
 -- what a line's event does, and what is reported of it
 abbrev pub StepsLine : Result (Option LineRefusal) ReportFault → SessionState → LogLine → SessionState → Option (List ℕ) → List ℕ → Option (List ℕ) → List ℕ → Type 0
 StepsLine (Ok None) old line new before waited after waits =
-    (new.plan ≡ old.plan) × (step old.run (event_of old.plan line) ≡ Ok new.run)
-    × WritesAll (step_parts old.plan (event_of old.plan line) old.run new.run) before waited after waits
+    (new.plan ≡ old.plan) × (step old.run (kept_event old.plan line) ≡ Ok new.run)
+    × WritesAll (step_parts old.plan (kept_event old.plan line) old.run new.run) before waited after waits
 StepsLine (Ok (Some (refused.Step refusal))) old line new before waited after waits =
-    (step old.run (event_of old.plan line) ≡ Err refusal) × (new ≡ old) × WritesAll [] before waited after waits
+    (step old.run (kept_event old.plan line) ≡ Err refusal) × (new ≡ old) × WritesAll [] before waited after waits
 StepsLine (Ok (Some other)) old line new before waited after waits = ⊥
 StepsLine (Err fault) old line new before waited after waits =
     WritesPrefix [] before waited after
-    ⊎ ((next : State) × (step old.run (event_of old.plan line) ≡ Ok next) × WritesPrefix (step_parts old.plan (event_of old.plan line) old.run next) before waited after)
+    ⊎ ((next : State) × (step old.run (kept_event old.plan line) ≡ Ok next) × WritesPrefix (step_parts old.plan (kept_event old.plan line) old.run next) before waited after)
+
+-- bytes are refused, where this is kept of the run
+abbrev pub RefusesKept : Plan → State → List ℕ → LineRefusal → Type 0
+RefusesKept plan state bytes refused.LineTooLong = ⊥
+RefusesKept plan state bytes refused.LogTooLong = ⊥
+RefusesKept plan state bytes refused.NoLineEnd = ⊥
+RefusesKept plan state bytes refused.NotUtf8 = ReadsLine bytes (Err unread.NotUtf8)
+RefusesKept plan state bytes refused.BadLine = ReadsLine bytes (Err unread.BadLine)
+RefusesKept plan state bytes (refused.Step refusal) = (line : LogLine) × Spells line bytes × (step state (kept_event plan line) ≡ Err refusal)
 
 -- what the bytes of a whole line do
 abbrev pub JudgesLine : Result (Option LineRefusal) ReportFault → SessionState → List ℕ → SessionState → Option (List ℕ) → List ℕ → Option (List ℕ) → List ℕ → Type 0
@@ -50,7 +73,7 @@ JudgesLine (Ok None) old bytes new before waited after waits =
     ((bytes ≡ []) × (new ≡ old) × WritesAll [] before waited after waits)
     ⊎ ((line : LogLine) × Spells line bytes × StepsLine (Ok None) old line new before waited after waits)
 JudgesLine (Ok (Some refusal)) old bytes new before waited after waits =
-    Refuses old.plan old.run bytes refusal × (new ≡ old) × WritesAll [] before waited after waits
+    RefusesKept old.plan old.run bytes refusal × (new ≡ old) × WritesAll [] before waited after waits
 JudgesLine (Err fault) old bytes new before waited after waits =
     (line : LogLine) × Spells line bytes × StepsLine (Err fault) old line new before waited after waits
 
@@ -66,11 +89,11 @@ HandsNext (Err fault.Memory) old left new rest before waited after waits = Write
 -- how often the reader is called for it
 abbrev pub ReadsNext : Result Next JudgeFault → Cursor → ℕ → Cursor → ℕ → Type 0
 ReadsNext (Ok next) old before new after =
-    (after + received old ≤ before + received new + idle_reads (Ok next)) × (received new + idle_reads (Ok next) ≤ log_reads)
-ReadsNext (Err (fault.Read cause)) old before new after = (after + received old ≤ before + received new + 1) × (received new + 1 ≤ log_reads)
+    (after + bytes_received old ≤ before + bytes_received new + idle_reads (Ok next)) × (bytes_received new + idle_reads (Ok next) ≤ log_reads)
+ReadsNext (Err (fault.Read cause)) old before new after = (after + bytes_received old ≤ before + bytes_received new + 1) × (bytes_received new + 1 ≤ log_reads)
 ReadsNext (Err (fault.Write cause)) old before new after = after ≡ before
 ReadsNext (Err fault.Memory) old before new after =
-    (after ≡ before) ⊎ ((after + received old ≤ before + received new + 1) × (received new + 1 ≤ log_reads))
+    (after ≡ before) ⊎ ((after + bytes_received old ≤ before + bytes_received new + 1) × (bytes_received new + 1 ≤ log_reads))
 
 -- the items ahead are these lines and then the rest, where the reader's bytes are known
 abbrev pub IsLogOf : Cursor → Option (List ℕ) → List (List ℕ) → List Item → Type 0
@@ -114,8 +137,13 @@ pub record BegunLines (plan : Plan) (begin : Cursor) (known before after : Optio
   pub so_far : SoFar plan front last parts
   pub told : WritesPrefix parts before [] after
 
+-- the same, and this is kept of the run
+abbrev pub KeepsJudged : Plan → State → Option RefusedLine → Cursor → Option (List ℕ) → Option (List ℕ) → Option (List ℕ) → List ℕ → Type 0
+KeepsJudged plan kept found begin known before after waits =
+    (last : State) × (kept ≡ state_to_keep plan last) × JudgedLines plan last found begin known before after waits
+
 abbrev pub JudgesLines : Result (Option RefusedLine) JudgeFault → Plan → State → Cursor → Option (List ℕ) → Option (List ℕ) → Option (List ℕ) → Option (List ℕ) → List ℕ → Type 0
-JudgesLines (Ok found) plan last begin known left before after waits = JudgedLines plan last found begin known before after waits
+JudgesLines (Ok found) plan last begin known left before after waits = KeepsJudged plan last found begin known before after waits
 JudgesLines (Err (fault.Read cause)) plan last begin known left before after waits = GotLines plan begin known left before after
 JudgesLines (Err (fault.Write cause)) plan last begin known left before after waits = BegunLines plan begin known before after
 JudgesLines (Err fault.Memory) plan last begin known left before after waits = BegunLines plan begin known before after

@@ -41,10 +41,10 @@ pub record Leads (plan : Plan) (front : List (List ℕ)) (told : List Event) (la
   pub run : Run (initial (run_plan plan)) told last
 
 -- the refusal of a line or a log that is too long, or that is cut
-abbrev pub refusal_of : LineFault → LineRefusal
-refusal_of faults.LineTooLong = refused.LineTooLong
-refusal_of faults.LogTooLong = refused.LogTooLong
-refusal_of faults.NoLineEnd = refused.NoLineEnd
+abbrev pub line_refusal_of : LineFault → LineRefusal
+line_refusal_of faults.LineTooLong = refused.LineTooLong
+line_refusal_of faults.LogTooLong = refused.LogTooLong
+line_refusal_of faults.NoLineEnd = refused.NoLineEnd
 
 -- the bytes of a whole line are refused: as no UTF-8, as a bad line, or as their event's step is
 abbrev pub Refuses : Plan → State → List ℕ → LineRefusal → Type 0
@@ -60,4 +60,4 @@ abbrev pub Finds : Plan → State → ℕ → List Item → Option RefusedLine �
 Finds plan state number [] found = found ≡ None
 Finds plan state number (Line bytes ∷ more) found =
     (refusal : LineRefusal) × Refuses plan state bytes refusal × (found ≡ Some (record { line = number; refusal = refusal }))
-Finds plan state number (Refused fault ∷ more) found = found ≡ Some (record { line = number; refusal = refusal_of fault })
+Finds plan state number (Refused fault ∷ more) found = found ≡ Some (record { line = number; refusal = line_refusal_of fault })

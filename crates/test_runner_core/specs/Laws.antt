@@ -11,7 +11,7 @@ use Rattle.test_runner_core_run_model.specs.Ends.{EndedWhole}
 use Rattle.test_runner_core_run_model.specs.RunPlan.{IsPlan}
 use Rattle.test_runner_core_session.specs.Session.{run_plan}
 use Rattle.test_runner_core_reporter.specs.Opening.{opening}
-use Rattle.test_runner_core_reporter.specs.Parts.{IsText, Part}
+use Rattle.test_runner_core_reporter.specs.Parts.{IsTextOf, Part}
 use Rattle.test_runner_core_workspace.specs.Lister.{Answer}
 use Rattle.test_runner_core_workspace.specs.declared.record.Binary.{Binary}
 use Rattle.test_runner_core.specs.Outcome.{IsDue, IsNoMilderThanDue, IsRun, IsWholeRun, due_parts}
@@ -22,7 +22,7 @@ use Rattle.test_runner_core.specs.declared.judge_fault.JudgeFault.{JudgeFault}
 abbrev pub EndsWithOneText : Type 0
 EndsWithOneText =
     (answer : Binary → Answer) (inputs : Inputs) (log : List Item) (parts other_parts : List Part) (code other_code : ℕ) (text other_text : List ℕ)
-    → Composed answer inputs log parts code → Composed answer inputs log other_parts other_code → IsText parts text → IsText other_parts other_text
+    → Composed answer inputs log parts code → Composed answer inputs log other_parts other_code → IsTextOf parts text → IsTextOf other_parts other_text
     → (text ≡ other_text) × (code ≡ other_code)
 
 -- a report of inputs and a log, with its text and its exit status
@@ -31,7 +31,7 @@ pub record Reported (answer : Binary → Answer) (inputs : Inputs) (log : List I
   pub code : ℕ
   pub text : List ℕ
   pub composed : Composed answer inputs log parts code
-  pub told : IsText parts text
+  pub told : IsTextOf parts text
 
 -- It can't be that they have none. No law decides whether a text is a filterset, so it is said in this form.
 abbrev pub EndsWithSomeText : Type 0
@@ -41,7 +41,7 @@ EndsWithSomeText = (answer : Binary → Answer) (inputs : Inputs) (log : List It
 abbrev pub NothingTakenBack : Type 0
 NothingTakenBack =
     (answer : Binary → Answer) (inputs : Inputs) (log : List Item) (parts front rest whole : List Part) (code : ℕ) (told text : List ℕ)
-    → Begun answer inputs log parts → parts ≡ front ++ rest → IsText front told → Composed answer inputs log whole code → IsText whole text
+    → Begun answer inputs log parts → parts ≡ front ++ rest → IsTextOf front told → Composed answer inputs log whole code → IsTextOf whole text
     → (more : List ℕ) × (text ≡ told ++ more)
 
 -- whatever a call answers, what it wrote is a prefix of the whole report
@@ -49,7 +49,7 @@ abbrev pub WrittenFirst : Type 0
 WrittenFirst =
     (answer : Binary → Answer) (inputs : Inputs) (log : List Item) (result : Result ℕ JudgeFault) (before after : Option (List ℕ))
     → Reports result (Composed answer inputs log) (λ parts. ⊤) (Begun answer inputs log) before after
-    → (whole : List Part) (code : ℕ) (text : List ℕ) → Composed answer inputs log whole code → IsText whole text
+    → (whole : List Part) (code : ℕ) (text : List ℕ) → Composed answer inputs log whole code → IsTextOf whole text
     → (written more : List ℕ) × Appends before after written × (text ≡ written ++ more)
 
 -- the exit status of a report is due
@@ -71,8 +71,8 @@ HasOneReport =
     (answer : Binary → Answer) (inputs : Inputs) (assigned : Assignment) (log other : List Item)
     (whole : IsWholeRun answer inputs log assigned) → IsWholeRun answer inputs other assigned → IsUnstopped (run_plan whole.run.plan) assigned
     → (parts other_parts : List Part) (code other_code : ℕ) (text other_text : List ℕ)
-    → Composed answer inputs log parts code → IsText parts text → Composed answer inputs other other_parts other_code → IsText other_parts other_text
-    → (final told other_told : List ℕ) × IsText (due_parts whole.run.plan assigned) final × (text ≡ told ++ final) × (other_text ≡ other_told ++ final)
+    → Composed answer inputs log parts code → IsTextOf parts text → Composed answer inputs other other_parts other_code → IsTextOf other_parts other_text
+    → (final told other_told : List ℕ) × IsTextOf (due_parts whole.run.plan assigned) final × (text ≡ told ++ final) × (other_text ≡ other_told ++ final)
 
 -- no reason stands at the end of a log that runs the inputs to their end exactly where the assignment is unstopped
 abbrev pub StopsWhereDue : Type 0
@@ -96,8 +96,8 @@ pub record DifferInWarnings (one second : Plan) (text other_text : List ℕ) : T
   pub warned : List ℕ
   pub other_warned : List ℕ
   pub behind : List ℕ
-  pub opened : IsText (opening one) warned
-  pub other_opened : IsText (opening second) other_warned
+  pub opened : IsTextOf (opening one) warned
+  pub other_opened : IsTextOf (opening second) other_warned
   pub whole : text ≡ warned ++ behind
   pub other_whole : other_text ≡ other_warned ++ behind
 
@@ -107,5 +107,5 @@ IsolatesReports =
     (answer : Binary → Answer) (inputs other : Inputs) (log : List Item) (one second : Plan) → DifferOutside inputs other
     → Builds answer inputs (Ok one) → Builds answer other (Ok second)
     → (parts other_parts : List Part) (code other_code : ℕ) (text other_text : List ℕ)
-    → Composed answer inputs log parts code → IsText parts text → Composed answer other log other_parts other_code → IsText other_parts other_text
+    → Composed answer inputs log parts code → IsTextOf parts text → Composed answer other log other_parts other_code → IsTextOf other_parts other_text
     → (code ≡ other_code) × DifferInWarnings one second text other_text

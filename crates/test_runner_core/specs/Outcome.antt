@@ -17,7 +17,7 @@ use Rattle.test_runner_core_run_model.specs.State.{State, initial}
 use Rattle.test_runner_core_run_model.specs.declared.event.Event.{Event}
 use Rattle.test_runner_core_session.specs.Session.{run_plan}
 use Rattle.test_runner_core_reporter.specs.Final.{final_parts}
-use Rattle.test_runner_core_reporter.specs.Parts.{IsText, Part}
+use Rattle.test_runner_core_reporter.specs.Parts.{IsTextOf, Part}
 use Rattle.test_runner_core_workspace.specs.Lister.{Answer, table_answer}
 use Rattle.test_runner_core_workspace.specs.declared.record.Binary.{Binary}
 use Rattle.test_runner_core.specs.Judging.{Leads}
@@ -63,7 +63,7 @@ due_parts plan assigned = final_parts plan (final_state (run_plan plan) assigned
 
 -- what was written ends with the text of these parts
 abbrev pub EndsWith : List Part → Option (List ℕ) → Option (List ℕ) → Type 0
-EndsWith parts before after = (told : List ℕ) × ((text : List ℕ) × IsText parts text × Appends before after (told ++ text))
+EndsWith parts before after = (told : List ℕ) × ((text : List ℕ) × IsTextOf parts text × Appends before after (told ++ text))
 
 -- what was written of a log that runs the inputs to their end ends with the final text that is due, if the assignment is unstopped
 abbrev pub EndsAsDue : (Binary → Answer) → Inputs → List Item → Option (List ℕ) → Option (List ℕ) → Type 0

@@ -15,7 +15,7 @@ use Rattle.test_runner_core_run_model.specs.declared.event.Event.{Event}
 use Rattle.test_runner_core_session.specs.Session.{run_plan}
 use Rattle.test_runner_core_reporter.specs.Final.{final_parts}
 use Rattle.test_runner_core_reporter.specs.Opening.{opening}
-use Rattle.test_runner_core_reporter.specs.Parts.{IsText, Part, Said}
+use Rattle.test_runner_core_reporter.specs.Parts.{IsTextOf, Part, Said}
 use Rattle.test_runner_core_reporter.specs.RunEnd.{LF, TAB}
 use Rattle.test_runner_core_reporter.specs.Steps.{progress}
 use Rattle.test_runner_core_reporter.specs.Writes.{WritesPrefix}
@@ -96,7 +96,7 @@ GotTo answer inputs bytes rest parts = (got : List ℕ) × (bytes ≡ got ++ res
 
 -- these parts were written, and nothing else
 abbrev pub IsWritten : List Part → Option (List ℕ) → Option (List ℕ) → Type 0
-IsWritten parts before after = (text : List ℕ) × IsText parts text × Appends before after text
+IsWritten parts before after = (text : List ℕ) × IsTextOf parts text × Appends before after text
 
 -- a whole report is written, and its exit status answered; where reading fails, what was begun by the whole lines got is
 -- written, and where writing fails or there is no memory a prefix of what was begun

@@ -19,9 +19,11 @@ pub fn first_refused<R: LogReader>(
 ) -> Result<Option<RefusedLine>, LogFault>
     requires calls_fit { R.calls reader.old < 2 ^ 62 }
     requires failures_fit { R.failures reader.old < 2 ^ 62 }
-    ensures found { IfOk result (λ found. IfSome (R.left reader.old) (λ log. FirstRefused 1 (items 0 log) found)) }
+    ensures found { IfOk result
+        (λ found. IfSome (R.left reader.old) (λ log. FirstRefused 1 (items 0 log) found)) }
     ensures reads { R.calls reader.new ≤ R.calls reader.old + log_reads }
-    ensures failures { TellsFailure result (R.failures reader.old) (R.failures reader.new) (R.last_failed reader.new) }
+    ensures failures { TellsFailure result (R.failures reader.old) (R.failures reader.new)
+        (R.last_failed reader.new) }
 {
     let mut lines = LogLines::new(alloc);
     let mut number = 1;

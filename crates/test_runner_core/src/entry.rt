@@ -44,18 +44,24 @@ pub fn judge<L: Lister, R: LogReader, W: ReportWriter>(
     requires calls_fit { R.calls log.old < 2 ^ 62 }
     requires failures_fit { R.failures log.old < 2 ^ 62 }
     requires writes_fit { W.failures report.old < 2 ^ 62 }
-    ensures reports { Reports result
-        (λ parts code. IfSome (R.left log.old) (λ bytes. Composed (L.answer lister.old) inputs.now (items 0 bytes) parts code))
-        (λ parts. IfSome (R.left log.old) (λ bytes. IfSome (R.left log.new) (λ rest. GotTo (L.answer lister.old) inputs.now bytes rest parts)))
-        (λ parts. IfSome (R.left log.old) (λ bytes. Begun (L.answer lister.old) inputs.now (items 0 bytes) parts))
+    ensures reports { Reports result (λ parts code. IfSome (R.left log.old)
+        (λ bytes. Composed (L.answer lister.old) inputs.now (items 0 bytes) parts code))
+        (λ parts. IfSome (R.left log.old) (λ bytes. IfSome (R.left log.new)
+        (λ rest. GotTo (L.answer lister.old) inputs.now bytes rest parts))) (λ parts. IfSome
+        (R.left log.old) (λ bytes. Begun (L.answer lister.old) inputs.now (items 0 bytes) parts))
         (W.taken report.old) (W.taken report.new) }
-    ensures headline { IfOk result (λ code. IfSome (R.left log.old) (λ bytes. Headline (L.answer lister.old) inputs.now (items 0 bytes) code (W.taken report.old) (W.taken report.new))) }
+    ensures headline { IfOk result (λ code. IfSome (R.left log.old) (λ bytes. Headline (L.answer
+        lister.old) inputs.now (items 0 bytes) code (W.taken report.old) (W.taken report.new))) }
     ensures stays { (other : Binary) → L.answer lister.new other ≡ L.answer lister.old other }
-    ensures asks { AsksWith (L.answer lister.old) inputs.now (lacks_memory result) (L.asked lister.old) (L.asked lister.new) }
-    ensures unread { (refusal : PlanFault) → Plans (L.answer lister.old) inputs.now (Err refusal) → R.calls log.new ≡ R.calls log.old }
+    ensures asks { AsksWith (L.answer lister.old) inputs.now (lacks_memory result)
+        (L.asked lister.old) (L.asked lister.new) }
+    ensures unread { (refusal : PlanFault) → Plans (L.answer lister.old) inputs.now (Err refusal)
+        → R.calls log.new ≡ R.calls log.old }
     ensures reads { R.calls log.new ≤ R.calls log.old + log_reads }
-    ensures read_failures { CountsReadFailures result (R.failures log.old) (R.failures log.new) (R.last_failed log.new) }
-    ensures write_failures { CountsWriteFailures result (W.failures report.old) (W.failures report.new) (W.last_failed report.new) }
+    ensures read_failures { CountsReadFailures result (R.failures log.old) (R.failures log.new)
+        (R.last_failed log.new) }
+    ensures write_failures { CountsWriteFailures result (W.failures report.old)
+        (W.failures report.new) (W.last_failed report.new) }
 {
     reported(alloc, inputs, lister, log, report)
 }
@@ -71,17 +77,22 @@ fn reported<L: Lister, R: LogReader, W: ReportWriter>(
     requires calls_fit { R.calls log.old < 2 ^ 62 }
     requires failures_fit { R.failures log.old < 2 ^ 62 }
     requires writes_fit { W.failures report.old < 2 ^ 62 }
-    ensures reports { Reports result
-        (λ parts code. IfSome (R.left log.old) (λ bytes. Composed (L.answer lister.old) inputs.now (items 0 bytes) parts code))
-        (λ parts. IfSome (R.left log.old) (λ bytes. IfSome (R.left log.new) (λ rest. GotTo (L.answer lister.old) inputs.now bytes rest parts)))
-        (λ parts. IfSome (R.left log.old) (λ bytes. Begun (L.answer lister.old) inputs.now (items 0 bytes) parts))
+    ensures reports { Reports result (λ parts code. IfSome (R.left log.old)
+        (λ bytes. Composed (L.answer lister.old) inputs.now (items 0 bytes) parts code))
+        (λ parts. IfSome (R.left log.old) (λ bytes. IfSome (R.left log.new)
+        (λ rest. GotTo (L.answer lister.old) inputs.now bytes rest parts))) (λ parts. IfSome
+        (R.left log.old) (λ bytes. Begun (L.answer lister.old) inputs.now (items 0 bytes) parts))
         (W.taken report.old) (W.taken report.new) }
     ensures stays { (other : Binary) → L.answer lister.new other ≡ L.answer lister.old other }
-    ensures asks { AsksWith (L.answer lister.old) inputs.now (lacks_memory result) (L.asked lister.old) (L.asked lister.new) }
-    ensures unread { (refusal : PlanFault) → Plans (L.answer lister.old) inputs.now (Err refusal) → R.calls log.new ≡ R.calls log.old }
+    ensures asks { AsksWith (L.answer lister.old) inputs.now (lacks_memory result)
+        (L.asked lister.old) (L.asked lister.new) }
+    ensures unread { (refusal : PlanFault) → Plans (L.answer lister.old) inputs.now (Err refusal)
+        → R.calls log.new ≡ R.calls log.old }
     ensures reads { R.calls log.new ≤ R.calls log.old + log_reads }
-    ensures read_failures { CountsReadFailures result (R.failures log.old) (R.failures log.new) (R.last_failed log.new) }
-    ensures write_failures { CountsWriteFailures result (W.failures report.old) (W.failures report.new) (W.last_failed report.new) }
+    ensures read_failures { CountsReadFailures result (R.failures log.old) (R.failures log.new)
+        (R.last_failed log.new) }
+    ensures write_failures { CountsWriteFailures result (W.failures report.old)
+        (W.failures report.new) (W.last_failed report.new) }
 {
     match Plan::build(alloc, inputs, lister) {
         Ok(plan) => judge_plan(alloc, &plan, &mut LogLines::new(alloc), log, report),
@@ -101,16 +112,20 @@ pub fn judge_stream<R: LogReader, W: ReportWriter>(
     requires calls_fit { R.calls input.old < 2 ^ 62 }
     requires failures_fit { R.failures input.old < 2 ^ 62 }
     requires writes_fit { W.failures report.old < 2 ^ 62 }
-    ensures reports { Reports result
-        (λ parts code. IfSome (R.left input.old) (λ bytes. StreamComposed bytes parts code))
-        (λ parts. IfSome (R.left input.old) (λ bytes. IfSome (R.left input.new) (λ rest. StreamGotTo bytes rest parts)))
-        (λ parts. IfSome (R.left input.old) (λ bytes. StreamBegun bytes parts))
-        (W.taken report.old) (W.taken report.new) }
-    ensures headline { IfOk result (λ code. IfSome (R.left input.old) (λ bytes. StreamHeadline bytes code (W.taken report.old) (W.taken report.new))) }
-    ensures unread { IfSome (R.left input.old) (λ bytes. HasNoPlan (read_inputs (before_feed bytes)) → R.calls input.new ≤ R.calls input.old + first_line_reads) }
+    ensures reports { Reports result (λ parts code. IfSome (R.left input.old)
+        (λ bytes. StreamComposed bytes parts code)) (λ parts. IfSome (R.left input.old)
+        (λ bytes. IfSome (R.left input.new) (λ rest. StreamGotTo bytes rest parts)))
+        (λ parts. IfSome (R.left input.old) (λ bytes. StreamBegun bytes parts)) (W.taken report.old)
+        (W.taken report.new) }
+    ensures headline { IfOk result (λ code. IfSome (R.left input.old)
+        (λ bytes. StreamHeadline bytes code (W.taken report.old) (W.taken report.new))) }
+    ensures unread { IfSome (R.left input.old) (λ bytes. HasNoPlan (read_inputs (before_feed bytes))
+        → R.calls input.new ≤ R.calls input.old + first_line_reads) }
     ensures reads { R.calls input.new ≤ R.calls input.old + first_line_reads + log_reads }
-    ensures read_failures { CountsReadFailures result (R.failures input.old) (R.failures input.new) (R.last_failed input.new) }
-    ensures write_failures { CountsWriteFailures result (W.failures report.old) (W.failures report.new) (W.last_failed report.new) }
+    ensures read_failures { CountsReadFailures result (R.failures input.old) (R.failures input.new)
+        (R.last_failed input.new) }
+    ensures write_failures { CountsWriteFailures result (W.failures report.old)
+        (W.failures report.new) (W.last_failed report.new) }
 {
     stream_reported(alloc, input, report)
 }
@@ -124,15 +139,18 @@ fn stream_reported<R: LogReader, W: ReportWriter>(
     requires calls_fit { R.calls input.old < 2 ^ 62 }
     requires failures_fit { R.failures input.old < 2 ^ 62 }
     requires writes_fit { W.failures report.old < 2 ^ 62 }
-    ensures reports { Reports result
-        (λ parts code. IfSome (R.left input.old) (λ bytes. StreamComposed bytes parts code))
-        (λ parts. IfSome (R.left input.old) (λ bytes. IfSome (R.left input.new) (λ rest. StreamGotTo bytes rest parts)))
-        (λ parts. IfSome (R.left input.old) (λ bytes. StreamBegun bytes parts))
-        (W.taken report.old) (W.taken report.new) }
-    ensures unread { IfSome (R.left input.old) (λ bytes. HasNoPlan (read_inputs (before_feed bytes)) → R.calls input.new ≤ R.calls input.old + first_line_reads) }
+    ensures reports { Reports result (λ parts code. IfSome (R.left input.old)
+        (λ bytes. StreamComposed bytes parts code)) (λ parts. IfSome (R.left input.old)
+        (λ bytes. IfSome (R.left input.new) (λ rest. StreamGotTo bytes rest parts)))
+        (λ parts. IfSome (R.left input.old) (λ bytes. StreamBegun bytes parts)) (W.taken report.old)
+        (W.taken report.new) }
+    ensures unread { IfSome (R.left input.old) (λ bytes. HasNoPlan (read_inputs (before_feed bytes))
+        → R.calls input.new ≤ R.calls input.old + first_line_reads) }
     ensures reads { R.calls input.new ≤ R.calls input.old + first_line_reads + log_reads }
-    ensures read_failures { CountsReadFailures result (R.failures input.old) (R.failures input.new) (R.last_failed input.new) }
-    ensures write_failures { CountsWriteFailures result (W.failures report.old) (W.failures report.new) (W.last_failed report.new) }
+    ensures read_failures { CountsReadFailures result (R.failures input.old) (R.failures input.new)
+        (R.last_failed input.new) }
+    ensures write_failures { CountsWriteFailures result (W.failures report.old)
+        (W.failures report.new) (W.last_failed report.new) }
 {
     let Some(mut lines) = LogLines::behind_first_line(alloc, input)? else {
         return refuse_inputs(alloc, &InputsRefusal::Syntax, report);
@@ -155,15 +173,19 @@ fn judge_by_table<R: LogReader, W: ReportWriter>(
     requires calls_fit { R.calls log.old + 2 ^ 32 ≤ 2 ^ 63 }
     requires failures_fit { R.failures log.old < 2 ^ 62 }
     requires writes_fit { W.failures report.old < 2 ^ 62 }
-    ensures reports { Reports result
-        (λ parts code. IfSome (R.left log.old) (λ bytes. Composed (table_of inputs) inputs (items_ahead lines.old bytes) parts code))
-        (λ parts. (front : List (List ℕ)) × IsGotOf lines.old (R.left log.old) (R.left log.new) front × HasSoFar (table_of inputs) inputs front parts)
-        (λ parts. IfSome (R.left log.old) (λ bytes. Begun (table_of inputs) inputs (items_ahead lines.old bytes) parts))
+    ensures reports { Reports result (λ parts code. IfSome (R.left log.old)
+        (λ bytes. Composed (table_of inputs) inputs (items_ahead lines.old bytes) parts code))
+        (λ parts. (front : List (List ℕ)) × IsGotOf lines.old (R.left log.old) (R.left log.new)
+        front × HasSoFar (table_of inputs) inputs front parts) (λ parts. IfSome (R.left log.old)
+        (λ bytes. Begun (table_of inputs) inputs (items_ahead lines.old bytes) parts))
         (W.taken report.old) (W.taken report.new) }
-    ensures unread { (refusal : PlanFault) → Plans (table_of inputs) inputs (Err refusal) → R.calls log.new ≡ R.calls log.old }
+    ensures unread { (refusal : PlanFault) → Plans (table_of inputs) inputs (Err refusal)
+        → R.calls log.new ≡ R.calls log.old }
     ensures reads { R.calls log.new ≤ R.calls log.old + log_reads }
-    ensures read_failures { CountsReadFailures result (R.failures log.old) (R.failures log.new) (R.last_failed log.new) }
-    ensures write_failures { CountsWriteFailures result (W.failures report.old) (W.failures report.new) (W.last_failed report.new) }
+    ensures read_failures { CountsReadFailures result (R.failures log.old) (R.failures log.new)
+        (R.last_failed log.new) }
+    ensures write_failures { CountsWriteFailures result (W.failures report.old)
+        (W.failures report.new) (W.last_failed report.new) }
 {
     match plan_by_table(alloc, inputs) {
         Ok(plan) => judge_plan(alloc, &plan, lines, log, report),

@@ -33,10 +33,13 @@ pub(crate) fn judge_lines<R: LogReader, W: ReportWriter>(
     requires begins { session.old ≡ session_of session.old.plan }
     requires empty { string_bytes text.old ≡ [] }
     ensures plan { IfOk result (λ _. session.new.plan ≡ session.old.plan) }
-    ensures judged { JudgesLines result session.old.plan session.new.run lines.old (R.left log.old) (R.left log.new) (W.taken report.old) (W.taken report.new) (string_bytes text.new) }
+    ensures judged { JudgesLines result session.old.plan session.new.run lines.old (R.left log.old)
+        (R.left log.new) (W.taken report.old) (W.taken report.new) (string_bytes text.new) }
     ensures reads { R.calls log.new ≤ R.calls log.old + log_reads }
-    ensures read_failures { CountsReadFailures result (R.failures log.old) (R.failures log.new) (R.last_failed log.new) }
-    ensures write_failures { CountsWriteFailures result (W.failures report.old) (W.failures report.new) (W.last_failed report.new) }
+    ensures read_failures { CountsReadFailures result (R.failures log.old) (R.failures log.new)
+        (R.last_failed log.new) }
+    ensures write_failures { CountsWriteFailures result (W.failures report.old)
+        (W.failures report.new) (W.last_failed report.new) }
 {
     report_opening(alloc, text, report, session.plan())?;
     let mut number = 1;
@@ -63,10 +66,13 @@ fn next_line<R: LogReader, W: ReportWriter>(
     requires calls_fit { R.calls log.old + 2 ^ 31 ≤ 2 ^ 63 }
     requires failures_fit { R.failures log.old < 2 ^ 63 }
     requires writes_fit { W.failures report.old < 2 ^ 63 }
-    ensures items { HandsNext result lines.old (R.left log.old) lines.new (R.left log.new) (W.taken report.old) (string_bytes text.old) (W.taken report.new) (string_bytes text.new) }
+    ensures items { HandsNext result lines.old (R.left log.old) lines.new (R.left log.new)
+        (W.taken report.old) (string_bytes text.old) (W.taken report.new) (string_bytes text.new) }
     ensures reads { ReadsNext result lines.old (R.calls log.old) lines.new (R.calls log.new) }
-    ensures read_failures { CountsReadFailures result (R.failures log.old) (R.failures log.new) (R.last_failed log.new) }
-    ensures write_failures { CountsWriteFailures result (W.failures report.old) (W.failures report.new) (W.last_failed report.new) }
+    ensures read_failures { CountsReadFailures result (R.failures log.old) (R.failures log.new)
+        (R.last_failed log.new) }
+    ensures write_failures { CountsWriteFailures result (W.failures report.old)
+        (W.failures report.new) (W.last_failed report.new) }
 {
     write_before_read(lines, text, report)?;
     Ok(lines.next(log)?)
@@ -80,9 +86,12 @@ fn write_before_read<W: ReportWriter>(
 ) -> Result<(), ReportFault>
     requires writes_fit { W.failures report.old < 2 ^ 63 }
     ensures unmoved { Unmoved lines.old lines.new }
-    ensures writes { reporting.WritesParts result [] (W.taken report.old) (string_bytes text.old) (W.taken report.new) (string_bytes text.new) }
-    ensures ready { IfOk result (λ _. (tells_next lines.new ≡ true) ⊎ (string_bytes text.new ≡ [])) }
-    ensures failures { reporting.CountsWriteFailures result (W.failures report.old) (W.failures report.new) (W.last_failed report.new) }
+    ensures writes { reporting.WritesParts result [] (W.taken report.old) (string_bytes text.old)
+        (W.taken report.new) (string_bytes text.new) }
+    ensures ready { IfOk result
+        (λ _. (tells_next lines.new ≡ true) ⊎ (string_bytes text.new ≡ [])) }
+    ensures failures { reporting.CountsWriteFailures result (W.failures report.old)
+        (W.failures report.new) (W.last_failed report.new) }
 {
     if lines.is_waiting() {
         return Ok(());

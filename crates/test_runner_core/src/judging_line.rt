@@ -4,9 +4,10 @@ ghost use Rattle.test_runner_core_run_model.specs.Finishing.{KeepsReasons};
 ghost use Rattle.test_runner_core_reporter.specs.Writes.{CountsWriteFailures};
 ghost use Rattle.test_runner_core_line_syntax.specs.Lent.{line_meant, record_meant};
 ghost use Rattle.test_runner_core_line_syntax.specs.declared.log_line.LogLine.TheVariants as lines;
-ghost use Rattle.test_runner_core.specs.declared.judging_line.Step.TheVariants as it;
+ghost use Rattle.test_runner_core.specs.declared.judging_line.LineStep.TheVariants as it;
 ghost use Rattle.test_runner_core.specs.Inside.{JudgesLine, Steps, StepsLine};
 
+use crate::kept_record::record_to_keep;
 use crate::refused_line::LineRefusal;
 use nextest_run_events_results::TestInstanceId;
 use std::alloc::{AllocError, Global};
@@ -19,7 +20,7 @@ use test_runner_core_streams::ReportWriter;
 
 // What became of a line's event.
 #[derive(Clone, Copy)]
-pub(crate) enum Step {
+pub(crate) enum LineStep {
     // Its step is taken, and finished this.
     Taken(Finished),
     // It is refused.
@@ -36,8 +37,10 @@ pub(crate) fn judge_line<W: ReportWriter>(
 ) -> Result<Option<LineRefusal>, ReportFault>
     requires writes_fit { W.failures report.old < 2 ^ 63 }
     requires reached { KeepsReasons session.old.run }
-    ensures judged { JudgesLine result session.old bytes.now session.new (W.taken report.old) (string_bytes text.old) (W.taken report.new) (string_bytes text.new) }
-    ensures failures { CountsWriteFailures result (W.failures report.old) (W.failures report.new) (W.last_failed report.new) }
+    ensures judged { JudgesLine result session.old bytes.now session.new (W.taken report.old)
+        (string_bytes text.old) (W.taken report.new) (string_bytes text.new) }
+    ensures failures { CountsWriteFailures result (W.failures report.old) (W.failures report.new)
+        (W.last_failed report.new) }
 {
     match LentLine::parse(bytes) {
         Ok(None) => Ok(None),
@@ -57,12 +60,14 @@ fn report_line<W: ReportWriter>(
 ) -> Result<Option<LineRefusal>, ReportFault>
     requires writes_fit { W.failures report.old < 2 ^ 63 }
     requires reached { KeepsReasons session.old.run }
-    ensures judged { StepsLine result session.old (line_meant line.entry) session.new (W.taken report.old) (string_bytes text.old) (W.taken report.new) (string_bytes text.new) }
-    ensures failures { CountsWriteFailures result (W.failures report.old) (W.failures report.new) (W.last_failed report.new) }
+    ensures judged { StepsLine result session.old (line_meant line.entry) session.new
+        (W.taken report.old) (string_bytes text.old) (W.taken report.new) (string_bytes text.new) }
+    ensures failures { CountsWriteFailures result (W.failures report.old) (W.failures report.new)
+        (W.last_failed report.new) }
 {
     match take_step(alloc, session, line)? {
-        Step::Refused(refusal) => Ok(Some(LineRefusal::Step(refusal))),
-        Step::Taken(finished) => {
+        LineStep::Refused(refusal) => Ok(Some(LineRefusal::Step(refusal))),
+        LineStep::Taken(finished) => {
             report_step(text, report, session, finished)?;
             Ok(None)
         }
@@ -74,7 +79,7 @@ fn take_step(
     alloc: Global,
     session: &mut Session<'_>,
     line: LentLine<'_>,
-) -> Result<Step, AllocError>
+) -> Result<LineStep, AllocError>
     ensures taken { IfOk result (λ it. Steps it session.old (line_meant line.entry) session.new) }
     ensures kept { OnErr result (session.new ≡ session.old) }
 {
@@ -91,12 +96,13 @@ fn take_step(
 }
 
 // What an answer of the session comes to.
-fn step_of(answer: Result<Finished, StepRefusal>) -> Step
-    ensures { MatchResult answer (λ finished. result ≡ it.Taken finished) (λ refusal. result ≡ it.Refused refusal) }
+fn step_of(answer: Result<Finished, StepRefusal>) -> LineStep
+    ensures { MatchResult answer (λ finished. result ≡ it.Taken finished)
+        (λ refusal. result ≡ it.Refused refusal) }
 {
     match answer {
-        Ok(finished) => Step::Taken(finished),
-        Err(refusal) => Step::Refused(refusal),
+        Ok(finished) => LineStep::Taken(finished),
+        Err(refusal) => LineStep::Refused(refusal),
     }
 }
 
@@ -106,8 +112,9 @@ fn end_script(
     session: &mut Session<'_>,
     id: &str,
     record: LentRecord<'_>,
-) -> Result<Step, AllocError>
-    ensures taken { IfOk result (λ it. Steps it session.old (lines.Script id.now (record_meant «record».entry)) session.new) }
+) -> Result<LineStep, AllocError>
+    ensures taken { IfOk result (λ it.
+        Steps it session.old (lines.Script id.now (record_meant «record».entry)) session.new) }
     ensures kept { OnErr result (session.new ≡ session.old) }
 {
     let record = record.own(alloc)?;
@@ -115,8 +122,9 @@ fn end_script(
 }
 
 // An attempt starts, which finishes no test.
-fn start(session: &mut Session<'_>, binary: &str, name: &str) -> Result<Step, AllocError>
-    ensures taken { IfOk result (λ it. Steps it session.old (lines.Start binary.now name.now) session.new) }
+fn start(session: &mut Session<'_>, binary: &str, name: &str) -> Result<LineStep, AllocError>
+    ensures taken { IfOk result
+        (λ it. Steps it session.old (lines.Start binary.now name.now) session.new) }
     ensures kept { OnErr result (session.new ≡ session.old) }
 {
     let test = TestInstanceId {
@@ -124,30 +132,31 @@ fn start(session: &mut Session<'_>, binary: &str, name: &str) -> Result<Step, Al
         test_name: name,
     };
     match session.start(test) {
-        Ok(()) => Ok(Step::Taken(Finished {
+        Ok(()) => Ok(LineStep::Taken(Finished {
             ended: None,
             stops: false,
         })),
-        Err(StartFault::Refused(refusal)) => Ok(Step::Refused(refusal)),
+        Err(StartFault::Refused(refusal)) => Ok(LineStep::Refused(refusal)),
         Err(StartFault::OutOfMemory) => Err(AllocError),
     }
 }
 
-// An attempt ended.
+// An attempt ended. Of its record that is kept which a report may show.
 fn end(
     alloc: Global,
     session: &mut Session<'_>,
     binary: &str,
     name: &str,
     record: LentRecord<'_>,
-) -> Result<Step, AllocError>
-    ensures taken { IfOk result (λ it. Steps it session.old (lines.End binary.now name.now (record_meant «record».entry)) session.new) }
+) -> Result<LineStep, AllocError>
+    ensures taken { IfOk result (λ it. Steps it session.old
+        (lines.End binary.now name.now (record_meant «record».entry)) session.new) }
     ensures kept { OnErr result (session.new ≡ session.old) }
 {
-    let record = record.own(alloc)?;
     let test = TestInstanceId {
         binary_id: binary,
         test_name: name,
     };
+    let record = record_to_keep(alloc, session, test, record)?;
     Ok(step_of(session.attempt_finished(test, record)))
 }

@@ -11,6 +11,7 @@ mod entry;
 mod judge_fault;
 mod judging;
 mod judging_line;
+mod kept_record;
 pub mod laws;
 mod refused_line;
 mod whole_report;

@@ -1,6 +1,6 @@
 // Why a line is refused.
 ghost use Rattle.std.specs.Prelude.{◌≡◌};
-ghost use Rattle.test_runner_core.specs.Judging.{refusal_of};
+ghost use Rattle.test_runner_core.specs.Judging.{line_refusal_of};
 ghost use Rattle.test_runner_core.specs.Texts.{text_of};
 
 use std::fmt;
@@ -76,7 +76,7 @@ pub(crate) fn refused_at(line: u64, refusal: LineRefusal) -> RefusedLine
 
 // The refusal of a line that has no end, or where a limit is passed.
 pub(crate) fn refusal_for(fault: LineFault) -> LineRefusal
-    ensures { result ≡ refusal_of fault }
+    ensures { result ≡ line_refusal_of fault }
 {
     match fault {
         LineFault::LineTooLong => LineRefusal::LineTooLong,

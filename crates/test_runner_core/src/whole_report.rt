@@ -34,10 +34,14 @@ pub(crate) fn judge_plan<R: LogReader, W: ReportWriter>(
     requires calls_fit { R.calls log.old + 2 ^ 32 ≤ 2 ^ 63 }
     requires failures_fit { R.failures log.old < 2 ^ 62 }
     requires writes_fit { W.failures report.old < 2 ^ 62 }
-    ensures reports { Reports result (IsJudged plan.now lines.old (R.left log.old)) (IsGot plan.now lines.old (R.left log.old) (R.left log.new)) (IsBegun plan.now lines.old (R.left log.old)) (W.taken report.old) (W.taken report.new) }
+    ensures reports { Reports result (IsJudged plan.now lines.old (R.left log.old))
+        (IsGot plan.now lines.old (R.left log.old) (R.left log.new))
+        (IsBegun plan.now lines.old (R.left log.old)) (W.taken report.old) (W.taken report.new) }
     ensures reads { R.calls log.new ≤ R.calls log.old + log_reads }
-    ensures read_failures { CountsReadFailures result (R.failures log.old) (R.failures log.new) (R.last_failed log.new) }
-    ensures write_failures { CountsWriteFailures result (W.failures report.old) (W.failures report.new) (W.last_failed report.new) }
+    ensures read_failures { CountsReadFailures result (R.failures log.old) (R.failures log.new)
+        (R.last_failed log.new) }
+    ensures write_failures { CountsWriteFailures result (W.failures report.old)
+        (W.failures report.new) (W.last_failed report.new) }
 {
     let mut session = Session::new(alloc, plan)?;
     let mut text = String::new(alloc);
@@ -54,10 +58,12 @@ fn end_report<W: ReportWriter>(
     found: Option<RefusedLine>,
 ) -> Result<u8, ReportFault>
     requires writes_fit { W.failures report.old < 2 ^ 62 }
-    ensures writes { reporting.WritesParts result (ending session.now.plan session.now.run found) (W.taken report.old) (string_bytes text.old) (W.taken report.new) (string_bytes text.new) }
+    ensures writes { reporting.WritesParts result (ending session.now.plan session.now.run found)
+        (W.taken report.old) (string_bytes text.old) (W.taken report.new) (string_bytes text.new) }
     ensures empty { IfOk result (λ _. string_bytes text.new ≡ []) }
     ensures code { IfOk result (λ code. code ≡ exit_status session.now.run found) }
-    ensures failures { reporting.CountsWriteFailures result (W.failures report.old) (W.failures report.new) (W.last_failed report.new) }
+    ensures failures { reporting.CountsWriteFailures result (W.failures report.old)
+        (W.failures report.new) (W.last_failed report.new) }
 {
     let code = report_ending(alloc, text, report, session, found)?;
     write_waiting(text, report)?;
@@ -73,9 +79,11 @@ fn report_ending<W: ReportWriter>(
     found: Option<RefusedLine>,
 ) -> Result<u8, ReportFault>
     requires writes_fit { W.failures report.old < 2 ^ 62 }
-    ensures writes { reporting.WritesParts result (ending session.now.plan session.now.run found) (W.taken report.old) (string_bytes text.old) (W.taken report.new) (string_bytes text.new) }
+    ensures writes { reporting.WritesParts result (ending session.now.plan session.now.run found)
+        (W.taken report.old) (string_bytes text.old) (W.taken report.new) (string_bytes text.new) }
     ensures code { IfOk result (λ code. code ≡ exit_status session.now.run found) }
-    ensures failures { reporting.CountsWriteFailures result (W.failures report.old) (W.failures report.new) (W.last_failed report.new) }
+    ensures failures { reporting.CountsWriteFailures result (W.failures report.old)
+        (W.failures report.new) (W.last_failed report.new) }
 {
     match found {
         Some(found) => {
@@ -97,8 +105,10 @@ fn report_refused_line<W: ReportWriter>(
     found: RefusedLine,
 ) -> Result<(), ReportFault>
     requires writes_fit { W.failures report.old < 2 ^ 62 }
-    ensures writes { reporting.WritesParts result (refused_line found) (W.taken report.old) (string_bytes text.old) (W.taken report.new) (string_bytes text.new) }
-    ensures failures { reporting.CountsWriteFailures result (W.failures report.old) (W.failures report.new) (W.last_failed report.new) }
+    ensures writes { reporting.WritesParts result (refused_line found) (W.taken report.old)
+        (string_bytes text.old) (W.taken report.new) (string_bytes text.new) }
+    ensures failures { reporting.CountsWriteFailures result (W.failures report.old)
+        (W.failures report.new) (W.last_failed report.new) }
 {
     let words = format!(in alloc; "refused\tline\t{}\t{}\n", found.line, found.refusal)?;
     report_words(text, report, words.as_str())
@@ -111,9 +121,11 @@ pub(crate) fn refuse_plan<W: ReportWriter>(
     report: &mut W,
 ) -> Result<u8, ReportFault>
     requires writes_fit { W.failures report.old < 2 ^ 62 }
-    ensures writes { reporting.WritesParts result (refused_plan refusal.now) (W.taken report.old) [] (W.taken report.new) [] }
+    ensures writes { reporting.WritesParts result (refused_plan refusal.now) (W.taken report.old) []
+        (W.taken report.new) [] }
     ensures code { IfOk result (λ code. code ≡ status_of refusal.now) }
-    ensures failures { reporting.CountsWriteFailures result (W.failures report.old) (W.failures report.new) (W.last_failed report.new) }
+    ensures failures { reporting.CountsWriteFailures result (W.failures report.old)
+        (W.failures report.new) (W.last_failed report.new) }
 {
     let words = format!(in alloc; "refused\t{}\n", refusal.name())?;
     write_words(report, words.as_str())?;
@@ -127,8 +139,11 @@ pub(crate) fn refuse_inputs<W: ReportWriter>(
     report: &mut W,
 ) -> Result<u8, JudgeFault>
     requires writes_fit { W.failures report.old < 2 ^ 62 }
-    ensures reports { Reports result (λ parts code. (parts ≡ refused_inputs refusal.now) × (code ≡ 96)) (λ _. ⊥) (λ parts. parts ≡ refused_inputs refusal.now) (W.taken report.old) (W.taken report.new) }
-    ensures failures { CountsWriteFailures result (W.failures report.old) (W.failures report.new) (W.last_failed report.new) }
+    ensures reports { Reports result
+        (λ parts code. (parts ≡ refused_inputs refusal.now) × (code ≡ 96)) (λ _. ⊥)
+        (λ parts. parts ≡ refused_inputs refusal.now) (W.taken report.old) (W.taken report.new) }
+    ensures failures { CountsWriteFailures result (W.failures report.old) (W.failures report.new)
+        (W.last_failed report.new) }
 {
     Ok(write_refused_inputs(alloc, refusal, report)?)
 }
@@ -140,9 +155,11 @@ fn write_refused_inputs<W: ReportWriter>(
     report: &mut W,
 ) -> Result<u8, ReportFault>
     requires writes_fit { W.failures report.old < 2 ^ 62 }
-    ensures writes { reporting.WritesParts result (refused_inputs refusal.now) (W.taken report.old) [] (W.taken report.new) [] }
+    ensures writes { reporting.WritesParts result (refused_inputs refusal.now)
+        (W.taken report.old) [] (W.taken report.new) [] }
     ensures code { IfOk result (λ code. code ≡ 96) }
-    ensures failures { reporting.CountsWriteFailures result (W.failures report.old) (W.failures report.new) (W.last_failed report.new) }
+    ensures failures { reporting.CountsWriteFailures result (W.failures report.old)
+        (W.failures report.new) (W.last_failed report.new) }
 {
     let words = match refusal {
         InputsRefusal::Field(path) => format!(in alloc; "refused\tField\t{path}\n")?,
@@ -155,8 +172,10 @@ fn write_refused_inputs<W: ReportWriter>(
 // Writes words.
 fn write_words<W: ReportWriter>(report: &mut W, words: &str) -> Result<(), ReportFault>
     requires writes_fit { W.failures report.old < 2 ^ 62 }
-    ensures writes { reporting.WritesParts result (Said words.now ∷ []) (W.taken report.old) [] (W.taken report.new) [] }
-    ensures failures { reporting.CountsWriteFailures result (W.failures report.old) (W.failures report.new) (W.last_failed report.new) }
+    ensures writes { reporting.WritesParts result (Said words.now ∷ []) (W.taken report.old) []
+        (W.taken report.new) [] }
+    ensures failures { reporting.CountsWriteFailures result (W.failures report.old)
+        (W.failures report.new) (W.last_failed report.new) }
 {
     match write_all(report, words.as_bytes()) {
         Ok(()) => Ok(()),

@@ -3,7 +3,7 @@ use Rattle.std.proofs.Common.{◌≡◌, ◌↔◌, ℕ, ◌∷◌, [], List, ma
 use Rattle.std.specs.Option.{option_map_or}
 use Rattle.serde_json.specs.Data.{Data}
 use Rattle.test_runner_core_inputs.specs.Given.{value_of}
-use Rattle.test_runner_core_inputs.specs.Reading.{Path, Reading, dotted, inputs_of, refused_at, read_inputs}
+use Rattle.test_runner_core_inputs.specs.Reading.{Path, Reading, dotted_path, inputs_of, refused_at, read_inputs}
 use Rattle.test_runner_core_inputs.specs.Shape.{IsInputs, AreInputs}
 use Rattle.test_runner_core_inputs.specs.Faults.{Faults, inputs_faults, faults_of}
 use Rattle.test_runner_core_inputs.specs.Laws.{IsFirst}
@@ -33,7 +33,7 @@ accepted bytes inputs = (
 )
 
 abbrev told : Path → InputsRefusal
-told path = errors.Field (dotted path)
+told path = errors.Field (dotted_path path)
 
 first_told : (read : Reading Inputs) (faults : Faults) (S : Inputs → Type 0) → Meets read faults S → IsFirst (refused_at read) (map told faults)
 first_told (Ok inputs) faults S m = ap (map told) (m.ok inputs refl).0

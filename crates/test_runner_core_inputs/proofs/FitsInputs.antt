@@ -151,14 +151,14 @@ source_parts given =
     meets_as (shape.IsSource given)
     (meets_faults _ (append_assoc (wrong.has (codes "kind") (wrong.is value.source_word) given) _ _)
     (meets_then _ _ (kinds_fit given) (λ kind _.
-    meets_then _ _ (meets_required (codes "path") (leaves value.undivided) given) (λ path _.
+    meets_then _ _ (meets_required (codes "path") (leaves value.undivided_text_of) given) (λ path _.
     meets_then _ _ (outcomes_fit given) (λ outcome _.
     meets_ok (record { kind = kind; path = path; outcome = outcome }))))))
     (λ it s. subst (shape.IsSource given) (sym s.1.1.1.1.1.1) (record { kind = s.1.0; path = s.1.1.1.0; outcome = s.1.1.1.1.1.0 }))
     (λ it s. (it.kind, (s.kind, (it.path, (s.path, (it.outcome, (s.outcome, refl)))))))
 
 sources : MeetsAll read.source_of wrong.source_faults shape.IsSource
-sources = record { at = λ given. meets_object read.source_parts wrong.source_parts given (source_parts given) (λ it s. has_is_object (codes "path") (shape.Is value.undivided) given it.path s.path) }
+sources = record { at = λ given. meets_object read.source_parts wrong.source_parts given (source_parts given) (λ it s. has_is_object (codes "path") (shape.Is value.undivided_text_of) given it.path s.path) }
 
 -- ---- facts
 

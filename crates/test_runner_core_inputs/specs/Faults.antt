@@ -6,7 +6,7 @@ use Rattle.std.specs.Option.{option_map_or}
 use Rattle.serde_json.specs.Data.{Data}
 use Rattle.serde_json.specs.Find.{as_object}
 use Rattle.test_runner_core_inputs.specs.Given.{value_of, member, has_member, items, has_items, item_at}
-use Rattle.test_runner_core_inputs.specs.Reading.{Path, dotted}
+use Rattle.test_runner_core_inputs.specs.Reading.{Path, dotted_path}
 use Rattle.test_runner_core_inputs.specs.Values as value
 use Rattle.test_runner_core_inputs.specs.declared.source_word.SourceWord.{SourceWord}
 use Rattle.test_runner_core_inputs.specs.declared.source_word.SourceWord.TheVariants as words
@@ -125,7 +125,7 @@ abbrev pub source_parts : Data → List Faults
 source_parts given =
     has (codes "kind") (is value.source_word) given
     ∷ tool_faults (option_and_then value.source_word (member (codes "kind") given)) given
-    ∷ has (codes "path") (is value.undivided) given
+    ∷ has (codes "path") (is value.undivided_text_of) given
     ∷ outcome_faults given
     ∷ []
 
@@ -173,4 +173,4 @@ inputs_faults given = if is_some (as_object given) then all_of (inputs_parts giv
 
 -- all that is wrong with bytes
 abbrev pub faults_of : List ℕ → List InputsRefusal
-faults_of bytes = option_map_or (λ given. map (λ path. errors.Field (dotted path)) (inputs_faults given)) (value_of bytes) (errors.Syntax ∷ [])
+faults_of bytes = option_map_or (λ given. map (λ path. errors.Field (dotted_path path)) (inputs_faults given)) (value_of bytes) (errors.Syntax ∷ [])

@@ -3,7 +3,7 @@ use Rattle.std.specs.Prelude.{ℕ, ◌^◌, ◌&&◌, length, List, Option, None
 use Rattle.std.specs.Str.{is_utf8}
 use Rattle.serde_json.specs.Data.{Data}
 use Rattle.serde_json.specs.Read.{read}
-pub use Rattle.nextest_json.specs.Listed.{listed, items}
+pub use Rattle.nextest_json.specs.Listed.{list_of_items, items}
 pub use Rattle.nextest_json.specs.Parts.{unless_null, member, has_member, has_items, item_at}
 
 -- the most bytes that inputs may have: 16,777,216

@@ -110,7 +110,7 @@ outcome_of given = outcome_in (has_member (codes "text") given) (has_member (cod
 abbrev pub source_parts : Data → Reading ConfigSource
 source_parts given = do
   kind ← kind_of_source given
-  path ← required (codes "path") (leaf value.undivided) given
+  path ← required (codes "path") (leaf value.undivided_text_of) given
   outcome ← outcome_of given
   Ok (record { kind = kind; path = path; outcome = outcome })
 
@@ -181,13 +181,13 @@ abbrev pub inputs_of : Data → Reading Inputs
 inputs_of given = if is_some (as_object given) then inputs_parts given else Err (codes "workspace" ∷ [])
 
 -- a path, its steps joined by dots
-abbrev pub dotted : Path → List ℕ
-dotted path = join_with_byte 46 path
+abbrev pub dotted_path : Path → List ℕ
+dotted_path path = join_with_byte 46 path
 
 -- what is refused is told by its path
 abbrev pub refused_at : Reading Inputs → Result Inputs InputsRefusal
 refused_at (Ok inputs) = Ok inputs
-refused_at (Err path) = Err (errors.Field (dotted path))
+refused_at (Err path) = Err (errors.Field (dotted_path path))
 
 -- what bytes are as inputs: what is no JSON is refused as that
 abbrev pub read_inputs : List ℕ → Result Inputs InputsRefusal

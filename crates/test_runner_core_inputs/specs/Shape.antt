@@ -100,7 +100,7 @@ HasOutcome given (outcomes.Failed cause) =
 
 pub record IsSource (given : Data) (it : ConfigSource) : Type 0 where
   pub kind : IsOfKind given it.kind
-  pub path : Has (codes "path") (Is value.undivided) given it.path
+  pub path : Has (codes "path") (Is value.undivided_text_of) given it.path
   pub outcome : HasOutcome given it.outcome
 
 -- [name, holds]

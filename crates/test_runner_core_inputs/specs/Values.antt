@@ -61,8 +61,8 @@ mode given = option_and_then mode_of (as_str given)
 abbrev pub undivided_of : List ℕ → Option (List ℕ)
 undivided_of bytes = if has_separator bytes then None else Some bytes
 
-abbrev pub undivided : Data → Option (List ℕ)
-undivided given = option_and_then undivided_of (as_str given)
+abbrev pub undivided_text_of : Data → Option (List ℕ)
+undivided_text_of given = option_and_then undivided_of (as_str given)
 
 -- a number from 1 on
 abbrev pub positive_of : ℕ → Option ℕ

@@ -1,6 +1,6 @@
 // The inputs of a run.
 ghost use Rattle.std.specs.Prelude.{◌≡◌, codes};
-ghost use Rattle.nextest_json.specs.Seen.{seen};
+ghost use Rattle.nextest_json.specs.Seen.{data_of};
 ghost use Rattle.nextest_json.specs.Calls.{Gives};
 ghost use Rattle.test_runner_core_inputs.specs.Calls.{Parses, Reads};
 ghost use Rattle.test_runner_core_inputs.specs.Given as given;
@@ -12,7 +12,7 @@ use crate::platform::PlatformRecord;
 use nextest_config_elements_choices::NextestRunMode;
 use nextest_config_resolution_sources::ConfigSource;
 use nextest_json::{
-    DocumentError, Fault, Form, JsonDocument, JsonMemory, JsonValue, Step, defaulted, optional,
+    DocumentError, Fault, Form, JsonDocument, JsonMemory, JsonValue, PathStep, defaulted, optional,
     required,
 };
 use nextest_text::{Listing, Text};
@@ -76,7 +76,7 @@ impl Form<Inputs> for Inputs {
 
     fn from_value(alloc: Global, value: &JsonValue<'_, '_>) -> Result<Inputs, Fault> {
         if !value.is_object() {
-            return Err(Fault::here(alloc).below(Step::Name("workspace")));
+            return Err(Fault::here(alloc).below(PathStep::Name("workspace")));
         }
         Ok(Inputs {
             workspace: required(alloc, value, "workspace")?,
@@ -97,7 +97,8 @@ impl Form<Inputs> for Inputs {
 
 // The name of the chosen profile.
 fn profile_of(alloc: Global, inputs: &JsonValue<'_, '_>) -> Result<Text, Fault>
-    ensures { Gives result (read.defaulted (codes "profile") read.text (codes "default") (seen inputs.now)) }
+    ensures { Gives result
+        (read.defaulted (codes "profile") read.text (codes "default") (data_of inputs.now)) }
 {
     match optional(alloc, inputs, "profile")? {
         Some(profile) => Ok(profile),

@@ -118,7 +118,7 @@ impl UndividedText {
 }
 
 impl Form<Inputs> for UndividedText {
-    ghost reading = { read.leaf value_of.undivided };
+    ghost reading = { read.leaf value_of.undivided_text_of };
 
     fn from_value(alloc: Global, value: &JsonValue<'_, '_>) -> Result<UndividedText, Fault> {
         let Some(text) = value.as_str() else {

@@ -1,6 +1,6 @@
 // The platforms that are built on and for.
 ghost use Rattle.std.specs.Prelude.{◌≡◌};
-ghost use Rattle.nextest_json.specs.Seen.{seen};
+ghost use Rattle.nextest_json.specs.Seen.{data_of};
 ghost use Rattle.nextest_json.specs.Calls.{Gives};
 ghost use Rattle.test_runner_core_inputs.specs.Reading as read;
 

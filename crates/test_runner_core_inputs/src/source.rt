@@ -1,6 +1,6 @@
 // The sources of the configuration.
 ghost use Rattle.std.specs.Prelude.{◌≡◌};
-ghost use Rattle.nextest_json.specs.Seen.{seen};
+ghost use Rattle.nextest_json.specs.Seen.{data_of};
 ghost use Rattle.nextest_json.specs.Calls.{Gives};
 ghost use Rattle.test_runner_core_inputs.specs.Reading as read;
 
@@ -14,7 +14,7 @@ use std::alloc::Global;
 
 // The kind of a source.
 fn kind_of_source(alloc: Global, source: &JsonValue<'_, '_>) -> Result<ConfigSourceKind, Fault>
-    ensures { Gives result (read.kind_of_source (seen source.now)) }
+    ensures { Gives result (read.kind_of_source (data_of source.now)) }
 {
     let word: SourceWord = required(alloc, source, "kind")?;
     match word {
@@ -26,7 +26,7 @@ fn kind_of_source(alloc: Global, source: &JsonValue<'_, '_>) -> Result<ConfigSou
 
 // What came of reading a source, told in one of three forms.
 fn outcome_of(alloc: Global, source: &JsonValue<'_, '_>) -> Result<ConfigSourceOutcome, Fault>
-    ensures { Gives result (read.outcome_of (seen source.now)) }
+    ensures { Gives result (read.outcome_of (data_of source.now)) }
 {
     let forms = (
         has_member(source, "text"),

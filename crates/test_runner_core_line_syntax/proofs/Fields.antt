@@ -8,7 +8,7 @@ use Rattle.std.proofs.lemmas.Str.{IsCharBoundary-after_ascii}
 use Rattle.std.proofs.Math.Seq.{split_at}
 use Rattle.std.specs.Str.{IsCharBoundary, IsUtf8}
 use Rattle.memchr.specs.Find.{NoneBefore, Nowhere, Passes, is_byte}
-use Rattle.test_runner_core_line_syntax.specs.Spelling.{IsField, joined}
+use Rattle.test_runner_core_line_syntax.specs.Spelling.{IsField, line_of_fields}
 use Rattle.test_runner_core_line_syntax.specs.Fields.{fields_of}
 
 abbrev is_tab : ℕ → Bool
@@ -56,20 +56,20 @@ fields_first (byte ∷ bytes) =
 
 -- to join what a line was parted into gives the line
 
-joined-onto_first : (byte : ℕ) (first : List ℕ) (rest : List (List ℕ)) → joined ((byte ∷ first) ∷ rest) ≡ byte ∷ joined (first ∷ rest)
+joined-onto_first : (byte : ℕ) (first : List ℕ) (rest : List (List ℕ)) → line_of_fields ((byte ∷ first) ∷ rest) ≡ byte ∷ line_of_fields (first ∷ rest)
 joined-onto_first byte first [] = refl
 joined-onto_first byte first (second ∷ rest) = refl
 
-pub joined-fields_of : (bytes : List ℕ) → joined (fields_of bytes) ≡ bytes
+pub joined-fields_of : (bytes : List ℕ) → line_of_fields (fields_of bytes) ≡ bytes
 joined-fields_of [] = refl
 joined-fields_of (byte ∷ bytes) =
     let next = fields_first bytes in
-    let whole : joined (next.0 ∷ next.1) ≡ bytes = ap joined (sym next.2) ∙ joined-fields_of bytes in
+    let whole : line_of_fields (next.0 ∷ next.1) ≡ bytes = ap line_of_fields (sym next.2) ∙ joined-fields_of bytes in
     elim (cases_Bool (is_tab byte)) [
       | inl tab ↦ let nine : byte ≡ 9 = eqb-true byte 9 tab in
-          ap joined (slice_split-cons_yes is_tab byte bytes tab ∙ ap (λ (x : List (List ℕ)). [] ∷ x) next.2)
+          ap line_of_fields (slice_split-cons_yes is_tab byte bytes tab ∙ ap (λ (x : List (List ℕ)). [] ∷ x) next.2)
           ∙ ap (λ (x : List ℕ). 9 ∷ x) whole ∙ ap (λ (x : ℕ). x ∷ bytes) (sym nine)
-      | inr other ↦ ap joined (slice_split-cons_no is_tab byte bytes other ∙ ap (onto_first byte) next.2)
+      | inr other ↦ ap line_of_fields (slice_split-cons_no is_tab byte bytes other ∙ ap (onto_first byte) next.2)
           ∙ joined-onto_first byte next.0 next.1 ∙ ap (λ (x : List ℕ). byte ∷ x) whole
     ]
 
@@ -80,10 +80,10 @@ no_tabs [] plain = tt
 no_tabs (byte ∷ field) plain = (ne_eqb byte 9 plain.0.0, no_tabs field plain.1)
 
 -- a line of plain fields is parted into them
-pub fields_of-joined : (first : List ℕ) (rest : List (List ℕ)) → AllByRecursion IsField (first ∷ rest) → fields_of (joined (first ∷ rest)) ≡ first ∷ rest
+pub fields_of-joined : (first : List ℕ) (rest : List (List ℕ)) → AllByRecursion IsField (first ∷ rest) → fields_of (line_of_fields (first ∷ rest)) ≡ first ∷ rest
 fields_of-joined first [] plain = slice_split_none is_tab first (All-from_recursion (λ byte. is_tab byte ≡ false) first (no_tabs first plain.0))
 fields_of-joined first (second ∷ rest) plain =
-    slice_split_at is_tab first 9 (joined (second ∷ rest)) (All-from_recursion (λ byte. is_tab byte ≡ false) first (no_tabs first plain.0)) refl
+    slice_split_at is_tab first 9 (line_of_fields (second ∷ rest)) (All-from_recursion (λ byte. is_tab byte ≡ false) first (no_tabs first plain.0)) refl
     ∙ ap (λ (x : List (List ℕ)). first ∷ x) (fields_of-joined second rest plain.1)
 
 -- ---- line feeds
@@ -97,11 +97,11 @@ no_feed_field [] plain = tt
 no_feed_field (byte ∷ field) plain = (plain.0.1, no_feed_field field plain.1)
 
 -- a line of plain fields has no line feed
-pub no_feed-joined : (fields : List (List ℕ)) → AllByRecursion IsField fields → HasNoLineFeed (joined fields)
+pub no_feed-joined : (fields : List (List ℕ)) → AllByRecursion IsField fields → HasNoLineFeed (line_of_fields fields)
 no_feed-joined [] plain = tt
 no_feed-joined (field ∷ []) plain = no_feed_field field plain.0
 no_feed-joined (field ∷ next ∷ fields) plain =
-    no_feed-append field (9 ∷ joined (next ∷ fields)) (no_feed_field field plain.0) ((λ same. cc), no_feed-joined (next ∷ fields) plain.1)
+    no_feed-append field (9 ∷ line_of_fields (next ∷ fields)) (no_feed_field field plain.0) ((λ same. cc), no_feed-joined (next ∷ fields) plain.1)
 
 -- each field of a line with no line feed is plain
 pub plain-fields_of : (bytes : List ℕ) → HasNoLineFeed bytes → AllByRecursion IsField (fields_of bytes)

@@ -8,7 +8,7 @@ use Rattle.test_runner_core_line_syntax.specs.declared.log_line.LogLine.{LogLine
 use Rattle.test_runner_core_line_syntax.specs.declared.log_line.LogLine.TheVariants as line
 use Rattle.test_runner_core_line_syntax.specs.declared.parse_line_error.ParseLineError.{ParseLineError}
 use Rattle.test_runner_core_line_syntax.specs.declared.parse_line_error.ParseLineError.TheVariants as fault
-use Rattle.test_runner_core_line_syntax.specs.Spelling.{SpellsFields, Spells, IsField, joined, HasSpelling}
+use Rattle.test_runner_core_line_syntax.specs.Spelling.{SpellsFields, Spells, IsField, line_of_fields, HasSpelling}
 use Rattle.test_runner_core_line_syntax.specs.Fields.{fields_of, Reads}
 use Rattle.test_runner_core_line_syntax.specs.Reading.{ReadsLine}
 use Rattle.test_runner_core_line_syntax.specs.Laws.{OneEvent, OneSpelling, OneReading}
@@ -17,7 +17,7 @@ use Rattle.test_runner_core_line_syntax.proofs.Spellings.{line_is_one, line_has_
 
 -- ---- a line and its fields
 
-parted : (event : LogLine) (fields : List (List ℕ)) → SpellsFields event fields → AllByRecursion IsField fields → fields_of (joined fields) ≡ fields
+parted : (event : LogLine) (fields : List (List ℕ)) → SpellsFields event fields → AllByRecursion IsField fields → fields_of (line_of_fields fields) ≡ fields
 parted (line.Script id told) [] spelled plain = absurd spelled
 parted (line.Start binary name) [] spelled plain = absurd spelled
 parted (line.End binary name told) [] spelled plain = absurd spelled
@@ -42,10 +42,10 @@ reads_line meant None bytes none utf8 reads = λ event spells. reads event (fiel
 reads_line meant (Some found) bytes none utf8 reads = spells_from (meant found) bytes reads none utf8
 
 -- the fields of an event that has a line, joined, are that line
-pub spells_joined : (event : LogLine) (fields : List (List ℕ)) (bytes : List ℕ) → HasSpelling event → SpellsFields event fields → bytes ≡ joined fields → Spells event bytes
+pub spells_joined : (event : LogLine) (fields : List (List ℕ)) (bytes : List ℕ) → HasSpelling event → SpellsFields event fields → bytes ≡ line_of_fields fields → Spells event bytes
 spells_joined event fields bytes has spelled whole =
     let spells = has.1 in
-    let same : has.0 ≡ bytes = spells.whole ∙ ap joined (line_has_one event spells.fields fields spells.spelled spelled) ∙ sym whole in
+    let same : has.0 ≡ bytes = spells.whole ∙ ap line_of_fields (line_has_one event spells.fields fields spells.spelled spelled) ∙ sym whole in
     subst (λ (x : List ℕ). Spells event x) same spells
 
 -- ---- the laws
@@ -54,7 +54,7 @@ pub one_event : OneEvent
 one_event a b bytes of_a of_b = line_is_one a b (fields_of bytes) (fields_spell a bytes of_a) (fields_spell b bytes of_b)
 
 pub one_spelling : OneSpelling
-one_spelling told x y of_x of_y = of_x.whole ∙ ap joined (line_has_one told of_x.fields of_y.fields of_x.spelled of_y.spelled) ∙ sym of_y.whole
+one_spelling told x y of_x of_y = of_x.whole ∙ ap line_of_fields (line_has_one told of_x.fields of_y.fields of_x.spelled of_y.spelled) ∙ sym of_y.whole
 
 -- an empty line spells nothing
 pub nothing_empty : (event : LogLine) (bytes : List ℕ) → bytes ≡ [] → Spells event bytes → ⊥

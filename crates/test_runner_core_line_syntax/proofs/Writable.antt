@@ -29,7 +29,7 @@ use Rattle.nextest_run_events_results.specs.declared.record.RecordOutput.{Record
 use Rattle.nextest_run_events_results.specs.declared.record.RecordOutput.TheVariants as wrote
 use Rattle.test_runner_core_line_syntax.specs.declared.log_line.LogLine.{LogLine}
 use Rattle.test_runner_core_line_syntax.specs.declared.log_line.LogLine.TheVariants as line
-use Rattle.test_runner_core_line_syntax.specs.Spelling.{leak_word, timeout_word, leaked_suffix, IsSignal, SpellsFailure, SpellsResult, reason_word, SpellsSlow, SpellsHex, SpellsStream, Pairs, SpellsOutput, SpellsRecord, SpellsFields, Spells, IsField, joined, HasSpelling}
+use Rattle.test_runner_core_line_syntax.specs.Spelling.{leak_word, timeout_word, leaked_suffix, IsSignal, SpellsFailure, SpellsResult, reason_word, SpellsSlow, SpellsHex, SpellsStream, Pairs, SpellsOutput, SpellsRecord, SpellsFields, Spells, IsField, line_of_fields, HasSpelling}
 use Rattle.test_runner_core_line_syntax.specs.Writing.{Appends, IsSpellable, SpellsBothStreams, SpellsRecordText}
 use Rattle.hex.specs.Hex.{IsBytes, encode_lower, is_hex_digit, lower_digits}
 use Rattle.hex.proofs.HexLemmas.{IsAscii-encode_with, decode_of-encode_lower, decode_of-ok}
@@ -101,15 +101,15 @@ fields_plain (field ∷ fields) each = (each.0.plain, fields_plain fields each.1
 tab_utf8 : (bytes : List ℕ) → IsUtf8 bytes → IsUtf8 (9 ∷ bytes)
 tab_utf8 bytes utf8 = IsUtf8-append (9 ∷ []) bytes (IsUtf8-from_ascii (9 ∷ []) (IsAscii-cons 9 [] (lit< tt) IsAscii-nil)) utf8
 
-fields_utf8 : (fields : List (List ℕ)) → AllByRecursion IsWritable fields → IsUtf8 (joined fields)
+fields_utf8 : (fields : List (List ℕ)) → AllByRecursion IsWritable fields → IsUtf8 (line_of_fields fields)
 fields_utf8 [] each = IsUtf8-from_ascii [] IsAscii-nil
 fields_utf8 (field ∷ []) each = each.0.utf8
-fields_utf8 (field ∷ next ∷ fields) each = IsUtf8-append field (9 ∷ joined (next ∷ fields)) each.0.utf8 (tab_utf8 (joined (next ∷ fields)) (fields_utf8 (next ∷ fields) each.1))
+fields_utf8 (field ∷ next ∷ fields) each = IsUtf8-append field (9 ∷ line_of_fields (next ∷ fields)) each.0.utf8 (tab_utf8 (line_of_fields (next ∷ fields)) (fields_utf8 (next ∷ fields) each.1))
 
 -- fields that can be written spell the event on a line
 pub writable : (event : LogLine) (fields : List (List ℕ)) → SpellsFields event fields → AllByRecursion IsWritable fields → HasSpelling event
 writable event fields spelled each =
-    (joined fields, record { fields = fields; spelled = spelled; plain = fields_plain fields each; whole = refl; utf8 = fields_utf8 fields each })
+    (line_of_fields fields, record { fields = fields; spelled = spelled; plain = fields_plain fields each; whole = refl; utf8 = fields_utf8 fields each })
 
 -- ---- a record
 
@@ -230,7 +230,7 @@ record_spellable told small ends wrote_both pairs =
     let slow = slow_text told.slow in
     let streams = wrote_both.1 in
     let fields : List (List ℕ) = ends.0 ∷ slow.0 ∷ decimal told.nanos ∷ streams.0 ∷ streams.1 ∷ [] in
-    (joined fields, (fields, (ends.1, slow.1, (small, refl), streams.2, pairs), refl))
+    (line_of_fields fields, (fields, (ends.1, slow.1, (small, refl), streams.2, pairs), refl))
 
 pub record_parts : (told : Record) → IsSpellable (SpellsRecordText told) → IsSpellable (SpellsResult told.result) × Pairs told.result told.output
 record_parts told spellable =
@@ -246,7 +246,7 @@ script_spellable id told plain utf8 spellable =
     (IsWritable-word (codes "script") refl, (record { plain = plain; utf8 = utf8 }, record_writable told rest spellable.1.1))
 
 pub script_record : (id : List ℕ) (told : Record) → HasSpelling (line.Script id told) → IsSpellable (SpellsRecordText told)
-script_record id told has = let ends = script_fields id told has.1.fields has.1.spelled in (joined ends.rest, (ends.rest, ends.spells, refl))
+script_record id told has = let ends = script_fields id told has.1.fields has.1.spelled in (line_of_fields ends.rest, (ends.rest, ends.spells, refl))
 
 pub start_spellable : (binary name : List ℕ) → IsField binary → IsUtf8 binary → IsField name → IsUtf8 name → HasSpelling (line.Start binary name)
 start_spellable binary name binary_plain binary_utf8 name_plain name_utf8 =
@@ -281,12 +281,12 @@ stop_spellable reason = (
     word_writable why.SecondSignal = IsWritable-word (codes "second-signal") refl
 
 pub end_record : (binary name : List ℕ) (told : Record) → HasSpelling (line.End binary name told) → IsSpellable (SpellsRecordText told)
-end_record binary name told has = let ends = end_fields binary name told has.1.fields has.1.spelled in (joined ends.rest, (ends.rest, ends.spells, refl))
+end_record binary name told has = let ends = end_fields binary name told has.1.fields has.1.spelled in (line_of_fields ends.rest, (ends.rest, ends.spells, refl))
 
 -- ---- what is written
 
 -- the fields of a record stand behind a tab
-joined_behind : (before : List ℕ) (told : Record) (fields : List (List ℕ)) → SpellsRecord told fields → joined (before ∷ fields) ≡ before ++ 9 ∷ joined fields
+joined_behind : (before : List ℕ) (told : Record) (fields : List (List ℕ)) → SpellsRecord told fields → line_of_fields (before ∷ fields) ≡ before ++ 9 ∷ line_of_fields fields
 joined_behind before told [] spelled = absurd spelled
 joined_behind before told (field ∷ fields) spelled = refl
 
@@ -298,7 +298,7 @@ pub record_printed : (told : Record) (old a b c new : List ℕ) → Pairs told.r
     → c ≡ b ++ 9 ∷ decimal told.nanos → Appends (SpellsBothStreams told.output) c new → Appends (SpellsRecordText told) old new
 record_printed told old a b c new pairs small result slow nanos output =
     let fields : List (List ℕ) = result.0 ∷ slow.0 ∷ decimal told.nanos ∷ output.1.0 ∷ output.1.1 ∷ [] in (
-      joined fields,
+      line_of_fields fields,
       (fields, (result.1, slow.1, (small, refl), output.1.2, pairs), refl),
       rw (output.2, output.1.3, nanos, slow.2, result.2) (
           three_parts ((old ++ 9 ∷ result.0) ++ 9 ∷ slow.0) (decimal told.nanos) (output.1.0 ++ 9 ∷ output.1.1)
@@ -307,14 +307,14 @@ record_printed told old a b c new pairs small result slow nanos output =
     )
 
 pub script_printed : (id : List ℕ) (told : Record) (fields : List (List ℕ)) (bytes : List ℕ) → HasSpelling (line.Script id told) → SpellsRecord told fields
-    → bytes ≡ (codes "script" ++ 9 ∷ id) ++ 9 ∷ joined fields → Spells (line.Script id told) bytes
+    → bytes ≡ (codes "script" ++ 9 ∷ id) ++ 9 ∷ line_of_fields fields → Spells (line.Script id told) bytes
 script_printed id told fields bytes has spelled is =
     spells_joined (line.Script id told) (codes "script" ∷ id ∷ fields) bytes has (refl, refl, spelled)
-    (is ∙ three_parts (codes "script") id (joined fields) ∙ ap (λ (rest : List ℕ). codes "script" ++ 9 ∷ rest) (sym (joined_behind id told fields spelled)))
+    (is ∙ three_parts (codes "script") id (line_of_fields fields) ∙ ap (λ (rest : List ℕ). codes "script" ++ 9 ∷ rest) (sym (joined_behind id told fields spelled)))
 
 pub end_printed : (binary name : List ℕ) (told : Record) (fields : List (List ℕ)) (bytes : List ℕ) → HasSpelling (line.End binary name told) → SpellsRecord told fields
-    → bytes ≡ ((codes "end" ++ 9 ∷ binary) ++ 9 ∷ name) ++ 9 ∷ joined fields → Spells (line.End binary name told) bytes
+    → bytes ≡ ((codes "end" ++ 9 ∷ binary) ++ 9 ∷ name) ++ 9 ∷ line_of_fields fields → Spells (line.End binary name told) bytes
 end_printed binary name told fields bytes has spelled is =
     spells_joined (line.End binary name told) (codes "end" ∷ binary ∷ name ∷ fields) bytes has (refl, refl, refl, spelled)
-    (is ∙ three_parts (codes "end" ++ 9 ∷ binary) name (joined fields) ∙ three_parts (codes "end") binary (name ++ 9 ∷ joined fields)
+    (is ∙ three_parts (codes "end" ++ 9 ∷ binary) name (line_of_fields fields) ∙ three_parts (codes "end") binary (name ++ 9 ∷ line_of_fields fields)
     ∙ ap (λ (rest : List ℕ). codes "end" ++ 9 ∷ (binary ++ 9 ∷ rest)) (sym (joined_behind name told fields spelled)))

@@ -1,6 +1,6 @@
 -- What the parts of an event that still stand in their line mean.
 use Rattle.std.specs.Prelude.{ℕ, Bool, List, Option, Some, None}
-use Rattle.nextest_run_events_results.specs.Described.{described, described_failure}
+use Rattle.nextest_run_events_results.specs.Described.{result_description_of, described_failure}
 use Rattle.nextest_run_events_results.specs.declared.execution_result.FailureStatus.{FailureStatus}
 use Rattle.nextest_run_events_results.specs.declared.result.FailureDescription.{FailureDescription}
 use Rattle.nextest_run_events_results.specs.declared.record.Record.{Record}
@@ -39,7 +39,7 @@ output_meant (lent_output.Message text) = wrote.Message (text_meant text)
 
 abbrev pub record_meant : LentRecord → Record
 record_meant lent = record {
-  result = described lent.result;
+  result = result_description_of lent.result;
   slow = lent.slow;
   nanos = lent.nanos;
   output = output_meant lent.output;

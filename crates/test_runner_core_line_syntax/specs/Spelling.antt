@@ -130,17 +130,17 @@ abbrev pub IsField : List ℕ → Type 0
 IsField field = AllByRecursion (λ byte. (byte ≢ 9) × (byte ≢ 10)) field
 
 -- the fields, with a tab between each two
-abbrev pub joined : List (List ℕ) → List ℕ
-joined [] = []
-joined (field ∷ []) = field
-joined (field ∷ next ∷ fields) = field ++ 9 ∷ joined (next ∷ fields)
+abbrev pub line_of_fields : List (List ℕ) → List ℕ
+line_of_fields [] = []
+line_of_fields (field ∷ []) = field
+line_of_fields (field ∷ next ∷ fields) = field ++ 9 ∷ line_of_fields (next ∷ fields)
 
 -- the bytes of a line, its line feed left aside, spell the event
 pub record Spells (line : LogLine) (bytes : List ℕ) : Type 0 where
   pub fields : List (List ℕ)
   pub spelled : SpellsFields line fields
   pub plain : AllByRecursion IsField fields
-  pub whole : bytes ≡ joined fields
+  pub whole : bytes ≡ line_of_fields fields
   pub utf8 : IsUtf8 bytes
 
 -- some line spells the event

@@ -2,7 +2,7 @@
 use Rattle.std.specs.Prelude.{◌≡◌, ℕ, List, ◌∷◌, ◌++◌}
 use Rattle.nextest_run_events_results.specs.declared.record.Record.{Record}
 use Rattle.nextest_run_events_results.specs.declared.record.RecordOutput.{RecordOutput}
-use Rattle.test_runner_core_line_syntax.specs.Spelling.{SpellsOutput, SpellsRecord, joined}
+use Rattle.test_runner_core_line_syntax.specs.Spelling.{SpellsOutput, SpellsRecord, line_of_fields}
 
 -- the new line is the old one with a tab and what is spelled so behind it
 abbrev pub Appends : (List ℕ → Type 0) → List ℕ → List ℕ → Type 0
@@ -14,7 +14,7 @@ SpellsBothStreams told text = (out : List ℕ) × (err : List ℕ) × SpellsOutp
 
 -- the fields of a record, with a tab between each two
 abbrev pub SpellsRecordText : Record → List ℕ → Type 0
-SpellsRecordText told text = (fields : List (List ℕ)) × SpellsRecord told fields × (text ≡ joined fields)
+SpellsRecordText told text = (fields : List (List ℕ)) × SpellsRecord told fields × (text ≡ line_of_fields fields)
 
 -- some text is spelled so
 abbrev pub IsSpellable : (List ℕ → Type 0) → Type 0

@@ -69,7 +69,8 @@ impl LogLine {
         ensures exact { ReadsLine bytes.now result }
 
         // An event that is spelled is the one that is read.
-        ensures only { (line : LogLine) → Spells line bytes.now → IfOk result (λ found. found ≡ Some line) }
+        ensures only { (line : LogLine) → Spells line bytes.now
+            → IfOk result (λ found. found ≡ Some line) }
         ensures memory { IsErrOf result ParseLineError.OutOfMemory → SpellsTexts bytes.now }
     {
         line_of(alloc, bytes)

@@ -1,7 +1,7 @@
 // Reading an event from its line, field by field, with no memory.
 ghost use Rattle.std.specs.Prelude.{◌≡◌, [], ◌∷◌, List, ℕ, codes, MatchOption, true, false};
 ghost use Rattle.nextest_run_events_results.specs.declared.result.ExecutionResultDescription.TheVariants as ended;
-ghost use Rattle.nextest_run_events_results.specs.Described.{described, described_failure};
+ghost use Rattle.nextest_run_events_results.specs.Described.{result_description_of, described_failure};
 ghost use Rattle.test_runner_core_line_syntax.specs.Spelling.{SpellsFailure, SpellsResult, SpellsSlow, SpellsNanos, SpellsStream, SpellsOutput, Pairs, is_exec_fail, has_message, SpellsRecord, SpellsReason, SpellsFields, Spells, reason_word};
 ghost use Rattle.test_runner_core_line_syntax.specs.Fields.{fields_of, Reads};
 ghost use Rattle.test_runner_core_line_syntax.specs.Reading.{LendsLine};
@@ -29,9 +29,8 @@ fn next_field(rest: &str) -> Option<(&str, &str)>
 
 // The field that is the last, if no tab follows it.
 fn last_field(rest: &str) -> Option<&str>
-    ensures { MatchOption result
-        ((first second : List ℕ) × (more : List (List ℕ)) × (fields_of rest.now ≡ first ∷ second ∷ more))
-        (λ field. fields_of rest.now ≡ field.now ∷ []) }
+    ensures { MatchOption result ((first second : List ℕ) × (more : List (List ℕ)) × (fields_of
+        rest.now ≡ first ∷ second ∷ more)) (λ field. fields_of rest.now ≡ field.now ∷ []) }
 {
     match next_field(rest) {
         None => Some(rest),
@@ -61,7 +60,8 @@ fn failure_of(text: &str) -> Option<FailureStatus>
 
 // A failure, and whether it left handles open too.
 fn failed_of(field: &str) -> Option<(FailureStatus, bool)>
-    ensures { Reads failed_meant (λ told. SpellsResult (ended.Fail told.0 told.1) field.now) result }
+    ensures { Reads failed_meant
+        (λ told. SpellsResult (ended.Fail told.0 told.1) field.now) result }
 {
     match field.strip_suffix(":leaked") {
         Some(text) => Some((failure_of(text)?, true)),
@@ -70,7 +70,7 @@ fn failed_of(field: &str) -> Option<(FailureStatus, bool)>
 }
 
 fn result_of(field: &str) -> Option<ExecutionResult>
-    ensures { Reads described (λ told. SpellsResult told field.now) result }
+    ensures { Reads result_description_of (λ told. SpellsResult told field.now) result }
 {
     match field {
         "pass" => Some(ExecutionResult::Pass),
@@ -124,7 +124,7 @@ fn stream_of(field: &str) -> Option<LentStream<'_>>
 
 // Whether the result is that of what could not be started.
 fn is_exec_fail(told: ExecutionResult) -> bool
-    ensures { result ≡ is_exec_fail (described told) }
+    ensures { result ≡ is_exec_fail (result_description_of told) }
 {
     match told {
         ExecutionResult::ExecFail => true,
@@ -136,7 +136,8 @@ fn is_exec_fail(told: ExecutionResult) -> bool
 }
 
 fn message_of<'a>(out: &'a str, err: &'a str) -> Option<LentOutput<'a>>
-    ensures { Reads output_meant (λ told. SpellsOutput told out.now err.now × (true ≡ has_message told)) result }
+    ensures { Reads output_meant
+        (λ told. SpellsOutput told out.now err.now × (true ≡ has_message told)) result }
 {
     if err != "-" {
         return None;
@@ -145,7 +146,8 @@ fn message_of<'a>(out: &'a str, err: &'a str) -> Option<LentOutput<'a>>
 }
 
 fn streams_of<'a>(out: &'a str, err: &'a str) -> Option<LentOutput<'a>>
-    ensures { Reads output_meant (λ told. SpellsOutput told out.now err.now × (false ≡ has_message told)) result }
+    ensures { Reads output_meant
+        (λ told. SpellsOutput told out.now err.now × (false ≡ has_message told)) result }
 {
     Some(LentOutput::Streams {
         out: stream_of(out)?,
@@ -155,7 +157,8 @@ fn streams_of<'a>(out: &'a str, err: &'a str) -> Option<LentOutput<'a>>
 
 // What OUT and ERR say beside this result.
 fn output_of<'a>(told: ExecutionResult, out: &'a str, err: &'a str) -> Option<LentOutput<'a>>
-    ensures { Reads output_meant (λ output. SpellsOutput output out.now err.now × Pairs (described told) output) result }
+    ensures { Reads output_meant (λ output. SpellsOutput output out.now err.now
+        × Pairs (result_description_of told) output) result }
 {
     if is_exec_fail(told) {
         message_of(out, err)
@@ -183,7 +186,8 @@ fn record_of(rest: &str) -> Option<LentRecord<'_>>
 }
 
 fn script_of(rest: &str) -> Option<LentLine<'_>>
-    ensures { Reads line_meant (λ told. SpellsFields told (codes "script" ∷ fields_of rest.now)) result }
+    ensures { Reads line_meant
+        (λ told. SpellsFields told (codes "script" ∷ fields_of rest.now)) result }
 {
     let (id, after_id) = next_field(rest)?;
     let record = record_of(after_id)?;
@@ -191,7 +195,8 @@ fn script_of(rest: &str) -> Option<LentLine<'_>>
 }
 
 fn start_of(rest: &str) -> Option<LentLine<'_>>
-    ensures { Reads line_meant (λ told. SpellsFields told (codes "start" ∷ fields_of rest.now)) result }
+    ensures { Reads line_meant
+        (λ told. SpellsFields told (codes "start" ∷ fields_of rest.now)) result }
 {
     let (binary, after_binary) = next_field(rest)?;
     let name = last_field(after_binary)?;
@@ -199,7 +204,8 @@ fn start_of(rest: &str) -> Option<LentLine<'_>>
 }
 
 fn end_of(rest: &str) -> Option<LentLine<'_>>
-    ensures { Reads line_meant (λ told. SpellsFields told (codes "end" ∷ fields_of rest.now)) result }
+    ensures { Reads line_meant
+        (λ told. SpellsFields told (codes "end" ∷ fields_of rest.now)) result }
 {
     let (binary, after_binary) = next_field(rest)?;
     let (name, after_name) = next_field(after_binary)?;
@@ -241,7 +247,8 @@ fn reason_of(word: &str) -> Option<CancelReason>
 }
 
 fn stop_of(rest: &str) -> Option<LentLine<'_>>
-    ensures { Reads line_meant (λ told. SpellsFields told (codes "stop" ∷ fields_of rest.now)) result }
+    ensures { Reads line_meant
+        (λ told. SpellsFields told (codes "stop" ∷ fields_of rest.now)) result }
 {
     let word = last_field(rest)?;
     let reason = reason_of(word)?;

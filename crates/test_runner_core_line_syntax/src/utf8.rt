@@ -11,7 +11,8 @@ fn is_later(byte: u8) -> bool
 
 // Whether the byte may follow the first one of a character.
 fn may_be_second(first: u8, byte: u8) -> bool
-    ensures { IsTrue result ↔ ((0xC2 ≤ first) × (first ≤ 0xF4) × (least_after first ≤ byte) × (byte ≤ most_after first)) }
+    ensures { IsTrue result ↔ ((0xC2 ≤ first) × (first ≤ 0xF4) × (least_after first ≤ byte)
+        × (byte ≤ most_after first)) }
 {
     match first {
         0xE0 => byte >= 0xA0 && byte <= 0xBF,

@@ -142,7 +142,8 @@ pub fn push_field(line: &mut String, field: &str) -> Result<(), AllocError>
 
 fn push_failure(line: &mut String, told: &FailureDescription) -> Result<(), AllocError>
     requires { IsSpellable (SpellsFailure told.now) }
-    ensures { OnOk result (Appends (SpellsFailure told.now) (string_bytes line.old) (string_bytes line.new)) }
+    ensures { OnOk result
+        (Appends (SpellsFailure told.now) (string_bytes line.old) (string_bytes line.new)) }
 {
     match told {
         FailureDescription::ExitCode { code } => {
@@ -162,7 +163,8 @@ fn push_failure(line: &mut String, told: &FailureDescription) -> Result<(), Allo
 
 fn push_result(line: &mut String, told: &ExecutionResultDescription) -> Result<(), AllocError>
     requires { IsSpellable (SpellsResult told.now) }
-    ensures { OnOk result (Appends (SpellsResult told.now) (string_bytes line.old) (string_bytes line.new)) }
+    ensures { OnOk result
+        (Appends (SpellsResult told.now) (string_bytes line.old) (string_bytes line.new)) }
 {
     match told {
         ExecutionResultDescription::Pass => push_field(line, "pass"),
@@ -183,14 +185,16 @@ fn push_result(line: &mut String, told: &ExecutionResultDescription) -> Result<(
 }
 
 fn push_slow(line: &mut String, slow: bool) -> Result<(), AllocError>
-    ensures { OnOk result (Appends (SpellsSlow slow) (string_bytes line.old) (string_bytes line.new)) }
+    ensures { OnOk result
+        (Appends (SpellsSlow slow) (string_bytes line.old) (string_bytes line.new)) }
 {
     push_field(line, if slow { "slow" } else { "-" })
 }
 
 // Adds a tab and the bytes in hex.
 fn push_hex(alloc: Global, line: &mut String, bytes: &[u8]) -> Result<(), AllocError>
-    ensures { OnOk result (Appends (SpellsHex bytes.now) (string_bytes line.old) (string_bytes line.new)) }
+    ensures { OnOk result
+        (Appends (SpellsHex bytes.now) (string_bytes line.old) (string_bytes line.new)) }
 {
     let digits = hex::encode(alloc, bytes)?;
     push_field(line, digits.as_str())
@@ -201,7 +205,8 @@ fn push_stream(
     line: &mut String,
     told: &Option<Listing<u8>>,
 ) -> Result<(), AllocError>
-    ensures { OnOk result (Appends (SpellsStream told.now) (string_bytes line.old) (string_bytes line.new)) }
+    ensures { OnOk result
+        (Appends (SpellsStream told.now) (string_bytes line.old) (string_bytes line.new)) }
 {
     match told {
         None => push_field(line, "-"),
@@ -210,7 +215,8 @@ fn push_stream(
 }
 
 fn push_output(alloc: Global, line: &mut String, told: &RecordOutput) -> Result<(), AllocError>
-    ensures { OnOk result (Appends (SpellsBothStreams told.now) (string_bytes line.old) (string_bytes line.new)) }
+    ensures { OnOk result
+        (Appends (SpellsBothStreams told.now) (string_bytes line.old) (string_bytes line.new)) }
 {
     match told {
         RecordOutput::Streams { out, err } => {
@@ -227,7 +233,8 @@ fn push_output(alloc: Global, line: &mut String, told: &RecordOutput) -> Result<
 /// Adds the fields of the record, a tab before each.
 pub fn push_record(alloc: Global, line: &mut String, told: &Record) -> Result<(), AllocError>
     requires { IsSpellable (SpellsRecordText told.now) }
-    ensures { OnOk result (Appends (SpellsRecordText told.now) (string_bytes line.old) (string_bytes line.new)) }
+    ensures { OnOk result
+        (Appends (SpellsRecordText told.now) (string_bytes line.old) (string_bytes line.new)) }
 {
     push_result(line, &told.result)?;
     push_slow(line, told.slow)?;

@@ -14,7 +14,7 @@ use Rattle.nextest_filtering_filters.proofs.Deciding.{decided_on_binary, decided
 use Rattle.nextest_filtering_filters.proofs.Parts.{tells_one}
 use Rattle.nextest_filtering_filters.proofs.Sure.{one_on_test}
 use Rattle.nextest_filtering_ast.specs.Tree.{Matcher}
-use Rattle.test_runner_core_listing.specs.Answers.{Answers, AreAnswers, AnswerAs, seen, seen_test}
+use Rattle.test_runner_core_listing.specs.Answers.{Answers, AreAnswers, AnswerAs, query_of, seen_test}
 use Rattle.test_runner_core_listing.proofs.Told.{can_hold}
 use Rattle.test_runner_core_workspace.specs.declared.record.Binary.{Binary}
 
@@ -60,10 +60,10 @@ has_answers Member filters default member readable default_readable none = (
   record { lists = λ binary. (listed binary).1; selects = λ binary name. (selected binary name).1 },
 )
   where
-    listed : (binary : Binary) → (b : Bool) × Tells (All (λ (filter : Formula FiltersetLeaf). CanBeOn filter (filter_of default) (seen binary) true) (map filter_of filters)) b
+    listed : (binary : Binary) → (b : Bool) × Tells (All (λ (filter : Formula FiltersetLeaf). CanBeOn filter (filter_of default) (query_of binary) true) (map filter_of filters)) b
     listed binary =
-        decided_all filter_of (λ (filter : Formula FiltersetLeaf). CanBeOn filter (filter_of default) (seen binary) true) (λ (filter : Compiled). AreReadable (filter_of filter))
-        (λ filter filter_readable. decided_can filter default (seen binary) filter_readable default_readable none) filters readable
+        decided_all filter_of (λ (filter : Formula FiltersetLeaf). CanBeOn filter (filter_of default) (query_of binary) true) (λ (filter : Compiled). AreReadable (filter_of filter))
+        (λ filter filter_readable. decided_can filter default (query_of binary) filter_readable default_readable none) filters readable
 
     selected : (binary : Binary) (name : List ℕ)
         → (b : Bool) × Tells (All (λ (filter : Formula FiltersetLeaf). IsOn filter (filter_of default) (seen_test binary name) (Member (seen_test binary name)) true) (map filter_of filters)) b
@@ -77,7 +77,7 @@ has_answers Member filters default member readable default_readable none = (
 pub answers_once : (Member : query.Test → Matcher → Type 0) (filters : List (Formula FiltersetLeaf)) (default : Formula FiltersetLeaf) (a b : Answers)
     → AreAnswers filters default Member a → AreAnswers filters default Member b → a ≡ b
 answers_once Member filters default a b first second = λ i. record {
-  lists = λ binary. tells_one (All (λ (filter : Formula FiltersetLeaf). CanBeOn filter default (seen binary) true) filters) (a.lists binary) (b.lists binary) (first.lists binary) (second.lists binary) i;
+  lists = λ binary. tells_one (All (λ (filter : Formula FiltersetLeaf). CanBeOn filter default (query_of binary) true) filters) (a.lists binary) (b.lists binary) (first.lists binary) (second.lists binary) i;
   selects = λ binary name.
       tells_one (All (λ (filter : Formula FiltersetLeaf). IsOn filter default (seen_test binary name) (Member (seen_test binary name)) true) filters) (a.selects binary name) (b.selects binary name)
       (first.selects binary name) (second.selects binary name) i;

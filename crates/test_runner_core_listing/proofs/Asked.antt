@@ -12,31 +12,31 @@ use Rattle.nextest_filtering_filters.specs.Query as query
 use Rattle.nextest_filtering_filters.specs.declared.leaf.FiltersetLeaf.{FiltersetLeaf}
 use Rattle.nextest_filtering_ast.specs.Tree.{Matcher}
 use Rattle.test_runner_core_workspace.specs.declared.record.Binary.{Binary}
-use Rattle.test_runner_core_listing.specs.Answers.{Answers, AnswerAs, AnswerOn, CanHold, HoldsOn, asking_of, lent, seen, seen_test}
+use Rattle.test_runner_core_listing.specs.Answers.{Answers, AnswerAs, AnswerOn, CanHold, HoldsOn, asking_of, lent_compiled, query_of, seen_test}
 
 -- ---- they are made one by one
 
 -- one more of them is
 pub one_asked : (default : Compiled) (binary : query.Binary) (filters : List (Bor Compiled)) (i : ℕ) (filter : Bor Compiled) (it : Asking) (before after : List Asking)
     → i < length filters → filter ≡ get_or filters i filter → it.filter ≡ filter.now → it.default ≡ default → it.binary ≡ binary
-    → before ≡ map (asking_of default binary) (lent (take i filters)) → after ≡ before ++ it ∷ []
-    → after ≡ map (asking_of default binary) (lent (take (i + 1) filters))
+    → before ≡ map (asking_of default binary) (lent_compiled (take i filters)) → after ≡ before ++ it ∷ []
+    → after ≡ map (asking_of default binary) (lent_compiled (take (i + 1) filters))
 one_asked default binary filters i filter it before after within is of_filter of_default of_binary so_far adds =
     let ask : Compiled → Asking = asking_of default binary in
     let front = take i filters in
     let one : it ≡ asking_of default binary filter.now = λ j. record { filter = of_filter j; default = of_default j; binary = of_binary j } in
     adds
     ∙ ap (λ (some : List Asking). some ++ it ∷ []) so_far
-    ∙ ap (λ (last : Asking). map ask (lent front) ++ last ∷ []) one
-    ∙ sym (map-append ask (lent front) (filter.now ∷ []))
+    ∙ ap (λ (last : Asking). map ask (lent_compiled front) ++ last ∷ []) one
+    ∙ sym (map-append ask (lent_compiled front) (filter.now ∷ []))
     ∙ ap (λ (some : List Compiled). map ask some) (sym (map-append (λ (lends : Bor Compiled). lends.now) front (filter ∷ [])))
-    ∙ ap (λ (last : Bor Compiled). map ask (lent (front ++ last ∷ []))) is
-    ∙ ap (λ (some : List (Bor Compiled)). map ask (lent some)) (sym (take_more filters i filter within))
+    ∙ ap (λ (last : Bor Compiled). map ask (lent_compiled (front ++ last ∷ []))) is
+    ∙ ap (λ (some : List (Bor Compiled)). map ask (lent_compiled some)) (sym (take_more filters i filter within))
 
 -- and these are all
-pub all_asked : (default : Compiled) (binary : query.Binary) (filters : List (Bor Compiled)) (i : ℕ) (asked : List Asking) → length filters ≤ i → asked ≡ map (asking_of default binary) (lent (take i filters))
-    → asked ≡ map (asking_of default binary) (lent filters)
-all_asked default binary filters i asked over so_far = so_far ∙ ap (λ (some : List (Bor Compiled)). map (asking_of default binary) (lent some)) (take_all i filters over)
+pub all_asked : (default : Compiled) (binary : query.Binary) (filters : List (Bor Compiled)) (i : ℕ) (asked : List Asking) → length filters ≤ i → asked ≡ map (asking_of default binary) (lent_compiled (take i filters))
+    → asked ≡ map (asking_of default binary) (lent_compiled filters)
+all_asked default binary filters i asked over so_far = so_far ∙ ap (λ (some : List (Bor Compiled)). map (asking_of default binary) (lent_compiled some)) (take_all i filters over)
 
 -- ---- they answer as the filters do
 
@@ -49,11 +49,11 @@ tells_across : {X A B : Type 0} (f : X → A) (g : X → B) (P : A → Type 0) (
 tells_across f g P Q there back xs told tells = ((λ e. all_across f g P Q there xs (tells.0 e)), (λ all. tells.1 (all_across g f Q P back xs all)))
 
 pub answer_on : (filters : List Compiled) (default : Compiled) (Member : query.Test → Matcher → Type 0) (chosen : Answers) (binary : Binary) (asked : List Asking)
-    → asked ≡ map (asking_of default (seen binary)) filters → AnswerAs filters default Member chosen → AnswerOn asked binary Member chosen
+    → asked ≡ map (asking_of default (query_of binary)) filters → AnswerAs filters default Member chosen → AnswerOn asked binary Member chosen
 answer_on filters default Member chosen binary asked is are =
-    let ask : Compiled → Asking = asking_of default (seen binary) in
-    let made : AnswerOn (map (asking_of default (seen binary)) filters) binary Member chosen = record {
-      lists = tells_across filter_of ask (λ (filter : Formula FiltersetLeaf). CanBeOn filter (filter_of default) (seen binary) true) CanHold (λ x so. so) (λ x so. so) filters (chosen.lists binary) (are.lists binary);
+    let ask : Compiled → Asking = asking_of default (query_of binary) in
+    let made : AnswerOn (map (asking_of default (query_of binary)) filters) binary Member chosen = record {
+      lists = tells_across filter_of ask (λ (filter : Formula FiltersetLeaf). CanBeOn filter (filter_of default) (query_of binary) true) CanHold (λ x so. so) (λ x so. so) filters (chosen.lists binary) (are.lists binary);
       selects = λ name.
           let test = seen_test binary name in
           tells_across filter_of ask (λ (filter : Formula FiltersetLeaf). IsOn filter (filter_of default) test (Member test) true) (HoldsOn name Member) (λ x so. so) (λ x so. so) filters (chosen.selects binary name)

@@ -5,3 +5,5 @@ pub mod Asked
 pub mod Answering
 pub mod Added
 pub mod Listed
+pub mod FirstRefusal
+pub mod WholeListing

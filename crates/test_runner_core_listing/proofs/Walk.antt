@@ -6,7 +6,7 @@ use Rattle.nextest_run_events_results.specs.declared.instance.OwnedTestInstanceI
 use Rattle.test_runner_core_workspace.specs.Lister.{Answer}
 use Rattle.test_runner_core_workspace.specs.declared.record.Binary.{Binary}
 use Rattle.test_runner_core_listing.specs.Answers.{Answers}
-use Rattle.test_runner_core_listing.specs.Listing.{◌>>=◌, Found, accepted, asked_of, asked_after, ids_of, listing, selected_in, skipped_in, Adds, Asks, AsksFor}
+use Rattle.test_runner_core_listing.specs.Listing.{◌>>=◌, Found, accepted_answer, asked_of, asked_after, ids_of, listing, selected_in, skipped_in, Adds, Asks, AsksFor}
 use Rattle.test_runner_core_listing.specs.Selected.{tests_in}
 use Rattle.test_runner_core_listing.specs.declared.selection.Selection.{Selection}
 use Rattle.test_runner_core_listing.specs.declared.listing_error.ListingError.{ListingError}
@@ -44,7 +44,7 @@ front_ahead initial listed asked ids tail all new before ahead asks =
 
 -- a listed one is refused, and the last that was asked
 last_refused : (answer : Binary → Answer) (chosen : Answers) (all : List Binary) (binary : Binary) (rest : List Binary) (found : Selection) (initial asked new_asked : List (List ℕ)) (refusal : ListingFault)
-    → Walked answer chosen all (binary ∷ rest) found initial asked → accepted (answer binary) ≡ Err refusal → new_asked ≡ asked ++ binary.id ∷ []
+    → Walked answer chosen all (binary ∷ rest) found initial asked → accepted_answer (answer binary) ≡ Err refusal → new_asked ≡ asked ++ binary.id ∷ []
     → new_asked ≡ initial ++ asked_of answer all
 last_refused answer chosen all binary rest found initial asked new_asked refusal walked refused asks =
     let one = binary.id ∷ [] in
@@ -56,14 +56,14 @@ last_refused answer chosen all binary rest found initial asked new_asked refusal
 -- which were asked, where one isn't listed for want of memory, or since it is refused
 pub asks_refused : (answer : Binary → Answer) (chosen : Answers) (all : List Binary) (told : Bool) (binary : Binary) (rest : List Binary) (found new : Selection) (initial asked new_asked : List (List ℕ)) (answered : Answer) (error : ListingError)
     → Walked answer chosen all (cond told (binary ∷ rest) rest) found initial asked → answered ≡ answer binary
-    → Adds {T = Unit {0}} told (Err error) (accepted answered) chosen binary found new
+    → Adds {T = Unit {0}} told (Err error) (accepted_answer answered) chosen binary found new
     → Asks {T = Unit {0}} (Err error) asked (ids_of (cond told (binary ∷ []) [])) new_asked
     → Asks {T = Selection} (Err error) initial (asked_of answer all) new_asked
 asks_refused answer chosen all true binary rest found new initial asked new_asked answered (errors.Refused refusal) walked same adds asks =
-    last_refused answer chosen all binary rest found initial asked new_asked refusal walked (ap accepted (sym same) ∙ adds) asks
+    last_refused answer chosen all binary rest found initial asked new_asked refusal walked (ap accepted_answer (sym same) ∙ adds) asks
 asks_refused answer chosen all false binary rest found new initial asked new_asked answered (errors.Refused refusal) walked same adds asks = absurd adds
 asks_refused answer chosen all true binary rest found new initial asked new_asked answered errors.OutOfMemory walked same adds asks =
-    front_ahead initial found.listed asked (binary.id ∷ []) (asked_after (accepted (answer binary)) (asked_of answer rest)) (asked_of answer all) new_asked walked.so_far walked.ahead asks
+    front_ahead initial found.listed asked (binary.id ∷ []) (asked_after (accepted_answer (answer binary)) (asked_of answer rest)) (asked_of answer all) new_asked walked.so_far walked.ahead asks
 asks_refused answer chosen all false binary rest found new initial asked new_asked answered errors.OutOfMemory walked same adds asks =
     front_ahead initial found.listed asked [] (asked_of answer rest) (asked_of answer all) new_asked walked.so_far walked.ahead asks
 
@@ -87,7 +87,7 @@ found_more found new tests skipped (Ok rest) t s =
 -- the walk goes on past one that isn't refused
 pub one_walked : (answer : Binary → Answer) (chosen : Answers) (all : List Binary) (told : Bool) (binary : Binary) (rest : List Binary) (found new : Selection) (initial asked new_asked : List (List ℕ)) (answered : Answer) (done : Unit {0})
     → Walked answer chosen all (cond told (binary ∷ rest) rest) found initial asked → answered ≡ answer binary
-    → Adds {T = Unit {0}} told (Ok done) (accepted answered) chosen binary found new → new_asked ≡ asked ++ ids_of (cond told (binary ∷ []) [])
+    → Adds {T = Unit {0}} told (Ok done) (accepted_answer answered) chosen binary found new → new_asked ≡ asked ++ ids_of (cond told (binary ∷ []) [])
     → Walked answer chosen all rest new initial new_asked
 one_walked answer chosen all false binary rest found new initial asked new_asked answered done walked same adds asks =
     subst (λ (it : Selection). Walked answer chosen all rest it initial new_asked) (sym adds)
@@ -96,7 +96,7 @@ one_walked answer chosen all true binary rest found new initial asked new_asked 
     let names = adds.0 in
     let one = binary.id ∷ [] in
     let ids = asked_of answer rest in
-    let ok : accepted (answer binary) ≡ Ok names = ap accepted (sym same) ∙ adds.1 in
+    let ok : accepted_answer (answer binary) ≡ Ok names = ap accepted_answer (sym same) ∙ adds.1 in
     let listed : new.listed ≡ found.listed ++ one = adds.2 in
     record {
       given =

@@ -29,8 +29,8 @@ platform_of platforms.Host = built_for.Host
 platform_of platforms.Target = built_for.Target
 
 -- a binary, as filters look at it
-abbrev pub seen : Binary → query.Binary
-seen binary = record {
+abbrev pub query_of : Binary → query.Binary
+query_of binary = record {
   package_id = binary.package;
   id = binary.id;
   kind = kind_name binary.kind;
@@ -40,11 +40,11 @@ seen binary = record {
 
 -- a test of it
 abbrev pub seen_test : Binary → List ℕ → query.Test
-seen_test binary name = record { binary = seen binary; name = name }
+seen_test binary name = record { binary = query_of binary; name = name }
 
 -- filters that are lent
-abbrev pub lent : List (Bor Compiled) → List Compiled
-lent filters = map (λ filter. filter.now) filters
+abbrev pub lent_compiled : List (Bor Compiled) → List Compiled
+lent_compiled filters = map (λ filter. filter.now) filters
 
 -- a filter, as it is asked of a binary and of its tests
 abbrev pub asking_of : Compiled → query.Binary → Compiled → Asking
@@ -67,7 +67,7 @@ pub record Answers : Type 0 where
 -- those of filters in force: they list the binaries on which each of them can hold, by answers of its own to what it asks of the
 -- tests, and select the tests on which all of them hold
 pub record AreAnswers (filters : List (Formula FiltersetLeaf)) (default : Formula FiltersetLeaf) (Member : query.Test → Matcher → Type 0) (it : Answers) : Type 0 where
-  pub lists : (binary : Binary) → Tells (All (λ filter. CanBeOn filter default (seen binary) true) filters) (it.lists binary)
+  pub lists : (binary : Binary) → Tells (All (λ filter. CanBeOn filter default (query_of binary) true) filters) (it.lists binary)
   pub selects : (binary : Binary) (name : List ℕ) → Tells (All (λ filter. IsOn filter default (seen_test binary name) (Member (seen_test binary name)) true) filters) (it.selects binary name)
 
 -- the same of filters that are compiled

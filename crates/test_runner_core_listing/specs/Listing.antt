@@ -27,9 +27,9 @@ abbrev pub accepted_names : List (List ℕ) → Option ListingFault → Result (
 accepted_names names None = Ok names
 accepted_names names (Some refusal) = Err refusal
 
-abbrev pub accepted : Answer → Result (List (List ℕ)) ListingFault
-accepted (Ok names) = accepted_names names (refused_name [] names)
-accepted (Err cause) = Err (refused.ListFault cause)
+abbrev pub accepted_answer : Answer → Result (List (List ℕ)) ListingFault
+accepted_answer (Ok names) = accepted_names names (refused_name [] names)
+accepted_answer (Err cause) = Err (refused.ListFault cause)
 
 -- a call gives the names that are accepted; want of memory says nothing
 abbrev pub Accepts : Result (List (List ℕ)) ListingError → Result (List (List ℕ)) ListingFault → Type 0
@@ -70,7 +70,7 @@ Err refusal >>= next = Err refusal
 abbrev pub listing : (Binary → Answer) → Answers → List Binary → Result Found ListingFault
 listing answer chosen [] = Ok (record { tests = []; skipped = [] })
 listing answer chosen (binary ∷ binaries) = do
-  names ← accepted (answer binary)
+  names ← accepted_answer (answer binary)
   rest ← listing answer chosen binaries
   Ok (record { tests = selected_in chosen binary names ++ rest.tests; skipped = skipped_in chosen binary names ++ rest.skipped })
 
@@ -81,7 +81,7 @@ asked_after (Err refusal) rest = []
 
 abbrev pub asked_of : (Binary → Answer) → List Binary → List (List ℕ)
 asked_of answer [] = []
-asked_of answer (binary ∷ binaries) = binary.id ∷ asked_after (accepted (answer binary)) (asked_of answer binaries)
+asked_of answer (binary ∷ binaries) = binary.id ∷ asked_after (accepted_answer (answer binary)) (asked_of answer binaries)
 
 -- one binary's tests are added to what was found where it is listed; want of memory says nothing
 abbrev pub AddsListed : {T : Type 0} → Result T ListingError → Result (List (List ℕ)) ListingFault → Answers → Binary → Selection → Selection → Type 0

@@ -23,9 +23,10 @@ fn names_of<L: Lister>(
     binary: &Binary,
     lister: &mut L,
 ) -> Result<Listing<Text>, ListingError>
-    ensures names { words.Accepts result (words.accepted (L.answer lister.old binary.now)) }
+    ensures names { words.Accepts result (words.accepted_answer (L.answer lister.old binary.now)) }
     ensures stays { (other : Binary) → L.answer lister.new other ≡ L.answer lister.old other }
-    ensures asks { words.Asks result (L.asked lister.old) (binary.now.id ∷ []) (L.asked lister.new) }
+    ensures asks { words.Asks result (L.asked lister.old) (binary.now.id ∷ [])
+        (L.asked lister.new) }
 {
     let names = match lister.list(binary) {
         Ok(names) => names,
@@ -47,7 +48,8 @@ fn evaluators_of<'f>(
     ecx: &EvalContext<'f>,
     binary: &'f Binary,
 ) -> Result<Vec<BinaryEvaluator<'f>>, AllocError>
-    ensures { IfOk result (λ it. it.items ≡ map (answers.asking_of ecx.now (answers.seen binary.now)) (answers.lent filters.now)) }
+    ensures { IfOk result (λ it. it.items ≡ map (answers.asking_of ecx.now
+        (answers.query_of binary.now)) (answers.lent_compiled filters.now)) }
 {
     let query = query_of(binary);
     let mut evaluators = Vec::new(alloc);
@@ -85,7 +87,8 @@ fn holds_on<G: GroupLookup>(
     name: &str,
     groups: &G,
 ) -> Result<bool, AllocError>
-    ensures value { IfOk result (Tells (answers.HoldsOn name.now (G.member groups.now) evaluator.old)) }
+    ensures value { IfOk result
+        (Tells (answers.HoldsOn name.now (G.member groups.now) evaluator.old)) }
     ensures same { evaluator.new ≡ evaluator.old }
 {
     evaluator.matches_test_with_groups(name, groups)
@@ -97,7 +100,8 @@ fn is_selected<G: GroupLookup>(
     name: &str,
     groups: &G,
 ) -> Result<bool, AllocError>
-    ensures value { IfOk result (Tells (All (answers.HoldsOn name.now (G.member groups.now)) evaluators.old)) }
+    ensures value { IfOk result
+        (Tells (All (answers.HoldsOn name.now (G.member groups.now)) evaluators.old)) }
     ensures same { evaluators.new ≡ evaluators.old }
 {
     for evaluator in evaluators.iter_mut() {
@@ -158,10 +162,11 @@ fn list_one<'w, L: Lister, G: GroupLookup>(
 ) -> Result<(), ListingError>
     ensures adds { (chosen : answers.Answers)
         → answers.AnswerOn evaluators.old binary.now (G.member groups.now) chosen
-        → let answered = words.accepted (L.answer lister.old binary.now) in
+        → let answered = words.accepted_answer (L.answer lister.old binary.now) in
         words.AddsListed result answered chosen binary.now found.old found.new }
     ensures stays { (other : Binary) → L.answer lister.new other ≡ L.answer lister.old other }
-    ensures asks { words.Asks result (L.asked lister.old) (binary.now.id ∷ []) (L.asked lister.new) }
+    ensures asks { words.Asks result (L.asked lister.old) (binary.now.id ∷ [])
+        (L.asked lister.new) }
 {
     let names = names_of(alloc, binary, lister)?;
     found.listed.push(binary.id.clone()?)?;
@@ -180,7 +185,7 @@ fn list_by<'w, L: Lister, G: GroupLookup>(
 ) -> Result<(), ListingError>
     ensures adds { (chosen : answers.Answers)
         → answers.AnswerOn evaluators.old binary.now (G.member groups.now) chosen
-        → let answered = words.accepted (L.answer lister.old binary.now) in
+        → let answered = words.accepted_answer (L.answer lister.old binary.now) in
         words.Adds (chosen.lists binary.now) result answered chosen binary.now found.old found.new }
     ensures stays { (other : Binary) → L.answer lister.new other ≡ L.answer lister.old other }
     ensures asks { (chosen : answers.Answers)
@@ -205,12 +210,12 @@ fn list_if<'w, L: Lister, G: GroupLookup>(
     found: &mut Selection<'w>,
 ) -> Result<(), ListingError>
     ensures adds { (chosen : answers.Answers)
-        → answers.AnswerAs (answers.lent filters.now) ecx.now (G.member groups.now) chosen
-        → let answered = words.accepted (L.answer lister.old binary.now) in
+        → answers.AnswerAs (answers.lent_compiled filters.now) ecx.now (G.member groups.now) chosen
+        → let answered = words.accepted_answer (L.answer lister.old binary.now) in
         words.Adds (chosen.lists binary.now) result answered chosen binary.now found.old found.new }
     ensures stays { (other : Binary) → L.answer lister.new other ≡ L.answer lister.old other }
     ensures asks { (chosen : answers.Answers)
-        → answers.AnswerAs (answers.lent filters.now) ecx.now (G.member groups.now) chosen
+        → answers.AnswerAs (answers.lent_compiled filters.now) ecx.now (G.member groups.now) chosen
         → let ids = words.ids_of (words.listed_of chosen (binary.now ∷ [])) in
         words.Asks result (L.asked lister.old) ids (L.asked lister.new) }
 {
@@ -242,12 +247,12 @@ pub fn select<'w, L: Lister, G: GroupLookup>(
     lister: &mut L,
 ) -> Result<Selection<'w>, ListingError>
     ensures selects { (chosen : answers.Answers)
-        → answers.AnswerAs (answers.lent filters.now) ecx.now (G.member groups.now) chosen
+        → answers.AnswerAs (answers.lent_compiled filters.now) ecx.now (G.member groups.now) chosen
         → let listed = words.listed_of chosen binaries.now in
         words.Lists result (words.listing (L.answer lister.old) chosen listed) listed }
     ensures stays { (other : Binary) → L.answer lister.new other ≡ L.answer lister.old other }
     ensures asks { (chosen : answers.Answers)
-        → answers.AnswerAs (answers.lent filters.now) ecx.now (G.member groups.now) chosen
+        → answers.AnswerAs (answers.lent_compiled filters.now) ecx.now (G.member groups.now) chosen
         → let ids = words.asked_of (L.answer lister.old) (words.listed_of chosen binaries.now) in
         words.Asks result (L.asked lister.old) ids (L.asked lister.new) }
 {

@@ -33,7 +33,7 @@ fn platform_of(platform: BuildPlatform) -> FilteringPlatform
 
 /// A binary, as filters look at it.
 pub fn query_of(binary: &Binary) -> BinaryQuery<'_>
-    ensures { binary_of result ≡ words.seen binary.now }
+    ensures { binary_of result ≡ words.query_of binary.now }
 {
     BinaryQuery {
         package_id: binary.package.as_str(),

@@ -9,7 +9,7 @@ use Rattle.std.proofs.Math.Seq.{take-append-add, drop-append-add}
 use Rattle.std.proofs.lemmas.List.{take-append-drop, take_all, length-take}
 use Rattle.test_runner_core_log_reader.specs.declared.limits.TheConstants.{FIRST_LINE_LIMIT, LOG_LIMIT}
 use Rattle.test_runner_core_log_reader.specs.Feeds.{IsPlain, IsFirstFeed, before_feed, behind_feed}
-use Rattle.test_runner_core_log_reader.specs.Cursor.{Cursor, received}
+use Rattle.test_runner_core_log_reader.specs.Cursor.{Cursor, bytes_received}
 use Rattle.test_runner_core_log_reader.specs.Calls.{Cut, GetsPlain, KeepsAhead, PartsAtFirst, WaitsMore}
 use Rattle.test_runner_core_log_reader.proofs.Items.{is_no_feed}
 
@@ -89,7 +89,7 @@ pub record ReadingFirst (stream : Option (List ℕ)) (first_calls first_failures
   pub handed : lines.handed ≡ 0
   pub grown : calls ≤ first_calls + length lines.waiting
   pub bounded : calls ≤ first_calls + FIRST_LINE_LIMIT + 1
-  pub limit : received lines ≤ LOG_LIMIT + 1
+  pub limit : bytes_received lines ≤ LOG_LIMIT + 1
   pub unfailed : failures ≡ first_failures
 
 -- what was got where no line feed waited

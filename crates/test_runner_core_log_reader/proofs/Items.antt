@@ -51,16 +51,16 @@ items_end before last h =
     ∙ ap (λ (line : List ℕ). items_of before (line ∷ [])) (append-nil last)
 
 -- a fault of plain bytes that no further byte mends
-abbrev pub IsLimit : LineFault → Type 0
-IsLimit faults.LineTooLong = Unit {0}
-IsLimit faults.LogTooLong = Unit {0}
-IsLimit faults.NoLineEnd = ⊥
+abbrev pub IsOverLimit : LineFault → Type 0
+IsOverLimit faults.LineTooLong = Unit {0}
+IsOverLimit faults.LogTooLong = Unit {0}
+IsOverLimit faults.NoLineEnd = ⊥
 
-fault_stays : (before few many : ℕ) (ended : Bool) (fault : LineFault) → few ≤ many → IsLimit fault → line_fault before few false ≡ Some fault → line_fault before many ended ≡ Some fault
+fault_stays : (before few many : ℕ) (ended : Bool) (fault : LineFault) → few ≤ many → IsOverLimit fault → line_fault before few false ≡ Some fault → line_fault before many ended ≡ Some fault
 fault_stays before few many ended fault less limit h =
     by_tests (ltb LINE_LIMIT few && leb (before + LINE_LIMIT) LOG_LIMIT) (ltb LOG_LIMIT (before + few + 0)) (false || eqb few 0) refl refl fault limit h
   where
-    by_tests : (a b c : Bool) → (ltb LINE_LIMIT few && leb (before + LINE_LIMIT) LOG_LIMIT) ≡ a → ltb LOG_LIMIT (before + few + 0) ≡ b → (fault : LineFault) → IsLimit fault
+    by_tests : (a b c : Bool) → (ltb LINE_LIMIT few && leb (before + LINE_LIMIT) LOG_LIMIT) ≡ a → ltb LOG_LIMIT (before + few + 0) ≡ b → (fault : LineFault) → IsOverLimit fault
         → cond a (Some faults.LineTooLong) (cond b (Some faults.LogTooLong) (cond c None (Some faults.NoLineEnd))) ≡ Some fault → line_fault before many ended ≡ Some fault
     by_tests true b c ea eb fault limit h =
         let now : (ltb LINE_LIMIT many && leb (before + LINE_LIMIT) LOG_LIMIT) ≡ true = grind (arith, nat_tests) in
@@ -71,9 +71,9 @@ fault_stays before few many ended fault less limit h =
         ap (λ (t : Bool). cond t (Some faults.LineTooLong) (cond (ltb LOG_LIMIT (before + many + cond ended 1 0)) (Some faults.LogTooLong) (cond (ended || eqb many 0) None (Some faults.NoLineEnd)))) line
         ∙ ap (λ (t : Bool). cond t (Some faults.LogTooLong) (cond (ended || eqb many 0) None (Some faults.NoLineEnd))) log ∙ h
     by_tests false false true ea eb fault limit h = cc
-    by_tests false false false ea eb fault limit h = let e : faults.NoLineEnd ≡ fault = cc in absurd (subst IsLimit (sym e) limit)
+    by_tests false false false ea eb fault limit h = let e : faults.NoLineEnd ≡ fault = cc in absurd (subst IsOverLimit (sym e) limit)
 
-pub items_limit : (before : ℕ) (waiting rest : List ℕ) (fault : LineFault) → IsPlain waiting → IsLimit fault → line_fault before (length waiting) false ≡ Some fault
+pub items_limit : (before : ℕ) (waiting rest : List ℕ) (fault : LineFault) → IsPlain waiting → IsOverLimit fault → line_fault before (length waiting) false ≡ Some fault
     → items before (waiting ++ rest) ≡ Refused fault ∷ []
 items_limit before waiting rest fault plain limit h =
     let found = parts_first rest in

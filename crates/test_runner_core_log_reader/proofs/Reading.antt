@@ -11,7 +11,7 @@ use Rattle.test_runner_core_log_reader.specs.declared.next.Next.TheVariants as f
 use Rattle.test_runner_core_log_reader.specs.declared.next.Scan.TheVariants as scanned
 use Rattle.test_runner_core_log_reader.specs.Feeds.{IsPlain}
 use Rattle.test_runner_core_log_reader.specs.Items.{Item, Line, Refused, line_fault, items}
-use Rattle.test_runner_core_log_reader.specs.Cursor.{Cursor, received, items_ahead, tells_next}
+use Rattle.test_runner_core_log_reader.specs.Cursor.{Cursor, bytes_received, items_ahead, tells_next}
 use Rattle.test_runner_core_log_reader.specs.Calls.{KeepsAhead, Hands, HandsItem, Scanned, WaitsMore, idle_reads, end_of}
 use Rattle.test_runner_core_log_reader.proofs.Items.{items_line, items_end}
 
@@ -20,8 +20,8 @@ use Rattle.test_runner_core_log_reader.proofs.Items.{items_line, items_end}
 pub record Reading (old : Cursor) (left : Option (List ℕ)) (old_calls old_failures : ℕ) (new : Cursor) (rest : Option (List ℕ)) (calls failures : ℕ) : Type 0 where
   pub ahead : KeepsAhead old left new rest
   pub handed : new.handed ≡ old.handed
-  pub grown : calls + received old ≤ old_calls + received new
-  pub limit : received new ≤ LOG_LIMIT + 1
+  pub grown : calls + bytes_received old ≤ old_calls + bytes_received new
+  pub limit : bytes_received new ≤ LOG_LIMIT + 1
   pub unfailed : failures ≡ old_failures
   pub unread : tells_next old ≡ true → (calls ≡ old_calls) × (tells_next new ≡ true)
 

@@ -5,7 +5,7 @@ use Rattle.std.proofs.lemmas.List.Folds.{list_any-append}
 use Rattle.test_runner_core_log_reader.specs.declared.limits.TheConstants.{LINE_LIMIT, LOG_LIMIT}
 use Rattle.test_runner_core_log_reader.specs.declared.next.Scan.TheVariants as scanned
 use Rattle.test_runner_core_log_reader.specs.Feeds.{IsPlain, IsFirstFeed, has_feed}
-use Rattle.test_runner_core_log_reader.specs.Cursor.{Cursor, Unmoved, received, tells_next}
+use Rattle.test_runner_core_log_reader.specs.Cursor.{Cursor, Unmoved, bytes_received, tells_next}
 use Rattle.test_runner_core_log_reader.specs.Calls.{Scanned}
 use Rattle.test_runner_core_log_reader.proofs.Items.{is_no_feed}
 
@@ -33,28 +33,28 @@ has_feed-first bytes (Some at) feed =
 -- what is next is told where a line feed was found
 pub tells_feed : (cursor : Cursor) (found : Option ℕ) → IsFirstFeed cursor.waiting found → is_some found ≡ true → tells_next cursor ≡ true
 tells_feed cursor found feed some =
-    ap (λ (test : Bool). test || ltb LINE_LIMIT (length cursor.waiting) || ltb LOG_LIMIT (received cursor)) (sym (has_feed-first cursor.waiting found feed) ∙ some)
+    ap (λ (test : Bool). test || ltb LINE_LIMIT (length cursor.waiting) || ltb LOG_LIMIT (bytes_received cursor)) (sym (has_feed-first cursor.waiting found feed) ∙ some)
 
 -- and else by the limits alone
 pub tells_limit : (cursor : Cursor) (found : Option ℕ) → IsFirstFeed cursor.waiting found → is_some found ≡ false
-    → tells_next cursor ≡ (ltb LINE_LIMIT (length cursor.waiting) || ltb LOG_LIMIT (received cursor))
+    → tells_next cursor ≡ (ltb LINE_LIMIT (length cursor.waiting) || ltb LOG_LIMIT (bytes_received cursor))
 tells_limit cursor found feed none =
-    ap (λ (test : Bool). test || ltb LINE_LIMIT (length cursor.waiting) || ltb LOG_LIMIT (received cursor)) (sym (has_feed-first cursor.waiting found feed) ∙ none)
+    ap (λ (test : Bool). test || ltb LINE_LIMIT (length cursor.waiting) || ltb LOG_LIMIT (bytes_received cursor)) (sym (has_feed-first cursor.waiting found feed) ∙ none)
 
 -- bytes that wait tell nothing where they are plain and few
-pub tells_nothing : (cursor : Cursor) → IsPlain cursor.waiting → received cursor ≤ LOG_LIMIT → length cursor.waiting ≤ LINE_LIMIT → tells_next cursor ≡ false
+pub tells_nothing : (cursor : Cursor) → IsPlain cursor.waiting → bytes_received cursor ≤ LOG_LIMIT → length cursor.waiting ≤ LINE_LIMIT → tells_next cursor ≡ false
 tells_nothing cursor plain within short =
     let line : ltb LINE_LIMIT (length cursor.waiting) ≡ false = grind (arith, nat_tests) in
-    let log : ltb LOG_LIMIT (received cursor) ≡ false = grind (arith, nat_tests) in
-    tells_limit cursor None plain refl ∙ ap (λ (test : Bool). test || ltb LOG_LIMIT (received cursor)) line ∙ log
+    let log : ltb LOG_LIMIT (bytes_received cursor) ≡ false = grind (arith, nat_tests) in
+    tells_limit cursor None plain refl ∙ ap (λ (test : Bool). test || ltb LOG_LIMIT (bytes_received cursor)) line ∙ log
 
 -- and where they tell nothing, they are
-pub plain_where_nothing : (cursor : Cursor) → tells_next cursor ≡ false → IsPlain cursor.waiting × (received cursor ≤ LOG_LIMIT) × (length cursor.waiting ≤ LINE_LIMIT)
+pub plain_where_nothing : (cursor : Cursor) → tells_next cursor ≡ false → IsPlain cursor.waiting × (bytes_received cursor ≤ LOG_LIMIT) × (length cursor.waiting ≤ LINE_LIMIT)
 plain_where_nothing cursor nothing =
-    by_tests (has_feed cursor.waiting) (ltb LINE_LIMIT (length cursor.waiting)) (ltb LOG_LIMIT (received cursor)) refl refl refl nothing
+    by_tests (has_feed cursor.waiting) (ltb LINE_LIMIT (length cursor.waiting)) (ltb LOG_LIMIT (bytes_received cursor)) refl refl refl nothing
   where
-    by_tests : (a b c : Bool) → has_feed cursor.waiting ≡ a → ltb LINE_LIMIT (length cursor.waiting) ≡ b → ltb LOG_LIMIT (received cursor) ≡ c → (a || b || c) ≡ false
-        → IsPlain cursor.waiting × (received cursor ≤ LOG_LIMIT) × (length cursor.waiting ≤ LINE_LIMIT)
+    by_tests : (a b c : Bool) → has_feed cursor.waiting ≡ a → ltb LINE_LIMIT (length cursor.waiting) ≡ b → ltb LOG_LIMIT (bytes_received cursor) ≡ c → (a || b || c) ≡ false
+        → IsPlain cursor.waiting × (bytes_received cursor ≤ LOG_LIMIT) × (length cursor.waiting ≤ LINE_LIMIT)
     by_tests true b c d e f nothing = cc
     by_tests false true c d e f nothing = cc
     by_tests false false true d e f nothing = cc

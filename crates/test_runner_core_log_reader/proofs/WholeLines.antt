@@ -1,11 +1,21 @@
 -- The whole lines of bytes, and how lines that are handed out one after another make them up.
 use Rattle.std.proofs.Common.{◌≡◌, ℕ, List, [], ◌∷◌, ◌++◌, Option, Some, None, Ok, refl, sym, ap, ◌∙◌, append_assoc, append-nil}
+use Rattle.std.specs.List.{AllByRecursion}
 use Rattle.test_runner_core_log_reader.specs.declared.next.Next.TheVariants as found
-use Rattle.test_runner_core_log_reader.specs.Feeds.{IsPlain, ArePlain}
-use Rattle.test_runner_core_log_reader.specs.Items.{ended_parts, whole_lines, with_feeds}
+use Rattle.test_runner_core_log_reader.specs.Feeds.{IsPlain}
+use Rattle.test_runner_core_log_reader.specs.Items.{ended_parts, whole_lines}
 use Rattle.test_runner_core_log_reader.specs.Cursor.{Cursor}
 use Rattle.test_runner_core_log_reader.specs.Calls.{HandsAhead, KeepsAhead}
 use Rattle.test_runner_core_log_reader.proofs.Items.{parts_first, parts_plain, parts_line}
+
+-- each line with its line feed behind it, one after another
+abbrev pub with_feeds : List (List ℕ) → List ℕ
+with_feeds [] = []
+with_feeds (line ∷ more) = line ++ 10 ∷ with_feeds more
+
+-- no line feed stands in any of the lines
+abbrev pub ArePlain : List (List ℕ) → Type 0
+ArePlain = AllByRecursion IsPlain
 
 -- a line that a line feed ends is the first
 pub whole_line : (line rest : List ℕ) → IsPlain line → whole_lines (line ++ 10 ∷ rest) ≡ line ∷ whole_lines rest

@@ -2,7 +2,7 @@
 use Rattle.std.specs.Prelude.{◌≡◌, ℕ, ◌+◌, ◌<◌, ◌≤◌, Bool, true, length, List, [], ◌∷◌, ◌++◌, Option, None, Some, Result, Ok, Err, ⊤, take}
 use Rattle.std.specs.Io.KnownBytes.{Consumes}
 use Rattle.test_runner_core_log_reader.specs.Items.{Item, Line, Refused, line_fault}
-use Rattle.test_runner_core_log_reader.specs.Cursor.{Cursor, received, items_ahead, Unmoved}
+use Rattle.test_runner_core_log_reader.specs.Cursor.{Cursor, bytes_received, items_ahead, Unmoved}
 use Rattle.test_runner_core_log_reader.specs.Feeds.{IsPlain, before_feed, behind_feed}
 use Rattle.test_runner_core_log_reader.specs.declared.limits.TheConstants.{FIRST_LINE_LIMIT, LINE_LIMIT, LOG_LIMIT}
 use Rattle.test_runner_core_log_reader.specs.declared.fault.LineFault.{LineFault}
@@ -85,7 +85,7 @@ Scanned scanned.Line old new =
     (old.waiting ≡ new.line ++ 10 ∷ new.waiting) × IsPlain new.line × (line_fault old.handed (length new.line) true ≡ None)
     × (new.handed ≡ old.handed + length new.line + 1)
 Scanned (scanned.Refused fault) old new = Unmoved old new × ((rest : List ℕ) → items_ahead old rest ≡ Refused fault ∷ []) × (idle_reads (Ok (found.Refused fault)) ≡ 0)
-Scanned scanned.Waits old new = Unmoved old new × IsPlain old.waiting × (received old ≤ LOG_LIMIT) × (length old.waiting ≤ LINE_LIMIT)
+Scanned scanned.Waits old new = Unmoved old new × IsPlain old.waiting × (bytes_received old ≤ LOG_LIMIT) × (length old.waiting ≤ LINE_LIMIT)
 
 -- the first bytes that wait are the line, of this length, which a line feed ends
 pub record Cut (count : ℕ) (old new : Cursor) : Type 0 where

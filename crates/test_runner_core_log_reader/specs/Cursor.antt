@@ -12,12 +12,12 @@ pub record Cursor : Type 0 where
   pub handed : ℕ
 
 -- how many bytes of the log were read
-abbrev pub received : Cursor → ℕ
-received cursor = cursor.handed + length cursor.waiting
+abbrev pub bytes_received : Cursor → ℕ
+bytes_received cursor = cursor.handed + length cursor.waiting
 
 -- the bytes that wait tell what is next: there is a line feed among them, or they are too many whatever follows
 abbrev pub tells_next : Cursor → Bool
-tells_next cursor = has_feed cursor.waiting || nat_lt LINE_LIMIT (length cursor.waiting) || nat_lt LOG_LIMIT (received cursor)
+tells_next cursor = has_feed cursor.waiting || nat_lt LINE_LIMIT (length cursor.waiting) || nat_lt LOG_LIMIT (bytes_received cursor)
 
 -- the items that are ahead where the reader has these bytes left
 abbrev pub items_ahead : Cursor → List ℕ → List Item

@@ -6,10 +6,6 @@ use Rattle.std.specs.List.{AllByRecursion, list_any, before_first, after_first}
 abbrev pub IsPlain : List ℕ → Type 0
 IsPlain = AllByRecursion (λ byte. byte ≢ 10)
 
--- no line feed stands in any of the lines
-abbrev pub ArePlain : List (List ℕ) → Type 0
-ArePlain = AllByRecursion IsPlain
-
 -- whether a line feed stands in the bytes
 abbrev pub has_feed : List ℕ → Bool
 has_feed = list_any (λ byte. byte == 10)

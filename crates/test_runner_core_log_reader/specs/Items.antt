@@ -1,5 +1,5 @@
 -- The lines of a whole log, and what ends them before its end.
-use Rattle.std.specs.Prelude.{ℕ, ◌+◌, ◌==◌, Bool, true, false, ◌&&◌, ◌||◌, nat_lt, nat_le, length, List, [], ◌∷◌, ◌++◌, Option, None, Some, if◌then◌else◌}
+use Rattle.std.specs.Prelude.{ℕ, ◌+◌, ◌==◌, Bool, true, false, ◌&&◌, ◌||◌, nat_lt, nat_le, length, List, [], ◌∷◌, Option, None, Some, if◌then◌else◌}
 use Rattle.std.specs.Option.{option_map_or}
 use Rattle.std.specs.List.{slice_split}
 use Rattle.test_runner_core_log_reader.specs.declared.limits.TheConstants.{LINE_LIMIT, LOG_LIMIT}
@@ -41,11 +41,6 @@ ended_parts (line ∷ next ∷ more) = line ∷ ended_parts (next ∷ more)
 -- the whole lines of bytes: each that a line feed ends
 abbrev pub whole_lines : List ℕ → List (List ℕ)
 whole_lines bytes = ended_parts (parts bytes)
-
--- each line with its line feed behind it, one after another
-abbrev pub with_feeds : List (List ℕ) → List ℕ
-with_feeds [] = []
-with_feeds (line ∷ more) = line ++ 10 ∷ with_feeds more
 
 -- the items of these bytes, behind so many of the log
 abbrev pub items : ℕ → List ℕ → List Item

@@ -2,7 +2,7 @@
 ghost use Rattle.std.specs.Prelude.{◌≡◌, ◌+◌, ◌-◌, ◌*◌, ◌^◌, ◌<◌, ◌≤◌, IfOk, OnErr, length, take, vec_len};
 ghost use Rattle.std.specs.List.{slice_range};
 ghost use Rattle.std.specs.Io.KnownBytes.{ReadConsumes};
-ghost use Rattle.test_runner_core_streams.specs.Streams.{read_fails, counted};
+ghost use Rattle.test_runner_core_streams.specs.Streams.{read_fails, failures_after};
 
 use std::alloc::AllocError;
 use std::io;
@@ -20,7 +20,8 @@ pub(super) const LONGEST: usize = 4_194_304;
 pub(super) fn with_room(buffer: &mut Vec<u8>, start: usize, end: usize) -> Result<usize, AllocError>
     requires order { start ≤ end }
     requires filled { end ≤ vec_len buffer.old }
-    ensures bytes { IfOk result (λ begin. slice_range buffer.new.items begin (begin + (end - start)) ≡ slice_range buffer.old.items start end) }
+    ensures bytes { IfOk result (λ begin. slice_range buffer.new.items begin (begin + (end - start))
+        ≡ slice_range buffer.old.items start end) }
     ensures room { IfOk result (λ begin. begin + (end - start) < vec_len buffer.new) }
     ensures err { OnErr result (buffer.new.items ≡ buffer.old.items) }
 {
@@ -36,7 +37,8 @@ pub(super) fn shorten(buffer: &mut Vec<u8>, start: usize, end: usize)
     requires order { start ≤ end }
     requires filled { end ≤ vec_len buffer.old }
     requires apart { end - start ≤ start }
-    ensures bytes { slice_range buffer.new.items 0 (end - start) ≡ slice_range buffer.old.items start end }
+    ensures bytes { slice_range buffer.new.items 0 (end - start)
+        ≡ slice_range buffer.old.items start end }
     ensures filled { end - start ≤ vec_len buffer.new }
 {
     let waiting = end - start;
@@ -50,8 +52,10 @@ pub(super) fn shorten(buffer: &mut Vec<u8>, start: usize, end: usize)
 // themselves, so that no byte is moved more often than others are read; else the buffer is made twice as long.
 fn make_room(buffer: &mut Vec<u8>, start: usize) -> Result<usize, AllocError>
     requires { start ≤ vec_len buffer.old }
-    ensures bytes { IfOk result (λ begin. slice_range buffer.new.items begin (begin + (vec_len buffer.old - start)) ≡ slice_range buffer.old.items start (vec_len buffer.old)) }
-    ensures room { IfOk result (λ begin. begin + (vec_len buffer.old - start) < vec_len buffer.new) }
+    ensures bytes { IfOk result (λ begin. slice_range buffer.new.items begin (begin
+        + (vec_len buffer.old - start)) ≡ slice_range buffer.old.items start (vec_len buffer.old)) }
+    ensures room { IfOk result
+        (λ begin. begin + (vec_len buffer.old - start) < vec_len buffer.new) }
     ensures err { OnErr result (buffer.new.items ≡ buffer.old.items) }
 {
     let length = buffer.len();
@@ -79,9 +83,11 @@ pub(super) fn read_behind<R: LogReader>(
     ensures length { vec_len buffer.new ≡ vec_len buffer.old }
     ensures kept { take from buffer.new.items ≡ take from buffer.old.items }
     ensures bound { IfOk result (λ count. count ≤ most) }
-    ensures bytes { ReadConsumes (R.left reader.old) (R.left reader.new) result (slice_range buffer.new.items from (from + most)) }
+    ensures bytes { ReadConsumes (R.left reader.old) (R.left reader.new) result
+        (slice_range buffer.new.items from (from + most)) }
     ensures called { R.calls reader.new ≡ R.calls reader.old + 1 }
-    ensures failed { R.failures reader.new ≡ counted (R.failures reader.old) (read_fails result) }
+    ensures failed { R.failures reader.new
+        ≡ failures_after (R.failures reader.old) (read_fails result) }
     ensures last { R.last_failed reader.new ≡ read_fails result }
 {
     let end = from + most;

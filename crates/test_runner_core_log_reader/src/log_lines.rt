@@ -3,7 +3,7 @@ ghost use Rattle.std.specs.Prelude.{◌≡◌, ◌+◌, ◌-◌, ◌^◌, ◌<�
 ghost use Rattle.std.specs.Io.KnownBytes.{IsAtEnd};
 ghost use Rattle.test_runner_core_log_reader.specs.Items.{line_fault};
 ghost use Rattle.test_runner_core_log_reader.specs.Limits.{first_line_reads, log_reads};
-ghost use Rattle.test_runner_core_log_reader.specs.Cursor.{Unmoved, received, tells_next};
+ghost use Rattle.test_runner_core_log_reader.specs.Cursor.{Unmoved, bytes_received, tells_next};
 ghost use Rattle.test_runner_core_log_reader.specs.Feeds.{IsFirstFeed, IsPlain};
 ghost use Rattle.test_runner_core_log_reader.specs.Calls.{Cut, GetsPlain, Hands, HandsAhead, HandsBytes, IsUnread, KeepsAhead, PartsAtFirst, Scanned, ScannedFirst, TellsFailure, WaitsMore, end_of, idle_reads, scan_of as scan_told};
 
@@ -67,11 +67,13 @@ impl LogLines {
     ) -> Result<Option<Self>, LogFault>
         requires calls_fit { R.calls reader.old + 2 ^ 31 ≤ 2 ^ 63 }
         requires failures_fit { R.failures reader.old < 2 ^ 63 }
-        ensures lines { IfOk result (λ lines. IfSome (R.left reader.old) (λ bytes. PartsAtFirst bytes lines (R.left reader.new))) }
+        ensures lines { IfOk result (λ lines.
+            IfSome (R.left reader.old) (λ bytes. PartsAtFirst bytes lines (R.left reader.new))) }
         ensures fresh { IfOk result (λ lines. IfSome lines (λ it. it.handed ≡ 0)) }
         ensures cut { OnErr result (GetsPlain (R.left reader.old) (R.left reader.new)) }
         ensures reads { R.calls reader.new ≤ R.calls reader.old + first_line_reads }
-        ensures failures { TellsFailure result (R.failures reader.old) (R.failures reader.new) (R.last_failed reader.new) }
+        ensures failures { TellsFailure result (R.failures reader.old) (R.failures reader.new)
+            (R.last_failed reader.new) }
     {
         let mut lines = LogLines::new(alloc);
         loop {
@@ -115,13 +117,17 @@ impl LogLines {
         requires calls_fit { R.calls reader.old + 2 ^ 31 ≤ 2 ^ 63 }
         requires failures_fit { R.failures reader.old < 2 ^ 63 }
         ensures items { Hands self.old (R.left reader.old) self.new (R.left reader.new) result }
-        ensures bytes { HandsAhead self.old (R.left reader.old) self.new (R.left reader.new) result }
+        ensures bytes { HandsAhead self.old (R.left reader.old) self.new
+            (R.left reader.new) result }
         ensures handed { HandsBytes result self.old self.new }
-        ensures reads { R.calls reader.new + received self.old ≤ R.calls reader.old + received self.new + idle_reads result }
-        ensures limit { received self.new + idle_reads result ≤ log_reads }
-        ensures unread { tells_next self.old ≡ true → IsUnread result (R.calls reader.old) (R.calls reader.new) }
+        ensures reads { R.calls reader.new + bytes_received self.old
+            ≤ R.calls reader.old + bytes_received self.new + idle_reads result }
+        ensures limit { bytes_received self.new + idle_reads result ≤ log_reads }
+        ensures unread { tells_next self.old ≡ true
+            → IsUnread result (R.calls reader.old) (R.calls reader.new) }
         ensures cut { OnErr result (IsPlain self.new.waiting) }
-        ensures failures { TellsFailure result (R.failures reader.old) (R.failures reader.new) (R.last_failed reader.new) }
+        ensures failures { TellsFailure result (R.failures reader.old) (R.failures reader.new)
+            (R.last_failed reader.new) }
     {
         let _within = &self.buffer;
         self.give_back();
@@ -225,17 +231,18 @@ impl LogLines {
 
     // One read behind the bytes that wait. Takes memory where the buffer is full.
     fn fill<R: LogReader>(&mut self, reader: &mut R) -> Result<usize, LogFault>
-        requires more { received self.old ≤ LOG_LIMIT }
+        requires more { bytes_received self.old ≤ LOG_LIMIT }
         requires calls_fit { R.calls reader.old < 2 ^ 63 }
         requires failures_fit { R.failures reader.old < 2 ^ 63 }
         ensures ahead { KeepsAhead self.old (R.left reader.old) self.new (R.left reader.new) }
         ensures handed { self.new.handed ≡ self.old.handed }
         ensures ok { IfOk result (WaitsMore self.old self.new) }
         ensures err { OnErr result (WaitsMore self.old self.new 0) }
-        ensures limit { received self.new ≤ log_reads }
+        ensures limit { bytes_received self.new ≤ log_reads }
         ensures end { IfOk result (λ count. count ≡ 0 → IsAtEnd (R.left reader.new)) }
         ensures called { R.calls reader.new ≤ R.calls reader.old + 1 }
-        ensures failures { TellsFailure result (R.failures reader.old) (R.failures reader.new) (R.last_failed reader.new) }
+        ensures failures { TellsFailure result (R.failures reader.old) (R.failures reader.new)
+            (R.last_failed reader.new) }
     {
         self.line_start = 0;
         self.line_end = 0;

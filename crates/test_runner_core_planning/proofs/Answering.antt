@@ -22,7 +22,7 @@ use Rattle.nextest_filtering_syntax.specs.Parsed.{tree_of}
 use Rattle.nextest_filtering_ast.specs.Tree.{Matcher, Tree}
 use Rattle.nextest_filtering_compiling.specs.Trees.{TreeCanBeOn, TreeIsOn}
 use Rattle.test_runner_core_inputs.specs.declared.inputs.Inputs.{Inputs}
-use Rattle.test_runner_core_listing.specs.Answers.{AnswerAs, Answers, seen, seen_test}
+use Rattle.test_runner_core_listing.specs.Answers.{AnswerAs, Answers, query_of, seen_test}
 use Rattle.test_runner_core_listing.proofs.Answering.{has_answers}
 use Rattle.test_runner_core_plan.specs.declared.plan_settings.PlanSettings.{PlanSettings}
 use Rattle.test_runner_core_settings.specs.Sets.{IsDefault}
@@ -71,12 +71,12 @@ pub record AreCompiledTo (workspace : WorkspaceRecord) (it : InForce) (filters :
 
 -- what tells that each of them can hold on a binary tells it of their trees, and the other way
 lists_alike : (workspace : WorkspaceRecord) (it : InForce) (filters : List Compiled) (default : Compiled) → AreCompiledTo workspace it filters default
-    → (binary : Binary) (value : Bool) → Tells (All (λ f. CanBeOn f (filter_of default) (seen binary) true) (map filter_of filters)) value ↔ Tells (AllCanHold workspace it binary) value
+    → (binary : Binary) (value : Bool) → Tells (All (λ f. CanBeOn f (filter_of default) (query_of binary) true) (map filter_of filters)) value ↔ Tells (AllCanHold workspace it binary) value
 lists_alike workspace it filters default compiled binary =
     let graph = graph_of workspace in
     let d = filter_of default in
-    tells_alike (IsCompiled graph) (λ tree. TreeCanBeOn graph tree it.default (seen binary) true) (λ f. CanBeOn f d (seen binary) true)
-    (λ tree f made. can_be_as_compiled graph tree it.default f d made compiled.default (seen binary) true) it.filters (map filter_of filters) compiled.each
+    tells_alike (IsCompiled graph) (λ tree. TreeCanBeOn graph tree it.default (query_of binary) true) (λ f. CanBeOn f d (query_of binary) true)
+    (λ tree f made. can_be_as_compiled graph tree it.default f d made compiled.default (query_of binary) true) it.filters (map filter_of filters) compiled.each
 
 -- whose group is matched is told alike
 abbrev pub AreAlike : (query.Test → Matcher → Type 0) → (query.Test → PlanSettings) → Type 0

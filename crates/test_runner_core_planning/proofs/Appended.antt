@@ -2,7 +2,7 @@
 use Rattle.std.proofs.Common.{◌≡◌, inl, inr, ℕ, Bool, true, false, cond, List, [], ◌∷◌, ◌++◌, codes, refl, ap, ◌∙◌, append_assoc}
 use Rattle.std.specs.Prelude.{◌≢◌}
 use Rattle.nextest_filtering_escapes.specs.Text.{is_blank}
-use Rattle.nextest_filtering_ast.specs.Grammar.{Behind, Conjunction, Expression, IsFilterset, ReadsArgument, ReadsBare, ReadsJoint, ReadsLeaf, ReadsMatcher, ReadsNot, ReadsOr, ReadsSigned, Unary, a_group, a_negation, a_predicate, ends_word, first_conjunction, first_operand, leaf_word, next_conjunction, next_operand, unblanked}
+use Rattle.nextest_filtering_ast.specs.Grammar.{Behind, Conjunction, Expression, IsFilterset, ReadsArgument, ReadsBare, ReadsJoint, ReadsLeaf, ReadsMatcher, ReadsNot, ReadsOr, ReadsSigned, Unary, a_group, a_negation, a_predicate, ends_word, first_conjunction, first_operand, leaf_word, next_conjunction, next_operand, after_blanks}
 use Rattle.nextest_filtering_ast.specs.Tree.{Comparison, Leaf, Matcher, Subject, Tree, binary_id, binary_name, built_for, contains, default_filter, dependencies, dependents, equal, everything, glob, group, intersection, kind, matching, nothing, package_name, parens, regex, set, test_name}
 use Rattle.nextest_filtering_ast.specs.declared.operators.AndOperator.TheVariants as and_as
 use Rattle.nextest_filtering_ast.specs.declared.operators.DifferenceOperator.TheVariants as difference_as
@@ -17,22 +17,22 @@ use Rattle.test_runner_core_planning.specs.Laws.{and_default}
 -- ---- blanks
 
 -- a text that isn't all blank begins as before
-unblanked_more : (text more : List ℕ) (byte : ℕ) (rest : List ℕ) → unblanked text ≡ byte ∷ rest → unblanked (text ++ more) ≡ byte ∷ rest ++ more
+unblanked_more : (text more : List ℕ) (byte : ℕ) (rest : List ℕ) → after_blanks text ≡ byte ∷ rest → after_blanks (text ++ more) ≡ byte ∷ rest ++ more
 unblanked_more [] more byte rest e = absurd (let h = e in cc)
 unblanked_more (x ∷ xs) more byte rest e = by_blank (is_blank x) (λ f. unblanked_more xs more byte rest f) e
   where
-    by_blank : (blank : Bool) → (unblanked xs ≡ byte ∷ rest → unblanked (xs ++ more) ≡ byte ∷ rest ++ more)
-        → cond blank (unblanked xs) (x ∷ xs) ≡ byte ∷ rest → cond blank (unblanked (xs ++ more)) (x ∷ xs ++ more) ≡ byte ∷ rest ++ more
+    by_blank : (blank : Bool) → (after_blanks xs ≡ byte ∷ rest → after_blanks (xs ++ more) ≡ byte ∷ rest ++ more)
+        → cond blank (after_blanks xs) (x ∷ xs) ≡ byte ∷ rest → cond blank (after_blanks (xs ++ more)) (x ∷ xs ++ more) ≡ byte ∷ rest ++ more
     by_blank true further f = further f
     by_blank false further f = ap (λ (t : List ℕ). t ++ more) f
 
 -- one that is all blank begins as what follows
-unblanked_none : (text more : List ℕ) → unblanked text ≡ [] → unblanked (text ++ more) ≡ unblanked more
+unblanked_none : (text more : List ℕ) → after_blanks text ≡ [] → after_blanks (text ++ more) ≡ after_blanks more
 unblanked_none [] more e = refl
 unblanked_none (x ∷ xs) more e = by_blank (is_blank x) (unblanked_none xs more) e
   where
-    by_blank : (blank : Bool) → (unblanked xs ≡ [] → unblanked (xs ++ more) ≡ unblanked more) → cond blank (unblanked xs) (x ∷ xs) ≡ []
-        → cond blank (unblanked (xs ++ more)) (x ∷ xs ++ more) ≡ unblanked more
+    by_blank : (blank : Bool) → (after_blanks xs ≡ [] → after_blanks (xs ++ more) ≡ after_blanks more) → cond blank (after_blanks xs) (x ∷ xs) ≡ []
+        → cond blank (after_blanks (xs ++ more)) (x ∷ xs ++ more) ≡ after_blanks more
     by_blank true further f = further f
     by_blank false further f = absurd (let h = f in cc)
 

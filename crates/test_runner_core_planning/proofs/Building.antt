@@ -28,7 +28,7 @@ use Rattle.test_runner_core_workspace.specs.declared.workspace_error.WorkspaceEr
 use Rattle.test_runner_core_workspace.specs.declared.workspace_error.WorkspaceError.TheVariants as workspace_errors
 use Rattle.test_runner_core_planning.specs.Checks.{AnswerFor, IsFound, KeepsAll, Planned, SetsAll, before_listing, behind_listing, has_too_many, listed_in, overflows}
 use Rattle.test_runner_core_planning.specs.Filtering.{Choice, context_of}
-use Rattle.test_runner_core_planning.specs.Inside.{AreSettled, GivesFilterset, IsPassed, IsRefusedEarly, IsWanted}
+use Rattle.test_runner_core_planning.specs.Inside.{AreSettled, GivesFilterset, IsPassed, IsRefusedEarly, GivesWanted}
 use Rattle.test_runner_core_planning.specs.Plan.{AsksWith, Builds, Plans, Selected, instance_of, lacks_memory, plan_test, warnings_in, warnings_of, with_settings}
 use Rattle.test_runner_core_planning.specs.Refusals.{error_of_pass, error_of_settings, error_of_workspace, of_settings}
 use Rattle.test_runner_core_planning.specs.declared.plan_error.PlanError.{PlanError}
@@ -56,13 +56,13 @@ pub settles_configuration : (inputs : Inputs) (error : SettingsError) → IsPass
 settles_configuration inputs (settings_errors.Refused fault) of is = refuses_configuration inputs fault of is
 settles_configuration inputs settings_errors.OutOfMemory of is = tt
 
-pub wants_error : (inputs : Inputs) (error : SettingsError) → IsPassed inputs → Chooses (context_of inputs.workspace) inputs (Err error) → IsWanted inputs (Err (error_of_settings error))
+pub wants_error : (inputs : Inputs) (error : SettingsError) → IsPassed inputs → Chooses (context_of inputs.workspace) inputs (Err error) → GivesWanted inputs (Err (error_of_settings error))
 wants_error inputs (settings_errors.Refused fault) of is = refuses_configuration inputs fault of is
 wants_error inputs settings_errors.OutOfMemory of is = tt
 
 -- by their filterset
 pub refuses_filterset : (inputs : Inputs) (choice : Choice) (error : PlanError) → IsPassed inputs → SetsAll inputs choice
-    → GivesFilterset inputs.workspace choice.run.known_groups inputs.filterset (Err error) → IsWanted inputs (Err error)
+    → GivesFilterset inputs.workspace choice.run.known_groups inputs.filterset (Err error) → GivesWanted inputs (Err error)
 refuses_filterset inputs choice (errors.Refused refusal) of sets is = λ answer.
     inr (
       keeps_workspace answer inputs of.workspace,
@@ -71,17 +71,17 @@ refuses_filterset inputs choice (errors.Refused refusal) of sets is = λ answer.
 refuses_filterset inputs choice errors.OutOfMemory of sets is = tt
 
 -- a configuration that is refused is such a refusal
-pub wants_settled : (inputs : Inputs) (error : PlanError) → AreSettled inputs (Err error) → IsWanted inputs (Err error)
+pub wants_settled : (inputs : Inputs) (error : PlanError) → AreSettled inputs (Err error) → GivesWanted inputs (Err error)
 wants_settled inputs (errors.Refused refusal) is = is
 wants_settled inputs errors.OutOfMemory is = tt
 
 -- so they have no plan
-pub refused_before : (answer : Binary → Answer) (inputs : Inputs) (error : PlanError) → IsWanted inputs (Err error) → Builds answer inputs (Err error)
+pub refused_before : (answer : Binary → Answer) (inputs : Inputs) (error : PlanError) → GivesWanted inputs (Err error) → Builds answer inputs (Err error)
 refused_before answer inputs (errors.Refused refusal) wanted = breaks_more answer inputs before_listing behind_listing refusal (wanted answer)
 refused_before answer inputs errors.OutOfMemory wanted = tt
 
 -- and nobody is asked
-pub asks_nothing : (answer : Binary → Answer) (inputs : Inputs) (error : PlanError) (old : List (List ℕ)) → IsWanted inputs (Err error)
+pub asks_nothing : (answer : Binary → Answer) (inputs : Inputs) (error : PlanError) (old : List (List ℕ)) → GivesWanted inputs (Err error)
     → AsksWith answer inputs (lacks_memory {A = Plan} (Err error)) old old
 asks_nothing answer inputs (errors.Refused refusal) old wanted = record {
   none = λ other broken. refl;

@@ -4,7 +4,7 @@ use Rattle.std.specs.List.{cons_option, filter_map, list_all, list_any, position
 use Rattle.std.specs.Prelude.{is_none, if◌then◌else◌}
 use Rattle.std.specs.Str.{bytes_eq}
 use Rattle.std.proofs.lemmas.Bool.{and_parts}
-use Rattle.nextest_filtering_graph.specs.Graph.{Graph, both, ids, place_of, placed}
+use Rattle.nextest_filtering_graph.specs.Graph.{Graph, both, ids, place_of, places_of_link}
 use Rattle.nextest_filtering_graph.specs.Graph as making
 use Rattle.nextest_filtering_graph.specs.Making.{IsGraphOf, Makes, has_unknown}
 use Rattle.nextest_filtering_graph.specs.declared.graph_error.GraphError.TheVariants as error
@@ -103,5 +103,5 @@ kept_all f (x ∷ xs) (y ∷ ys) e =
 -- the graph of a workspace's packages and links is its graph
 pub same_graph : (workspace : WorkspaceRecord) (graph : Graph) → IsGraphOf (pairs_of_packages workspace.packages) (pairs_of_links workspace.links) graph → graph ≡ graph_of workspace
 same_graph workspace graph is =
-    let links = kept_all (placed (ids (pairs_of_packages workspace.packages))) (pairs_of_links workspace.links) graph.links is.links_are in
+    let links = kept_all (places_of_link (ids (pairs_of_packages workspace.packages))) (pairs_of_links workspace.links) graph.links is.links_are in
     λ i. record { packages = is.packages_are i; links = links i }

@@ -21,7 +21,7 @@ use Rattle.nextest_filtering_graph.specs.Graph.{Graph}
 use Rattle.nextest_filtering_ast.specs.Meaning.{MatchesName}
 use Rattle.nextest_filtering_ast.specs.Tree.{Leaf, Matcher, Tree, binary_id, binary_name, built_for, default_filter, dependencies, dependents, difference, everything, group, intersection, kind, matching, negation, nothing, package_name, parens, set, test_name, union}
 use Rattle.test_runner_core_inputs.specs.declared.inputs.Inputs.{Inputs}
-use Rattle.test_runner_core_listing.specs.Answers.{Answers, seen, seen_test}
+use Rattle.test_runner_core_listing.specs.Answers.{Answers, query_of, seen_test}
 use Rattle.test_runner_core_plan.specs.declared.plan.Plan.{Plan}
 use Rattle.test_runner_core_plan.specs.declared.plan_settings.PlanSettings.{PlanSettings}
 use Rattle.test_runner_core_platforms.specs.declared.platform_spec.PlatformSpec.{PlatformSpec}
@@ -138,7 +138,7 @@ answers_alike : (workspace : WorkspaceRecord) (of_test : query.Test → PlanSett
     → AreAnswersOf workspace of_test (record { filters = t ∷ default ∷ []; default = default }) answers
     → AreAnswersOf workspace of_test (record { filters = with_default t ∷ default ∷ []; default = default }) answers
 answers_alike workspace of_test cx known t default answers free are = record {
-  lists = λ binary. told_alike (all_alike (graph_of workspace) (seen binary) Either Either cx known default free t) (answers.lists binary) (are.lists binary);
+  lists = λ binary. told_alike (all_alike (graph_of workspace) (query_of binary) Either Either cx known default free t) (answers.lists binary) (are.lists binary);
   selects = λ binary name.
       let test = seen_test binary name in
       told_alike (all_alike (graph_of workspace) test.binary (λ m. Tells (MatchesName m test.name)) (λ m. Tells (IsOfGroup of_test test m)) cx known default free t) (answers.selects binary name)

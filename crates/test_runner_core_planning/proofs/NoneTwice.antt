@@ -17,7 +17,7 @@ use Rattle.std.proofs.lemmas.Slice.Eq.{bytes_eq-Decides}
 use Rattle.nextest_run_events_results.specs.declared.instance.OwnedTestInstanceId.{OwnedTestInstanceId}
 use Rattle.test_runner_core_inputs.specs.declared.inputs.Inputs.{Inputs}
 use Rattle.test_runner_core_listing.specs.Answers.{Answers, seen_test}
-use Rattle.test_runner_core_listing.specs.Listing.{Found, accepted, accepted_names, refused_name, ids_of, listing, selected_in, skipped_in, tests_of, ◌>>=◌}
+use Rattle.test_runner_core_listing.specs.Listing.{Found, accepted_answer, accepted_names, refused_name, ids_of, listing, selected_in, skipped_in, tests_of, ◌>>=◌}
 use Rattle.test_runner_core_listing.specs.declared.listing_fault.ListingFault.{ListingFault}
 use Rattle.test_runner_core_listing.specs.declared.listing_fault.ListingFault.TheVariants as refused
 use Rattle.test_runner_core_planning.specs.Checks.{Planned, listed_in}
@@ -78,7 +78,7 @@ names_once before (name ∷ names) e once =
     subst (λ (all : List (List ℕ)). IsDistinct bytes_eq all) (append_assoc before (name ∷ []) names)
     (names_once (before ++ name ∷ []) names passed.1 (IsDistinct-push nat_list_eq_equiv before name once passed.0))
 
-accepted_once : (answered : Answer) → IfOk (accepted answered) (IsDistinct bytes_eq)
+accepted_once : (answered : Answer) → IfOk (accepted_answer answered) (IsDistinct bytes_eq)
 accepted_once (Ok names) = by_refusal (refused_name [] names) refl
   where
     by_refusal : (refusal : Option ListingFault) → refused_name [] names ≡ refusal → IfOk (accepted_names names refusal) (IsDistinct bytes_eq)
@@ -153,7 +153,7 @@ listed_once : (answer : Binary → Answer) (chosen : Answers) (binaries : List B
 listed_once answer chosen [] e = record { once = none_distinct same_test; theirs = λ id apart. tt }
 listed_once answer chosen (binary ∷ binaries) e =
     let apart = or_parts (is_among (ids_of binaries) binary.id) (has_repeat (ids_of binaries)) e in
-    by_answer apart.0 (accepted (answer binary)) (accepted_once (answer binary)) (listing answer chosen binaries) (listed_once answer chosen binaries apart.1)
+    by_answer apart.0 (accepted_answer (answer binary)) (accepted_once (answer binary)) (listing answer chosen binaries) (listed_once answer chosen binaries apart.1)
   where
     joined : List (List ℕ) → Found → Found
     joined names rest = record { tests = selected_in chosen binary names ++ rest.tests; skipped = skipped_in chosen binary names ++ rest.skipped }

@@ -8,7 +8,7 @@ use Rattle.nextest_filtering_filters.specs.Query.{Test}
 use Rattle.nextest_run_events_results.specs.declared.instance.OwnedTestInstanceId.{OwnedTestInstanceId}
 use Rattle.test_runner_core_inputs.specs.declared.inputs.Inputs.{Inputs}
 use Rattle.test_runner_core_listing.specs.Answers.{Answers, seen_test}
-use Rattle.test_runner_core_listing.specs.Listing.{Found, accepted, accepted_names, refused_name, listing, selected_in, skipped_in, tests_of, ◌>>=◌}
+use Rattle.test_runner_core_listing.specs.Listing.{Found, accepted_answer, accepted_names, refused_name, listing, selected_in, skipped_in, tests_of, ◌>>=◌}
 use Rattle.test_runner_core_listing.specs.declared.listing_fault.ListingFault.{ListingFault}
 use Rattle.test_runner_core_plan.specs.declared.plan.PlanTest.{PlanTest}
 use Rattle.test_runner_core_plan.specs.declared.plan_settings.PlanSettings.{PlanSettings}
@@ -36,7 +36,7 @@ pub record IsListed (answer : Binary → Answer) (chosen : Answers) (binaries : 
   pub named : Contains names test.test_name
   pub chosen_name : chosen.selects binary test.test_name ≡ true
 
-accepted_is : (answered : Answer) (names : List (List ℕ)) → accepted answered ≡ Ok names → answered ≡ Ok names
+accepted_is : (answered : Answer) (names : List (List ℕ)) → accepted_answer answered ≡ Ok names → answered ≡ Ok names
 accepted_is (Ok found) names e = by_refusal (refused_name [] found) e
   where
     by_refusal : (refusal : Option ListingFault) → accepted_names found refusal ≡ Ok names → ◌≡◌ {A = Answer} (Ok found) (Ok names)
@@ -47,7 +47,7 @@ accepted_is (Err cause) names e = absurd (let g = e in cc)
 -- a listing of binaries, at its first
 record First (answer : Binary → Answer) (chosen : Answers) (binary : Binary) (binaries : List Binary) (found : Found) : Type 0 where
   names : List (List ℕ)
-  answered : accepted (answer binary) ≡ Ok names
+  answered : accepted_answer (answer binary) ≡ Ok names
   rest : Found
   listed : listing answer chosen binaries ≡ Ok rest
   tests : found.tests ≡ selected_in chosen binary names ++ rest.tests
@@ -55,12 +55,12 @@ record First (answer : Binary → Answer) (chosen : Answers) (binary : Binary) (
 
 first_of : (answer : Binary → Answer) (chosen : Answers) (binary : Binary) (binaries : List Binary) (found : Found)
     → listing answer chosen (binary ∷ binaries) ≡ Ok found → First answer chosen binary binaries found
-first_of answer chosen binary binaries found e = by_answer (accepted (answer binary)) refl (listing answer chosen binaries) refl e
+first_of answer chosen binary binaries found e = by_answer (accepted_answer (answer binary)) refl (listing answer chosen binaries) refl e
   where
     joined : List (List ℕ) → Found → Found
     joined names rest = record { tests = selected_in chosen binary names ++ rest.tests; skipped = skipped_in chosen binary names ++ rest.skipped }
 
-    by_answer : (first : Result (List (List ℕ)) ListingFault) → accepted (answer binary) ≡ first → (more : Result Found ListingFault)
+    by_answer : (first : Result (List (List ℕ)) ListingFault) → accepted_answer (answer binary) ≡ first → (more : Result Found ListingFault)
         → listing answer chosen binaries ≡ more → (first >>= (λ names. more >>= (λ rest. Ok (joined names rest)))) ≡ Ok found
         → First answer chosen binary binaries found
     by_answer (Ok names) a (Ok rest) m h =
@@ -220,7 +220,7 @@ exactly_the_wanted answer inputs plan choice force (it, planned, built) settles 
     )
 
 -- names that are accepted are those that were answered
-same_names : (answered : Answer) (names found : List (List ℕ)) → accepted answered ≡ Ok names → answered ≡ Ok found → found ≡ names
+same_names : (answered : Answer) (names found : List (List ℕ)) → accepted_answer answered ≡ Ok names → answered ≡ Ok found → found ≡ names
 same_names answered names found e f = let g : ◌≡◌ {A = Answer} (Ok found) (Ok names) = sym f ∙ accepted_is answered names e in cc
 
 -- where all binaries answer, the wanted tests are theirs

@@ -16,14 +16,14 @@ use Rattle.nextest_filtering_filters.specs.Formula.{Formula, Gives, both, both_g
 use Rattle.nextest_filtering_filters.specs.Meaning.{Either, Never, Tells}
 use Rattle.nextest_filtering_filters.specs.Query as query
 use Rattle.nextest_filtering_graph.specs.Graph.{Graph}
-use Rattle.nextest_filtering_ast.specs.Grammar.{Compares, Conjunction, Expression, IsFilterset, ReadsArgument, Unary, a_group, a_negation, a_predicate, first_conjunction, first_operand, joined, next_conjunction, next_operand}
+use Rattle.nextest_filtering_ast.specs.Grammar.{IsPattern, Conjunction, Expression, IsFilterset, ReadsArgument, Unary, a_group, a_negation, a_predicate, first_conjunction, first_operand, joint_of, next_conjunction, next_operand}
 use Rattle.nextest_filtering_ast.specs.Meaning.{MatchesName}
 use Rattle.nextest_filtering_ast.specs.Tree.{Leaf, Matcher, Subject, Tree, binary_id, binary_name, built_for, default_filter, dependencies, dependents, everything, group, kind, matching, nothing, package_name, test_name}
 use Rattle.nextest_filtering_ast.specs.declared.leaf.BuildPlatform.{BuildPlatform}
 use Rattle.nextest_filtering_ast.specs.declared.leaf.BuildPlatform.TheVariants as platform
 use Rattle.nextest_filtering_ast.specs.declared.operators.Joint.{Joint}
 use Rattle.nextest_filtering_ast.specs.declared.operators.Joint.TheVariants as joint
-use Rattle.test_runner_core_listing.specs.Answers.{Answers, seen, seen_test}
+use Rattle.test_runner_core_listing.specs.Answers.{Answers, query_of, seen_test}
 use Rattle.test_runner_core_plan.specs.declared.plan_settings.PlanSettings.{PlanSettings}
 use Rattle.test_runner_core_workspace.specs.declared.record.Binary.{Binary}
 use Rattle.test_runner_core_workspace.specs.declared.record.WorkspaceRecord.{WorkspaceRecord}
@@ -185,7 +185,7 @@ module _ (workspace : WorkspaceRecord) (of_test : query.Test → PlanSettings) (
   listed binary =
       told (AllCanHold workspace it binary)
       (all_or_not _ (IsKnownTree (graph_of workspace))
-      (λ filter known_filter. tree_decided (graph_of workspace) (seen binary) Either Either (λ m reads value. inl tt) (λ m reads value. inl tt) filter it.default known_filter known_default) it.filters known)
+      (λ filter known_filter. tree_decided (graph_of workspace) (query_of binary) Either Either (λ m reads value. inl tt) (λ m reads value. inl tt) filter it.default known_filter known_default) it.filters known)
 
   selected : (binary : Binary) (name : List ℕ) → (b : Bool) × Tells (AllHold workspace of_test it binary name) b
   selected binary name =
@@ -205,7 +205,7 @@ module _ (workspace : WorkspaceRecord) (of_test : query.Test → PlanSettings) (
 
 -- what is read of a text has such matchers
 argument_read : (it : Leaf) (argument rest : List ℕ) → ReadsArgument it argument rest → HasReadableMatcher it
-argument_read (matching subject m) argument rest reads = λ is. subst (λ how. Compares how m.text) is reads.0
+argument_read (matching subject m) argument rest reads = λ is. subst (λ how. IsPattern how m.text) is reads.0
 argument_read (built_for p) argument rest reads = tt
 argument_read default_filter argument rest reads = tt
 argument_read everything argument rest reads = tt
@@ -214,7 +214,7 @@ argument_read nothing argument rest reads = tt
 abbrev AreReadable : Tree → Type 0
 AreReadable tree = AllLeaves HasReadableMatcher (shape_of_tree tree)
 
-joined_read : (op : Joint) (t u : Tree) → AreReadable t → AreReadable u → AreReadable (joined op t u)
+joined_read : (op : Joint) (t u : Tree) → AreReadable t → AreReadable u → AreReadable (joint_of op t u)
 joined_read (joint.And op) t u one other = (one, other)
 joined_read (joint.Minus op) t u one other = (one, other)
 

@@ -9,13 +9,13 @@ use Rattle.nextest_filtering_filters.specs.Meaning.{Tells}
 use Rattle.nextest_filtering_filters.specs.Query as query
 use Rattle.nextest_filtering_filters.specs.declared.known_groups.KnownGroups.{KnownGroups}
 use Rattle.nextest_filtering_filters.specs.declared.known_groups.KnownGroups.TheVariants as groups
-use Rattle.nextest_filtering_graph.specs.Graph.{Graph, ids, placed}
+use Rattle.nextest_filtering_graph.specs.Graph.{Graph, ids, places_of_link}
 use Rattle.nextest_filtering_ast.specs.Meaning.{MatchesName}
 use Rattle.nextest_filtering_ast.specs.Tree.{Matcher, Tree}
 use Rattle.test_runner_core_inputs.specs.declared.inputs.Inputs.{Inputs}
 use Rattle.test_runner_core_plan.specs.declared.plan_settings.PlanSettings.{PlanSettings}
 use Rattle.test_runner_core_settings.specs.declared.configured.RunSettings.{RunSettings}
-use Rattle.test_runner_core_listing.specs.Answers.{Answers, seen, seen_test}
+use Rattle.test_runner_core_listing.specs.Answers.{Answers, query_of, seen_test}
 use Rattle.test_runner_core_workspace.specs.declared.record.Binary.{Binary}
 use Rattle.test_runner_core_workspace.specs.declared.record.Link.{Link}
 use Rattle.test_runner_core_workspace.specs.declared.record.Package.{Package}
@@ -39,7 +39,7 @@ pairs_of_binaries binaries = map (λ it. (it.id, it.name)) binaries
 abbrev pub graph_of : WorkspaceRecord → Graph
 graph_of workspace = record {
   packages = pairs_of_packages workspace.packages;
-  links = filter_map (placed (ids (pairs_of_packages workspace.packages))) (pairs_of_links workspace.links);
+  links = filter_map (places_of_link (ids (pairs_of_packages workspace.packages))) (pairs_of_links workspace.links);
 }
 
 abbrev pub context_of : WorkspaceRecord → Context
@@ -95,7 +95,7 @@ IsOfGroup of_test test m = MatchesName m (text_of (of_test test).test_group)
 
 -- each of them can hold on a binary, by answers of its own to what it asks of the binary's tests
 abbrev pub AllCanHold : WorkspaceRecord → InForce → Binary → Type 0
-AllCanHold workspace it binary = All (λ filter. TreeCanBeOn (graph_of workspace) filter it.default (seen binary) true) it.filters
+AllCanHold workspace it binary = All (λ filter. TreeCanBeOn (graph_of workspace) filter it.default (query_of binary) true) it.filters
 
 -- all of them hold on a test, where tests have these settings
 abbrev pub AllHold : WorkspaceRecord → (query.Test → PlanSettings) → InForce → Binary → List ℕ → Type 0

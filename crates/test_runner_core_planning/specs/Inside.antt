@@ -79,10 +79,10 @@ pub record HasWanted (inputs : Inputs) (wanted : Wanted) : Type 0 where
   pub filtered : IsFilteredBy inputs.workspace wanted.run.settings.known_groups inputs.filterset wanted.filterset
 
 -- a call gives all that inputs ask for, or refuses them
-abbrev pub IsWanted : Inputs → Result Wanted PlanError → Type 0
-IsWanted inputs (Ok wanted) = HasWanted inputs wanted
-IsWanted inputs (Err (error.Refused refusal)) = IsRefusedEarly inputs refusal
-IsWanted inputs (Err error.OutOfMemory) = ⊤
+abbrev pub GivesWanted : Inputs → Result Wanted PlanError → Type 0
+GivesWanted inputs (Ok wanted) = HasWanted inputs wanted
+GivesWanted inputs (Err (error.Refused refusal)) = IsRefusedEarly inputs refusal
+GivesWanted inputs (Err error.OutOfMemory) = ⊤
 
 -- ---- what a profile answers
 

@@ -5,7 +5,7 @@ use Rattle.nextest_config_elements_values.specs.Retries.{count_of}
 use Rattle.nextest_run_events_results.specs.declared.instance.OwnedTestInstanceId.{OwnedTestInstanceId}
 use Rattle.test_runner_core_inputs.specs.declared.inputs.Inputs.{Inputs}
 use Rattle.test_runner_core_listing.specs.Answers.{seen_test}
-use Rattle.test_runner_core_listing.specs.Listing.{accepted}
+use Rattle.test_runner_core_listing.specs.Listing.{accepted_answer}
 use Rattle.test_runner_core_plan.specs.declared.plan.Plan.{Plan}
 use Rattle.test_runner_core_plan.specs.declared.plan.PlanTest.{PlanTest}
 use Rattle.test_runner_core_settings.specs.Laws.{AgreeInFiles}
@@ -44,7 +44,7 @@ pub record IsTestOn (inputs : Inputs) (names : Binary → List (List ℕ)) (choi
 
 -- each binary of a workspace answers these names, and they are accepted
 abbrev pub AllAnswer : (Binary → Answer) → Inputs → (Binary → List (List ℕ)) → Type 0
-AllAnswer answer inputs names = (binary : Binary) → Contains inputs.workspace.binaries binary → accepted (answer binary) ≡ Ok (names binary)
+AllAnswer answer inputs names = (binary : Binary) → Contains inputs.workspace.binaries binary → accepted_answer (answer binary) ≡ Ok (names binary)
 
 -- Two roads lead to the selected tests: where each binary answers names that are accepted, they are those tests of all binaries, whether
 -- listed or not, on which the filters in force hold.

@@ -1,8 +1,8 @@
 // The filters in force.
 ghost use Rattle.std.specs.Prelude.{◌≡◌, IfOk};
 ghost use Rattle.std.specs.Option.{option_copied};
-ghost use Rattle.nextest_filtering_graph.specs.Making.{lent};
-ghost use Rattle.test_runner_core_listing.specs.Answers.{lent as lent_filters};
+ghost use Rattle.nextest_filtering_graph.specs.Making.{lent_pairs};
+ghost use Rattle.test_runner_core_listing.specs.Answers.{lent_compiled as lent_filters};
 ghost use Rattle.test_runner_core_planning.specs.Filtering as words;
 ghost use Rattle.test_runner_core_planning.specs.Inside.{GivesFilterset, in_force};
 ghost use Rattle.test_runner_core_workspace.specs.Workspace.{refusal_of};
@@ -22,7 +22,7 @@ fn package_pairs<'w>(
     alloc: Global,
     packages: &'w [Package],
 ) -> Result<Vec<(&'w str, &'w str)>, AllocError>
-    ensures { IfOk result (λ pairs. lent pairs.items ≡ words.pairs_of_packages packages.now) }
+    ensures { IfOk result (λ pairs. lent_pairs pairs.items ≡ words.pairs_of_packages packages.now) }
 {
     let mut pairs = Vec::new(alloc);
     for package in packages {
@@ -33,7 +33,7 @@ fn package_pairs<'w>(
 
 // Links, each by the ids of its ends.
 fn link_pairs<'w>(alloc: Global, links: &'w [Link]) -> Result<Vec<(&'w str, &'w str)>, AllocError>
-    ensures { IfOk result (λ pairs. lent pairs.items ≡ words.pairs_of_links links.now) }
+    ensures { IfOk result (λ pairs. lent_pairs pairs.items ≡ words.pairs_of_links links.now) }
 {
     let mut pairs = Vec::new(alloc);
     for link in links {
@@ -128,7 +128,8 @@ pub(crate) fn filters_in_force<'f>(
     default: &'f CompiledExpr,
     is_ignored: bool,
 ) -> Result<Vec<&'f CompiledExpr>, AllocError>
-    ensures { IfOk result (λ filters. lent_filters filters.items ≡ in_force (option_copied filterset.entry) is_ignored default.now) }
+    ensures { IfOk result (λ filters. lent_filters filters.items
+        ≡ in_force (option_copied filterset.entry) is_ignored default.now) }
 {
     let mut filters = Vec::new(alloc);
     if let Some(filterset) = filterset {

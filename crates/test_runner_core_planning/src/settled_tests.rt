@@ -4,11 +4,11 @@ ghost use Rattle.nextest_config_elements_choices.specs.declared.run_mode.Nextest
 ghost use Rattle.nextest_config_resolution_profiles.specs.Enabled.{AreNamesOf, HasEnabled, IsEnabled};
 ghost use Rattle.nextest_config_resolution_profiles.specs.Evaluatable.{Evaluatable};
 ghost use Rattle.nextest_config_resolution_profiles.specs.HeldRules.{AreHeldColumns};
-ghost use Rattle.nextest_config_resolution_settings.specs.Nearest.{lent};
+ghost use Rattle.nextest_config_resolution_settings.specs.Nearest.{lent_layers};
 ghost use Rattle.nextest_filtering_compiling.specs.Filtersets.{HasOnTest};
 ghost use Rattle.nextest_filtering_compiling.specs.declared.filterset.Filterset.{Filterset};
 ghost use Rattle.nextest_filtering_filters.specs.Query.{Test};
-ghost use Rattle.test_runner_core_listing.specs.Answers.{seen, seen_test};
+ghost use Rattle.test_runner_core_listing.specs.Answers.{query_of, seen_test};
 ghost use Rattle.test_runner_core_listing.specs.Selected.{tests_in, tests_of_one};
 ghost use Rattle.test_runner_core_plan.specs.declared.plan_settings.PlanSettings.{PlanSettings};
 ghost use Rattle.test_runner_core_planning.specs.Plan.{with_settings};
@@ -103,7 +103,8 @@ fn push_tests(
         → OnOk result (tests.new.items
         ≡ tests.old.items ++ map (with_settings of_test) (tests_of_one of_binary.entry)) }
     ensures scripts { (before : List Test) → HasEnabled HasOnTest profile.now before scripts.old
-        → OnOk result (HasEnabled HasOnTest profile.now (before ++ tests_of_one of_binary.entry) scripts.new) }
+        → OnOk result
+        (HasEnabled HasOnTest profile.now (before ++ tests_of_one of_binary.entry) scripts.new) }
 {
     let SelectedTests { binary, names } = of_binary;
     let held = held_rules_of(alloc, profile, binary, names.as_slice())?;
@@ -124,7 +125,7 @@ fn held_rules_of(
     binary: &Binary,
     names: &[Text],
 ) -> Result<HeldRules, AllocError>
-    ensures { IfOk result (AreHeldColumns HasOnTest profile.now (seen binary.now) names.now) }
+    ensures { IfOk result (AreHeldColumns HasOnTest profile.now (query_of binary.now) names.now) }
 {
     let texts = texts_of(alloc, names)?;
     profile.held_rules(alloc, &query_of(binary), texts.as_slice())
@@ -132,7 +133,7 @@ fn held_rules_of(
 
 // The names, each lent as a text.
 fn texts_of<'n>(alloc: Global, names: &'n [Text]) -> Result<Vec<&'n str>, AllocError>
-    ensures { IfOk result (λ it. lent it.items ≡ names.now) }
+    ensures { IfOk result (λ it. lent_layers it.items ≡ names.now) }
 {
     let mut texts = Vec::with_capacity(alloc, names.len())?;
     for name in names {

@@ -1,7 +1,7 @@
 // What inputs ask for.
 ghost use Rattle.std.specs.Prelude.{◌≡◌, ◌++◌, IfOk};
 ghost use Rattle.test_runner_core_planning.specs.Filtering as filtering;
-ghost use Rattle.test_runner_core_planning.specs.Inside.{AreSettled, IsConfigured, IsWanted};
+ghost use Rattle.test_runner_core_planning.specs.Inside.{AreSettled, IsConfigured, GivesWanted};
 
 use crate::filtering::{context_of, filterset_in};
 use crate::plan_error::PlanError;
@@ -70,7 +70,7 @@ pub(crate) fn wanted_in<'c>(
 ) -> Result<Wanted<'c>, PlanError>
     requires configured { IsConfigured inputs.now config.now }
     requires context { cx.now ≡ filtering.context_of inputs.now.workspace }
-    ensures { IsWanted inputs.now result }
+    ensures { GivesWanted inputs.now result }
 {
     let run = run_settings(alloc, config, inputs)?;
     let known = &run.settings.known_groups;

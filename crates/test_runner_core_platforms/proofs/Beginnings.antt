@@ -3,7 +3,7 @@ use Rattle.std.proofs.Common.{◌≡◌, refl, ℕ, Bool, true, false, List, [],
 use Rattle.std.specs.Prelude.{codes, ◌==◌, Result, Ok, Err}
 use Rattle.std.specs.Borrow.{Bor}
 use Rattle.std.proofs.lemmas.Bool.{or_cases, eqb-true}
-use Rattle.nextest_filtering_ast.specs.Grammar.{Behind, unblanked}
+use Rattle.nextest_filtering_ast.specs.Grammar.{Behind, after_blanks}
 use Rattle.test_runner_core_platforms.specs.Spec.{Condition, fact, fact_value, negation, all_of, any_of}
 use Rattle.test_runner_core_platforms.specs.Grammar.{starts, ReadsName, ReadsValue, goes_on, IsCondition, is_fact, is_value, is_negation, is_all, is_any}
 use Rattle.test_runner_core_platforms.specs.Opened.{name_of}
@@ -63,7 +63,7 @@ value_found text name r s (Ok found) read equals is =
 value_found text name r s (Err (Bad left)) read equals none = λ it rest is. no_text name s it rest none (value_only text name r s it rest read equals is)
 value_found text name r s (Err Memory) read equals is = tt
 
-ends_by : (r : List ℕ) (byte : ℕ) (t : List ℕ) (b : Bool) → unblanked r ≡ byte ∷ t → goes_on byte ≡ b → ((s : List ℕ) → Behind (codes "(") r s → ⊥) → ((s : List ℕ) → Behind (codes "=") r s → ⊥) → b ≡ false
+ends_by : (r : List ℕ) (byte : ℕ) (t : List ℕ) (b : Bool) → after_blanks r ≡ byte ∷ t → goes_on byte ≡ b → ((s : List ℕ) → Behind (codes "(") r s → ⊥) → ((s : List ℕ) → Behind (codes "=") r s → ⊥) → b ≡ false
 ends_by r byte t true e goes opens equals =
     elim (or_cases (byte == 61) (byte == 40) goes) [
       | inl one ↦ absurd (equals t (e ∙ ap (λ (n : ℕ). n ∷ t) (eqb-true byte 61 one)))
@@ -71,14 +71,14 @@ ends_by r byte t true e goes opens equals =
     ]
 ends_by r byte t false e goes opens equals = refl
 
-ends_at : (r ahead : List ℕ) → unblanked r ≡ ahead → ((s : List ℕ) → Behind (codes "(") r s → ⊥) → ((s : List ℕ) → Behind (codes "=") r s → ⊥) → starts goes_on ahead ≡ false
+ends_at : (r ahead : List ℕ) → after_blanks r ≡ ahead → ((s : List ℕ) → Behind (codes "(") r s → ⊥) → ((s : List ℕ) → Behind (codes "=") r s → ⊥) → starts goes_on ahead ≡ false
 ends_at r [] e opens equals = refl
 ends_at r (byte ∷ t) e opens equals = ends_by r byte t (goes_on byte) e refl opens equals
 
 pub fact_found : (text name rest copy : List ℕ) → ReadsName text name rest → ((s : List ℕ) → Behind (codes "(") rest s → ⊥) → ((s : List ℕ) → Behind (codes "=") rest s → ⊥) → copy ≡ name
     → Begins text (begins.Whole (part.Fact copy)) rest
 fact_found text name rest copy read opens equals same =
-    (fact copy, refl, subst (λ (n : List ℕ). IsCondition text (fact n) rest) (sym same) (is_fact text name rest read (ends_at rest (unblanked rest) refl opens equals)))
+    (fact copy, refl, subst (λ (n : List ℕ). IsCondition text (fact n) rest) (sym same) (is_fact text name rest read (ends_at rest (after_blanks rest) refl opens equals)))
 
 -- ---- either
 

@@ -4,7 +4,7 @@ use Rattle.std.specs.Prelude.{◌==◌, if◌then◌else◌}
 use Rattle.std.proofs.lemmas.Bool.{eqb-true}
 use Rattle.std.proofs.lemmas.List.{append-nil, append_assoc, drop_at, same_from_push, take_at}
 use Rattle.test_runner_core_platforms.specs.Spec.{Condition, fact, fact_value, negation, all_of, any_of, Conditions, no_conditions, with_first}
-use Rattle.test_runner_core_platforms.specs.Flat.{append, with_last, joined_by, flat, flat_all, inside_of, taken, after, last_of, condition_of, conditions_of, IsFlat, AreFlat, IsLastChild}
+use Rattle.test_runner_core_platforms.specs.Flat.{append, with_last, joined_by, flat, flat_all, inside_of, last_conditions, after, last_of, condition_of, conditions_of, IsFlat, AreFlat, IsLastChild}
 use Rattle.test_runner_core_platforms.specs.declared.part.Joint.{Joint}
 use Rattle.test_runner_core_platforms.specs.declared.part.Joint.TheVariants as joints
 use Rattle.test_runner_core_platforms.specs.declared.part.Part.{Part}
@@ -66,27 +66,27 @@ pushed no_conditions before = before
 pushed (with_first it each) before = pushed each (it ∷ before)
 
 taken_by : (it : Condition) (before : List Condition) (each : Conditions) (count more : ℕ) (b : Bool) → (count == 0) ≡ b → count ≡ length (flat it) + more
-    → taken count (it ∷ before) each ≡ taken more before (with_first it each)
+    → last_conditions count (it ∷ before) each ≡ last_conditions more before (with_first it each)
 taken_by it before each count more true test sum =
     let none : count ≡ 0 = eqb-true count 0 test in
     absurd (Prim.omega (arith, none, some_parts it, sum))
 taken_by it before each count more false test sum =
-    ap (λ (b : Bool). if b then (each, it ∷ before) else taken (count - length (flat it)) before (with_first it each)) test
-    ∙ ap (λ (n : ℕ). taken n before (with_first it each)) (Prim.omega (arith, sum))
+    ap (λ (b : Bool). if b then (each, it ∷ before) else last_conditions (count - length (flat it)) before (with_first it each)) test
+    ∙ ap (λ (n : ℕ). last_conditions n before (with_first it each)) (Prim.omega (arith, sum))
 
 taken_more : (each : Conditions) (before : List Condition) (behind : Conditions) (count more : ℕ) → count ≡ length (flat_all each) + more
-    → taken count (pushed each before) behind ≡ taken more before (append each behind)
-taken_more no_conditions before behind count more sum = ap (λ (n : ℕ). taken n before behind) (Prim.omega (arith, sum))
+    → last_conditions count (pushed each before) behind ≡ last_conditions more before (append each behind)
+taken_more no_conditions before behind count more sum = ap (λ (n : ℕ). last_conditions n before behind) (Prim.omega (arith, sum))
 taken_more (with_first it each) before behind count more sum =
     let rest : count ≡ length (flat_all each) + (length (flat it) + more) = Prim.omega (arith, sum, length-append (flat it) (flat_all each)) in
     taken_more each (it ∷ before) behind count (length (flat it) + more) rest
     ∙ taken_by it before (append each behind) (length (flat it) + more) more (length (flat it) + more == 0) refl refl
 
-taken_none : (before : List Condition) (each : Conditions) → taken 0 before each ≡ (each, before)
+taken_none : (before : List Condition) (each : Conditions) → last_conditions 0 before each ≡ (each, before)
 taken_none [] each = refl
 taken_none (it ∷ before) each = refl
 
-taken_all : (each : Conditions) (before : List Condition) → taken (length (flat_all each)) (pushed each before) no_conditions ≡ (each, before)
+taken_all : (each : Conditions) (before : List Condition) → last_conditions (length (flat_all each)) (pushed each before) no_conditions ≡ (each, before)
 taken_all each before =
     taken_more each before no_conditions (length (flat_all each)) 0 (Prim.omega arith)
     ∙ (taken_none before (append each no_conditions) ∙ ap (λ (e : Conditions). (e, before)) (append-none each))
@@ -118,7 +118,7 @@ condition-flat it = ap last_of (ap (λ (l : List Part). after l []) (sym (append
 
 pub conditions-flat : (each : Conditions) → conditions_of (flat_all each) ≡ each
 conditions-flat each =
-    ap (λ (before : List Condition). (taken (length (flat_all each)) before no_conditions).0)
+    ap (λ (before : List Condition). (last_conditions (length (flat_all each)) before no_conditions).0)
     (ap (λ (l : List Part). after l []) (sym (append-nil (flat_all each))) ∙ after-flat_all each [] [])
     ∙ ap (λ (found : Conditions × List Condition). found.0) (taken_all each [])
 

@@ -3,7 +3,7 @@ use Rattle.std.proofs.Common.{◌≡◌, ℕ, true, false, List, [], length, ap,
 use Rattle.std.specs.Prelude.{codes, nat_eq, Result, Ok, Err}
 use Rattle.std.proofs.lemmas.Bool.{false≢true, eqb-true}
 use Rattle.std.proofs.lemmas.List.{nil_from_length}
-use Rattle.nextest_filtering_ast.specs.Grammar.{Behind, unblanked}
+use Rattle.nextest_filtering_ast.specs.Grammar.{Behind, after_blanks}
 use Rattle.test_runner_core_platforms.specs.Spec.{Condition, Spec, triple, condition}
 use Rattle.test_runner_core_platforms.specs.Grammar.{is_of_triple, IsCondition, IsSpec}
 use Rattle.test_runner_core_platforms.specs.Parsing.{IsSplit, EndsCfg, OnlyTriple, FindsSpec}
@@ -25,27 +25,27 @@ no_close text one u read none (condition it) is =
     let same = one_condition text one u it is.0 read is.2 in
     none is.1 (subst (λ (l : List ℕ). Behind (codes ")") l is.1) (sym same.1) is.3)
 
-pub no_end : (text : List ℕ) (one : Condition) (u rest ahead : List ℕ) → IsCondition text one u → Behind (codes ")") u rest → ahead ≡ unblanked rest → nat_eq (length ahead) 0 ≡ false → (it : Spec) → EndsCfg text it → ⊥
+pub no_end : (text : List ℕ) (one : Condition) (u rest ahead : List ℕ) → IsCondition text one u → Behind (codes ")") u rest → ahead ≡ after_blanks rest → nat_eq (length ahead) 0 ≡ false → (it : Spec) → EndsCfg text it → ⊥
 no_end text one u rest ahead read closes skipped some (triple name) is = is
 no_end text one u rest ahead read closes skipped some (condition it) is =
     let same = one_condition text one u it is.0 read is.2 in
     let ends = one_behind (codes ")") u rest is.1 closes (subst (λ (l : List ℕ). Behind (codes ")") l is.1) (sym same.1) is.3) in
-    let blank : ahead ≡ [] = skipped ∙ (ap unblanked ends ∙ is.4) in
+    let blank : ahead ≡ [] = skipped ∙ (ap after_blanks ends ∙ is.4) in
     false≢true (sym some ∙ ap (λ (l : List ℕ). nat_eq (length l) 0) blank)
 
 -- ---- triples
 
-pub no_empty : (text ahead name rest : List ℕ) → ahead ≡ unblanked text → IsSplit span.Triple ahead name rest → nat_eq (length name) 0 ≡ true → (it : Spec) → OnlyTriple text it → ⊥
+pub no_empty : (text ahead name rest : List ℕ) → ahead ≡ after_blanks text → IsSplit span.Triple ahead name rest → nat_eq (length name) 0 ≡ true → (it : Spec) → OnlyTriple text it → ⊥
 no_empty text ahead name rest skipped split none (condition it) is = is
 no_empty text ahead name rest skipped split none (triple other) is =
     let same = one_span is_of_triple name other rest is.rest split.each is.each split.ends (triple_ends text other is) (sym split.whole ∙ (skipped ∙ is.here)) in
     is.some (sym same.0 ∙ empty_is name none)
 
-pub no_blank : (text ahead name rest behind : List ℕ) → ahead ≡ unblanked text → IsSplit span.Triple ahead name rest → behind ≡ unblanked rest → nat_eq (length behind) 0 ≡ false → (it : Spec) → OnlyTriple text it → ⊥
+pub no_blank : (text ahead name rest behind : List ℕ) → ahead ≡ after_blanks text → IsSplit span.Triple ahead name rest → behind ≡ after_blanks rest → nat_eq (length behind) 0 ≡ false → (it : Spec) → OnlyTriple text it → ⊥
 no_blank text ahead name rest behind skipped split passed some (condition it) is = is
 no_blank text ahead name rest behind skipped split passed some (triple other) is =
     let same = one_span is_of_triple name other rest is.rest split.each is.each split.ends (triple_ends text other is) (sym split.whole ∙ (skipped ∙ is.here)) in
-    let blank : behind ≡ [] = passed ∙ (ap unblanked same.1 ∙ is.blank) in
+    let blank : behind ≡ [] = passed ∙ (ap after_blanks same.1 ∙ is.blank) in
     false≢true (sym some ∙ ap (λ (l : List ℕ). nat_eq (length l) 0) blank)
 
 -- ---- either

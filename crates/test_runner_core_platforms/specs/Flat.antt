@@ -43,9 +43,9 @@ inside_of (part.Joined joint inside) = inside
 -- ---- the condition of parts
 
 -- the last conditions, which have that many parts, in front of these; and those before them, the last one first
-abbrev pub taken : ℕ → List Condition → Conditions → Conditions × List Condition
-taken count [] each = (each, [])
-taken count (it ∷ more) each = if count == 0 then (each, it ∷ more) else taken (count - length (flat it)) more (with_first it each)
+abbrev pub last_conditions : ℕ → List Condition → Conditions → Conditions × List Condition
+last_conditions count [] each = (each, [])
+last_conditions count (it ∷ more) each = if count == 0 then (each, it ∷ more) else last_conditions (count - length (flat it)) more (with_first it each)
 
 -- what a part makes of the conditions before it, the last one first
 abbrev pub after_part : Part → List Condition → List Condition
@@ -53,7 +53,7 @@ after_part (part.Fact name) before = fact name ∷ before
 after_part (part.FactValue name value) before = fact_value name value ∷ before
 after_part (part.Not inside) [] = []
 after_part (part.Not inside) (it ∷ before) = negation it ∷ before
-after_part (part.Joined joint inside) before = joined_by joint (taken inside before no_conditions).0 ∷ (taken inside before no_conditions).1
+after_part (part.Joined joint inside) before = joined_by joint (last_conditions inside before no_conditions).0 ∷ (last_conditions inside before no_conditions).1
 
 -- what parts make of them
 abbrev pub after : List Part → List Condition → List Condition
@@ -70,7 +70,7 @@ condition_of parts = last_of (after parts [])
 
 -- the conditions that they make up
 abbrev pub conditions_of : List Part → Conditions
-conditions_of parts = (taken (length parts) (after parts []) no_conditions).0
+conditions_of parts = (last_conditions (length parts) (after parts []) no_conditions).0
 
 -- they are the parts of a condition, and no more
 abbrev pub IsFlat : List Part → Type 0

@@ -1,7 +1,7 @@
 -- Which texts are platform specs, and which one each is. All is over bytes; blanks are free between what stands here.
 use Rattle.std.specs.Prelude.{◌≡◌, ◌≢◌, ℕ, ◌==◌, Bool, true, false, ◌||◌, ◌&&◌, List, [], ◌∷◌, ◌++◌, codes, nat_le, not}
 use Rattle.std.specs.List.{AllByRecursion}
-use Rattle.nextest_filtering_ast.specs.Grammar.{Behind, unblanked}
+use Rattle.nextest_filtering_ast.specs.Grammar.{Behind, after_blanks}
 use Rattle.test_runner_core_platforms.specs.Spec.{Condition, fact, fact_value, negation, all_of, any_of, Conditions, no_conditions, with_first, Spec, triple, condition}
 
 -- ---- bytes
@@ -62,7 +62,7 @@ mutual
   -- a text begins with a condition, and rest follows
   pub data IsCondition : List ℕ → Condition → List ℕ → Type 0 where
     -- a name that neither `=` nor `(` follows
-    is_fact : (text name rest : List ℕ) → ReadsName text name rest → starts goes_on (unblanked rest) ≡ false → IsCondition text (fact name) rest
+    is_fact : (text name rest : List ℕ) → ReadsName text name rest → starts goes_on (after_blanks rest) ≡ false → IsCondition text (fact name) rest
     -- a name, `=`, and a value in quotes
     is_value : (text name r s value rest : List ℕ) → ReadsName text name r → Behind (codes "=") r s → ReadsValue s value rest → IsCondition text (fact_value name value) rest
     is_negation : (text r s u rest : List ℕ) (it : Condition) → ReadsName text (codes "not") r → Behind (codes "(") r s → IsCondition s it u → Behind (codes ")") u rest
@@ -83,7 +83,7 @@ mutual
 pub record IsTriple (text name : List ℕ) : Type 0 where
   pub rest : List ℕ
   pub here : Behind name text rest
-  pub blank : unblanked rest ≡ []
+  pub blank : after_blanks rest ≡ []
   pub some : name ≢ []
   pub each : AllAre is_of_triple name
 
@@ -97,7 +97,7 @@ pub record IsCfg (text : List ℕ) (it : Condition) : Type 0 where
   pub opens : Behind (codes "(") named opened
   pub reads : IsCondition opened it read
   pub closes : Behind (codes ")") read rest
-  pub blank : unblanked rest ≡ []
+  pub blank : after_blanks rest ≡ []
 
 -- the text is this spec
 abbrev pub IsSpec : List ℕ → Spec → Type 0

@@ -1,7 +1,7 @@
 -- What reading parts of a platform spec answers.
 use Rattle.std.specs.Prelude.{◌≡◌, ◌≤◌, ◌<◌, ℕ, Bool, false, List, [], ◌∷◌, length, ◌++◌, codes, Option, None, Some, Result, Ok, Err, ⊤}
 use Rattle.std.specs.Borrow.{Bor}
-use Rattle.nextest_filtering_ast.specs.Grammar.{Behind, unblanked}
+use Rattle.nextest_filtering_ast.specs.Grammar.{Behind, after_blanks}
 use Rattle.test_runner_core_platforms.specs.Spec.{Condition, fact, fact_value, negation, all_of, any_of, Spec, triple, condition}
 use Rattle.test_runner_core_platforms.specs.Grammar.{is_of_name, is_of_triple, is_of_value, AllAre, starts, ReadsName, ReadsValue, IsCondition, AreConditions, IsTriple, IsSpec}
 use Rattle.test_runner_core_platforms.specs.Flat.{flat, condition_of}
@@ -103,7 +103,7 @@ FindsCfg text None = (named opened : List ℕ) → Behind (codes "cfg") text nam
 -- a condition and `)` are all that the text has
 abbrev pub EndsCfg : List ℕ → Spec → Type 0
 EndsCfg text (triple name) = ⊥
-EndsCfg text (condition it) = (read rest : List ℕ) × IsCondition text it read × Behind (codes ")") read rest × (unblanked rest ≡ [])
+EndsCfg text (condition it) = (read rest : List ℕ) × IsCondition text it read × Behind (codes ")") read rest × (after_blanks rest ≡ [])
 
 -- the text is a triple
 abbrev pub OnlyTriple : List ℕ → Spec → Type 0

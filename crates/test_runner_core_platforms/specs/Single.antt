@@ -4,7 +4,7 @@ use Rattle.std.proofs.Common.{sym, ap, ◌∙◌, subst, inl, inr}
 use Rattle.std.proofs.lemmas.Bool.{false≢true, or_cases, eqb-true}
 use Rattle.std.proofs.lemmas.List.{append_cancel_left}
 use Rattle.nextest_filtering_escapes.specs.Text.{is_blank}
-use Rattle.nextest_filtering_ast.specs.Grammar.{Behind, unblanked}
+use Rattle.nextest_filtering_ast.specs.Grammar.{Behind, after_blanks}
 use Rattle.test_runner_core_platforms.specs.Spec.{Condition, fact, fact_value, negation, all_of, any_of, Conditions, no_conditions, with_first, Spec, triple, condition}
 use Rattle.test_runner_core_platforms.specs.Grammar.{begins_name, is_digit, is_of_name, is_of_triple, is_of_value, AllAre, IsName, starts, ReadsName, ReadsValue, goes_on, IsCondition, is_fact, is_value, is_negation, is_all, is_any, AreConditions, no_more, last_one, one_more, IsTriple, IsCfg, IsSpec}
 use Rattle.test_runner_core_platforms.specs.Parsing.{ReadsFactValue, ReadsOperation}
@@ -48,8 +48,8 @@ pub named_begins : (ahead name rest : List ℕ) → ahead ≡ name ++ rest → I
 named_begins ahead [] rest e is = absurd is
 named_begins ahead (first ∷ more) rest e is = ap (starts begins_name) e ∙ is.0
 
-pub name_begins : (text name rest : List ℕ) → ReadsName text name rest → starts begins_name (unblanked text) ≡ true
-name_begins text name rest read = named_begins (unblanked text) name rest read.here read.is
+pub name_begins : (text name rest : List ℕ) → ReadsName text name rest → starts begins_name (after_blanks text) ≡ true
+name_begins text name rest read = named_begins (after_blanks text) name rest read.here read.is
 
 pub quote_last : (v : List ℕ) (rest : List ℕ) → (v ++ codes "\"") ++ rest ≡ v ++ (34 ∷ rest)
 quote_last [] rest = refl
@@ -63,28 +63,28 @@ one_value text a r b s one other =
 
 -- ---- what follows a name
 
-fact_has_none : (sign : ℕ) (r s : List ℕ) → goes_on sign ≡ true → starts goes_on (unblanked r) ≡ false → Behind (sign ∷ []) r s → ⊥
+fact_has_none : (sign : ℕ) (r s : List ℕ) → goes_on sign ≡ true → starts goes_on (after_blanks r) ≡ false → Behind (sign ∷ []) r s → ⊥
 fact_has_none sign r s goes next e = false≢true (sym next ∙ (ap (starts goes_on) e ∙ goes))
 
 equals_opens : (r s t : List ℕ) → Behind (codes "=") r s → Behind (codes "(") r t → ⊥
 equals_opens r s t equals opens = false≢true (ap (starts (λ byte. byte == 40)) (sym equals ∙ opens))
 
-pub fact_only : (text name r : List ℕ) (it : Condition) (rest : List ℕ) → ReadsName text name r → starts goes_on (unblanked r) ≡ false → IsCondition text it rest → (it ≡ fact name) × (rest ≡ r)
+pub fact_only : (text name r : List ℕ) (it : Condition) (rest : List ℕ) → ReadsName text name r → starts goes_on (after_blanks r) ≡ false → IsCondition text it rest → (it ≡ fact name) × (rest ≡ r)
 fact_only _ name r _ _ named next (is_fact text other rest also none) =
     let one = one_name text name r other rest named also in
     (ap fact (sym one.0), sym one.1)
 fact_only _ name r _ _ named next (is_value text other t s value rest also equals read) =
     let one = one_name text name r other t named also in
-    absurd (fact_has_none 61 t s refl (subst (λ (l : List ℕ). starts goes_on (unblanked l) ≡ false) one.1 next) equals)
+    absurd (fact_has_none 61 t s refl (subst (λ (l : List ℕ). starts goes_on (after_blanks l) ≡ false) one.1 next) equals)
 fact_only _ name r _ _ named next (is_negation text t s u rest it also opens inside closes) =
     let one = one_name text name r (codes "not") t named also in
-    absurd (fact_has_none 40 t s refl (subst (λ (l : List ℕ). starts goes_on (unblanked l) ≡ false) one.1 next) opens)
+    absurd (fact_has_none 40 t s refl (subst (λ (l : List ℕ). starts goes_on (after_blanks l) ≡ false) one.1 next) opens)
 fact_only _ name r _ _ named next (is_all text t s rest each also opens inside) =
     let one = one_name text name r (codes "all") t named also in
-    absurd (fact_has_none 40 t s refl (subst (λ (l : List ℕ). starts goes_on (unblanked l) ≡ false) one.1 next) opens)
+    absurd (fact_has_none 40 t s refl (subst (λ (l : List ℕ). starts goes_on (after_blanks l) ≡ false) one.1 next) opens)
 fact_only _ name r _ _ named next (is_any text t s rest each also opens inside) =
     let one = one_name text name r (codes "any") t named also in
-    absurd (fact_has_none 40 t s refl (subst (λ (l : List ℕ). starts goes_on (unblanked l) ≡ false) one.1 next) opens)
+    absurd (fact_has_none 40 t s refl (subst (λ (l : List ℕ). starts goes_on (after_blanks l) ≡ false) one.1 next) opens)
 
 pub value_only : (text name r s : List ℕ) (it : Condition) (rest : List ℕ) → ReadsName text name r → Behind (codes "=") r s → IsCondition text it rest → ReadsFactValue name s it rest
 value_only _ name r s _ _ named equals (is_fact text other rest also none) =
@@ -125,7 +125,7 @@ operation_only _ name r s _ _ named opens (is_any text t u rest each also opened
     (one.0, subst (λ (l : List ℕ). AreConditions l each rest) same inside)
 
 -- a condition begins with a name
-pub condition_begins : (text : List ℕ) (it : Condition) (rest : List ℕ) → IsCondition text it rest → starts begins_name (unblanked text) ≡ true
+pub condition_begins : (text : List ℕ) (it : Condition) (rest : List ℕ) → IsCondition text it rest → starts begins_name (after_blanks text) ≡ true
 condition_begins _ _ _ (is_fact text name rest named none) = name_begins text name rest named
 condition_begins _ _ _ (is_value text name r s value rest named equals read) = name_begins text name r named
 condition_begins _ _ _ (is_negation text r s u rest it named opens inside closes) = name_begins text (codes "not") r named
@@ -235,12 +235,12 @@ blank_is_not byte blank =
       | inr one ↦ ap is_of_triple (eqb-true byte 13 one)
     ]
 
-stops_by : (byte : ℕ) (rest : List ℕ) (b : Bool) → is_blank byte ≡ b → starts is_of_triple (if b then unblanked rest else byte ∷ rest) ≡ false → is_of_triple byte ≡ false
+stops_by : (byte : ℕ) (rest : List ℕ) (b : Bool) → is_blank byte ≡ b → starts is_of_triple (if b then after_blanks rest else byte ∷ rest) ≡ false → is_of_triple byte ≡ false
 stops_by byte rest true blank e = blank_is_not byte blank
 stops_by byte rest false blank e = e
 
 -- where what follows the blanks doesn't go on with a triple, nothing does
-pub triple_stops : (rest : List ℕ) → starts is_of_triple (unblanked rest) ≡ false → starts is_of_triple rest ≡ false
+pub triple_stops : (rest : List ℕ) → starts is_of_triple (after_blanks rest) ≡ false → starts is_of_triple rest ≡ false
 triple_stops [] e = refl
 triple_stops (byte ∷ rest) e = stops_by byte rest (is_blank byte) refl e
 
@@ -254,7 +254,7 @@ one_triple text a b one other = (one_span is_of_triple a b one.rest other.rest o
 pub triple_or_cfg : (text name named opened : List ℕ) → IsTriple text name → Behind (codes "cfg") text named → Behind (codes "(") named opened → ⊥
 triple_or_cfg text name named opened one here opens =
     let same = one_span is_of_triple name (codes "cfg") one.rest named one.each (refl, (refl, (refl, tt))) (triple_ends text name one) (triple_stops named (ap (starts is_of_triple) opens)) (sym one.here ∙ here) in
-    false≢true (sym (ap has_some one.blank) ∙ (ap (λ (l : List ℕ). has_some (unblanked l)) same.1 ∙ ap has_some opens))
+    false≢true (sym (ap has_some one.blank) ∙ (ap (λ (l : List ℕ). has_some (after_blanks l)) same.1 ∙ ap has_some opens))
 
 pub one_cfg : (text : List ℕ) (a b : Condition) → IsCfg text a → IsCfg text b → a ≡ b
 one_cfg text a b one other =

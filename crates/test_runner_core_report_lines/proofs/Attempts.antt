@@ -17,7 +17,7 @@ use Rattle.test_runner_core_run_model.specs.declared.mark.Mark.TheVariants as ma
 use Rattle.test_runner_core_report_lines.specs.Due.{due_after, due_by, due_of}
 use Rattle.test_runner_core_report_lines.specs.declared.shows.Shows.{Shows}
 use Rattle.test_runner_core_report_lines.specs.Texts.{test_with, fate_of, fate_by, fate_after, records_in}
-use Rattle.test_runner_core_report_lines.specs.declared.fate.Fate.TheVariants as fates
+use Rattle.test_runner_core_report_lines.specs.declared.fate.ReportedFate.TheVariants as fates
 
 get_map : {X Y : Type 0} (f : X → Y) (xs : List X) (i : ℕ) → slice_get (map f xs) i ≡ option_map f (slice_get xs i)
 get_map f [] i = refl

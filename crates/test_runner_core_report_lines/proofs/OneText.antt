@@ -6,7 +6,7 @@ use Rattle.nextest_run_events_results.specs.declared.record.Record.{Record}
 use Rattle.nextest_run_events_results.specs.declared.record.RecordOutput.{RecordOutput}
 use Rattle.nextest_run_events_slices.proofs.OneSlice.{same_slice}
 use Rattle.nextest_run_events_slices.specs.Laws.{IsSamePart, IsSameSlice}
-use Rattle.nextest_run_events_slices.specs.Slices.{captured}
+use Rattle.nextest_run_events_slices.specs.Slices.{bytes_of_output}
 use Rattle.nextest_run_events_slices.specs.declared.slices.ByteSubslice.{ByteSubslice}
 use Rattle.nextest_run_events_slices.specs.declared.slices.TestOutputErrorSlice.{TestOutputErrorSlice}
 use Rattle.nextest_run_events_slices.specs.declared.slices.TestOutputErrorSlice.TheVariants.{PanicMessage, ErrorStr, ShouldPanic}
@@ -46,7 +46,7 @@ one_line None (Some (ShouldPanic other)) same = absurd same
 
 one_slice : (success : Bool) (output : RecordOutput) (one other : Option TestOutputErrorSlice) → IsShownSlice success output one → IsShownSlice success output other → slice_line one ≡ slice_line other
 one_slice true output one other first second = ap slice_line (first ∙ sym second)
-one_slice false output one other first second = one_line one other (same_slice (captured (out_of output)) (captured (err_of output)) one other first second)
+one_slice false output one other first second = one_line one other (same_slice (bytes_of_output (out_of output)) (bytes_of_output (err_of output)) one other first second)
 
 one_outputs : (told : Record) (one other : List ℕ) → IsOutputs told one → IsOutputs told other → one ≡ other
 one_outputs told one other first second =

@@ -5,7 +5,7 @@ use Rattle.nextest_run_events_results.specs.Result.{is_success}
 use Rattle.nextest_run_events_results.specs.declared.record.Record.{Record}
 use Rattle.nextest_run_events_results.specs.declared.record.RecordOutput.{RecordOutput}
 use Rattle.nextest_run_events_slices.proofs.SomeSlice.{some_slice}
-use Rattle.nextest_run_events_slices.specs.Slices.{captured}
+use Rattle.nextest_run_events_slices.specs.Slices.{bytes_of_output}
 use Rattle.nextest_run_events_slices.specs.declared.slices.TestOutputErrorSlice.{TestOutputErrorSlice}
 use Rattle.nextest_run_events_visibility.specs.declared.visibility.OutputOnTestFinished.{OutputOnTestFinished}
 use Rattle.nextest_run_events_visibility.specs.declared.visibility.OutputStoreFinal.{OutputStoreFinal}
@@ -18,7 +18,7 @@ use Rattle.test_runner_core_report_lines.specs.Texts.{IsShownSlice, NamedTest, e
 
 some_told_slice : (ok : Bool) (output : RecordOutput) → ¬ ¬ ((slice : Option TestOutputErrorSlice) × IsShownSlice ok output slice)
 some_told_slice true output never = never (None, refl)
-some_told_slice false output never = some_slice (captured (out_of output)) (captured (err_of output)) never
+some_told_slice false output never = some_slice (bytes_of_output (out_of output)) (bytes_of_output (err_of output)) never
 
 some_outputs : (shown : Bool) (told : Option Record) → ¬ ¬ ((text : List ℕ) × IsShownOutputs shown told text)
 some_outputs true (Some told) never =

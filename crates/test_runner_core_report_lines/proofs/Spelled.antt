@@ -6,7 +6,7 @@ use Rattle.nextest_run_events_results.specs.declared.result.FailureDescription.{
 use Rattle.nextest_run_events_results.specs.declared.result.FailureDescription.TheVariants as failed_by
 use Rattle.nextest_run_events_results.specs.declared.result.ExecutionResultDescription.{ExecutionResultDescription}
 use Rattle.nextest_run_events_results.specs.declared.result.ExecutionResultDescription.TheVariants as ended
-use Rattle.test_runner_core_line_syntax.specs.Spelling.{SpellsFailure, SpellsResult, SpellsSlow, joined, leaked_suffix}
+use Rattle.test_runner_core_line_syntax.specs.Spelling.{SpellsFailure, SpellsResult, SpellsSlow, line_of_fields, leaked_suffix}
 use Rattle.test_runner_core_report_lines.specs.Laws.{ResultIsSpelled, EndIsSpelled}
 use Rattle.test_runner_core_report_lines.specs.Texts.{failure_text, result_text, slow_word}
 
@@ -32,6 +32,6 @@ result_is_spelled result field spelled = subst (SpellsResult result) (result_tol
 
 pub end_is_spelled : EndIsSpelled
 end_is_spelled told result slow nanos out err spelled =
-    sym (ap (λ (first : List ℕ). joined (first ∷ slow ∷ nanos ∷ [])) (result_told told.result result spelled.0)
-    ∙ ap (λ (second : List ℕ). joined (result_text told.result ∷ second ∷ nanos ∷ [])) (slow_told told.slow slow spelled.1)
-    ∙ ap (λ (third : List ℕ). joined (result_text told.result ∷ slow_word told.slow ∷ third ∷ [])) spelled.2.1)
+    sym (ap (λ (first : List ℕ). line_of_fields (first ∷ slow ∷ nanos ∷ [])) (result_told told.result result spelled.0)
+    ∙ ap (λ (second : List ℕ). line_of_fields (result_text told.result ∷ second ∷ nanos ∷ [])) (slow_told told.slow slow spelled.1)
+    ∙ ap (λ (third : List ℕ). line_of_fields (result_text told.result ∷ slow_word told.slow ∷ third ∷ [])) spelled.2.1)

@@ -12,7 +12,7 @@ use Rattle.nextest_run_events_counters.specs.Rows.{Finished}
 use Rattle.nextest_run_events_results.specs.Result.{is_success}
 use Rattle.nextest_run_events_results.specs.declared.cancel_reason.CancelReason.{CancelReason}
 use Rattle.nextest_run_events_results.specs.declared.record.Record.{Record}
-use Rattle.nextest_run_events_visibility.specs.Visibility.{shown}
+use Rattle.nextest_run_events_visibility.specs.Visibility.{visibility_of}
 use Rattle.nextest_run_events_visibility.specs.declared.visibility.OutputOnTestFinished.{OutputOnTestFinished}
 use Rattle.test_runner_core_run_model.specs.State.{TestState, finished_as, last_record}
 use Rattle.test_runner_core_run_model.specs.declared.mark.Mark.{Mark}
@@ -49,7 +49,7 @@ display_of shows test = if is_success test.result then shows.success_output else
 
 -- what is due of a test that finished under this reason
 abbrev pub due_after : Shows → Option CancelReason → Finished → OutputOnTestFinished
-due_after shows reason test = shown shows.levels (display_of shows test) reason (level_of_test test) (final_level_of_test test) test.result
+due_after shows reason test = visibility_of shows.levels (display_of shows test) reason (level_of_test test) (final_level_of_test test) test.result
 
 -- the reason is the one that was kept as the test finished
 abbrev pub due_by : Shows → TestState → Mark → Option Record → Option OutputOnTestFinished

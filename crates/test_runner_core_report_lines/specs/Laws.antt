@@ -8,7 +8,7 @@ use Rattle.nextest_run_events_outputs.specs.declared.output.LiveSpec.{LiveSpec}
 use Rattle.nextest_run_events_results.specs.Result.{is_success}
 use Rattle.nextest_run_events_results.specs.declared.record.Record.{Record}
 use Rattle.nextest_run_events_results.specs.declared.result.ExecutionResultDescription.{ExecutionResultDescription}
-use Rattle.test_runner_core_line_syntax.specs.Spelling.{SpellsResult, SpellsRecord, joined}
+use Rattle.test_runner_core_line_syntax.specs.Spelling.{SpellsResult, SpellsRecord, line_of_fields}
 use Rattle.test_runner_core_run_state.specs.Statuses.{Status}
 use Rattle.test_runner_core_report_lines.specs.Due.{level_of_test, final_level_of_test}
 use Rattle.test_runner_core_report_lines.specs.Report.{IsDone, IsShown}
@@ -21,7 +21,7 @@ ResultIsSpelled = (result : ExecutionResultDescription) (field : List ℕ) → S
 
 -- the end of an attempt is reported by the fields that a log line spells it by
 abbrev pub EndIsSpelled : Type 0
-EndIsSpelled = (told : Record) (result slow nanos out err : List ℕ) → SpellsRecord told (result ∷ slow ∷ nanos ∷ out ∷ err ∷ []) → end_text told ≡ joined (result ∷ slow ∷ nanos ∷ [])
+EndIsSpelled = (told : Record) (result slow nanos out err : List ℕ) → SpellsRecord told (result ∷ slow ∷ nanos ∷ out ∷ err ∷ []) → end_text told ≡ line_of_fields (result ∷ slow ∷ nanos ∷ [])
 
 -- the levels of a finished test, and whether its last attempt is a success, by the description of its attempts
 pub record IsDescribed (attempts : Attempts Status) (final : Status) (told : Description LiveSpec ChildOutputDescription) : Type 0 where

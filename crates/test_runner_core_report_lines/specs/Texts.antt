@@ -17,17 +17,17 @@ use Rattle.nextest_run_events_results.specs.declared.result.ExecutionResultDescr
 use Rattle.nextest_run_events_results.specs.declared.result.ExecutionResultDescription.{ExecutionResultDescription}
 use Rattle.nextest_run_events_results.specs.declared.result.FailureDescription.TheVariants as failed_by
 use Rattle.nextest_run_events_results.specs.declared.result.FailureDescription.{FailureDescription}
-use Rattle.nextest_run_events_slices.specs.Slices.{IsSlice, captured}
+use Rattle.nextest_run_events_slices.specs.Slices.{IsSlice, bytes_of_output}
 use Rattle.nextest_run_events_slices.specs.declared.slices.ByteSubslice.{ByteSubslice}
 use Rattle.nextest_run_events_slices.specs.declared.slices.TestOutputErrorSlice.TheVariants.{PanicMessage, ErrorStr, ShouldPanic}
 use Rattle.nextest_run_events_slices.specs.declared.slices.TestOutputErrorSlice.{TestOutputErrorSlice}
-use Rattle.test_runner_core_line_syntax.specs.Spelling.{joined, leak_word, timeout_word, leaked_suffix}
+use Rattle.test_runner_core_line_syntax.specs.Spelling.{line_of_fields, leak_word, timeout_word, leaked_suffix}
 use Rattle.test_runner_core_run_state.specs.Statuses.{Status, record_of}
 use Rattle.test_runner_core_run_model.specs.State.{TestState, finished_as, is_finished, last_record}
 use Rattle.test_runner_core_run_model.specs.declared.mark.Mark.{Mark}
 use Rattle.test_runner_core_run_model.specs.declared.run_test.RunTest.{RunTest}
-use Rattle.test_runner_core_report_lines.specs.declared.fate.Fate.TheVariants as fates
-use Rattle.test_runner_core_report_lines.specs.declared.fate.Fate.{Fate}
+use Rattle.test_runner_core_report_lines.specs.declared.fate.ReportedFate.TheVariants as fates
+use Rattle.test_runner_core_report_lines.specs.declared.fate.ReportedFate.{ReportedFate}
 
 -- a test by its name, and how far it is
 pub record NamedTest : Type 0 where
@@ -50,31 +50,31 @@ GoesBy flaky (Some attempts) = attempts.now.flaky_result ≡ flaky
 
 -- a line has its fields with a tab between each two, and a line feed behind them
 abbrev pub line : List (List ℕ) → List ℕ
-line fields = joined fields ++ 10 ∷ []
+line fields = line_of_fields fields ++ 10 ∷ []
 
 -- a success that came late
-abbrev pub late_fate : FlakyResult → Fate
+abbrev pub late_fate : FlakyResult → ReportedFate
 late_fate flaky_rule.Pass = fates.Flaky
 late_fate flaky_rule.Fail = fates.FlakyFail
 
 -- what a finished test came to
-abbrev pub fate_after : Finished → Fate
+abbrev pub fate_after : Finished → ReportedFate
 fate_after test =
     if not (is_success test.result) then fates.Fail
     else if test.late then late_fate test.flaky
     else fates.Pass
 
 -- by the last record of a test, if it has one
-abbrev pub fate_by : TestState → Option Record → Fate
+abbrev pub fate_by : TestState → Option Record → ReportedFate
 fate_by test None = fates.NotRun
 fate_by test (Some told) = if is_finished test then fate_after (finished_as test told) else fates.Unfinished
 
 -- what became of a test
-abbrev pub fate_of : TestState → Fate
+abbrev pub fate_of : TestState → ReportedFate
 fate_of test = fate_by test (last_record test.records)
 
 -- FATE
-abbrev pub fate_word : Fate → List ℕ
+abbrev pub fate_word : ReportedFate → List ℕ
 fate_word fates.NotRun = codes "not-run"
 fate_word fates.Unfinished = codes "unfinished"
 fate_word fates.Fail = codes "fail"
@@ -112,7 +112,7 @@ slow_word false = codes "-"
 
 -- how an attempt or a script ended: its result, whether it was slow, and how long it took
 abbrev pub end_by : ExecutionResultDescription → Bool → ℕ → List ℕ
-end_by result slow nanos = joined (result_text result ∷ slow_word slow ∷ decimal nanos ∷ [])
+end_by result slow nanos = line_of_fields (result_text result ∷ slow_word slow ∷ decimal nanos ∷ [])
 
 abbrev pub end_text : Record → List ℕ
 end_text told = end_by told.result told.slow told.nanos
@@ -163,7 +163,7 @@ slice_line (Some (ShouldPanic part)) = part_line (codes "should-panic") part
 -- the part of an output that reports of the error; none of a success
 abbrev pub IsShownSlice : Bool → RecordOutput → Option TestOutputErrorSlice → Type 0
 IsShownSlice true output slice = slice ≡ None
-IsShownSlice false output slice = IsSlice (captured (out_of output)) (captured (err_of output)) slice
+IsShownSlice false output slice = IsSlice (bytes_of_output (out_of output)) (bytes_of_output (err_of output)) slice
 
 -- the outputs of an attempt
 abbrev pub IsOutputs : Record → List ℕ → Type 0

@@ -4,7 +4,7 @@ ghost use Rattle.test_runner_core_report_lines.specs.Texts.{fate_word};
 
 /// What became of a test.
 #[derive(Clone, Copy)]
-pub enum Fate {
+pub enum ReportedFate {
     /// No attempt of it ended.
     NotRun,
     /// An attempt of it ended, and it isn't finished.
@@ -19,18 +19,18 @@ pub enum Fate {
     FlakyFail,
 }
 
-impl Fate {
+impl ReportedFate {
     /// Its word in a report.
     pub fn word(self) -> &'static str
         ensures { result.now ≡ fate_word self }
     {
         match self {
-            Fate::NotRun => "not-run",
-            Fate::Unfinished => "unfinished",
-            Fate::Fail => "fail",
-            Fate::Pass => "pass",
-            Fate::Flaky => "flaky",
-            Fate::FlakyFail => "flaky-fail",
+            ReportedFate::NotRun => "not-run",
+            ReportedFate::Unfinished => "unfinished",
+            ReportedFate::Fail => "fail",
+            ReportedFate::Pass => "pass",
+            ReportedFate::Flaky => "flaky",
+            ReportedFate::FlakyFail => "flaky-fail",
         }
     }
 }

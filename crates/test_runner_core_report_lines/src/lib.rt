@@ -11,7 +11,7 @@ mod shows;
 mod told_test;
 mod writing;
 
-pub use fate::Fate;
+pub use fate::ReportedFate;
 pub use report::{push_done, push_script, push_shown};
 pub use shows::Shows;
 pub use told_test::ReportedTest;

@@ -22,8 +22,9 @@ pub(crate) fn push_test_line(
     kind: &str,
     test: &ReportedTest<'_>,
 ) -> Result<(), AllocError>
-    ensures ok { OnOk result (string_bytes text.new ≡ string_bytes text.old ++ test_line kind.now test.now) }
-    ensures kept { Extends (string_bytes text.old) (string_bytes text.new) }
+    ensures ok { OnOk result
+        (string_bytes text.new ≡ string_bytes text.old ++ test_line kind.now test.now) }
+    ensures grows { Extends (string_bytes text.old) (string_bytes text.new) }
 {
     push_test(text, kind, test)?;
     push_fate(text, test)?;
@@ -33,16 +34,18 @@ pub(crate) fn push_test_line(
 
 // Adds a tab, and what became of the test.
 fn push_fate(text: &mut String, test: &ReportedTest<'_>) -> Result<(), AllocError>
-    ensures ok { OnOk result (string_bytes text.new ≡ string_bytes text.old ++ 9 ∷ fate_word (fate_of test.now.state)) }
-    ensures kept { Extends (string_bytes text.old) (string_bytes text.new) }
+    ensures ok { OnOk result
+        (string_bytes text.new ≡ string_bytes text.old ++ 9 ∷ fate_word (fate_of test.now.state)) }
+    ensures grows { Extends (string_bytes text.old) (string_bytes text.new) }
 {
     push_field(text, test.fate().word())
 }
 
 // Adds the kind of a line on the test, and which test it is.
 fn push_test(text: &mut String, kind: &str, test: &ReportedTest<'_>) -> Result<(), AllocError>
-    ensures ok { OnOk result (string_bytes text.new ≡ string_bytes text.old ++ (kind.now ++ 9 ∷ (test.now.name.binary_id ++ 9 ∷ test.now.name.test_name))) }
-    ensures kept { Extends (string_bytes text.old) (string_bytes text.new) }
+    ensures ok { OnOk result (string_bytes text.new ≡ string_bytes text.old
+        ++ (kind.now ++ 9 ∷ (test.now.name.binary_id ++ 9 ∷ test.now.name.test_name))) }
+    ensures grows { Extends (string_bytes text.old) (string_bytes text.new) }
 {
     push_text(text, kind)?;
     push_field(text, test.binary_id())?;
@@ -51,8 +54,9 @@ fn push_test(text: &mut String, kind: &str, test: &ReportedTest<'_>) -> Result<(
 
 // Adds a tab, and how many attempts of the test ended, of how many tries.
 fn push_tries(text: &mut String, test: &ReportedTest<'_>) -> Result<(), AllocError>
-    ensures ok { OnOk result (string_bytes text.new ≡ string_bytes text.old ++ 9 ∷ tries_text test.now.state) }
-    ensures kept { Extends (string_bytes text.old) (string_bytes text.new) }
+    ensures ok { OnOk result
+        (string_bytes text.new ≡ string_bytes text.old ++ 9 ∷ tries_text test.now.state) }
+    ensures grows { Extends (string_bytes text.old) (string_bytes text.new) }
 {
     push_field(text, Buffer::new().format(test.ended()))?;
     push_text(text, "/")?;
@@ -61,8 +65,9 @@ fn push_tries(text: &mut String, test: &ReportedTest<'_>) -> Result<(), AllocErr
 
 // Adds a failure.
 fn push_failure(text: &mut String, told: &FailureDescription) -> Result<(), AllocError>
-    ensures ok { OnOk result (string_bytes text.new ≡ string_bytes text.old ++ failure_text told.now) }
-    ensures kept { Extends (string_bytes text.old) (string_bytes text.new) }
+    ensures ok { OnOk result
+        (string_bytes text.new ≡ string_bytes text.old ++ failure_text told.now) }
+    ensures grows { Extends (string_bytes text.old) (string_bytes text.new) }
 {
     match told {
         FailureDescription::ExitCode { code } => {
@@ -85,8 +90,9 @@ fn push_failure(text: &mut String, told: &FailureDescription) -> Result<(), Allo
 
 // Adds a result.
 fn push_result(text: &mut String, told: &ExecutionResultDescription) -> Result<(), AllocError>
-    ensures ok { OnOk result (string_bytes text.new ≡ string_bytes text.old ++ result_text told.now) }
-    ensures kept { Extends (string_bytes text.old) (string_bytes text.new) }
+    ensures ok { OnOk result
+        (string_bytes text.new ≡ string_bytes text.old ++ result_text told.now) }
+    ensures grows { Extends (string_bytes text.old) (string_bytes text.new) }
 {
     match told {
         ExecutionResultDescription::Pass => push_text(text, "pass"),
@@ -119,8 +125,9 @@ fn push_try(
     number: usize,
     status: &ExecuteStatus<LiveSpec>,
 ) -> Result<(), AllocError>
-    ensures ok { OnOk result (string_bytes text.new ≡ string_bytes text.old ++ try_line number (record_of status.now)) }
-    ensures kept { Extends (string_bytes text.old) (string_bytes text.new) }
+    ensures ok { OnOk result
+        (string_bytes text.new ≡ string_bytes text.old ++ try_line number (record_of status.now)) }
+    ensures grows { Extends (string_bytes text.old) (string_bytes text.new) }
 {
     push_text(text, "try")?;
     push_field(text, Buffer::new().format(number))?;
@@ -137,7 +144,7 @@ fn push_end(
 ) -> Result<(), AllocError>
     ensures ok { OnOk result (string_bytes text.new
         ≡ string_bytes text.old ++ 9 ∷ end_by told.now slow (as_nanos time)) }
-    ensures kept { Extends (string_bytes text.old) (string_bytes text.new) }
+    ensures grows { Extends (string_bytes text.old) (string_bytes text.new) }
 {
     push_text(text, "\t")?;
     push_result(text, told)?;
@@ -152,7 +159,7 @@ fn push_script_end(
 ) -> Result<(), AllocError>
     ensures ok { OnOk result (string_bytes text.new
         ≡ string_bytes text.old ++ 9 ∷ script_end (script_told status.entry)) }
-    ensures kept { Extends (string_bytes text.old) (string_bytes text.new) }
+    ensures grows { Extends (string_bytes text.old) (string_bytes text.new) }
 {
     match status {
         Some(status) => push_end(text, &status.result, status.is_slow, status.time_taken),
@@ -168,7 +175,7 @@ pub(crate) fn push_script_line(
 ) -> Result<(), AllocError>
     ensures ok { OnOk result (string_bytes text.new
         ≡ string_bytes text.old ++ script_line id.now (script_told status.entry)) }
-    ensures kept { Extends (string_bytes text.old) (string_bytes text.new) }
+    ensures grows { Extends (string_bytes text.old) (string_bytes text.new) }
 {
     push_text(text, "script")?;
     push_field(text, id)?;
@@ -181,8 +188,9 @@ pub(crate) fn push_attempts(
     text: &mut String,
     statuses: &[ExecuteStatus<LiveSpec>],
 ) -> Result<(), AllocError>
-    ensures ok { OnOk result (string_bytes text.new ≡ string_bytes text.old ++ try_lines 1 (map record_of statuses.now)) }
-    ensures kept { Extends (string_bytes text.old) (string_bytes text.new) }
+    ensures ok { OnOk result (string_bytes text.new
+        ≡ string_bytes text.old ++ try_lines 1 (map record_of statuses.now)) }
+    ensures grows { Extends (string_bytes text.old) (string_bytes text.new) }
 {
     let mut number = 0;
     for status in statuses {

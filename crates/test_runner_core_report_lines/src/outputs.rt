@@ -20,8 +20,9 @@ pub(crate) fn push_outputs(
     text: &mut String,
     status: &ExecuteStatus<LiveSpec>,
 ) -> Result<(), AllocError>
-    ensures ok { OnOk result (Adds (IsOutputs (record_of status.now)) (string_bytes text.old) (string_bytes text.new)) }
-    ensures kept { Extends (string_bytes text.old) (string_bytes text.new) }
+    ensures ok { OnOk result
+        (Adds (IsOutputs (record_of status.now)) (string_bytes text.old) (string_bytes text.new)) }
+    ensures grows { Extends (string_bytes text.old) (string_bytes text.new) }
 {
     push_written(text, &status.output)?;
     push_slice(text, slice_of(status))
@@ -32,8 +33,9 @@ fn push_written(
     text: &mut String,
     output: &ChildExecutionOutputDescription<LiveSpec>,
 ) -> Result<(), AllocError>
-    ensures ok { OnOk result (string_bytes text.new ≡ string_bytes text.old ++ written_text (told_of output.now)) }
-    ensures kept { Extends (string_bytes text.old) (string_bytes text.new) }
+    ensures ok { OnOk result
+        (string_bytes text.new ≡ string_bytes text.old ++ written_text (told_of output.now)) }
+    ensures grows { Extends (string_bytes text.old) (string_bytes text.new) }
 {
     push_stream(text, "out", out_of(output))?;
     push_stream(text, "err", err_of(output))?;
@@ -57,7 +59,7 @@ pub(crate) fn push_script_outputs(
 ) -> Result<(), AllocError>
     ensures ok { OnOk result (string_bytes text.new
         ≡ string_bytes text.old ++ script_outputs (script_told status.entry)) }
-    ensures kept { Extends (string_bytes text.old) (string_bytes text.new) }
+    ensures grows { Extends (string_bytes text.old) (string_bytes text.new) }
 {
     match status {
         Some(status) if !status.result.is_success() => push_written(text, &status.output),
@@ -101,8 +103,9 @@ fn err_of(output: &ChildExecutionOutputDescription<LiveSpec>) -> Option<&[u8]>
 
 // Adds the line of a stream, where it was captured.
 fn push_stream(text: &mut String, word: &str, stream: Option<&[u8]>) -> Result<(), AllocError>
-    ensures ok { OnOk result (string_bytes text.new ≡ string_bytes text.old ++ stream_line word.now (option_copied stream.entry)) }
-    ensures kept { Extends (string_bytes text.old) (string_bytes text.new) }
+    ensures ok { OnOk result (string_bytes text.new
+        ≡ string_bytes text.old ++ stream_line word.now (option_copied stream.entry)) }
+    ensures grows { Extends (string_bytes text.old) (string_bytes text.new) }
 {
     match stream {
         Some(bytes) => push_hex_line(text, word, bytes),
@@ -112,8 +115,9 @@ fn push_stream(text: &mut String, word: &str, stream: Option<&[u8]>) -> Result<(
 
 // Adds a line of a word and bytes in hex.
 fn push_hex_line(text: &mut String, word: &str, bytes: &[u8]) -> Result<(), AllocError>
-    ensures ok { OnOk result (string_bytes text.new ≡ string_bytes text.old ++ line (word.now ∷ encode_lower bytes.now ∷ [])) }
-    ensures kept { Extends (string_bytes text.old) (string_bytes text.new) }
+    ensures ok { OnOk result (string_bytes text.new
+        ≡ string_bytes text.old ++ line (word.now ∷ encode_lower bytes.now ∷ [])) }
+    ensures grows { Extends (string_bytes text.old) (string_bytes text.new) }
 {
     push_text(text, word)?;
     push_text(text, "\t")?;
@@ -126,8 +130,9 @@ fn push_message(
     text: &mut String,
     output: &ChildExecutionOutputDescription<LiveSpec>,
 ) -> Result<(), AllocError>
-    ensures ok { OnOk result (string_bytes text.new ≡ string_bytes text.old ++ message_line (told_of output.now)) }
-    ensures kept { Extends (string_bytes text.old) (string_bytes text.new) }
+    ensures ok { OnOk result
+        (string_bytes text.new ≡ string_bytes text.old ++ message_line (told_of output.now)) }
+    ensures grows { Extends (string_bytes text.old) (string_bytes text.new) }
 {
     match output {
         ChildExecutionOutputDescription::Output { output, .. } => match output {
@@ -156,8 +161,9 @@ fn slice_of(status: &ExecuteStatus<LiveSpec>) -> Option<TestOutputErrorSlice<'_>
 
 // Adds the line of a part of an output, if there is one.
 fn push_slice(text: &mut String, slice: Option<TestOutputErrorSlice<'_>>) -> Result<(), AllocError>
-    ensures ok { OnOk result (string_bytes text.new ≡ string_bytes text.old ++ slice_line slice.entry) }
-    ensures kept { Extends (string_bytes text.old) (string_bytes text.new) }
+    ensures ok { OnOk result
+        (string_bytes text.new ≡ string_bytes text.old ++ slice_line slice.entry) }
+    ensures grows { Extends (string_bytes text.old) (string_bytes text.new) }
 {
     let Some(slice) = slice else {
         return Ok(());
@@ -177,8 +183,9 @@ fn push_slice(text: &mut String, slice: Option<TestOutputErrorSlice<'_>>) -> Res
 
 // Adds the line of a part of an output.
 fn push_part(text: &mut String, kind: &str, part: ByteSubslice<'_>) -> Result<(), AllocError>
-    ensures ok { OnOk result (string_bytes text.new ≡ string_bytes text.old ++ part_line kind.now part.entry) }
-    ensures kept { Extends (string_bytes text.old) (string_bytes text.new) }
+    ensures ok { OnOk result
+        (string_bytes text.new ≡ string_bytes text.old ++ part_line kind.now part.entry) }
+    ensures grows { Extends (string_bytes text.old) (string_bytes text.new) }
 {
     push_text(text, "slice")?;
     push_field(text, kind)?;
@@ -188,8 +195,9 @@ fn push_part(text: &mut String, kind: &str, part: ByteSubslice<'_>) -> Result<()
 
 // Adds a tab, where a part begins, a tab and how long it is.
 fn push_place(text: &mut String, part: ByteSubslice<'_>) -> Result<(), AllocError>
-    ensures ok { OnOk result (string_bytes text.new ≡ string_bytes text.old ++ 9 ∷ (decimal part.entry.start ++ 9 ∷ decimal (length part.entry.slice.now))) }
-    ensures kept { Extends (string_bytes text.old) (string_bytes text.new) }
+    ensures ok { OnOk result (string_bytes text.new ≡ string_bytes text.old
+        ++ 9 ∷ (decimal part.entry.start ++ 9 ∷ decimal (length part.entry.slice.now))) }
+    ensures grows { Extends (string_bytes text.old) (string_bytes text.new) }
 {
     push_field(text, Buffer::new().format(part.start))?;
     push_field(text, Buffer::new().format(part.slice.len()))

@@ -25,7 +25,8 @@ pub fn push_done(
     shows: &Shows,
     test: &ReportedTest<'_>,
 ) -> Result<(), AllocError>
-    ensures ok { OnOk result (Adds (IsDone shows.now test.now) (string_bytes text.old) (string_bytes text.new)) }
+    ensures ok { OnOk result
+        (Adds (IsDone shows.now test.now) (string_bytes text.old) (string_bytes text.new)) }
     ensures err { OnErr result (string_bytes text.new ≡ string_bytes text.old) }
 {
     let length = text.len();
@@ -41,7 +42,8 @@ pub fn push_shown(
     shows: &Shows,
     test: &ReportedTest<'_>,
 ) -> Result<(), AllocError>
-    ensures ok { OnOk result (Adds (IsShown shows.now test.now) (string_bytes text.old) (string_bytes text.new)) }
+    ensures ok { OnOk result
+        (Adds (IsShown shows.now test.now) (string_bytes text.old) (string_bytes text.new)) }
     ensures err { OnErr result (string_bytes text.new ≡ string_bytes text.old) }
 {
     let length = text.len();
@@ -73,7 +75,7 @@ fn push_script_lines(
 ) -> Result<(), AllocError>
     ensures ok { OnOk result (string_bytes text.new
         ≡ string_bytes text.old ++ script_text id.now (script_told status.entry)) }
-    ensures kept { Extends (string_bytes text.old) (string_bytes text.new) }
+    ensures grows { Extends (string_bytes text.old) (string_bytes text.new) }
 {
     push_script_line(text, id, status)?;
     push_script_outputs(text, status)
@@ -81,8 +83,9 @@ fn push_script_lines(
 
 // Adds what is due of a test as it finishes, if anything is.
 fn push_if_due(text: &mut String, shows: &Shows, test: &ReportedTest<'_>) -> Result<(), AllocError>
-    ensures ok { OnOk result (Adds (IsDone shows.now test.now) (string_bytes text.old) (string_bytes text.new)) }
-    ensures kept { Extends (string_bytes text.old) (string_bytes text.new) }
+    ensures ok { OnOk result
+        (Adds (IsDone shows.now test.now) (string_bytes text.old) (string_bytes text.new)) }
+    ensures grows { Extends (string_bytes text.old) (string_bytes text.new) }
 {
     match test.due(shows) {
         Some(due) => push_due(text, due, test),
@@ -92,8 +95,9 @@ fn push_if_due(text: &mut String, shows: &Shows, test: &ReportedTest<'_>) -> Res
 
 // Adds the part of a test in the final text, if it has one.
 fn push_if_kept(text: &mut String, shows: &Shows, test: &ReportedTest<'_>) -> Result<(), AllocError>
-    ensures ok { OnOk result (Adds (IsShown shows.now test.now) (string_bytes text.old) (string_bytes text.new)) }
-    ensures kept { Extends (string_bytes text.old) (string_bytes text.new) }
+    ensures ok { OnOk result
+        (Adds (IsShown shows.now test.now) (string_bytes text.old) (string_bytes text.new)) }
+    ensures grows { Extends (string_bytes text.old) (string_bytes text.new) }
 {
     match kept_of(test.due(shows)) {
         OutputStoreFinal::Yes { display_output } => push_kept(text, display_output, test),
@@ -119,8 +123,9 @@ fn push_due(
     due: OutputOnTestFinished,
     test: &ReportedTest<'_>,
 ) -> Result<(), AllocError>
-    ensures ok { OnOk result (Adds (IsDoneBy (Some due) test.now) (string_bytes text.old) (string_bytes text.new)) }
-    ensures kept { Extends (string_bytes text.old) (string_bytes text.new) }
+    ensures ok { OnOk result
+        (Adds (IsDoneBy (Some due) test.now) (string_bytes text.old) (string_bytes text.new)) }
+    ensures grows { Extends (string_bytes text.old) (string_bytes text.new) }
 {
     push_done_line(text, due, test)?;
     push_shown_outputs(text, due.show_immediate, test)
@@ -132,8 +137,10 @@ fn push_done_line(
     due: OutputOnTestFinished,
     test: &ReportedTest<'_>,
 ) -> Result<(), AllocError>
-    ensures ok { OnOk result (string_bytes text.new ≡ string_bytes text.old ++ (if due.write_status_line || due.show_immediate then test_line (codes "done") test.now else [])) }
-    ensures kept { Extends (string_bytes text.old) (string_bytes text.new) }
+    ensures ok { OnOk result (string_bytes text.new
+        ≡ string_bytes text.old ++ (if due.write_status_line || due.show_immediate
+        then test_line (codes "done") test.now else [])) }
+    ensures grows { Extends (string_bytes text.old) (string_bytes text.new) }
 {
     if due.write_status_line || due.show_immediate {
         push_test_line(text, "done", test)
@@ -144,8 +151,9 @@ fn push_done_line(
 
 // Adds the lines of a test and of its attempts, and its outputs, if they are shown.
 fn push_kept(text: &mut String, is_shown: bool, test: &ReportedTest<'_>) -> Result<(), AllocError>
-    ensures ok { OnOk result (Adds (IsShownBy (Yes is_shown) test.now) (string_bytes text.old) (string_bytes text.new)) }
-    ensures kept { Extends (string_bytes text.old) (string_bytes text.new) }
+    ensures ok { OnOk result
+        (Adds (IsShownBy (Yes is_shown) test.now) (string_bytes text.old) (string_bytes text.new)) }
+    ensures grows { Extends (string_bytes text.old) (string_bytes text.new) }
 {
     push_test_line(text, "test", test)?;
     push_each_attempt(text, test)?;
@@ -154,8 +162,9 @@ fn push_kept(text: &mut String, is_shown: bool, test: &ReportedTest<'_>) -> Resu
 
 // Adds a line for each ended attempt of a test.
 fn push_each_attempt(text: &mut String, test: &ReportedTest<'_>) -> Result<(), AllocError>
-    ensures ok { OnOk result (string_bytes text.new ≡ string_bytes text.old ++ try_lines 1 test.now.state.records) }
-    ensures kept { Extends (string_bytes text.old) (string_bytes text.new) }
+    ensures ok { OnOk result
+        (string_bytes text.new ≡ string_bytes text.old ++ try_lines 1 test.now.state.records) }
+    ensures grows { Extends (string_bytes text.old) (string_bytes text.new) }
 {
     match test.attempts() {
         Some(attempts) => push_attempts(text, attempts.as_slice()),
@@ -169,8 +178,9 @@ fn push_shown_outputs(
     is_shown: bool,
     test: &ReportedTest<'_>,
 ) -> Result<(), AllocError>
-    ensures ok { OnOk result (Adds (IsShownOutputs is_shown (last_record test.now.state.records)) (string_bytes text.old) (string_bytes text.new)) }
-    ensures kept { Extends (string_bytes text.old) (string_bytes text.new) }
+    ensures ok { OnOk result (Adds (IsShownOutputs is_shown (last_record test.now.state.records))
+        (string_bytes text.old) (string_bytes text.new)) }
+    ensures grows { Extends (string_bytes text.old) (string_bytes text.new) }
 {
     if !is_shown {
         return Ok(());
@@ -180,8 +190,9 @@ fn push_shown_outputs(
 
 // Adds the outputs of a test's last attempt.
 fn push_last_outputs(text: &mut String, test: &ReportedTest<'_>) -> Result<(), AllocError>
-    ensures ok { OnOk result (Adds (IsShownOutputs true (last_record test.now.state.records)) (string_bytes text.old) (string_bytes text.new)) }
-    ensures kept { Extends (string_bytes text.old) (string_bytes text.new) }
+    ensures ok { OnOk result (Adds (IsShownOutputs true (last_record test.now.state.records))
+        (string_bytes text.old) (string_bytes text.new)) }
+    ensures grows { Extends (string_bytes text.old) (string_bytes text.new) }
 {
     match test.attempts() {
         Some(attempts) => push_outputs(text, attempts.last_status()),

@@ -40,7 +40,8 @@ impl Shows {
         attempts: &ExecutionStatuses<LiveSpec>,
         final_status: &ExecuteStatus<LiveSpec>,
     ) -> OutputOnTestFinished
-        ensures { last attempts.now.statuses ≡ Some final_status.now → result ≡ due_after self.now reason (finished_as attempts.now final_status.now) }
+        ensures { last attempts.now.statuses ≡ Some final_status.now
+            → result ≡ due_after self.now reason (finished_as attempts.now final_status.now) }
     {
         let told = attempts.describe();
         self.levels.compute_output_on_test_finished(

@@ -6,9 +6,9 @@ ghost use Rattle.test_runner_core_run_model.specs.State.{TestState, is_finished_
 ghost use Rattle.test_runner_core_run_model.specs.declared.run_test.RunTest.{RunTest as Plan};
 ghost use Rattle.test_runner_core_report_lines.specs.Due.{due_of};
 ghost use Rattle.test_runner_core_report_lines.specs.Texts.{test_with, GoesBy, fate_after, fate_of, records_in};
-ghost use Rattle.test_runner_core_report_lines.specs.declared.fate.Fate.TheVariants as fates;
+ghost use Rattle.test_runner_core_report_lines.specs.declared.fate.ReportedFate.TheVariants as fates;
 
-use crate::fate::Fate;
+use crate::fate::ReportedFate;
 use crate::shows::Shows;
 use nextest_config_elements_choices::FlakyResult;
 use nextest_run_events_counters::ExecutionStatuses;
@@ -51,8 +51,10 @@ impl<'a> ReportedTest<'a> {
         requires { GoesBy plan.flaky attempts }
         ensures binary { result.name.binary_id ≡ name.entry.binary_id.now }
         ensures name { result.name.test_name ≡ name.entry.test_name.now }
-        ensures state { result.state ≡ record { plan = plan; records = records_in attempts.entry; mark = mark } }
-        ensures told { (test : TestState) → test.plan ≡ plan → test.mark ≡ mark → IsAttempts (Some test) attempts.entry → result.state ≡ test }
+        ensures state { result.state
+            ≡ record { plan = plan; records = records_in attempts.entry; mark = mark } }
+        ensures told { (test : TestState) → test.plan ≡ plan → test.mark ≡ mark
+            → IsAttempts (Some test) attempts.entry → result.state ≡ test }
     {
         ReportedTest {
             name,
@@ -110,12 +112,12 @@ impl<'a> ReportedTest<'a> {
     }
 
     /// What became of it.
-    pub fn fate(&self) -> Fate
+    pub fn fate(&self) -> ReportedFate
         ensures { result ≡ fate_of self.now.state }
     {
         match self.attempts {
             Some(attempts) => fate_by(self.mark, attempts, attempts.last_status()),
-            None => Fate::NotRun,
+            None => ReportedFate::NotRun,
         }
     }
 }
@@ -126,7 +128,8 @@ fn due_by(
     mark: Mark,
     attempts: &ExecutionStatuses<LiveSpec>,
 ) -> Option<OutputOnTestFinished>
-    ensures { (plan : Plan) → attempts.now.flaky_result ≡ plan.flaky → result ≡ due_of shows.now (test_with plan mark attempts.now) }
+    ensures { (plan : Plan) → attempts.now.flaky_result ≡ plan.flaky
+        → result ≡ due_of shows.now (test_with plan mark attempts.now) }
 {
     match mark {
         Mark::Finished(reason) => {
@@ -155,29 +158,33 @@ fn fate_by(
     mark: Mark,
     attempts: &ExecutionStatuses<LiveSpec>,
     last: &ExecuteStatus<LiveSpec>,
-) -> Fate
-    ensures { result ≡ (if is_finished_mark mark then fate_after (finished_as attempts.now last.now) else fates.Unfinished) }
+) -> ReportedFate
+    ensures { result ≡ (if is_finished_mark mark then fate_after (finished_as attempts.now last.now)
+        else fates.Unfinished) }
 {
     if is_finished(mark) {
         fate_after(attempts, last)
     } else {
-        Fate::Unfinished
+        ReportedFate::Unfinished
     }
 }
 
 // What a test that finished with these attempts came to.
-fn fate_after(attempts: &ExecutionStatuses<LiveSpec>, last: &ExecuteStatus<LiveSpec>) -> Fate
+fn fate_after(
+    attempts: &ExecutionStatuses<LiveSpec>,
+    last: &ExecuteStatus<LiveSpec>,
+) -> ReportedFate
     ensures { result ≡ fate_after (finished_as attempts.now last.now) }
 {
     if !last.result.is_success() {
-        return Fate::Fail;
+        return ReportedFate::Fail;
     }
     let late = attempts.len() > 1;
     if !late {
-        return Fate::Pass;
+        return ReportedFate::Pass;
     }
     match attempts.flaky_result() {
-        FlakyResult::Pass => Fate::Flaky,
-        FlakyResult::Fail => Fate::FlakyFail,
+        FlakyResult::Pass => ReportedFate::Flaky,
+        FlakyResult::Fail => ReportedFate::FlakyFail,
     }
 }

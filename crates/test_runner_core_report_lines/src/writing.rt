@@ -13,7 +13,7 @@ const CHUNK: usize = 512;
 // Adds the piece. On an `Err` nothing is added.
 pub(crate) fn push_text(text: &mut String, piece: &str) -> Result<(), AllocError>
     ensures ok { OnOk result (string_bytes text.new ≡ string_bytes text.old ++ piece.now) }
-    ensures kept { Extends (string_bytes text.old) (string_bytes text.new) }
+    ensures grows { Extends (string_bytes text.old) (string_bytes text.new) }
 {
     text.push_str(piece)
 }
@@ -21,7 +21,7 @@ pub(crate) fn push_text(text: &mut String, piece: &str) -> Result<(), AllocError
 // Adds a tab and the field. On an `Err` the tab may stand there.
 pub(crate) fn push_field(text: &mut String, field: &str) -> Result<(), AllocError>
     ensures ok { OnOk result (string_bytes text.new ≡ string_bytes text.old ++ 9 ∷ field.now) }
-    ensures kept { Extends (string_bytes text.old) (string_bytes text.new) }
+    ensures grows { Extends (string_bytes text.old) (string_bytes text.new) }
 {
     push_text(text, "\t")?;
     push_text(text, field)
@@ -30,15 +30,16 @@ pub(crate) fn push_field(text: &mut String, field: &str) -> Result<(), AllocErro
 // Adds a line feed. On an `Err` nothing is added.
 pub(crate) fn push_feed(text: &mut String) -> Result<(), AllocError>
     ensures ok { OnOk result (string_bytes text.new ≡ string_bytes text.old ++ 10 ∷ []) }
-    ensures kept { Extends (string_bytes text.old) (string_bytes text.new) }
+    ensures grows { Extends (string_bytes text.old) (string_bytes text.new) }
 {
     push_text(text, "\n")
 }
 
 // Adds the bytes in hex. On an `Err` some of them may stand there.
 pub(crate) fn push_hex(text: &mut String, bytes: &[u8]) -> Result<(), AllocError>
-    ensures ok { OnOk result (string_bytes text.new ≡ string_bytes text.old ++ encode_lower bytes.now) }
-    ensures kept { Extends (string_bytes text.old) (string_bytes text.new) }
+    ensures ok { OnOk result
+        (string_bytes text.new ≡ string_bytes text.old ++ encode_lower bytes.now) }
+    ensures grows { Extends (string_bytes text.old) (string_bytes text.new) }
 {
     let mut rest = bytes;
     while rest.len() > CHUNK {
@@ -52,8 +53,9 @@ pub(crate) fn push_hex(text: &mut String, bytes: &[u8]) -> Result<(), AllocError
 // Adds a few bytes in hex. On an `Err` nothing is added.
 fn push_chunk(text: &mut String, bytes: &[u8]) -> Result<(), AllocError>
     requires { length bytes.now ≤ CHUNK }
-    ensures ok { OnOk result (string_bytes text.new ≡ string_bytes text.old ++ encode_lower bytes.now) }
-    ensures kept { Extends (string_bytes text.old) (string_bytes text.new) }
+    ensures ok { OnOk result
+        (string_bytes text.new ≡ string_bytes text.old ++ encode_lower bytes.now) }
+    ensures grows { Extends (string_bytes text.old) (string_bytes text.new) }
 {
     let mut room = [0u8; 2 * CHUNK];
     let digits = &mut room[..2 * bytes.len()];

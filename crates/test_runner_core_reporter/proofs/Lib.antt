@@ -4,3 +4,5 @@ pub mod Done
 pub mod Each
 pub mod Scripts
 pub mod Texts
+pub mod KeptRuns
+pub mod KeptReports

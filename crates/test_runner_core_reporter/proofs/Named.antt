@@ -10,7 +10,7 @@ use Rattle.test_runner_core_run_state.specs.Statuses.{IsAttempts}
 use Rattle.test_runner_core_run_model.specs.State.{TestState}
 use Rattle.test_runner_core_session.specs.Session.{IsFate}
 use Rattle.test_runner_core_session.specs.declared.session.Fate.{Fate}
-use Rattle.test_runner_core_reporter.specs.Final.{shown, shown_part, shown_tests, shows_of}
+use Rattle.test_runner_core_reporter.specs.Final.{part_of_shown, shown_part, shown_tests, shows_of}
 use Rattle.test_runner_core_reporter.specs.Parts.{Part}
 use Rattle.test_runner_core_reporter.specs.Writes.{WritesAll, WritesPrefix}
 use Rattle.test_runner_core_reporter.specs.declared.final_text.ShownTest.{ShownTest}
@@ -94,15 +94,15 @@ take_same (first ∷ xs) zero none = absurd (let e = none in cc)
 take_same (first ∷ xs) (suc place) none = ap (λ (ys : List _). first ∷ ys) (take_same xs place none)
 
 -- the parts of the tests at the first places, and at one more
-pub shown_next : (xs : List ShownTest) (place : ℕ) → map shown_part (take (suc place) xs) ≡ map shown_part (take place xs) ++ shown (slice_get xs place)
+pub shown_next : (xs : List ShownTest) (place : ℕ) → map shown_part (take (suc place) xs) ≡ map shown_part (take place xs) ++ part_of_shown (slice_get xs place)
 shown_next xs place = by_test (slice_get xs place) refl
   where
-    by_test : (found : Option ShownTest) → slice_get xs place ≡ found → map shown_part (take (suc place) xs) ≡ map shown_part (take place xs) ++ shown found
+    by_test : (found : Option ShownTest) → slice_get xs place ≡ found → map shown_part (take (suc place) xs) ≡ map shown_part (take place xs) ++ part_of_shown found
     by_test None e = ap (map shown_part) (take_same xs place e) ∙ sym (append-nil (map shown_part (take place xs)))
     by_test (Some test) e = ap (map shown_part) (take_next xs place test e) ∙ map-append shown_part (take place xs) (test ∷ [])
 
 -- those of all
-pub shown_rest : (xs : List ShownTest) (place : ℕ) → map shown_part xs ≡ (map shown_part (take place xs) ++ shown (slice_get xs place)) ++ map shown_part (drop (suc place) xs)
+pub shown_rest : (xs : List ShownTest) (place : ℕ) → map shown_part xs ≡ (map shown_part (take place xs) ++ part_of_shown (slice_get xs place)) ++ map shown_part (drop (suc place) xs)
 shown_rest xs place =
     ap (map shown_part) (sym (take-append-drop (suc place) xs))
     ∙ map-append shown_part (take (suc place) xs) (drop (suc place) xs)
@@ -110,21 +110,21 @@ shown_rest xs place =
 
 -- reporting them one after another
 pub all_next : (xs : List ShownTest) (place : ℕ) (before now after : Option (List ℕ)) (waited mid waits : List ℕ)
-    → WritesAll (map shown_part (take place xs)) before waited now mid → WritesAll (shown (slice_get xs place)) now mid after waits
+    → WritesAll (map shown_part (take place xs)) before waited now mid → WritesAll (part_of_shown (slice_get xs place)) now mid after waits
     → WritesAll (map shown_part (take (place + 1) xs)) before waited after waits
 all_next xs place before now after waited mid waits told here =
     let next : suc place ≡ place + 1 = omega arith in
     subst (λ (n : ℕ). WritesAll (map shown_part (take n xs)) before waited after waits) next
     (subst (λ (parts : List Part). WritesAll parts before waited after waits) (sym (shown_next xs place))
-    (all_then (map shown_part (take place xs)) (shown (slice_get xs place)) before now after waited mid waits told here))
+    (all_then (map shown_part (take place xs)) (part_of_shown (slice_get xs place)) before now after waited mid waits told here))
 
 pub front_here : (xs : List ShownTest) (place : ℕ) (before now after : Option (List ℕ)) (waited mid : List ℕ)
-    → WritesAll (map shown_part (take place xs)) before waited now mid → WritesPrefix (shown (slice_get xs place)) now mid after
+    → WritesAll (map shown_part (take place xs)) before waited now mid → WritesPrefix (part_of_shown (slice_get xs place)) now mid after
     → WritesPrefix (map shown_part xs) before waited after
 front_here xs place before now after waited mid told here =
     subst (λ (parts : List Part). WritesPrefix parts before waited after) (sym (shown_rest xs place))
-    (front_more (map shown_part (take place xs) ++ shown (slice_get xs place)) (map shown_part (drop (suc place) xs)) before after waited
-    (front_then (map shown_part (take place xs)) (shown (slice_get xs place)) before now after waited mid told here))
+    (front_more (map shown_part (take place xs) ++ part_of_shown (slice_get xs place)) (map shown_part (drop (suc place) xs)) before after waited
+    (front_then (map shown_part (take place xs)) (part_of_shown (slice_get xs place)) before now after waited mid told here))
 
 pub all_written : (plan : Plan) (tests : List PlanTest) (states : List TestState) (place : ℕ) (before after : Option (List ℕ)) (waited waits : List ℕ) → length tests ≤ place
     → WritesAll (map shown_part (take place (shown_tests plan tests states))) before waited after waits

@@ -3,7 +3,7 @@ use Rattle.std.proofs.Common.{◌≡◌, ℕ, List, [], ◌∷◌, ◌++◌, Opt
 use Rattle.std.specs.Result.{IsErr}
 use Rattle.std.specs.Io.KnownBytes.{Appends}
 use Rattle.std.proofs.lemmas.List.{take-append-drop}
-use Rattle.test_runner_core_reporter.specs.Parts.{Part, IsPart, IsText}
+use Rattle.test_runner_core_reporter.specs.Parts.{Part, IsPart, IsTextOf}
 use Rattle.test_runner_core_reporter.specs.Writes.{MovesOn, WritesParts, WritesAll, WritesPrefix}
 
 -- nothing is taken by no call
@@ -19,8 +19,8 @@ appends_then (Some bytes) (Some more) (Some most) one other first second =
     second ∙ ap (λ (t : List ℕ). t ++ other) first ∙ append_assoc bytes one other
 
 -- the texts of parts in a row
-pub text_then : (parts more : List Part) (one other : List ℕ) → IsText parts one → IsText more other → IsText (parts ++ more) (one ++ other)
-text_then [] more one other first second = subst (λ (t : List ℕ). IsText more (t ++ other)) (sym first) second
+pub text_then : (parts more : List Part) (one other : List ℕ) → IsTextOf parts one → IsTextOf more other → IsTextOf (parts ++ more) (one ++ other)
+text_then [] more one other first second = subst (λ (t : List ℕ). IsTextOf more (t ++ other)) (sym first) second
 text_then (part ∷ parts) more one other first second =
     (first.0, (first.1.0 ++ other, (first.1.1.0, text_then parts more first.1.0 other first.1.1.1 second, ap (λ (t : List ℕ). t ++ other) first.1.1.2 ∙ append_assoc first.0 first.1.0 other)))
 
@@ -97,7 +97,7 @@ fails (Ok value) parts before after waited waits is front = absurd (cc)
 fails (Err fault) parts before after waited waits is front = front
 
 -- a text that is put behind what waits is reported
-pub pushed : (parts : List Part) (before : Option (List ℕ)) (waited told waits : List ℕ) → IsText parts told → waits ≡ waited ++ told → WritesAll parts before waited before waits
+pub pushed : (parts : List Part) (before : Option (List ℕ)) (waited told waits : List ℕ) → IsTextOf parts told → waits ≡ waited ++ told → WritesAll parts before waited before waits
 pushed parts before waited told waits text grown = record { told = told; text = text; moved = record { written = []; taken = appends_none before; whole = grown } }
 
 pub then_nothing : {T E : Type 0} (result : Result T E) (parts : List Part) (before middle after : Option (List ℕ)) (waited mid waits : List ℕ)
@@ -106,7 +106,7 @@ then_nothing result parts before middle after waited mid waits first second =
     subst (λ (p : List Part). WritesParts result p before waited after waits) (append-nil parts) (tells_then result parts [] before middle after waited mid waits first second)
 
 -- a text of one part
-pub one_text : (part : Part) (told : List ℕ) → IsPart part told → IsText (part ∷ []) told
+pub one_text : (part : Part) (told : List ℕ) → IsPart part told → IsTextOf (part ∷ []) told
 one_text part told is = (told, ([], (is, refl, sym (append-nil told))))
 
 -- a prefix of what waited is written

@@ -33,9 +33,9 @@ abbrev pub shown_part : ShownTest → Part
 shown_part told = Shown told.shows told.test
 
 -- the part of a test in the final text, where there is one
-abbrev pub shown : Option ShownTest → List Part
-shown None = []
-shown (Some told) = shown_part told ∷ []
+abbrev pub part_of_shown : Option ShownTest → List Part
+part_of_shown None = []
+part_of_shown (Some told) = shown_part told ∷ []
 
 -- the texts of scripts with these ids, in their order: of those that ended with these records, and behind them of those
 -- that didn't end

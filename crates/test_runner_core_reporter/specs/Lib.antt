@@ -5,3 +5,4 @@ pub mod Final
 pub mod Steps
 pub mod Opening
 pub mod Laws
+pub mod Keeping

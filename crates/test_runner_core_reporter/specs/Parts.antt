@@ -17,6 +17,6 @@ IsPart (Shown shows test) text = IsShown shows test text
 IsPart (Said words) text = text ≡ words
 
 -- a text of parts, one behind another
-abbrev pub IsText : List Part → List ℕ → Type 0
-IsText [] text = text ≡ []
-IsText (part ∷ parts) text = (first : List ℕ) × ((rest : List ℕ) × (IsPart part first × IsText parts rest × (text ≡ first ++ rest)))
+abbrev pub IsTextOf : List Part → List ℕ → Type 0
+IsTextOf [] text = text ≡ []
+IsTextOf (part ∷ parts) text = (first : List ℕ) × ((rest : List ℕ) × (IsPart part first × IsTextOf parts rest × (text ≡ first ++ rest)))

@@ -1,7 +1,7 @@
 -- What a call that reports parts of a report does to its writer and to the text that waits to be written.
 use Rattle.std.specs.Prelude.{◌≡◌, ℕ, ◌+◌, Bool, true, List, ◌++◌, Option, Result, Ok, Err}
 use Rattle.std.specs.Io.KnownBytes.{Appends}
-use Rattle.test_runner_core_reporter.specs.Parts.{Part, IsText}
+use Rattle.test_runner_core_reporter.specs.Parts.{Part, IsTextOf}
 use Rattle.test_runner_core_reporter.specs.declared.fault.ReportFault.{ReportFault}
 use Rattle.test_runner_core_reporter.specs.declared.fault.ReportFault.TheVariants as fault
 
@@ -17,14 +17,14 @@ pub record WritesPrefix (parts : List Part) (before : Option (List ℕ)) (waited
   pub rest : List Part
   pub whole : parts ≡ front ++ rest
   pub told : List ℕ
-  pub text : IsText front told
+  pub text : IsTextOf front told
   pub lost : List ℕ
   pub moved : MovesOn before waited after lost told
 
 -- all of these parts were reported
 pub record WritesAll (parts : List Part) (before : Option (List ℕ)) (waited : List ℕ) (after : Option (List ℕ)) (waits : List ℕ) : Type 0 where
   pub told : List ℕ
-  pub text : IsText parts told
+  pub text : IsTextOf parts told
   pub moved : MovesOn before waited after waits told
 
 -- all of these parts are reported, or where that fails a prefix of them

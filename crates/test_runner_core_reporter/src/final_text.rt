@@ -1,7 +1,7 @@
 // Reporting the final text of a run.
 ghost use Rattle.std.specs.Prelude.{◌≡◌, ◌^◌, ◌<◌, [], ◌∷◌, slice_get, string_bytes};
 ghost use Rattle.test_runner_core_reporter.specs.Parts.{Said};
-ghost use Rattle.test_runner_core_reporter.specs.Final.{final_parts, script_parts, shown, shown_tests, shows_of, test_parts};
+ghost use Rattle.test_runner_core_reporter.specs.Final.{final_parts, script_parts, part_of_shown, shown_tests, shows_of, test_parts};
 ghost use Rattle.test_runner_core_reporter.specs.RunEnd.{end_of, end_text};
 ghost use Rattle.test_runner_core_reporter.specs.Writes.{WritesParts, CountsWriteFailures};
 
@@ -37,7 +37,8 @@ fn shows_of(plan: &Plan, test: &PlanTest) -> Shows
 
 // The test at a place of the plan, as far as the run is, with what is set of what is shown of it.
 pub(crate) fn told_at<'s>(session: &'s Session<'_>, place: usize) -> Option<ShownTest<'s>>
-    ensures { result ≡ slice_get (shown_tests session.now.plan session.now.plan.tests session.now.run.tests) place }
+    ensures { result ≡ slice_get
+        (shown_tests session.now.plan session.now.plan.tests session.now.run.tests) place }
 {
     let plan = session.plan();
     let tests = plan.tests.as_slice();
@@ -57,8 +58,10 @@ pub fn report_final<W: ReportWriter>(
     session: &Session<'_>,
 ) -> Result<(), ReportFault>
     requires writes_fit { W.failures report.old < 2 ^ 63 }
-    ensures writes { WritesParts result (final_parts session.now.plan session.now.run) (W.taken report.old) (string_bytes text.old) (W.taken report.new) (string_bytes text.new) }
-    ensures failures { CountsWriteFailures result (W.failures report.old) (W.failures report.new) (W.last_failed report.new) }
+    ensures writes { WritesParts result (final_parts session.now.plan session.now.run)
+        (W.taken report.old) (string_bytes text.old) (W.taken report.new) (string_bytes text.new) }
+    ensures failures { CountsWriteFailures result (W.failures report.old) (W.failures report.new)
+        (W.last_failed report.new) }
 {
     report_end(alloc, text, report, session)?;
     report_scripts(text, report, session)?;
@@ -73,8 +76,10 @@ fn report_end<W: ReportWriter>(
     session: &Session<'_>,
 ) -> Result<(), ReportFault>
     requires writes_fit { W.failures report.old < 2 ^ 63 }
-    ensures writes { WritesParts result (Said (end_text (end_of session.now.run)) ∷ []) (W.taken report.old) (string_bytes text.old) (W.taken report.new) (string_bytes text.new) }
-    ensures failures { CountsWriteFailures result (W.failures report.old) (W.failures report.new) (W.last_failed report.new) }
+    ensures writes { WritesParts result (Said (end_text (end_of session.now.run)) ∷ [])
+        (W.taken report.old) (string_bytes text.old) (W.taken report.new) (string_bytes text.new) }
+    ensures failures { CountsWriteFailures result (W.failures report.old) (W.failures report.new)
+        (W.last_failed report.new) }
 {
     let end = RunEnd {
         outcome: session.summary(),
@@ -110,8 +115,10 @@ fn report_tests<W: ReportWriter>(
     session: &Session<'_>,
 ) -> Result<(), ReportFault>
     requires writes_fit { W.failures report.old < 2 ^ 63 }
-    ensures writes { WritesParts result (test_parts session.now.plan session.now.run) (W.taken report.old) (string_bytes text.old) (W.taken report.new) (string_bytes text.new) }
-    ensures failures { CountsWriteFailures result (W.failures report.old) (W.failures report.new) (W.last_failed report.new) }
+    ensures writes { WritesParts result (test_parts session.now.plan session.now.run)
+        (W.taken report.old) (string_bytes text.old) (W.taken report.new) (string_bytes text.new) }
+    ensures failures { CountsWriteFailures result (W.failures report.old) (W.failures report.new)
+        (W.last_failed report.new) }
 {
     for place in 0..session.plan().tests.len() {
         report_shown_at(text, report, session, place)?;
@@ -127,8 +134,11 @@ fn report_shown_at<W: ReportWriter>(
     place: usize,
 ) -> Result<(), ReportFault>
     requires writes_fit { W.failures report.old < 2 ^ 63 }
-    ensures writes { WritesParts result (shown (slice_get (shown_tests session.now.plan session.now.plan.tests session.now.run.tests) place)) (W.taken report.old) (string_bytes text.old) (W.taken report.new) (string_bytes text.new) }
-    ensures failures { CountsWriteFailures result (W.failures report.old) (W.failures report.new) (W.last_failed report.new) }
+    ensures writes { WritesParts result (part_of_shown (slice_get
+        (shown_tests session.now.plan session.now.plan.tests session.now.run.tests) place))
+        (W.taken report.old) (string_bytes text.old) (W.taken report.new) (string_bytes text.new) }
+    ensures failures { CountsWriteFailures result (W.failures report.old) (W.failures report.new)
+        (W.last_failed report.new) }
 {
     match told_at(session, place) {
         Some(told) => report_shown(text, report, &told.shows, &told.test),

@@ -18,8 +18,10 @@ pub fn report_opening<W: ReportWriter>(
     plan: &Plan,
 ) -> Result<(), ReportFault>
     requires writes_fit { W.failures report.old < 2 ^ 63 }
-    ensures writes { WritesParts result (opening plan.now) (W.taken report.old) (string_bytes text.old) (W.taken report.new) (string_bytes text.new) }
-    ensures failures { CountsWriteFailures result (W.failures report.old) (W.failures report.new) (W.last_failed report.new) }
+    ensures writes { WritesParts result (opening plan.now) (W.taken report.old)
+        (string_bytes text.old) (W.taken report.new) (string_bytes text.new) }
+    ensures failures { CountsWriteFailures result (W.failures report.old) (W.failures report.new)
+        (W.last_failed report.new) }
 {
     for told in plan.warnings.as_slice() {
         report_warning(alloc, text, report, told)?;
@@ -35,8 +37,10 @@ fn report_warning<W: ReportWriter>(
     told: &Text,
 ) -> Result<(), ReportFault>
     requires writes_fit { W.failures report.old < 2 ^ 63 }
-    ensures writes { WritesParts result (warning told.now ∷ []) (W.taken report.old) (string_bytes text.old) (W.taken report.new) (string_bytes text.new) }
-    ensures failures { CountsWriteFailures result (W.failures report.old) (W.failures report.new) (W.last_failed report.new) }
+    ensures writes { WritesParts result (warning told.now ∷ []) (W.taken report.old)
+        (string_bytes text.old) (W.taken report.new) (string_bytes text.new) }
+    ensures failures { CountsWriteFailures result (W.failures report.old) (W.failures report.new)
+        (W.last_failed report.new) }
 {
     let words = format!(in alloc; "warning\t{told}\n")?;
     report_words(text, report, words.as_str())

@@ -16,9 +16,11 @@ const LONG: usize = 65_536;
 /// Writes what waits. Where that fails, the writer took a prefix of it.
 pub fn write_waiting<W: ReportWriter>(text: &mut String, report: &mut W) -> Result<(), ReportFault>
     requires writes_fit { W.failures report.old < 2 ^ 63 }
-    ensures writes { WritesParts result [] (W.taken report.old) (string_bytes text.old) (W.taken report.new) (string_bytes text.new) }
+    ensures writes { WritesParts result [] (W.taken report.old) (string_bytes text.old)
+        (W.taken report.new) (string_bytes text.new) }
     ensures empty { OnOk result (string_bytes text.new ≡ []) }
-    ensures failures { CountsWriteFailures result (W.failures report.old) (W.failures report.new) (W.last_failed report.new) }
+    ensures failures { CountsWriteFailures result (W.failures report.old) (W.failures report.new)
+        (W.last_failed report.new) }
 {
     match write_all(report, text.as_bytes()) {
         Ok(()) => {
@@ -32,8 +34,10 @@ pub fn write_waiting<W: ReportWriter>(text: &mut String, report: &mut W) -> Resu
 // Writes what waits, where it is long.
 fn write_if_long<W: ReportWriter>(text: &mut String, report: &mut W) -> Result<(), ReportFault>
     requires writes_fit { W.failures report.old < 2 ^ 63 }
-    ensures writes { WritesParts result [] (W.taken report.old) (string_bytes text.old) (W.taken report.new) (string_bytes text.new) }
-    ensures failures { CountsWriteFailures result (W.failures report.old) (W.failures report.new) (W.last_failed report.new) }
+    ensures writes { WritesParts result [] (W.taken report.old) (string_bytes text.old)
+        (W.taken report.new) (string_bytes text.new) }
+    ensures failures { CountsWriteFailures result (W.failures report.old) (W.failures report.new)
+        (W.last_failed report.new) }
 {
     if text.len() < LONG {
         return Ok(());
@@ -48,8 +52,10 @@ pub fn report_words<W: ReportWriter>(
     words: &str,
 ) -> Result<(), ReportFault>
     requires writes_fit { W.failures report.old < 2 ^ 63 }
-    ensures writes { WritesParts result (Said words.now ∷ []) (W.taken report.old) (string_bytes text.old) (W.taken report.new) (string_bytes text.new) }
-    ensures failures { CountsWriteFailures result (W.failures report.old) (W.failures report.new) (W.last_failed report.new) }
+    ensures writes { WritesParts result (Said words.now ∷ []) (W.taken report.old)
+        (string_bytes text.old) (W.taken report.new) (string_bytes text.new) }
+    ensures failures { CountsWriteFailures result (W.failures report.old) (W.failures report.new)
+        (W.last_failed report.new) }
 {
     text.push_str(words)?;
     write_if_long(text, report)
@@ -63,8 +69,10 @@ pub fn report_done<W: ReportWriter>(
     test: &ReportedTest<'_>,
 ) -> Result<(), ReportFault>
     requires writes_fit { W.failures report.old < 2 ^ 63 }
-    ensures writes { WritesParts result (Done shows.now test.now ∷ []) (W.taken report.old) (string_bytes text.old) (W.taken report.new) (string_bytes text.new) }
-    ensures failures { CountsWriteFailures result (W.failures report.old) (W.failures report.new) (W.last_failed report.new) }
+    ensures writes { WritesParts result (Done shows.now test.now ∷ []) (W.taken report.old)
+        (string_bytes text.old) (W.taken report.new) (string_bytes text.new) }
+    ensures failures { CountsWriteFailures result (W.failures report.old) (W.failures report.new)
+        (W.last_failed report.new) }
 {
     push_done(text, shows, test)?;
     write_if_long(text, report)
@@ -78,8 +86,10 @@ pub fn report_shown<W: ReportWriter>(
     test: &ReportedTest<'_>,
 ) -> Result<(), ReportFault>
     requires writes_fit { W.failures report.old < 2 ^ 63 }
-    ensures writes { WritesParts result (Shown shows.now test.now ∷ []) (W.taken report.old) (string_bytes text.old) (W.taken report.new) (string_bytes text.new) }
-    ensures failures { CountsWriteFailures result (W.failures report.old) (W.failures report.new) (W.last_failed report.new) }
+    ensures writes { WritesParts result (Shown shows.now test.now ∷ []) (W.taken report.old)
+        (string_bytes text.old) (W.taken report.new) (string_bytes text.new) }
+    ensures failures { CountsWriteFailures result (W.failures report.old) (W.failures report.new)
+        (W.last_failed report.new) }
 {
     push_shown(text, shows, test)?;
     write_if_long(text, report)

@@ -21,8 +21,11 @@ pub fn report_step<W: ReportWriter>(
     finished: Finished,
 ) -> Result<(), ReportFault>
     requires writes_fit { W.failures report.old < 2 ^ 63 }
-    ensures writes { WritesParts result (all_done session.now.plan session.now.run (finished_places finished session.now.run)) (W.taken report.old) (string_bytes text.old) (W.taken report.new) (string_bytes text.new) }
-    ensures failures { CountsWriteFailures result (W.failures report.old) (W.failures report.new) (W.last_failed report.new) }
+    ensures writes { WritesParts result
+        (all_done session.now.plan session.now.run (finished_places finished session.now.run))
+        (W.taken report.old) (string_bytes text.old) (W.taken report.new) (string_bytes text.new) }
+    ensures failures { CountsWriteFailures result (W.failures report.old) (W.failures report.new)
+        (W.last_failed report.new) }
 {
     report_ended(text, report, session, finished.ended)?;
     report_if_stopped(text, report, session, finished.stops)
@@ -36,8 +39,11 @@ fn report_if_stopped<W: ReportWriter>(
     stops: bool,
 ) -> Result<(), ReportFault>
     requires writes_fit { W.failures report.old < 2 ^ 63 }
-    ensures writes { WritesParts result (all_done session.now.plan session.now.run (if stops then stopped_places session.now.run else [])) (W.taken report.old) (string_bytes text.old) (W.taken report.new) (string_bytes text.new) }
-    ensures failures { CountsWriteFailures result (W.failures report.old) (W.failures report.new) (W.last_failed report.new) }
+    ensures writes { WritesParts result (all_done session.now.plan session.now.run
+        (if stops then stopped_places session.now.run else [])) (W.taken report.old)
+        (string_bytes text.old) (W.taken report.new) (string_bytes text.new) }
+    ensures failures { CountsWriteFailures result (W.failures report.old) (W.failures report.new)
+        (W.last_failed report.new) }
 {
     if !stops {
         return Ok(());
@@ -53,8 +59,11 @@ fn report_ended<W: ReportWriter>(
     ended: Option<usize>,
 ) -> Result<(), ReportFault>
     requires writes_fit { W.failures report.old < 2 ^ 63 }
-    ensures writes { WritesParts result (all_done session.now.plan session.now.run (option_map_or (λ place. place ∷ []) ended [])) (W.taken report.old) (string_bytes text.old) (W.taken report.new) (string_bytes text.new) }
-    ensures failures { CountsWriteFailures result (W.failures report.old) (W.failures report.new) (W.last_failed report.new) }
+    ensures writes { WritesParts result
+        (all_done session.now.plan session.now.run (option_map_or (λ place. place ∷ []) ended []))
+        (W.taken report.old) (string_bytes text.old) (W.taken report.new) (string_bytes text.new) }
+    ensures failures { CountsWriteFailures result (W.failures report.old) (W.failures report.new)
+        (W.last_failed report.new) }
 {
     match ended {
         Some(place) => report_at(text, report, session, place),
@@ -69,8 +78,11 @@ fn report_stopped<W: ReportWriter>(
     session: &Session<'_>,
 ) -> Result<(), ReportFault>
     requires writes_fit { W.failures report.old < 2 ^ 63 }
-    ensures writes { WritesParts result (all_done session.now.plan session.now.run (stopped_places session.now.run)) (W.taken report.old) (string_bytes text.old) (W.taken report.new) (string_bytes text.new) }
-    ensures failures { CountsWriteFailures result (W.failures report.old) (W.failures report.new) (W.last_failed report.new) }
+    ensures writes { WritesParts result
+        (all_done session.now.plan session.now.run (stopped_places session.now.run))
+        (W.taken report.old) (string_bytes text.old) (W.taken report.new) (string_bytes text.new) }
+    ensures failures { CountsWriteFailures result (W.failures report.old) (W.failures report.new)
+        (W.last_failed report.new) }
 {
     for place in 0..session.plan().tests.len() {
         let stopped = is_stopped_at(session, place);
@@ -88,8 +100,11 @@ fn report_if<W: ReportWriter>(
     is_told: bool,
 ) -> Result<(), ReportFault>
     requires writes_fit { W.failures report.old < 2 ^ 63 }
-    ensures writes { WritesParts result (all_done session.now.plan session.now.run (if is_told then place ∷ [] else [])) (W.taken report.old) (string_bytes text.old) (W.taken report.new) (string_bytes text.new) }
-    ensures failures { CountsWriteFailures result (W.failures report.old) (W.failures report.new) (W.last_failed report.new) }
+    ensures writes { WritesParts result
+        (all_done session.now.plan session.now.run (if is_told then place ∷ [] else []))
+        (W.taken report.old) (string_bytes text.old) (W.taken report.new) (string_bytes text.new) }
+    ensures failures { CountsWriteFailures result (W.failures report.old) (W.failures report.new)
+        (W.last_failed report.new) }
 {
     if !is_told {
         return Ok(());
@@ -105,8 +120,10 @@ fn report_at<W: ReportWriter>(
     place: usize,
 ) -> Result<(), ReportFault>
     requires writes_fit { W.failures report.old < 2 ^ 63 }
-    ensures writes { WritesParts result (done_at session.now.plan session.now.run place) (W.taken report.old) (string_bytes text.old) (W.taken report.new) (string_bytes text.new) }
-    ensures failures { CountsWriteFailures result (W.failures report.old) (W.failures report.new) (W.last_failed report.new) }
+    ensures writes { WritesParts result (done_at session.now.plan session.now.run place)
+        (W.taken report.old) (string_bytes text.old) (W.taken report.new) (string_bytes text.new) }
+    ensures failures { CountsWriteFailures result (W.failures report.old) (W.failures report.new)
+        (W.last_failed report.new) }
 {
     match told_at(session, place) {
         Some(told) => report_done(text, report, &told.shows, &told.test),

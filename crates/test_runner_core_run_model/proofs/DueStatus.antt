@@ -12,7 +12,7 @@ use Rattle.nextest_run_events_results.specs.declared.cancel_reason.CancelReason.
 use Rattle.nextest_run_events_results.specs.declared.result.ExecutionResultDescription.{ExecutionResultDescription}
 use Rattle.nextest_run_events_results.specs.declared.result.ExecutionResultDescription.TheVariants as ended
 use Rattle.nextest_run_events_results.specs.Result.{is_success}
-use Rattle.nextest_run_events_counters.specs.Rows.{Finished, fails_script, script_failed, script_exec_failed, script_timed_out, fails_test, failed, exec_failed, failed_timed_out}
+use Rattle.nextest_run_events_counters.specs.Rows.{Finished, fails_script, script_failed, script_exec_failed, script_timed_out, fails_test, is_failed, exec_failed, failed_timed_out}
 use Rattle.nextest_run_events_counters.specs.Summary.{failure_at, at_tests, is_own, failed_count, failed_setup_script_count}
 use Rattle.nextest_run_events_counters.specs.declared.run_stats.RunStats.{RunStats}
 use Rattle.nextest_run_events_counters.specs.declared.summary.FinalRunStats.TheVariants as summed
@@ -92,8 +92,8 @@ status_is state =
 
     tests : ltb 0 (failed_count (counters state)) ≡ list_any (counts fails_test) state.tests
     tests =
-        three_count_some (counts failed) (counts exec_failed) (counts failed_timed_out) state.tests
-        ∙ any_same (λ t. counts failed t || counts exec_failed t || counts failed_timed_out t) (counts fails_test) state.tests (counts_three failed exec_failed failed_timed_out)
+        three_count_some (counts is_failed) (counts exec_failed) (counts failed_timed_out) state.tests
+        ∙ any_same (λ t. counts is_failed t || counts exec_failed t || counts failed_timed_out t) (counts fails_test) state.tests (counts_three is_failed exec_failed failed_timed_out)
 
     failure : (kind : RunStatsFailureKind) (own : Bool) → status_of (cond own (summed.Failed kind) (summed.Cancelled state.reason kind)) ≡ status_at kind
     failure kind true = refl

@@ -18,8 +18,8 @@ use Rattle.nextest_run_events_results.specs.declared.record.Record.{Record}
 use Rattle.test_runner_core_run_model.specs.RunPlan.{RunPlan}
 use Rattle.test_runner_core_run_model.specs.Runs.{Run}
 use Rattle.test_runner_core_run_model.specs.State.{TestState, State, initial, waiting, is_finished, is_finished_mark, failed_weight}
-use Rattle.test_runner_core_run_model.specs.Step.{step, with_test, finished_by, stopped_mark, stopped_by, after_attempt, finishes, limited, limit_reason}
-use Rattle.test_runner_core_run_model.specs.Finishing.{places_among, finished_at, newly_finished_at, newly_finished, finishing, ended_first, stops_run, is_stopped_mark, is_stopped_at, stopped_places, finished_places, KeepsReasons}
+use Rattle.test_runner_core_run_model.specs.Step.{step, with_test, finished_by, stopped_mark, stopped_by, after_attempt, finishes, after_limit, limit_reason}
+use Rattle.test_runner_core_run_model.specs.Finishing.{places_among, finished_at, newly_finished_at, newly_finished, finishing, stops_run, is_stopped_mark, is_stopped_at, stopped_places, finished_places, KeepsReasons}
 use Rattle.test_runner_core_run_model.specs.declared.event.Event.{Event}
 use Rattle.test_runner_core_run_model.specs.declared.event.Event.TheVariants as events
 use Rattle.test_runner_core_run_model.specs.declared.finished.Finished.{Finished}
@@ -178,6 +178,13 @@ stop_at reason old mid place same none =
     ∙ ap (λ (o : Option TestState). option_map_or (λ t. is_stopped_mark (finished_by reason t).mark) o false) same)
 
 -- ---- the tests that a step finishes, by what it does
+
+-- the place of the attempt that ended, where its test is over
+abbrev pub ended_first : Event → State → List ℕ
+ended_first (events.ScriptEnded script told) new = []
+ended_first (events.Started test) new = []
+ended_first (events.Ended test told) new = cond (finished_at new.tests test) (test ∷ []) []
+ended_first (events.Stopped reason) new = []
 
 -- where the step doesn't stop the run, that of the attempt that ended; else also those that are over under a reason from then on
 pub record Splits (event : Event) (old new : State) : Type 0 where
@@ -430,7 +437,7 @@ keeps_set old place test after found keeps free none p =
 keeps_stopped : (reason : CancelReason) (state : State) → KeepsReasons (stopped_by reason state)
 keeps_stopped reason state none = cc
 
-keeps_limited : (finished : Bool) (state : State) → KeepsReasons state → KeepsReasons (limited finished state)
+keeps_limited : (finished : Bool) (state : State) → KeepsReasons state → KeepsReasons (after_limit finished state)
 keeps_limited finished state keeps = by_test (finished && not (is_some state.reason)) (mode_at state.limit (failed_weight state.tests))
   where
     by_test : (b : Bool) (reached : Option TerminateMode) → KeepsReasons (cond b (option_map_or (λ mode. stopped_by (limit_reason mode) state) reached state) state)

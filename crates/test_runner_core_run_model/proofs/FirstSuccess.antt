@@ -13,7 +13,7 @@ use Rattle.nextest_run_events_counters.specs.Rows.{Finished, fails_test, forbids
 use Rattle.nextest_run_events_results.specs.declared.record.Record.{Record}
 use Rattle.test_runner_core_run_model.specs.declared.run_test.RunTest.{RunTest}
 use Rattle.test_runner_core_run_model.specs.Assignment.{first_success, found_or, fails, fails_by_first}
-use Rattle.test_runner_core_run_model.specs.Ends.{tried}
+use Rattle.test_runner_core_run_model.specs.Ends.{records_of_tries}
 use Rattle.test_runner_core_run_model.specs.State.{TestState, counts, is_finished, is_finished_mark, last_record, finished_as}
 use Rattle.test_runner_core_run_model.specs.declared.mark.Mark.{Mark}
 use Rattle.test_runner_core_run_model.specs.declared.mark.Mark.TheVariants as marks
@@ -87,17 +87,17 @@ FitsMark attempt tries ended_tries (marks.Finished reason) =
 -- a test whose records are those of the first tries, and that is as far as they say
 pub record Fits (attempt : ℕ → Record) (test : TestState) : Type 0 where
   pub tries : 0 < test.plan.tries
-  pub records : test.records ≡ tried attempt (length test.records)
+  pub records : test.records ≡ records_of_tries attempt (length test.records)
   pub marked : FitsMark attempt test.plan.tries (length test.records) test.mark
 
 -- a finished test with such records counts as failing exactly if the test fails
 last_counts : (attempt : ℕ → Record) (plan : RunTest) (records : List Record) (kept : Mark) (tries : ℕ) → 0 < plan.tries
-    → records ≡ tried attempt tries → length records ≡ tries
+    → records ≡ records_of_tries attempt tries → length records ≡ tries
     → ((first_success attempt tries ≡ Some tries) × (tries ≤ plan.tries)) ⊎ ((first_success attempt tries ≡ None) × (tries ≡ plan.tries))
     → option_map_or (λ told. fails_test (finished_as (record { plan = plan; records = records; mark = kept }) told)) (last_record records) false ≡ fails plan attempt
 last_counts attempt plan records kept zero some e n first = elim first [ inl won ↦ cc | inr lost ↦ absurd (omega arith) ]
 last_counts attempt plan records kept (suc tries) some e n first =
-    let last : last_record records ≡ Some (attempt (suc tries)) = ap last_record e ∙ last_record-push (tried attempt tries) (attempt (suc tries)) in
+    let last : last_record records ≡ Some (attempt (suc tries)) = ap last_record e ∙ last_record-push (records_of_tries attempt tries) (attempt (suc tries)) in
     ap (λ (o : Option Record). option_map_or (λ told. fails_test (finished_as (record { plan = plan; records = records; mark = kept }) told)) o false) last
     ∙ by_success (first_success attempt tries) (is_success (attempt (suc tries)).result) refl refl first
   where

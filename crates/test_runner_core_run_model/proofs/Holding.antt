@@ -12,9 +12,9 @@ use Rattle.nextest_run_events_counters.specs.Rows.{fails_test}
 use Rattle.nextest_run_events_results.specs.declared.record.Record.{Record}
 use Rattle.test_runner_core_run_model.specs.RunPlan.{RunPlan, IsPlan}
 use Rattle.test_runner_core_run_model.specs.Assignment.{Assignment, first_success, found_or}
-use Rattle.test_runner_core_run_model.specs.Ends.{tried}
+use Rattle.test_runner_core_run_model.specs.Ends.{records_of_tries}
 use Rattle.test_runner_core_run_model.specs.State.{TestState, State, initial, counts, is_finished, is_finished_mark, last_record, finished_as, failed_weight}
-use Rattle.test_runner_core_run_model.specs.Step.{step, with_test, after_attempt, finishes, finished_by, stopped_mark, limited, limit_reason, stopped_by}
+use Rattle.test_runner_core_run_model.specs.Step.{step, with_test, after_attempt, finishes, finished_by, stopped_mark, after_limit, limit_reason, stopped_by}
 use Rattle.test_runner_core_run_model.specs.Runs.{Run, Agrees, AgreesWith, EventAgrees}
 use Rattle.test_runner_core_run_model.specs.declared.mark.Mark.{Mark}
 use Rattle.test_runner_core_run_model.specs.declared.mark.Mark.TheVariants as marks
@@ -50,12 +50,12 @@ last_lost attempt number none = by_tests (first_success attempt number) (is_succ
     by_tests None false h = refl
 
 -- a stop that finishes a test between two attempts leaves it failing
-between_fails : (attempt : ℕ → Record) (reason : CancelReason) (test : TestState) (number : ℕ) → 0 < number → test.records ≡ tried attempt number
+between_fails : (attempt : ℕ → Record) (reason : CancelReason) (test : TestState) (number : ℕ) → 0 < number → test.records ≡ records_of_tries attempt number
     → first_success attempt number ≡ None → counts fails_test (with_mark test (marks.Finished (Some reason))) ≡ true
 between_fails attempt reason test zero some e none = absurd (omega arith)
 between_fails attempt reason test (suc number) some e none =
     failed_counts (with_mark test (marks.Finished (Some reason))) (attempt (suc number)) refl
-    (ap last_record e ∙ last_record-push (tried attempt number) (attempt (suc number))) (last_lost attempt number none)
+    (ap last_record e ∙ last_record-push (records_of_tries attempt number) (attempt (suc number))) (last_lost attempt number none)
 
 fares_stopped : (attempt : ℕ → Record) (reason : CancelReason) (test : TestState) → Fares attempt test → Fares attempt (finished_by reason test)
 fares_stopped attempt reason test (inr failed) = inr (counts_stopped fails_test reason test failed)
@@ -125,7 +125,7 @@ holds_stopped : (plan : RunPlan) (assigned : Assignment) (state : State) (reason
 holds_stopped plan assigned state reason holds =
     record { keeps = keeps_stopped plan assigned state reason holds.keeps; fare = all_stopped reason state.tests assigned.attempt holds.fare }
 
-holds_limited : (plan : RunPlan) (assigned : Assignment) (state : State) (finished : Bool) → Holds plan assigned state → Holds plan assigned (limited finished state)
+holds_limited : (plan : RunPlan) (assigned : Assignment) (state : State) (finished : Bool) → Holds plan assigned state → Holds plan assigned (after_limit finished state)
 holds_limited plan assigned state finished holds = by_test (finished && not (is_some state.reason)) (mode_at state.limit (failed_weight state.tests))
   where
     by_test : (b : Bool) (reached : Option TerminateMode)

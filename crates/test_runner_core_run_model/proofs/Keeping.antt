@@ -10,7 +10,7 @@ use Rattle.test_runner_core_run_model.specs.RunPlan.{RunPlan}
 use Rattle.test_runner_core_run_model.specs.Assignment.{Assignment}
 use Rattle.test_runner_core_run_model.specs.Ends.{first_scripts}
 use Rattle.test_runner_core_run_model.specs.State.{TestState, State, initial, is_finished, is_finished_mark, is_running, is_running_mark}
-use Rattle.test_runner_core_run_model.specs.Step.{script_ended, after_script, started, start_of, start_from, attempt_ended, end_from, with_test, after_attempt, finishes, limited, stopped_by}
+use Rattle.test_runner_core_run_model.specs.Step.{script_ended, after_script, state_after_start, start_of, start_from, attempt_ended, end_from, with_test, after_attempt, finishes, after_limit, stopped_by}
 use Rattle.test_runner_core_run_model.specs.declared.mark.Mark.{Mark}
 use Rattle.test_runner_core_run_model.specs.declared.mark.Mark.TheVariants as marks
 use Rattle.test_runner_core_run_model.specs.declared.step_refusal.StepRefusal.TheVariants as refused
@@ -51,7 +51,7 @@ pub record StartShows (old new : State) (place : ℕ) : Type 0 where
   pub idle : is_running test ≡ false
   pub is : new ≡ with_test old place (record test { mark = marks.Running })
 
-pub start_shows : (old new : State) (place : ℕ) → started old place ≡ Ok new → StartShows old new place
+pub start_shows : (old new : State) (place : ℕ) → state_after_start old place ≡ Ok new → StartShows old new place
 start_shows old new place happens =
     let known = found_ok (start_of old place) (slice_get old.tests place) refused.UnknownTest new happens in
     let free = guard_ok (is_some old.reason) refused.Stopped _ new known.2 in
@@ -72,7 +72,7 @@ pub record EndShows (old new : State) (place : ℕ) (told : Record) : Type 0 whe
   pub test : TestState
   pub found : slice_get old.tests place ≡ Some test
   pub running : test.mark ≡ marks.Running
-  pub is : new ≡ limited (finishes old test told) (with_test old place (after_attempt old test told))
+  pub is : new ≡ after_limit (finishes old test told) (with_test old place (after_attempt old test told))
 
 pub end_shows : (old new : State) (place : ℕ) (told : Record) → attempt_ended old place told ≡ Ok new → EndShows old new place told
 end_shows old new place told happens =

@@ -1,5 +1,6 @@
 pub mod Counting
 pub mod FirstSuccess
+pub mod FirstNumber
 pub mod TestStates
 pub mod Scripts
 pub mod Keeping

@@ -16,12 +16,12 @@ use Rattle.nextest_run_events_results.specs.Cancel.{graver_reason, is_inner}
 use Rattle.nextest_run_events_results.specs.Result.{is_success}
 use Rattle.nextest_run_events_counters.specs.Rows.{fails_test}
 use Rattle.nextest_run_events_results.specs.declared.record.Record.{Record}
-use Rattle.test_runner_core_run_model.specs.RunPlan.{RunPlan, IsPlan, IsLimit, weight}
+use Rattle.test_runner_core_run_model.specs.RunPlan.{RunPlan, IsPlan, IsPositiveLimit, weight}
 use Rattle.test_runner_core_run_model.specs.declared.run_test.RunTest.{RunTest}
 use Rattle.test_runner_core_run_model.specs.Assignment.{Assignment, IsUnstopped, first_success, fails, failing_weight, some_script}
-use Rattle.test_runner_core_run_model.specs.Ends.{tried, first_scripts, final_test, final_tests, final_state}
+use Rattle.test_runner_core_run_model.specs.Ends.{records_of_tries, first_scripts, final_test, final_tests, final_state}
 use Rattle.test_runner_core_run_model.specs.State.{TestState, State, initial, waiting, counts, is_finished, is_finished_mark, failed_weight}
-use Rattle.test_runner_core_run_model.specs.Step.{step, with_test, after_script, after_attempt, finishes, limited, limit_reason, stopped_by}
+use Rattle.test_runner_core_run_model.specs.Step.{step, with_test, after_script, after_attempt, finishes, after_limit, limit_reason, stopped_by}
 use Rattle.test_runner_core_run_model.specs.Finishing.{is_stopped_mark, is_stopped_at}
 use Rattle.test_runner_core_run_model.specs.Runs.{Run, Agrees, AgreesWith, EventAgrees, IsNoStop}
 use Rattle.test_runner_core_run_model.specs.Laws.{EndsInOneState, StopsWhereDue}
@@ -105,7 +105,7 @@ less_below (limits.Count max_fail terminate) less more within below = by_tests (
     by_tests false false e f h = refl
 less_below limits.All less more within below = refl
 
-nothing_below : (limit : MaxFail) → IsLimit limit → mode_at limit 0 ≡ None
+nothing_below : (limit : MaxFail) → IsPositiveLimit limit → mode_at limit 0 ≡ None
 nothing_below limit ok = by_mode (mode_at limit 0) refl
   where
     by_mode : (mode : Option TerminateMode) → mode_at limit 0 ≡ mode → mode ≡ None
@@ -124,7 +124,7 @@ same_weight_below old place test new below found same none = ap (mode_at old.lim
 unfinished_after : (state : State) (test : TestState) (told : Record) → finishes state test told ≡ false → is_finished (after_attempt state test told) ≡ false
 unfinished_after state test told e = ap (λ (b : Bool). is_finished_mark (cond b (marks.Finished state.reason) marks.Between)) e
 
-below_limited : (state : State) (finished : Bool) → (finished ≡ false → Below state) → Below (limited finished state)
+below_limited : (state : State) (finished : Bool) → (finished ≡ false → Below state) → Below (after_limit finished state)
 below_limited state finished unfinished = by_tests finished (is_some state.reason) (mode_at state.limit (failed_weight state.tests)) refl refl refl
   where
     by_tests : (f some : Bool) (reached : Option TerminateMode) → finished ≡ f → is_some state.reason ≡ some → mode_at state.limit (failed_weight state.tests) ≡ reached
@@ -203,7 +203,7 @@ script_goes_on plan assigned old told free tracks going less same =
     by_success false e = cc
 
 -- where what failed is below the limit it changes nothing
-limited_goes_on : (state : State) (finished : Bool) → state.reason ≡ None → mode_at state.limit (failed_weight state.tests) ≡ None → (limited finished state).reason ≡ None
+limited_goes_on : (state : State) (finished : Bool) → state.reason ≡ None → mode_at state.limit (failed_weight state.tests) ≡ None → (after_limit finished state).reason ≡ None
 limited_goes_on state finished going below = by_tests (finished && not (is_some state.reason)) (mode_at state.limit (failed_weight state.tests)) below
   where
     reason_of : State → Option CancelReason
@@ -218,7 +218,7 @@ limited_goes_on state finished going below = by_tests (finished && not (is_some 
 end_goes_on : (plan : RunPlan) (assigned : Assignment) (old : State) (place : ℕ) (told : Record) (test : TestState) → IsUnstopped plan assigned → Tracks plan assigned old
     → Keeps plan assigned (with_test old place (after_attempt old test told)) → old.reason ≡ None
     → slice_get old.tests place ≡ Some test → test.mark ≡ marks.Running → told ≡ assigned.attempt place (length test.records + 1)
-    → (limited (finishes old test told) (with_test old place (after_attempt old test told))).reason ≡ None
+    → (after_limit (finishes old test told) (with_test old place (after_attempt old test told))).reason ≡ None
 end_goes_on plan assigned old place told test free tracks keeps going found running same =
     let now = subst (Standing plan assigned old) going tracks.standing in
     let after = after_attempt old test told in
@@ -298,7 +298,7 @@ final_one attempt test fits over free = by_mark test.mark refl
     by_mark (marks.Finished (Some reason)) e = let no = ap is_stopped_mark e in cc
     by_mark (marks.Finished None) e =
         let number = tries_taken attempt test.plan.tries (length test.records) (subst (FitsMark attempt test.plan.tries (length test.records)) e fits.marked) in
-        let records : test.records ≡ tried attempt (unwrap_or (first_success attempt test.plan.tries) test.plan.tries) = fits.records ∙ ap (tried attempt) number in
+        let records : test.records ≡ records_of_tries attempt (unwrap_or (first_success attempt test.plan.tries) test.plan.tries) = fits.records ∙ ap (records_of_tries attempt) number in
         ap (λ (mark : Mark). record test { mark = mark }) e ∙ ap (λ (rs : List Record). record test { records = rs; mark = marks.Finished None }) records
 
 final_all : (tests : List TestState) (attempt : ℕ → ℕ → Record) → AllBeside Fits tests attempt → list_all is_finished tests ≡ true

@@ -7,7 +7,7 @@ use Rattle.nextest_config_elements_choices.specs.MaxFail.{mode_at}
 use Rattle.nextest_run_events_results.specs.Cancel.{gravity, graver_reason, is_inner}
 use Rattle.nextest_run_events_results.specs.declared.cancel_reason.CancelReason.{CancelReason}
 use Rattle.test_runner_core_run_model.specs.State.{State, failed_weight}
-use Rattle.test_runner_core_run_model.specs.Step.{step, start_of, limited, limit_reason, stopped_by, with_test, after_attempt, finishes}
+use Rattle.test_runner_core_run_model.specs.Step.{step, start_of, after_limit, limit_reason, stopped_by, with_test, after_attempt, finishes}
 use Rattle.test_runner_core_run_model.specs.Runs.{Run}
 use Rattle.test_runner_core_run_model.specs.Laws.{RefusesScripts, RefusesStarts, KeepsAReason}
 use Rattle.test_runner_core_run_model.specs.declared.event.Event.{Event}
@@ -63,7 +63,7 @@ graver_is old new = by_test (ltb (gravity old) (gravity new)) refl
     by_test false e = omega arith
 
 -- a limit changes nothing where a reason stands
-limited_is : (finished : Bool) (state : State) (reason : CancelReason) → state.reason ≡ Some reason → limited finished state ≡ state
+limited_is : (finished : Bool) (state : State) (reason : CancelReason) → state.reason ≡ Some reason → after_limit finished state ≡ state
 limited_is finished state reason stands = by_test finished (is_some state.reason) (ap is_some stands)
   where
     by_test : (b some : Bool) → some ≡ true → cond (b && not some) (option_map_or (λ mode. stopped_by (limit_reason mode) state) (mode_at state.limit (failed_weight state.tests)) state) state ≡ state

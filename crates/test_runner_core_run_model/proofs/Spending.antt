@@ -14,7 +14,7 @@ use Rattle.nextest_run_events_results.specs.declared.cancel_reason.CancelReason.
 use Rattle.nextest_run_events_results.specs.declared.record.Record.{Record}
 use Rattle.test_runner_core_run_model.specs.declared.run_test.RunTest.{RunTest}
 use Rattle.test_runner_core_run_model.specs.State.{TestState, State, initial, waiting, is_finished, is_finished_mark, is_running, is_running_mark, failed_weight}
-use Rattle.test_runner_core_run_model.specs.Step.{step, with_test, after_attempt, finishes, finished_by, stopped_mark, limited, limit_reason, stopped_by}
+use Rattle.test_runner_core_run_model.specs.Step.{step, with_test, after_attempt, finishes, finished_by, stopped_mark, after_limit, limit_reason, stopped_by}
 use Rattle.test_runner_core_run_model.specs.Runs.{Run, is_no_stop}
 use Rattle.test_runner_core_run_model.specs.Laws.{HasAtMost}
 use Rattle.test_runner_core_run_model.specs.declared.mark.Mark.{Mark}
@@ -67,7 +67,7 @@ seen_set (first ∷ tests) (suc place) old new found one_more =
 shown_stopped : (reason : CancelReason) (state : State) → shown (stopped_by reason state) ≡ shown state
 shown_stopped reason state = ap (λ (n : ℕ). length state.scripts + n) (all_seen_stopped reason state.tests)
 
-shown_limited : (finished : Bool) (state : State) → shown (limited finished state) ≡ shown state
+shown_limited : (finished : Bool) (state : State) → shown (after_limit finished state) ≡ shown state
 shown_limited finished state = by_test (finished && not (is_some state.reason)) (mode_at state.limit (failed_weight state.tests))
   where
     by_test : (b : Bool) (reached : Option TerminateMode) → shown (cond b (option_map_or (λ mode. stopped_by (limit_reason mode) state) reached state) state) ≡ shown state
@@ -163,7 +163,7 @@ room_stopped reason (test ∷ tests) all = (by_mark test.mark all.0, room_stoppe
 abbrev AllRoom : State → Type 0
 AllRoom state = AllByRecursion HasRoom state.tests
 
-room_limited : (finished : Bool) (state : State) → AllRoom state → AllRoom (limited finished state)
+room_limited : (finished : Bool) (state : State) → AllRoom state → AllRoom (after_limit finished state)
 room_limited finished state all = by_test (finished && not (is_some state.reason)) (mode_at state.limit (failed_weight state.tests))
   where
     by_test : (b : Bool) (reached : Option TerminateMode) → AllRoom (cond b (option_map_or (λ mode. stopped_by (limit_reason mode) state) reached state) state)

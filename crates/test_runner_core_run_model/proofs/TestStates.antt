@@ -10,7 +10,7 @@ use Rattle.nextest_run_events_counters.specs.Rows.{Finished, fails_test}
 use Rattle.nextest_run_events_results.specs.declared.record.Record.{Record}
 use Rattle.test_runner_core_run_model.specs.declared.run_test.RunTest.{RunTest}
 use Rattle.test_runner_core_run_model.specs.Assignment.{first_success, found_or, fails, some_test_fails}
-use Rattle.test_runner_core_run_model.specs.Ends.{tried}
+use Rattle.test_runner_core_run_model.specs.Ends.{records_of_tries}
 use Rattle.test_runner_core_run_model.specs.State.{TestState, State, waiting, counts, is_finished, is_finished_mark}
 use Rattle.test_runner_core_run_model.specs.Step.{finished_by, stopped_mark, after_attempt, finishes}
 use Rattle.test_runner_core_run_model.specs.declared.mark.Mark.{Mark}
@@ -168,7 +168,7 @@ fits_after attempt state test told fits running regular same =
     let same_next : told ≡ attempt (suc number) = same ∙ ap attempt next in
     record {
       tries = fits.tries;
-      records = ap (λ (xs : List Record). xs ++ told ∷ []) fits.records ∙ ap (λ (r : Record). tried attempt number ++ r ∷ []) same_next ∙ sym (ap (tried attempt) count);
+      records = ap (λ (xs : List Record). xs ++ told ∷ []) fits.records ∙ ap (λ (r : Record). records_of_tries attempt number ++ r ∷ []) same_next ∙ sym (ap (records_of_tries attempt) count);
       marked = subst (λ (m : ℕ). FitsMark attempt test.plan.tries m (cond (finishes state test told) (marks.Finished state.reason) marks.Between)) (sym count)
           (mark_after attempt test.plan.tries number told state.reason same_next regular open_still.0 open_still.1);
     }

@@ -14,11 +14,11 @@ use Rattle.nextest_run_events_results.specs.declared.cancel_reason.CancelReason.
 use Rattle.nextest_run_events_results.specs.Result.{is_success}
 use Rattle.nextest_run_events_counters.specs.Rows.{fails_test}
 use Rattle.nextest_run_events_results.specs.declared.record.Record.{Record}
-use Rattle.test_runner_core_run_model.specs.RunPlan.{RunPlan, IsPlan, IsLimit, weight}
+use Rattle.test_runner_core_run_model.specs.RunPlan.{RunPlan, IsPlan, IsPositiveLimit, weight}
 use Rattle.test_runner_core_run_model.specs.declared.run_test.RunTest.{RunTest}
 use Rattle.test_runner_core_run_model.specs.Assignment.{Assignment, some_test_fails}
 use Rattle.test_runner_core_run_model.specs.State.{TestState, State, initial, waiting, counts, is_finished_mark, failed_weight}
-use Rattle.test_runner_core_run_model.specs.Step.{step, script_ended, after_script, started, attempt_ended, with_test, after_attempt, finishes, limited, limit_reason, stopped_by}
+use Rattle.test_runner_core_run_model.specs.Step.{step, script_ended, after_script, state_after_start, attempt_ended, with_test, after_attempt, finishes, after_limit, limit_reason, stopped_by}
 use Rattle.test_runner_core_run_model.specs.Runs.{Run, Agrees, AgreesWith, EventAgrees, IsNoStop, try_at}
 use Rattle.test_runner_core_run_model.specs.declared.mark.Mark.{Mark}
 use Rattle.test_runner_core_run_model.specs.declared.mark.Mark.TheVariants as marks
@@ -128,7 +128,7 @@ any_waiting (first ∷ tests) (suc place) test found not_it = and_false (is_wait
     and_false true b h = h
     and_false false b h = refl
 
-step_start : (plan : RunPlan) (assigned : Assignment) (old new : State) (place : ℕ) → Tracks plan assigned old → started old place ≡ Ok new → Tracks plan assigned new
+step_start : (plan : RunPlan) (assigned : Assignment) (old new : State) (place : ℕ) → Tracks plan assigned old → state_after_start old place ≡ Ok new → Tracks plan assigned new
 step_start plan assigned old new place tracks happens =
     let shows = start_shows old new place happens in
     let running = record shows.test { mark = marks.Running } in
@@ -150,7 +150,7 @@ step_start plan assigned old new place tracks happens =
 -- an attempt ends
 
 -- where a limit that is one is reached, something weighs
-pub reaches : (limit : MaxFail) (weighed : ℕ) (mode : TerminateMode) → IsLimit limit → mode_at limit weighed ≡ Some mode → 0 < weighed
+pub reaches : (limit : MaxFail) (weighed : ℕ) (mode : TerminateMode) → IsPositiveLimit limit → mode_at limit weighed ≡ Some mode → 0 < weighed
 reaches (limits.Count max_fail terminate) weighed mode ok h = by_test (leb max_fail weighed) refl h
   where
     by_test : (b : Bool) → leb max_fail weighed ≡ b → cond b (Some terminate) None ≡ Some mode → 0 < weighed
@@ -163,15 +163,15 @@ by_limit plan assigned state modes.Wait h = h
 by_limit plan assigned state modes.Immediate h = h
 
 -- a run that its failing tests may stop still tracks
-tracks_limited : (plan : RunPlan) (assigned : Assignment) (state : State) (finished : Bool) → IsLimit plan.limit → Tracks plan assigned state
-    → state.reason ≡ None → length state.scripts ≡ state.planned_scripts → Tracks plan assigned (limited finished state)
+tracks_limited : (plan : RunPlan) (assigned : Assignment) (state : State) (finished : Bool) → IsPositiveLimit plan.limit → Tracks plan assigned state
+    → state.reason ≡ None → length state.scripts ≡ state.planned_scripts → Tracks plan assigned (after_limit finished state)
 tracks_limited plan assigned state finished ok tracks going ended =
     by_test (finished && not (is_some state.reason)) (mode_at state.limit (failed_weight state.tests)) refl
   where
     stop : (mode : TerminateMode) → mode_at state.limit (failed_weight state.tests) ≡ Some mode → Tracks plan assigned (stopped_by (limit_reason mode) state)
     stop mode reached =
         let now = subst (Standing plan assigned state) going tracks.standing in
-        let limit_ok : IsLimit state.limit = subst IsLimit (sym tracks.keeps.limit) ok in
+        let limit_ok : IsPositiveLimit state.limit = subst IsPositiveLimit (sym tracks.keeps.limit) ok in
         let failed = weighs_some (counts fails_test) (λ test. weight test.plan) state.tests (reaches state.limit (failed_weight state.tests) mode limit_ok reached) in
         record {
           keeps = keeps_stopped plan assigned state (limit_reason mode) tracks.keeps;
@@ -189,9 +189,9 @@ tracks_limited plan assigned state finished ok tracks going ended =
     by_test true None e = tracks
     by_test true (Some mode) e = stop mode e
 
-tracks_end : (plan : RunPlan) (assigned : Assignment) (old : State) (place : ℕ) (told : Record) (test : TestState) → IsLimit plan.limit → Tracks plan assigned old
+tracks_end : (plan : RunPlan) (assigned : Assignment) (old : State) (place : ℕ) (told : Record) (test : TestState) → IsPositiveLimit plan.limit → Tracks plan assigned old
     → slice_get old.tests place ≡ Some test → test.mark ≡ marks.Running → AgreesWith old.reason (assigned.attempt place (length test.records + 1)) told
-    → Tracks plan assigned (limited (finishes old test told) (with_test old place (after_attempt old test told)))
+    → Tracks plan assigned (after_limit (finishes old test told) (with_test old place (after_attempt old test told)))
 tracks_end plan assigned old place told test ok tracks at running agrees = by_reason old.reason refl
   where
     new : State
@@ -203,7 +203,7 @@ tracks_end plan assigned old place told test ok tracks at running agrees = by_re
     uncounted : counts fails_test test ≡ false
     uncounted = unfinished_counts fails_test test (ap is_finished_mark running)
 
-    stays : (reason : CancelReason) → old.reason ≡ Some reason → Standing plan assigned new (Some reason) → Tracks plan assigned (limited (finishes old test told) new)
+    stays : (reason : CancelReason) → old.reason ≡ Some reason → Standing plan assigned new (Some reason) → Tracks plan assigned (after_limit (finishes old test told) new)
     stays reason e standing =
         subst (Tracks plan assigned) (sym (ap (λ (b : Bool). cond b (option_map_or (λ mode. stopped_by (limit_reason mode) new) (mode_at new.limit (failed_weight new.tests)) new) new)
         (ap (λ (r : Option CancelReason). finishes old test told && not (is_some r)) e ∙ and_false (finishes old test told))))
@@ -222,7 +222,7 @@ tracks_end plan assigned old place told test ok tracks at running agrees = by_re
     was : (reason : Option CancelReason) → old.reason ≡ reason → Standing plan assigned old reason
     was reason e = subst (Standing plan assigned old) e tracks.standing
 
-    by_reason : (reason : Option CancelReason) → old.reason ≡ reason → Tracks plan assigned (limited (finishes old test told) new)
+    by_reason : (reason : Option CancelReason) → old.reason ≡ reason → Tracks plan assigned (after_limit (finishes old test told) new)
     by_reason None e =
         let now = was None e in
         let same = subst (λ (r : Option CancelReason). AgreesWith r (assigned.attempt place (length test.records + 1)) told) e agrees in
@@ -252,7 +252,7 @@ tracks_end plan assigned old place told test ok tracks at running agrees = by_re
     by_reason (Some why.Interrupt) e = absurd (was (Some why.Interrupt) e)
     by_reason (Some why.SecondSignal) e = absurd (was (Some why.SecondSignal) e)
 
-step_end : (plan : RunPlan) (assigned : Assignment) (old new : State) (place : ℕ) (told : Record) → IsLimit plan.limit → Tracks plan assigned old
+step_end : (plan : RunPlan) (assigned : Assignment) (old new : State) (place : ℕ) (told : Record) → IsPositiveLimit plan.limit → Tracks plan assigned old
     → attempt_ended old place told ≡ Ok new → AgreesWith old.reason (assigned.attempt place (try_at old.tests place)) told → Tracks plan assigned new
 step_end plan assigned old new place told ok tracks happens agrees =
     let shows = end_shows old new place told happens in
@@ -261,14 +261,14 @@ step_end plan assigned old new place told ok tracks happens agrees =
 
 -- each step of such a run, and so the whole run
 
-pub step_tracks : (plan : RunPlan) (assigned : Assignment) (old new : State) (event : Event) → IsLimit plan.limit → Tracks plan assigned old
+pub step_tracks : (plan : RunPlan) (assigned : Assignment) (old new : State) (event : Event) → IsPositiveLimit plan.limit → Tracks plan assigned old
     → step old event ≡ Ok new → EventAgrees assigned old event → IsNoStop event → Tracks plan assigned new
 step_tracks plan assigned old new (events.ScriptEnded script told) ok tracks happens agrees plain = step_script plan assigned old new script told tracks happens agrees
 step_tracks plan assigned old new (events.Started test) ok tracks happens agrees plain = step_start plan assigned old new test tracks happens
 step_tracks plan assigned old new (events.Ended test told) ok tracks happens agrees plain = step_end plan assigned old new test told ok tracks happens agrees
 step_tracks plan assigned old new (events.Stopped reason) ok tracks happens agrees plain = absurd plain
 
-pub run_tracks : (plan : RunPlan) (assigned : Assignment) (old : State) (run : List Event) (new : State) → IsLimit plan.limit → Tracks plan assigned old
+pub run_tracks : (plan : RunPlan) (assigned : Assignment) (old : State) (run : List Event) (new : State) → IsPositiveLimit plan.limit → Tracks plan assigned old
     → Run old run new → Agrees assigned old run → AllByRecursion IsNoStop run → Tracks plan assigned new
 run_tracks plan assigned old [] new ok tracks happens agrees plain = subst (Tracks plan assigned) (sym happens) tracks
 run_tracks plan assigned old (event ∷ run) new ok tracks happens agrees plain =

@@ -13,7 +13,7 @@ use Rattle.nextest_run_events_results.specs.declared.cancel_reason.CancelReason.
 use Rattle.nextest_run_events_counters.specs.Rows.{fails_test}
 use Rattle.test_runner_core_run_model.specs.RunPlan.{RunPlan}
 use Rattle.test_runner_core_run_model.specs.State.{TestState, State, initial, counts, is_finished, failed_weight}
-use Rattle.test_runner_core_run_model.specs.Step.{step, with_test, after_attempt, finishes, limited, limit_reason, stopped_by}
+use Rattle.test_runner_core_run_model.specs.Step.{step, with_test, after_attempt, finishes, after_limit, limit_reason, stopped_by}
 use Rattle.test_runner_core_run_model.specs.Runs.{Run}
 use Rattle.test_runner_core_run_model.specs.Laws.{SucceedsWhole}
 use Rattle.test_runner_core_run_model.specs.declared.event.Event.{Event}
@@ -41,7 +41,7 @@ planned_stopped : (plan : RunPlan) (state : State) (reason : CancelReason) → P
 planned_stopped plan state reason h =
     record { plans = plans_stopped reason state.tests ∙ h.plans; planned = h.planned; limit = h.limit; skipped = h.skipped; within = h.within }
 
-planned_limited : (plan : RunPlan) (state : State) (finished : Bool) → Planned plan state → Planned plan (limited finished state)
+planned_limited : (plan : RunPlan) (state : State) (finished : Bool) → Planned plan state → Planned plan (after_limit finished state)
 planned_limited plan state finished h = by_test (finished && not (is_some state.reason)) (mode_at state.limit (failed_weight state.tests))
   where
     by_test : (b : Bool) (reached : Option TerminateMode) → Planned plan (cond b (option_map_or (λ mode. stopped_by (limit_reason mode) state) reached state) state)

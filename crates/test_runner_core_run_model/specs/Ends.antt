@@ -21,13 +21,13 @@ first_scripts script zero = []
 first_scripts script (suc scripts) = first_scripts script scripts ++ script scripts ∷ []
 
 -- the records of so many first tries, in order
-abbrev pub tried : (ℕ → Record) → ℕ → List Record
-tried attempt zero = []
-tried attempt (suc tries) = tried attempt tries ++ attempt (suc tries) ∷ []
+abbrev pub records_of_tries : (ℕ → Record) → ℕ → List Record
+records_of_tries attempt zero = []
+records_of_tries attempt (suc tries) = records_of_tries attempt tries ++ attempt (suc tries) ∷ []
 
 -- a test that is over with no reason: its tries up to the first success, or all of them
 abbrev pub final_test : RunTest → (ℕ → Record) → TestState
-final_test test attempt = record { plan = test; records = tried attempt (unwrap_or (first_success attempt test.tries) test.tries); mark = marks.Finished None }
+final_test test attempt = record { plan = test; records = records_of_tries attempt (unwrap_or (first_success attempt test.tries) test.tries); mark = marks.Finished None }
 
 abbrev pub final_tests : List RunTest → (ℕ → ℕ → Record) → List TestState
 final_tests [] attempt = []

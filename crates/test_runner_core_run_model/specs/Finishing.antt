@@ -33,13 +33,6 @@ finishing (events.Ended test told) old new =
     filter (λ place. place == test) (newly_finished old new) ++ filter (λ place. not (place == test)) (newly_finished old new)
 finishing (events.Stopped reason) old new = newly_finished old new
 
--- the place of the attempt that ended, where its test is over
-abbrev pub ended_first : Event → State → List ℕ
-ended_first (events.ScriptEnded script told) new = []
-ended_first (events.Started test) new = []
-ended_first (events.Ended test told) new = if finished_at new.tests test then test ∷ [] else []
-ended_first (events.Stopped reason) new = []
-
 -- a step stops the run: no reason stood before, and one does now
 abbrev pub stops_run : State → State → Bool
 stops_run old new = not (is_some old.reason) && is_some new.reason

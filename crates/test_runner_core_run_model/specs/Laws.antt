@@ -1,11 +1,12 @@
--- The laws over whole runs.
-use Rattle.std.specs.Prelude.{◌≡◌, ◌↔◌, ℕ, ◌≤◌, true, false, List, [], ◌∷◌, ◌++◌, None, Some, Ok, Err, length, count_by, is_some, nat_le, if◌then◌else◌}
+-- The laws over whole runs, and over the first success among tries.
+use Rattle.std.specs.Prelude.{◌≡◌, ◌↔◌, ℕ, ◌<◌, ◌≤◌, Bool, true, false, List, [], ◌∷◌, ◌++◌, Option, None, Some, Ok, Err, length, count_by, is_some, nat_le, if◌then◌else◌}
 use Rattle.std.specs.List.{AllByRecursion}
 use Rattle.nextest_run_events_results.specs.Cancel.{gravity}
+use Rattle.nextest_run_events_results.specs.Result.{is_success}
 use Rattle.nextest_run_events_results.specs.declared.cancel_reason.CancelReason.{CancelReason}
 use Rattle.nextest_run_events_results.specs.declared.record.Record.{Record}
 use Rattle.test_runner_core_run_model.specs.RunPlan.{RunPlan, IsPlan}
-use Rattle.test_runner_core_run_model.specs.Assignment.{Assignment, IsUnstopped, due_status}
+use Rattle.test_runner_core_run_model.specs.Assignment.{Assignment, IsUnstopped, due_status, first_success}
 use Rattle.test_runner_core_run_model.specs.State.{State, initial}
 use Rattle.test_runner_core_run_model.specs.Step.{step}
 use Rattle.test_runner_core_run_model.specs.Counters.{status}
@@ -112,3 +113,24 @@ ReachesAnEnd =
 -- in a run from its beginning no test is over under a reason before a reason stands
 abbrev pub HasReasonsFirst : Type 0
 HasReasonsFirst = (plan : RunPlan) (events : List Event) (last : State) → Run (initial plan) events last → KeepsReasons last
+
+-- an attempt, by its number, is a success
+abbrev pub is_success_at : (ℕ → Record) → ℕ → Bool
+is_success_at attempt number = is_success (attempt number).result
+
+-- the number of the first success among so many tries, which go from 1: a try that succeeds, none before it; or none at all
+abbrev pub IsFirstSuccess : (ℕ → Record) → ℕ → Option ℕ → Type 0
+IsFirstSuccess attempt tries (Some number) =
+    (1 ≤ number) × (number ≤ tries) × (is_success_at attempt number ≡ true)
+    × ((before : ℕ) → 1 ≤ before → before < number → is_success_at attempt before ≡ false)
+IsFirstSuccess attempt tries None = (number : ℕ) → 1 ≤ number → number ≤ tries → is_success_at attempt number ≡ false
+
+-- whatever the attempts, `first_success` is the number of the first success
+abbrev pub FindsFirstSuccess : Type 0
+FindsFirstSuccess = (attempt : ℕ → Record) (tries : ℕ) → IsFirstSuccess attempt tries (first_success attempt tries)
+
+-- and no other answer is
+abbrev pub HasOneFirstSuccess : Type 0
+HasOneFirstSuccess =
+    (attempt : ℕ → Record) (tries : ℕ) (one other : Option ℕ)
+    → IsFirstSuccess attempt tries one → IsFirstSuccess attempt tries other → one ≡ other

@@ -18,12 +18,12 @@ abbrev pub weight : RunTest → ℕ
 weight test = 1
 
 -- a limit stops no run in which nothing failed
-abbrev pub IsLimit : MaxFail → Type 0
-IsLimit (limits.Count max_fail terminate) = 0 < max_fail
-IsLimit limits.All = ⊤
+abbrev pub IsPositiveLimit : MaxFail → Type 0
+IsPositiveLimit (limits.Count max_fail terminate) = 0 < max_fail
+IsPositiveLimit limits.All = ⊤
 
 -- what each plan keeps: where no test is selected no script is to run, each test has an attempt, the limit is one
 pub record IsPlan (plan : RunPlan) : Type 0 where
   pub no_lone_script : plan.tests ≡ [] → plan.scripts ≡ 0
   pub tries : AllByRecursion (λ test. 0 < test.tries) plan.tests
-  pub limit : IsLimit plan.limit
+  pub limit : IsPositiveLimit plan.limit

@@ -61,8 +61,8 @@ start_of state place test =
     else if nat_lt (length state.scripts) state.planned_scripts then Err refused.ScriptsPending
     else start_from state place test test.mark
 
-abbrev pub started : State → ℕ → Result State StepRefusal
-started state place = option_map_or (start_of state place) (slice_get state.tests place) (Err refused.UnknownTest)
+abbrev pub state_after_start : State → ℕ → Result State StepRefusal
+state_after_start state place = option_map_or (start_of state place) (slice_get state.tests place) (Err refused.UnknownTest)
 
 -- an attempt finishes its test if it is a success or the last try, or where the run is stopped
 abbrev pub finishes : State → TestState → Record → Bool
@@ -79,8 +79,8 @@ limit_reason modes.Wait = why.TestFailure
 limit_reason modes.Immediate = why.TestFailureImmediate
 
 -- a run that isn't stopped is stopped where a test finished and what failed reaches the limit
-abbrev pub limited : Bool → State → State
-limited finished state =
+abbrev pub after_limit : Bool → State → State
+after_limit finished state =
     if finished && not (is_some state.reason)
     then option_map_or (λ mode. stopped_by (limit_reason mode) state) (mode_at state.limit (failed_weight state.tests)) state
     else state
@@ -88,7 +88,7 @@ limited finished state =
 -- the attempt of a test that ran ended
 abbrev pub end_from : State → ℕ → Record → TestState → Mark → Result State StepRefusal
 end_from state place told test marks.Waiting = Err refused.NotRunning
-end_from state place told test marks.Running = Ok (limited (finishes state test told) (with_test state place (after_attempt state test told)))
+end_from state place told test marks.Running = Ok (after_limit (finishes state test told) (with_test state place (after_attempt state test told)))
 end_from state place told test marks.Between = Err refused.NotRunning
 end_from state place told test (marks.Finished kept) = Err refused.NotRunning
 
@@ -96,14 +96,14 @@ abbrev pub attempt_ended : State → ℕ → Record → Result State StepRefusal
 attempt_ended state place told = option_map_or (λ test. end_from state place told test test.mark) (slice_get state.tests place) (Err refused.UnknownTest)
 
 -- the run was told to stop: that stops it, and of two reasons the graver stands
-abbrev pub stopped : State → CancelReason → Result State StepRefusal
-stopped state new =
+abbrev pub state_after_stop : State → CancelReason → Result State StepRefusal
+state_after_stop state new =
     if is_inner new then Err refused.InnerReason
     else Ok (option_map_or (λ old. record state { reason = Some (graver_reason old new) }) state.reason (stopped_by new state))
 
 -- the state after an event, or the first reason why it can't happen
 abbrev pub step : State → Event → Result State StepRefusal
 step state (events.ScriptEnded script told) = script_ended state script told
-step state (events.Started test) = started state test
+step state (events.Started test) = state_after_start state test
 step state (events.Ended test told) = attempt_ended state test told
-step state (events.Stopped reason) = stopped state reason
+step state (events.Stopped reason) = state_after_stop state reason

@@ -79,14 +79,14 @@ abbrev pub two_tests : ℕ → FlakyResult → MaxFail → ℕ → RunPlan
 two_tests tries flaky limit scripts =
     record { scripts = scripts; tests = record { tries = tries; flaky = flaky } ∷ record { tries = tries; flaky = flaky } ∷ []; limit = limit; skipped = 0 }
 
-abbrev pub told : ExecutionResultDescription → Record
-told result = record { result = result; slow = false; nanos = 1; output = wrote.Streams None None }
+abbrev pub record_with : ExecutionResultDescription → Record
+record_with result = record { result = result; slow = false; nanos = 1; output = wrote.Streams None None }
 
 abbrev pub fail_1 : ExecutionResultDescription
 fail_1 = ended.Fail (failed_by.ExitCode (pos 1)) false
 
 abbrev pub attempt : ℕ → ExecutionResultDescription → List Event
-attempt test result = events.Started test ∷ events.Ended test (told result) ∷ []
+attempt test result = events.Started test ∷ events.Ended test (record_with result) ∷ []
 
 abbrev pub first_failure : MaxFail
 first_failure = limits.Count 1 modes.Wait
@@ -112,7 +112,7 @@ pub record WorkedRows : Type 0 where
   pub cut_short : ends (two_tests 1 flaky_rule.Pass first_failure 0) (attempt 0 ended.Pass)
       ≡ Ok (record { counters = record two { finished_count = 1; passed = 1 }; summary = summed.Cancelled None (at.Test 2 1); status = 100 })
   -- a script's passing timeout lets the run go on, and counts as failing
-  pub script_timeout : ends (two_tests 1 flaky_rule.Pass first_failure 1) (events.ScriptEnded 0 (told (ended.Timeout timeout_judged.Pass)) ∷ [] ++ attempt 0 ended.Pass ++ attempt 1 ended.Pass)
+  pub script_timeout : ends (two_tests 1 flaky_rule.Pass first_failure 1) (events.ScriptEnded 0 (record_with (ended.Timeout timeout_judged.Pass)) ∷ [] ++ attempt 0 ended.Pass ++ attempt 1 ended.Pass)
       ≡ Ok (record { counters = record (none_of 1 2 0) { setup_scripts_finished_count = 1; setup_scripts_timed_out = 1; finished_count = 2; passed = 2 }; summary = summed.Failed at.SetupScript; status = 105 })
   -- an interrupt after the last test, and before it
   pub late_interrupt : ends (two_tests 1 flaky_rule.Pass first_failure 0) (attempt 0 ended.Pass ++ attempt 1 ended.Pass ++ events.Stopped why.Interrupt ∷ [])
@@ -123,17 +123,17 @@ pub record WorkedRows : Type 0 where
   pub start_after_stop : ends (two_tests 1 flaky_rule.Pass first_failure 0) (attempt 0 fail_1 ++ events.Started 1 ∷ []) ≡ Err refused.Stopped
   -- what runs when the limit stops the run may end
   pub immediate : ends (two_tests 1 flaky_rule.Pass (limits.Count 1 modes.Immediate) 0)
-      (events.Started 0 ∷ events.Started 1 ∷ events.Ended 1 (told fail_1) ∷ events.Ended 0 (told (ended.Fail (failed_by.Abort (aborted_by.UnixSignal (pos 15) None)) false)) ∷ [])
+      (events.Started 0 ∷ events.Started 1 ∷ events.Ended 1 (record_with fail_1) ∷ events.Ended 0 (record_with (ended.Fail (failed_by.Abort (aborted_by.UnixSignal (pos 15) None)) false)) ∷ [])
       ≡ Ok (record { counters = record two { finished_count = 2; failed = 2; cancel_reason = Some why.TestFailureImmediate }; summary = summed.Failed (at.Test 2 0); status = 100 })
   -- a failing script stops the run
-  pub script_failed : ends (two_tests 1 flaky_rule.Pass first_failure 1) (events.ScriptEnded 0 (told fail_1) ∷ [])
+  pub script_failed : ends (two_tests 1 flaky_rule.Pass first_failure 1) (events.ScriptEnded 0 (record_with fail_1) ∷ [])
       ≡ Ok (record { counters = record (none_of 1 2 0) { setup_scripts_finished_count = 1; setup_scripts_failed = 1; cancel_reason = Some why.SetupScriptFailure }; summary = summed.Failed at.SetupScript; status = 105 })
-  pub start_after_script : ends (two_tests 1 flaky_rule.Pass first_failure 1) (events.ScriptEnded 0 (told fail_1) ∷ events.Started 0 ∷ []) ≡ Err refused.Stopped
+  pub start_after_script : ends (two_tests 1 flaky_rule.Pass first_failure 1) (events.ScriptEnded 0 (record_with fail_1) ∷ events.Started 0 ∷ []) ≡ Err refused.Stopped
   -- tests wait for scripts, scripts come in order, each once
   pub too_early : ends (two_tests 1 flaky_rule.Pass first_failure 1) (events.Started 0 ∷ []) ≡ Err refused.ScriptsPending
-  pub unknown_script : ends (two_tests 1 flaky_rule.Pass first_failure 1) (events.ScriptEnded 1 (told ended.Pass) ∷ []) ≡ Err refused.UnknownScript
-  pub twice : ends (two_tests 1 flaky_rule.Pass first_failure 1) (events.ScriptEnded 0 (told ended.Pass) ∷ events.ScriptEnded 0 (told ended.Pass) ∷ []) ≡ Err refused.OutOfOrder
-  pub out_of_order : ends (two_tests 1 flaky_rule.Pass first_failure 2) (events.ScriptEnded 1 (told ended.Pass) ∷ []) ≡ Err refused.OutOfOrder
+  pub unknown_script : ends (two_tests 1 flaky_rule.Pass first_failure 1) (events.ScriptEnded 1 (record_with ended.Pass) ∷ []) ≡ Err refused.UnknownScript
+  pub twice : ends (two_tests 1 flaky_rule.Pass first_failure 1) (events.ScriptEnded 0 (record_with ended.Pass) ∷ events.ScriptEnded 0 (record_with ended.Pass) ∷ []) ≡ Err refused.OutOfOrder
+  pub out_of_order : ends (two_tests 1 flaky_rule.Pass first_failure 2) (events.ScriptEnded 1 (record_with ended.Pass) ∷ []) ≡ Err refused.OutOfOrder
   -- a stop finishes a test between two attempts
   pub between : ends (two_tests 2 flaky_rule.Pass limits.All 0) (attempt 0 fail_1 ++ events.Stopped why.Interrupt ∷ [])
       ≡ Ok (record { counters = record two { finished_count = 1; failed = 1; cancel_reason = Some why.Interrupt }; summary = summed.Cancelled (Some why.Interrupt) (at.Test 2 1); status = 100 })

@@ -17,7 +17,8 @@ pub fn start_refusal(
     ended: usize,
     is_stopped: bool,
 ) -> Option<StepRefusal>
-    ensures { (state : State) (place : ℕ) → ShowsScripts state planned ended is_stopped → ShowsTest state place mark → Decides state (events.Started place) result }
+    ensures { (state : State) (place : ℕ) → ShowsScripts state planned ended is_stopped
+        → ShowsTest state place mark → Decides state (events.Started place) result }
 {
     if is_stopped {
         return Some(StepRefusal::Stopped);
@@ -35,7 +36,8 @@ pub fn start_refusal(
 
 /// Why an attempt of a test with this mark can't end now; `None` where it can, stopped or not.
 pub fn end_refusal(mark: Mark) -> Option<StepRefusal>
-    ensures { (state : State) (place : ℕ) (told : Record) → ShowsTest state place mark → Decides state (events.Ended place told) result }
+    ensures { (state : State) (place : ℕ) (told : Record) → ShowsTest state place mark
+        → Decides state (events.Ended place told) result }
 {
     match mark {
         Mark::Running => None,

@@ -1,5 +1,5 @@
-// What holds of all runs. Each law is the contract of a function without parameters.
-ghost use Rattle.test_runner_core_run_model.specs.Laws.{EndsWithDueStatus, EndsNoMilder, HasFourExactlyWhereDue, RefusesScripts, RefusesStarts, KeepsAReason, SucceedsWhole, EndsInOneState, ReachesTheOneState, StopsWhereDue, HasNext, HasAtMost, ReachesAnEnd, HasReasonsFirst};
+// What holds of all runs, and of the first success among tries. Each law is the contract of a function without parameters.
+ghost use Rattle.test_runner_core_run_model.specs.Laws.{EndsWithDueStatus, EndsNoMilder, HasFourExactlyWhereDue, RefusesScripts, RefusesStarts, KeepsAReason, SucceedsWhole, EndsInOneState, ReachesTheOneState, StopsWhereDue, HasNext, HasAtMost, ReachesAnEnd, HasReasonsFirst, FindsFirstSuccess, HasOneFirstSuccess};
 ghost use Rattle.test_runner_core_run_model.specs.WorkedRows.{WorkedRows};
 
 /// Any complete run that agrees with an assignment and holds no stop event ends with that assignment's due status,
@@ -54,6 +54,13 @@ pub fn no_dead_end()
 /// step answers (`Finished`) says which tests it finishes: so it does in each run.
 pub fn reasons_first()
     ensures { HasReasonsFirst }
+{}
+
+/// The first success among the attempts of a test is the one of which none before it is a success: `first_success` answers
+/// its number, or `None` exactly where no attempt from 1 to the number of tries is a success. Nothing else is that number.
+pub fn first_success()
+    ensures finds { FindsFirstSuccess }
+    ensures one { HasOneFirstSuccess }
 {}
 
 /// Worked rows, whose ends were found by hand: the definitions of step, counters, summary and status give them.

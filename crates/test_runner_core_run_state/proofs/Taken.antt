@@ -11,8 +11,8 @@ use Rattle.nextest_run_events_results.specs.declared.cancel_reason.CancelReason.
 use Rattle.nextest_run_events_results.specs.declared.cancel_reason.CancelReason.TheVariants as why
 use Rattle.nextest_run_events_results.specs.declared.record.Record.{Record}
 use Rattle.test_runner_core_run_model.specs.State.{TestState, State, failed_weight, is_finished, is_running, is_finished_mark, is_running_mark}
-use Rattle.test_runner_core_run_model.specs.Finishing.{ended_first, finished_at, stops_run}
-use Rattle.test_runner_core_run_model.specs.Step.{step, start_of, start_from, started, end_from, attempt_ended, after_attempt, finishes, limit_reason, limited, with_test, script_ended, after_script, stopped, stopped_by}
+use Rattle.test_runner_core_run_model.specs.Finishing.{finished_at, stops_run}
+use Rattle.test_runner_core_run_model.specs.Step.{step, start_of, start_from, state_after_start, end_from, attempt_ended, after_attempt, finishes, limit_reason, after_limit, with_test, script_ended, after_script, state_after_stop, stopped_by}
 use Rattle.nextest_run_events_results.specs.Cancel.{is_inner}
 use Rattle.test_runner_core_run_model.specs.Decisions.{Decides, ShowsTest}
 use Rattle.test_runner_core_run_model.specs.declared.mark.Mark.{Mark}
@@ -21,7 +21,7 @@ use Rattle.test_runner_core_run_model.specs.declared.event.Event.{Event}
 use Rattle.test_runner_core_run_model.specs.declared.event.Event.TheVariants as events
 use Rattle.test_runner_core_run_model.specs.declared.finished.Finished.{Finished}
 use Rattle.test_runner_core_run_model.specs.declared.step_refusal.StepRefusal.TheVariants as refused
-use Rattle.test_runner_core_run_model.proofs.Finishing.{finishes_as, no_stop, start_stops_none, stop_is}
+use Rattle.test_runner_core_run_model.proofs.Finishing.{ended_first, finishes_as, no_stop, start_stops_none, stop_is}
 use Rattle.test_runner_core_run_state.specs.Parts.{IsStartable, IsRunningAt, ChangesAt}
 use Rattle.test_runner_core_run_state.specs.Progress.{TakesStep}
 
@@ -82,7 +82,7 @@ record Starting (state : State) (place : ℕ) : Type 0 where
   found : slice_get state.tests place ≡ Some test
   idle : is_running test ≡ false
   open_still : is_finished test ≡ false
-  leads : started state place ≡ Ok (with_test state place (record test { mark = marks.Running }))
+  leads : state_after_start state place ≡ Ok (with_test state place (record test { mark = marks.Running }))
 
 starting : (state : State) (place : ℕ) → Decides state (events.Started place) None → Starting state place
 starting state place taken =
@@ -92,7 +92,7 @@ starting state place taken =
     by_mark found.0 found.1 (found.0).mark refl ended.1 (taken.1 ∙ sym ended.1)
   where
     by_mark : (test : TestState) → slice_get state.tests place ≡ Some test → (mark : Mark) → test.mark ≡ mark → start_from state place test test.mark ≡ Ok taken.0
-        → started state place ≡ start_from state place test test.mark → Starting state place
+        → state_after_start state place ≡ start_from state place test test.mark → Starting state place
     by_mark test at marks.Waiting m h leads =
         record { test = test; found = at; idle = ap is_running_mark m; open_still = ap is_finished_mark m; leads = leads ∙ ap (start_from state place test) m }
     by_mark test at marks.Running m h leads = let e : start_from state place test marks.Running ≡ Ok taken.0 = sym (ap (start_from state place test) m) ∙ h in cc
@@ -107,7 +107,7 @@ startable state place taken =
 
 pub start_leads : (state : State) (place : ℕ) (tests : List TestState) → Decides state (events.Started place) None
     → ChangesAt place (λ test. record test { mark = marks.Running }) state.tests tests
-    → started state place ≡ Ok (record state { tests = tests })
+    → state_after_start state place ≡ Ok (record state { tests = tests })
 start_leads state place tests taken new =
     let it = starting state place taken in
     it.leads ∙ ap (λ (ts : List TestState). Ok (record state { tests = ts })) (sym (new it.test it.found))
@@ -127,12 +127,12 @@ running_at state place told taken =
 pub end_leads : (state : State) (place : ℕ) (told : Record) (tests : List TestState) (finished : Bool) → IsRunningAt state.tests place
     → ChangesAt place (λ test. after_attempt state test told) state.tests tests
     → ((test : TestState) → slice_get state.tests place ≡ Some test → finished ≡ finishes state test told)
-    → attempt_ended state place told ≡ Ok (limited finished (record state { tests = tests }))
+    → attempt_ended state place told ≡ Ok (after_limit finished (record state { tests = tests }))
 end_leads state place told tests finished it new is_finished =
     ap (λ (o : Option TestState). option_map_or (λ test. end_from state place told test test.mark) o (Err refused.UnknownTest)) it.found
     ∙ ap (end_from state place told it.test) it.runs
-    ∙ ap (λ (b : Bool). Ok (limited b (with_test state place (after_attempt state it.test told)))) (sym (is_finished it.test it.found))
-    ∙ ap (λ (ts : List TestState). Ok (limited finished (record state { tests = ts }))) (sym (new it.test it.found))
+    ∙ ap (λ (b : Bool). Ok (after_limit b (with_test state place (after_attempt state it.test told)))) (sym (is_finished it.test it.found))
+    ∙ ap (λ (ts : List TestState). Ok (after_limit finished (record state { tests = ts }))) (sym (new it.test it.found))
 
 no_reason : {X : Type 0} (o : Option X) → is_some o ≡ false → o ≡ None
 no_reason None h = refl
@@ -162,13 +162,13 @@ script_leads state told failed e = by_test (is_success told.result) ∙ ap (λ (
 
 -- the run is told to stop
 pub stop_leads : (state : State) (reason : CancelReason) → Decides state (events.Stopped reason) None
-    → stopped state reason ≡ Ok (option_map_or (λ old. record state { reason = Some (graver_reason old reason) }) state.reason (stopped_by reason state))
+    → state_after_stop state reason ≡ Ok (option_map_or (λ old. record state { reason = Some (graver_reason old reason) }) state.reason (stopped_by reason state))
 stop_leads state reason taken = let may = guard_ok (is_inner reason) refused.InnerReason _ taken.0 taken.1 in taken.1 ∙ sym may.1
 
 -- a run that isn't stopped goes by what its limit says once a test finished
 pub limited_when : (state : State) (finished : Bool) (mode : Option TerminateMode) → finished ≡ true → is_some state.reason ≡ false
-    → mode_at state.limit (failed_weight state.tests) ≡ mode → limited finished state ≡ option_map_or (λ m. stopped_by (limit_reason m) state) mode state
+    → mode_at state.limit (failed_weight state.tests) ≡ mode → after_limit finished state ≡ option_map_or (λ m. stopped_by (limit_reason m) state) mode state
 limited_when state finished mode over free reached =
-    ap (λ (b : Bool). limited b state) over
+    ap (λ (b : Bool). after_limit b state) over
     ∙ ap (λ (b : Bool). cond (not b) (option_map_or (λ m. stopped_by (limit_reason m) state) (mode_at state.limit (failed_weight state.tests)) state) state) free
     ∙ ap (λ (o : Option TerminateMode). option_map_or (λ m. stopped_by (limit_reason m) state) o state) reached

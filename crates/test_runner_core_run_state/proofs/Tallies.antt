@@ -16,7 +16,7 @@ use Rattle.test_runner_core_run_model.specs.Counters.{counters}
 use Rattle.test_runner_core_run_model.specs.Step.{after_attempt, finishes}
 use Rattle.test_runner_core_run_model.specs.declared.mark.Mark.TheVariants as marks
 use Rattle.test_runner_core_run_model.specs.State.{TestState, State, waiting, counts, is_finished, is_running, is_running_mark, last_record, finished_as}
-use Rattle.test_runner_core_run_state.specs.Counted.{with_finished, recounted}
+use Rattle.test_runner_core_run_state.specs.Counted.{with_finished, with_tests_counted}
 use Rattle.test_runner_core_run_state.proofs.Counts.{counted_set}
 
 -- some state with a reason
@@ -57,14 +57,14 @@ row_set p tests place old new found unmet =
 
 -- the counters after a write over a test that wasn't finished
 pub counted_after : (tests : List TestState) (place : ℕ) (old new : TestState) (stats : RunStats) → slice_get tests place ≡ Some old → is_finished old ≡ false
-    → recounted (slice_set tests place new) stats ≡ with_finished new (recounted tests stats)
+    → with_tests_counted (slice_set tests place new) stats ≡ with_finished new (with_tests_counted tests stats)
 counted_after tests place old new stats found open_still =
     let e0 = row_set is_finished tests place old new found open_still in
-    let e1 = row_set (counts rows.passed) tests place old new found (unfinished_counts rows.passed old open_still) in
+    let e1 = row_set (counts rows.is_passed) tests place old new found (unfinished_counts rows.is_passed old open_still) in
     let e2 = row_set (counts rows.passed_slow) tests place old new found (unfinished_counts rows.passed_slow old open_still) in
     let e3 = row_set (counts rows.passed_timed_out) tests place old new found (unfinished_counts rows.passed_timed_out old open_still) in
     let e4 = row_set (counts rows.flaky) tests place old new found (unfinished_counts rows.flaky old open_still) in
-    let e5 = row_set (counts rows.failed) tests place old new found (unfinished_counts rows.failed old open_still) in
+    let e5 = row_set (counts rows.is_failed) tests place old new found (unfinished_counts rows.is_failed old open_still) in
     let e6 = row_set (counts rows.failed_slow) tests place old new found (unfinished_counts rows.failed_slow old open_still) in
     let e7 = row_set (counts rows.failed_timed_out) tests place old new found (unfinished_counts rows.failed_timed_out old open_still) in
     let e8 = row_set (counts rows.leaky) tests place old new found (unfinished_counts rows.leaky old open_still) in
@@ -76,11 +76,11 @@ counted_after tests place old new stats found open_still =
 pub unfinished_adds : (test : TestState) (stats : RunStats) → is_finished test ≡ false → with_finished test stats ≡ stats
 unfinished_adds test stats open_still =
     let e0 = adds_none (is_finished test) stats.finished_count open_still in
-    let e1 = adds_none (counts rows.passed test) stats.passed (unfinished_counts rows.passed test open_still) in
+    let e1 = adds_none (counts rows.is_passed test) stats.passed (unfinished_counts rows.is_passed test open_still) in
     let e2 = adds_none (counts rows.passed_slow test) stats.passed_slow (unfinished_counts rows.passed_slow test open_still) in
     let e3 = adds_none (counts rows.passed_timed_out test) stats.passed_timed_out (unfinished_counts rows.passed_timed_out test open_still) in
     let e4 = adds_none (counts rows.flaky test) stats.flaky (unfinished_counts rows.flaky test open_still) in
-    let e5 = adds_none (counts rows.failed test) stats.failed (unfinished_counts rows.failed test open_still) in
+    let e5 = adds_none (counts rows.is_failed test) stats.failed (unfinished_counts rows.is_failed test open_still) in
     let e6 = adds_none (counts rows.failed_slow test) stats.failed_slow (unfinished_counts rows.failed_slow test open_still) in
     let e7 = adds_none (counts rows.failed_timed_out test) stats.failed_timed_out (unfinished_counts rows.failed_timed_out test open_still) in
     let e8 = adds_none (counts rows.leaky test) stats.leaky (unfinished_counts rows.leaky test open_still) in
@@ -96,11 +96,11 @@ pub finished_adds : (test : TestState) (told : Record) (stats : RunStats) → is
     → with_finished test stats ≡ with_test (finished_as test told) stats
 finished_adds test told stats over last =
     let e0 : from_bool (is_finished test) ≡ 1 = ap from_bool over in
-    let e1 = row_of rows.passed in
+    let e1 = row_of rows.is_passed in
     let e2 = row_of rows.passed_slow in
     let e3 = row_of rows.passed_timed_out in
     let e4 = row_of rows.flaky in
-    let e5 = row_of rows.failed in
+    let e5 = row_of rows.is_failed in
     let e6 = row_of rows.failed_slow in
     let e7 = row_of rows.failed_timed_out in
     let e8 = row_of rows.leaky in
@@ -118,11 +118,11 @@ pub can_count_test : (state : State) → length state.tests + 1 < 2 ^ 64 → Can
 can_count_test state few =
     record {
       finished = bound is_finished;
-      passed = bound (counts rows.passed);
+      passed = bound (counts rows.is_passed);
       passed_slow = bound (counts rows.passed_slow);
       passed_timed_out = bound (counts rows.passed_timed_out);
       flaky = bound (counts rows.flaky);
-      failed = bound (counts rows.failed);
+      failed = bound (counts rows.is_failed);
       failed_slow = bound (counts rows.failed_slow);
       failed_timed_out = bound (counts rows.failed_timed_out);
       leaky = bound (counts rows.leaky);

@@ -20,7 +20,7 @@ use Rattle.nextest_run_events_results.specs.declared.result.ExecutionResultDescr
 use Rattle.nextest_run_events_results.specs.declared.record.Record.{Record}
 use Rattle.test_runner_core_run_model.specs.Counters.{counters}
 use Rattle.test_runner_core_run_model.specs.State.{TestState, State, waiting, counts, is_finished, last_record, finished_as, failed_weight}
-use Rattle.test_runner_core_run_state.specs.Counted.{with_finished, recounted}
+use Rattle.test_runner_core_run_state.specs.Counted.{with_finished, with_tests_counted}
 use Rattle.test_runner_core_run_state.specs.Parts.{ScriptState, state_of}
 use Rattle.test_runner_core_run_model.specs.declared.run_test.RunTest.{RunTest}
 use Rattle.test_runner_core_run_state.proofs.Kept.{length_map}
@@ -32,19 +32,19 @@ Counts scripts tests stats limit = stats ≡ counters (state_of scripts tests st
 
 -- tests that are counted anew, under another reason
 pub tests_changed : (scripts : ScriptState) (tests new : List TestState) (stats next : RunStats) (limit : MaxFail) (reason : Option CancelReason)
-    → Counts scripts tests stats limit → length new ≡ length tests → next ≡ record (recounted new stats) { cancel_reason = reason } → Counts scripts new next limit
+    → Counts scripts tests stats limit → length new ≡ length tests → next ≡ record (with_tests_counted new stats) { cancel_reason = reason } → Counts scripts new next limit
 tests_changed scripts tests new stats next limit reason own many made =
-    made ∙ ap (λ (s : RunStats). record (recounted new s) { cancel_reason = reason }) own
+    made ∙ ap (λ (s : RunStats). record (with_tests_counted new s) { cancel_reason = reason }) own
     ∙ ap (λ (n : ℕ). shown n stats.skipped reason) (sym many)
     ∙ ap (λ (n : ℕ). shown (length new) n reason) (sym (ap (λ (s : RunStats). s.skipped) made))
     ∙ ap (λ (r : Option CancelReason). shown (length new) next.skipped r) (sym (ap (λ (s : RunStats). s.cancel_reason) made))
   where
     shown : ℕ → ℕ → Option CancelReason → RunStats
-    shown n skipped why = record (recounted new (counters (state_of scripts tests stats limit))) { initial_run_count = n; skipped = skipped; cancel_reason = why }
+    shown n skipped why = record (with_tests_counted new (counters (state_of scripts tests stats limit))) { initial_run_count = n; skipped = skipped; cancel_reason = why }
 
 -- what is counted is counted anew with the same numbers
-pub same_anew : (scripts : ScriptState) (tests : List TestState) (stats : RunStats) (limit : MaxFail) → Counts scripts tests stats limit → recounted tests stats ≡ stats
-same_anew scripts tests stats limit own = ap (recounted tests) own ∙ sym own
+pub same_anew : (scripts : ScriptState) (tests : List TestState) (stats : RunStats) (limit : MaxFail) → Counts scripts tests stats limit → with_tests_counted tests stats ≡ stats
+same_anew scripts tests stats limit own = ap (with_tests_counted tests) own ∙ sym own
 
 -- a test that wasn't finished gives way to another
 pub test_changed : (scripts : ScriptState) (tests : List TestState) (place : ℕ) (old new : TestState) (stats next : RunStats) (limit : MaxFail)
@@ -80,11 +80,11 @@ script_once (ended.Fail failure leaked) = refl
 script_once ended.ExecFail = refl
 script_once (ended.Timeout judged) = refl
 
-test_once : (test : Finished) → from_bool (rows.failed test) + from_bool (rows.exec_failed test) + from_bool (rows.failed_timed_out test) ≡ from_bool (fails_test test)
+test_once : (test : Finished) → from_bool (rows.is_failed test) + from_bool (rows.exec_failed test) + from_bool (rows.failed_timed_out test) ≡ from_bool (fails_test test)
 test_once test = by_result test.result test.late test.flaky
   where
     by_result : (result : ExecutionResultDescription) (late : Bool) (flaky : FlakyResult)
-        → from_bool (rows.failed (record { result = result; slow = test.slow; late = late; flaky = flaky })) + from_bool (rows.exec_failed (record { result = result; slow = test.slow; late = late; flaky = flaky }))
+        → from_bool (rows.is_failed (record { result = result; slow = test.slow; late = late; flaky = flaky })) + from_bool (rows.exec_failed (record { result = result; slow = test.slow; late = late; flaky = flaky }))
         + from_bool (rows.failed_timed_out (record { result = result; slow = test.slow; late = late; flaky = flaky }))
         ≡ from_bool (fails_test (record { result = result; slow = test.slow; late = late; flaky = flaky }))
     by_result ended.Pass true rule.Pass = refl
@@ -101,11 +101,11 @@ test_once test = by_result test.result test.late test.flaky
     by_result (ended.Timeout timeout.Pass) false flaky = refl
     by_result (ended.Timeout timeout.Fail) late flaky = refl
 
-counted_as : (test : TestState) → from_bool (counts rows.failed test) + from_bool (counts rows.exec_failed test) + from_bool (counts rows.failed_timed_out test) ≡ from_bool (counts fails_test test)
+counted_as : (test : TestState) → from_bool (counts rows.is_failed test) + from_bool (counts rows.exec_failed test) + from_bool (counts rows.failed_timed_out test) ≡ from_bool (counts fails_test test)
 counted_as test = by_finished (is_finished test) (last_record test.records)
   where
     by_finished : (over : Bool) (final : Option Record)
-        → from_bool (over && option_map_or (λ told. rows.failed (finished_as test told)) final false) + from_bool (over && option_map_or (λ told. rows.exec_failed (finished_as test told)) final false)
+        → from_bool (over && option_map_or (λ told. rows.is_failed (finished_as test told)) final false) + from_bool (over && option_map_or (λ told. rows.exec_failed (finished_as test told)) final false)
         + from_bool (over && option_map_or (λ told. rows.failed_timed_out (finished_as test told)) final false)
         ≡ from_bool (over && option_map_or (λ told. fails_test (finished_as test told)) final false)
     by_finished true None = refl
@@ -114,7 +114,7 @@ counted_as test = by_finished (is_finished test) (last_record test.records)
 
 -- what fails weighs what it counts
 pub failed_is : (state : State) → failed_count (counters state) ≡ failed_weight state.tests
-failed_is state = sum_three (counts rows.failed) (counts rows.exec_failed) (counts rows.failed_timed_out) (counts fails_test) state.tests counted_as
+failed_is state = sum_three (counts rows.is_failed) (counts rows.exec_failed) (counts rows.failed_timed_out) (counts fails_test) state.tests counted_as
 
 pub failed_scripts_is : (state : State) → failed_setup_script_count (counters state) ≡ count_by (λ told. fails_script told.result) state.scripts
 failed_scripts_is state =
@@ -185,11 +185,11 @@ fresh planned n skipped scripts tests plans limit none scripts_are tests_are cou
     waiting_counts =
         let many : length (map waiting plans) ≡ n = length_map waiting plans ∙ sym count in
         let e0 = none_waits is_finished (λ plan. refl) plans in
-        let e1 = none_waits (counts rows.passed) (λ plan. refl) plans in
+        let e1 = none_waits (counts rows.is_passed) (λ plan. refl) plans in
         let e2 = none_waits (counts rows.passed_slow) (λ plan. refl) plans in
         let e3 = none_waits (counts rows.passed_timed_out) (λ plan. refl) plans in
         let e4 = none_waits (counts rows.flaky) (λ plan. refl) plans in
-        let e5 = none_waits (counts rows.failed) (λ plan. refl) plans in
+        let e5 = none_waits (counts rows.is_failed) (λ plan. refl) plans in
         let e6 = none_waits (counts rows.failed_slow) (λ plan. refl) plans in
         let e7 = none_waits (counts rows.failed_timed_out) (λ plan. refl) plans in
         let e8 = none_waits (counts rows.leaky) (λ plan. refl) plans in

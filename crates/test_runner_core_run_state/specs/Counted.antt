@@ -10,11 +10,11 @@ abbrev pub with_numbers : ((TestState → Bool) → ℕ) → RunStats → RunSta
 with_numbers many stats =
     record stats {
       finished_count = stats.finished_count + many is_finished;
-      passed = stats.passed + many (counts rows.passed);
+      passed = stats.passed + many (counts rows.is_passed);
       passed_slow = stats.passed_slow + many (counts rows.passed_slow);
       passed_timed_out = stats.passed_timed_out + many (counts rows.passed_timed_out);
       flaky = stats.flaky + many (counts rows.flaky);
-      failed = stats.failed + many (counts rows.failed);
+      failed = stats.failed + many (counts rows.is_failed);
       failed_slow = stats.failed_slow + many (counts rows.failed_slow);
       failed_timed_out = stats.failed_timed_out + many (counts rows.failed_timed_out);
       leaky = stats.leaky + many (counts rows.leaky);
@@ -45,15 +45,15 @@ pub record CountsNoTest (stats : RunStats) : Type 0 where
   pub exec_failed : stats.exec_failed ≡ 0
 
 -- the counters, with the tests counted anew
-abbrev pub recounted : List TestState → RunStats → RunStats
-recounted tests stats =
+abbrev pub with_tests_counted : List TestState → RunStats → RunStats
+with_tests_counted tests stats =
     record stats {
       finished_count = count_by is_finished tests;
-      passed = count_by (counts rows.passed) tests;
+      passed = count_by (counts rows.is_passed) tests;
       passed_slow = count_by (counts rows.passed_slow) tests;
       passed_timed_out = count_by (counts rows.passed_timed_out) tests;
       flaky = count_by (counts rows.flaky) tests;
-      failed = count_by (counts rows.failed) tests;
+      failed = count_by (counts rows.is_failed) tests;
       failed_slow = count_by (counts rows.failed_slow) tests;
       failed_timed_out = count_by (counts rows.failed_timed_out) tests;
       leaky = count_by (counts rows.leaky) tests;

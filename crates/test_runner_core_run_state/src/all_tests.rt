@@ -90,7 +90,8 @@ impl AllTests {
     // An attempt of the test at a place starts. An `Err` changes nothing.
     pub(crate) fn start(&mut self, alloc: Global, place: usize) -> Result<(), AllocError>
         requires { IsStartable self.old place }
-        ensures ok { OnOk result (ChangesAt place (λ test. record test { mark = marks.Running }) self.old self.new) }
+        ensures ok { OnOk result
+            (ChangesAt place (λ test. record test { mark = marks.Running }) self.old self.new) }
         ensures err { OnErr result (self.new ≡ self.old) }
     {
         start_at(&mut self.tests, alloc, place)?;
@@ -122,7 +123,8 @@ impl AllTests {
     pub(crate) fn count_at(&self, place: usize, stats: &mut RunStats)
         requires place { place < length self.now }
         requires below_maximum { CanCountTest stats.old }
-        ensures { (test : TestState) → slice_get self.now place ≡ Some test → stats.new ≡ with_finished test stats.old }
+        ensures { (test : TestState) → slice_get self.now place ≡ Some test
+            → stats.new ≡ with_finished test stats.old }
     {
         self.tests[place].count_in(stats);
     }
@@ -157,8 +159,8 @@ fn waiting_tests(alloc: Global, planned: &[RunTest]) -> Result<Vec<TestProgress>
 // An attempt of the test at a place starts. An `Err` changes nothing.
 fn start_at(tests: &mut Vec<TestProgress>, alloc: Global, place: usize) -> Result<(), AllocError>
     requires { IsStartable tests.old.items place }
-    ensures ok { OnOk result
-        (ChangesAt place (λ test. record test { mark = marks.Running }) tests.old.items tests.new.items) }
+    ensures ok { OnOk result (ChangesAt place
+        (λ test. record test { mark = marks.Running }) tests.old.items tests.new.items) }
     ensures err { OnErr result (tests.new.items ≡ tests.old.items) }
 {
     let test = &mut tests[place];
@@ -174,8 +176,8 @@ fn end_at(
     reason: Option<CancelReason>,
 ) -> bool
     requires { IsRunningAt tests.old.items place }
-    ensures after { (state : State) → state.reason ≡ reason
-        → ChangesAt place (λ test. after_attempt state test «record») tests.old.items tests.new.items }
+    ensures after { (state : State) → state.reason ≡ reason → ChangesAt place
+        (λ test. after_attempt state test «record») tests.old.items tests.new.items }
     ensures finished { (state : State) (test : TestState) → state.reason ≡ reason
         → slice_get tests.old.items place ≡ Some test → result ≡ finishes state test «record» }
 {

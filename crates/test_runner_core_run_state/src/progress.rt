@@ -9,9 +9,9 @@ ghost use Rattle.test_runner_core_run_model.specs.Counters.{counters, status, su
 ghost use Rattle.test_runner_core_run_model.specs.Finishing.{finished_at};
 ghost use Rattle.test_runner_core_run_model.specs.Runs.{is_complete};
 ghost use Rattle.test_runner_core_run_model.specs.State.{TestState, initial, is_finished, is_running};
-ghost use Rattle.test_runner_core_run_model.specs.Step.{limited, stopped_by};
+ghost use Rattle.test_runner_core_run_model.specs.Step.{after_limit, stopped_by};
 ghost use Rattle.test_runner_core_run_model.specs.declared.event.Event.TheVariants as events;
-ghost use Rattle.test_runner_core_run_state.specs.Counted.{CountsNoTest, recounted, with_tests};
+ghost use Rattle.test_runner_core_run_state.specs.Counted.{CountsNoTest, with_tests_counted, with_tests};
 ghost use Rattle.test_runner_core_run_state.specs.Parts.{IsRunningAt};
 ghost use Rattle.test_runner_core_run_state.specs.Progress.{Takes, Starts, EndsAttempt};
 ghost use Rattle.test_runner_core_run_state.specs.Statuses.{IsAttempts, IsScriptStatus};
@@ -79,7 +79,8 @@ impl Progress {
         limit: MaxFail,
         skipped: usize,
     ) -> Result<Progress, AllocError>
-        ensures { IfOk result (λ progress. progress ≡ initial (record { scripts = scripts; tests = tests.now; limit = limit; skipped = skipped })) }
+        ensures { IfOk result (λ progress. progress ≡ initial
+            (record { scripts = scripts; tests = tests.now; limit = limit; skipped = skipped })) }
     {
         Ok(Progress {
             alloc,
@@ -143,7 +144,8 @@ impl Progress {
 
     // What the step finished by which an attempt of the test at a place ended, in a run that was stopped before or not.
     fn finished(&self, test: usize, was_stopped: bool) -> Finished
-        ensures ended { result.ended ≡ (if finished_at self.now.tests test then Some test else None) }
+        ensures ended { result.ended
+            ≡ (if finished_at self.now.tests test then Some test else None) }
         ensures stops { result.stops ≡ (not was_stopped && is_some self.now.reason) }
     {
         let ended = match self.tests.mark(test) {
@@ -220,7 +222,8 @@ impl Progress {
 
     // Why a run that isn't stopped is stopped now that a test finished, if it is: what failed reaches the limit.
     fn limit_stop(&self, finished: bool) -> Option<CancelReason>
-        ensures { limited finished self.now ≡ option_map_or (λ new. stopped_by new self.now) result self.now }
+        ensures { after_limit finished self.now
+            ≡ option_map_or (λ new. stopped_by new self.now) result self.now }
     {
         if !finished || self.stats.cancel_reason.is_some() {
             return None;
@@ -243,7 +246,8 @@ impl Progress {
 
     // Whether all scripts and tests finished.
     fn is_over(&self) -> bool
-        ensures { result ≡ (length self.now.scripts == self.now.planned_scripts && list_all is_finished self.now.tests) }
+        ensures { result ≡ (length self.now.scripts == self.now.planned_scripts && list_all
+            is_finished self.now.tests) }
     {
         let all_scripts = self.scripts.ended() == self.scripts.planned();
         all_scripts && self.stats.finished_count == self.stats.initial_run_count
@@ -251,7 +255,8 @@ impl Progress {
 
     // Whether the run is stopped and nothing runs.
     fn is_still(&self) -> bool
-        ensures { result ≡ (is_some self.now.reason && list_all (λ test. not (is_running test)) self.now.tests) }
+        ensures { result
+            ≡ (is_some self.now.reason && list_all (λ test. not (is_running test)) self.now.tests) }
     {
         self.stats.cancel_reason.is_some() && self.tests.none_runs()
     }
@@ -318,7 +323,8 @@ impl Progress {
 // The counters with no test counted.
 fn without_tests(stats: &RunStats) -> RunStats
     ensures none { CountsNoTest result }
-    ensures rest { (tests : List TestState) → with_tests tests result ≡ recounted tests stats.now }
+    ensures rest { (tests : List TestState)
+        → with_tests tests result ≡ with_tests_counted tests stats.now }
 {
     RunStats {
         initial_run_count: stats.initial_run_count,
@@ -336,7 +342,8 @@ fn without_tests(stats: &RunStats) -> RunStats
 
 // Why the record of a script stops the run, if it does.
 fn script_stop(record: &Record) -> Option<CancelReason>
-    ensures { result ≡ (if is_success «record».now.result then None else Some why.SetupScriptFailure) }
+    ensures { result
+        ≡ (if is_success «record».now.result then None else Some why.SetupScriptFailure) }
 {
     if record.result.is_success() {
         None

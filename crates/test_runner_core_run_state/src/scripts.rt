@@ -62,7 +62,8 @@ impl Scripts {
     pub(crate) fn end(&mut self, status: SetupScriptExecuteStatus<LiveSpec>)
         requires planned { length self.old.ended < self.old.planned }
         requires made { IsScriptStatusOf (script_record_of status) status }
-        ensures { self.new ≡ record self.old { ended = self.old.ended ++ script_record_of status ∷ [] } }
+        ensures { self.new
+            ≡ record self.old { ended = self.old.ended ++ script_record_of status ∷ [] } }
     {
         self.statuses.push_reserved(status);
     }

@@ -61,9 +61,9 @@ impl Slot {
 
     // The attempts that ended; `None` where none did.
     pub(crate) fn attempts(&self) -> Option<&ExecutionStatuses<LiveSpec>>
-        ensures { MatchOption result
-            ((self.now.statuses ≡ []) × (self.now.rule ≡ None))
-            (λ found. (found.now.statuses ≡ self.now.statuses) × (self.now.rule ≡ Some found.now.flaky_result) × (0 < length self.now.statuses)) }
+        ensures { MatchOption result ((self.now.statuses ≡ []) × (self.now.rule ≡ None))
+            (λ found. (found.now.statuses ≡ self.now.statuses)
+            × (self.now.rule ≡ Some found.now.flaky_result) × (0 < length self.now.statuses)) }
     {
         match &self.attempts {
             SlotAttempts::Empty => None,
@@ -75,7 +75,7 @@ impl Slot {
     // Makes room for an attempt. An `Err` changes nothing but the room, which is no less.
     pub(crate) fn reserve(&mut self, alloc: Global) -> Result<(), AllocError>
         ensures room { OnOk result (0 < self.new.room) }
-        ensures kept { self.old.room ≤ self.new.room }
+        ensures grows { self.old.room ≤ self.new.room }
         ensures statuses { self.new.statuses ≡ self.old.statuses }
         ensures rule { self.new.rule ≡ self.old.rule }
     {
@@ -97,7 +97,7 @@ impl Slot {
 fn reserve_in(attempts: &mut SlotAttempts, alloc: Global) -> Result<(), AllocError>
     requires { KeepsAttempts attempts.old }
     ensures room { OnOk result (0 < room_in attempts.new) }
-    ensures kept { room_in attempts.old ≤ room_in attempts.new }
+    ensures grows { room_in attempts.old ≤ room_in attempts.new }
     ensures statuses { statuses_in attempts.new ≡ statuses_in attempts.old }
     ensures rule { rule_in attempts.new ≡ rule_in attempts.old }
     ensures attempts { KeepsAttempts attempts.new }

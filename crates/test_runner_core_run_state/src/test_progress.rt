@@ -66,9 +66,8 @@ impl TestProgress {
 
     // Its ended attempts; `None` where none ended.
     pub(crate) fn attempts(&self) -> Option<&ExecutionStatuses<LiveSpec>>
-        ensures { MatchOption result
-            (self.now.records ≡ [])
-            (λ found. AreAttempts self.now.plan.tries self.now.plan.flaky self.now.records found.now) }
+        ensures { MatchOption result (self.now.records ≡ []) (λ found.
+            AreAttempts self.now.plan.tries self.now.plan.flaky self.now.records found.now) }
     {
         self.slot.attempts()
     }
@@ -135,7 +134,8 @@ impl TestProgress {
 // Whether an attempt of this number, of so many, finishes its test: it is a success or the last one, or the run is
 // stopped.
 fn is_finishing(record: &Record, tries: u32, attempt: u32, reason: Option<CancelReason>) -> bool
-    ensures { result ≡ (results.is_success «record».now.result || nat_le tries attempt || is_some reason) }
+    ensures { result
+        ≡ (results.is_success «record».now.result || nat_le tries attempt || is_some reason) }
 {
     record.result.is_success() || tries <= attempt || reason.is_some()
 }

@@ -87,7 +87,8 @@ impl<'a> Places<'a> {
 
     // The same, from which the next look-up begins.
     pub(crate) fn find(&mut self, test: TestInstanceId<'_>) -> usize
-        ensures place { result ≡ place_of self.old test.entry.binary_id.now test.entry.test_name.now }
+        ensures place { result
+            ≡ place_of self.old test.entry.binary_id.now test.entry.test_name.now }
         ensures same { self.new ≡ self.old }
     {
         let place = self.place(test);
@@ -126,7 +127,8 @@ fn place_among(tests: &[PlanTest], test: TestInstanceId<'_>) -> usize
 
 // Whether the test of this name stands at a place.
 fn is_at(tests: &[PlanTest], place: usize, test: TestInstanceId<'_>) -> bool
-    ensures { result ≡ option_map_or (λ planned. is_named test.entry.binary_id.now test.entry.test_name.now planned.instance) (slice_get tests.now place) false }
+    ensures { result ≡ option_map_or (λ planned. is_named test.entry.binary_id.now
+        test.entry.test_name.now planned.instance) (slice_get tests.now place) false }
 {
     match tests.get(place) {
         Some(planned) => test == planned.instance.as_ref(),

@@ -84,7 +84,8 @@ impl<'a> Session<'a> {
     /// was no memory, and leaves everything as it was.
     pub fn start(&mut self, test: TestInstanceId<'_>) -> Result<(), StartFault>
         ensures plan { self.new.plan ≡ self.old.plan }
-        ensures step { Starts self.old.run (place_in self.old.plan test.entry.binary_id.now test.entry.test_name.now) result self.new.run }
+        ensures step { Starts self.old.run (place_in self.old.plan test.entry.binary_id.now
+            test.entry.test_name.now) result self.new.run }
     {
         let place = self.places.find(test);
         self.progress.start(place)
@@ -98,7 +99,8 @@ impl<'a> Session<'a> {
         record: Record,
     ) -> Result<Finished, StepRefusal>
         ensures plan { self.new.plan ≡ self.old.plan }
-        ensures step { Takes self.old.run (events.Ended (place_in self.old.plan test.entry.binary_id.now test.entry.test_name.now) «record») result self.new.run }
+        ensures step { Takes self.old.run (events.Ended (place_in self.old.plan
+            test.entry.binary_id.now test.entry.test_name.now) «record») result self.new.run }
     {
         let place = self.places.find(test);
         self.progress.attempt_finished(place, record)
@@ -108,7 +110,8 @@ impl<'a> Session<'a> {
     /// it was.
     pub fn script_finished(&mut self, id: &str, record: Record) -> Result<Finished, StepRefusal>
         ensures plan { self.new.plan ≡ self.old.plan }
-        ensures step { Takes self.old.run (events.ScriptEnded (script_place self.old.plan.scripts id.now) «record») result self.new.run }
+        ensures step { Takes self.old.run (events.ScriptEnded
+            (script_place self.old.plan.scripts id.now) «record») result self.new.run }
     {
         let place = place_of_script(self.plan.scripts.as_slice(), id);
         self.progress.script_finished(place, record)
@@ -168,14 +171,16 @@ impl<'a> Session<'a> {
     /// The place of a test in the plan, or the number of its tests where the plan doesn't have it. The test of the last
     /// event, or the one behind it, is found at once.
     pub fn place(&self, test: TestInstanceId<'_>) -> usize
-        ensures { result ≡ place_in self.now.plan test.entry.binary_id.now test.entry.test_name.now }
+        ensures { result
+            ≡ place_in self.now.plan test.entry.binary_id.now test.entry.test_name.now }
     {
         self.places.place(test)
     }
 
     /// How far a test is; `None` where the plan doesn't have it.
     pub fn fate(&self, test: TestInstanceId<'_>) -> Option<Fate<'_>>
-        ensures { IsFate (test_of self.now test.entry.binary_id.now test.entry.test_name.now) result }
+        ensures { IsFate
+            (test_of self.now test.entry.binary_id.now test.entry.test_name.now) result }
     {
         self.fate_at(self.place(test))
     }

@@ -11,7 +11,7 @@ use Rattle.nextest_config_resolution_inheritance.specs.Inheritance.{Name, IsChai
 use Rattle.nextest_config_resolution_inheritance.specs.declared.inheritance_fault.InheritanceFault.TheVariants as inheritance
 use Rattle.nextest_config_resolution_load.specs.Kinds.{kind_of}
 use Rattle.nextest_config_resolution_load.specs.Checks.{MergedConfig, Refusal, unread, no_toml, both_script_tables, feature_not_enabled, repeated_script, unknown_script, unknown_wrapper, bad_value, bad_name, no_constraint, filter_and_default_filter, bad_spec, bad_rule_filter, bad_merged, unknown_group, inherits_badly, bad_filter, parents_of}
-use Rattle.nextest_config_resolution_load.specs.Load.{named, reason_of, seen}
+use Rattle.nextest_config_resolution_load.specs.Load.{named_of, reason_of, merged_of}
 use Rattle.nextest_config_resolution_load.specs.declared.load_error.LoadError.TheVariants as load_error
 use Rattle.nextest_config_resolution_load.specs.declared.load_fault.LoadFault.{LoadFault}
 use Rattle.nextest_config_resolution_load.specs.declared.load_fault.LoadFault.TheVariants as load
@@ -177,18 +177,18 @@ one_kind cx inputs one other a b =
 
 -- ---- configurations
 
-pub same_seen : (cx : Context) (inputs : Inputs) (one other : Whole Filterset PlatformSpec) → Loads cx inputs (Ok one) → Loads cx inputs (Ok other) → seen one.loaded ≡ seen other.loaded
+pub same_seen : (cx : Context) (inputs : Inputs) (one other : Whole Filterset PlatformSpec) → Loads cx inputs (Ok one) → Loads cx inputs (Ok other) → merged_of one.loaded ≡ merged_of other.loaded
 same_seen cx inputs one other a b = one_load (IsFilter cx) IsPlatformSpec IsTooDeep (features_of inputs) _ inputs.sources one.loaded other.loaded a.1 b.1
 
 never_refused : (cx : Context) (inputs : Inputs) (config : Whole Filterset PlatformSpec) (told : LoadFault) → Loads cx inputs (Ok config) → Loads cx inputs (Err (load_error.Refused told)) → ⊥
 never_refused cx inputs config told loaded refused = none_refused (IsFilter cx) IsPlatformSpec IsTooDeep (λ text deep. deep) (features_of inputs) _ inputs.sources config.loaded told loaded.1 refused
 
 -- the names of profiles
-names_seen : (profiles : List NamedProfile) → map (λ (it : Named). it.0) (map named profiles) ≡ map (λ (it : NamedProfile). it.name) profiles
+names_seen : (profiles : List NamedProfile) → map (λ (it : Named). it.0) (map named_of profiles) ≡ map (λ (it : NamedProfile). it.name) profiles
 names_seen [] = refl
 names_seen (first ∷ profiles) = ap (λ (names : List Name). first.name ∷ names) (names_seen profiles)
 
-same_names : (one other : Whole Filterset PlatformSpec) → seen one.loaded ≡ seen other.loaded → names_of one ≡ names_of other
+same_names : (one other : Whole Filterset PlatformSpec) → merged_of one.loaded ≡ merged_of other.loaded → names_of one ≡ names_of other
 same_names one other same =
     sym (names_seen one.loaded.profiles) ∙ ap (λ (it : MergedConfig). map (λ (profile : Named). profile.0) it.profiles) same ∙ names_seen other.loaded.profiles
 

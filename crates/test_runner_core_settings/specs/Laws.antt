@@ -2,6 +2,8 @@
 use Rattle.std.specs.Prelude.{◌≡◌, ◌↔◌, ◌<◌, ℕ, true, is_some, List, All, Contains, Result, Ok, Err, ⊤}
 use Rattle.nextest_config_elements_choices.specs.declared.max_fail.MaxFail.{MaxFail}
 use Rattle.nextest_config_elements_choices.specs.declared.max_fail.MaxFail.TheVariants as limits
+use Rattle.nextest_config_elements_versions.specs.Sources.{Asking, Comes, Refusal, askings}
+use Rattle.nextest_config_elements_versions.specs.declared.version_only.VersionOnlyConfig.{VersionOnlyConfig}
 use Rattle.nextest_config_resolution_inheritance.specs.Inheritance.{IsChain, Name}
 use Rattle.nextest_config_resolution_load.specs.Kinds.{kind_of}
 use Rattle.nextest_config_resolution_load.specs.Checks.{parents_of}
@@ -15,6 +17,9 @@ use Rattle.nextest_filtering_filters.specs.Query.{Test}
 use Rattle.test_runner_core_inputs.specs.declared.inputs.Inputs.{Inputs}
 use Rattle.test_runner_core_platforms.specs.declared.platform_spec.PlatformSpec.{PlatformSpec}
 use Rattle.test_runner_core_plan.specs.declared.plan_settings.PlanSettings.{PlanSettings}
+use Rattle.test_runner_core_settings.specs.Pass.{pass_of, pass_of_config}
+use Rattle.test_runner_core_settings.specs.Sources.{sources_of}
+use Rattle.test_runner_core_settings.specs.declared.pass_error.VersionPassFault.TheVariants as pass_fault
 use Rattle.test_runner_core_settings.specs.Sets.{IsEnabled, Reads, Sets, SetsTest, groups_in, rules_in, script_rules_in}
 use Rattle.test_runner_core_settings.specs.declared.configured.RunSettings.{RunSettings}
 use Rattle.test_runner_core_settings.specs.declared.settings_fault.SettingsFault.{SettingsFault}
@@ -117,3 +122,14 @@ IsOneAtLeast limits.All = ⊤
 
 abbrev pub SetsLimit : Type 0
 SetsLimit = (cx : Context) (inputs : Inputs) (it : RunSettings) → Sets cx inputs (Ok it) → IsOneAtLeast it.max_fail
+
+-- whatever configuration their sources come to, inputs pass, or are refused, as the current version is judged by it
+abbrev pub PassesByConfig : Type 0
+PassesByConfig = (inputs : Inputs) (all : List Asking) (config : VersionOnlyConfig)
+    → askings (sources_of inputs.sources) ≡ Ok all → Comes all config
+    → pass_of inputs ≡ pass_of_config config inputs.current_version inputs.override_version_check
+
+-- and a source that is refused refuses them
+abbrev pub RefusedBySource : Type 0
+RefusedBySource = (inputs : Inputs) (refusal : Refusal)
+    → askings (sources_of inputs.sources) ≡ Err refusal → pass_of inputs ≡ Err pass_fault.VersionSource

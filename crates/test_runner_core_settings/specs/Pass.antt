@@ -29,14 +29,14 @@ warnings_by true current (warn recommended source) = version_text (codes "recomm
 warnings_by false current (warn recommended source) = version_text (codes "recommended") recommended current source.path plain ∷ []
 
 -- what the current version, and whether it is let pass, make of what the sources ask for
-abbrev pub judged : VersionOnlyConfig → Parts → Bool → Result VersionPass VersionPassFault
-judged config current is_overridden =
+abbrev pub pass_of_config : VersionOnlyConfig → Parts → Bool → Result VersionPass VersionPassFault
+pass_of_config config current is_overridden =
     if is_refused is_overridden (verdict config.nextest_version current) then Err refused.VersionError
     else if nat_lt 0 (length config.experimental.unknown) then Err refused.UnknownFeature
     else Ok (record { warnings = warnings_by is_overridden current (verdict config.nextest_version current); experimental = config.experimental.known })
 
 abbrev pub pass_by : Parts → Bool → Result (List Asking) Refusal → Result VersionPass VersionPassFault
-pass_by current is_overridden (Ok all) = judged (config_in all) current is_overridden
+pass_by current is_overridden (Ok all) = pass_of_config (config_in all) current is_overridden
 pass_by current is_overridden (Err refusal) = Err refused.VersionSource
 
 -- what inputs come to: each reason is looked for in all sources before the next

@@ -3,7 +3,7 @@ use Rattle.std.specs.Prelude.{◌≡◌, ℕ, true, false, List, Result, Ok, Err
 use Rattle.nextest_config_elements_identifiers.specs.declared.test_group.TestGroup.{TestGroup}
 use Rattle.nextest_config_resolution_load.specs.Checks.{rules_downward, script_rules_downward}
 use Rattle.nextest_config_resolution_load.specs.Load.{IsFilterBy}
-use Rattle.nextest_config_resolution_load.specs.Telling.{warnings_in}
+use Rattle.nextest_config_resolution_load.specs.Warn.{warnings_in}
 use Rattle.nextest_config_resolution_load.specs.declared.load_error.LoadError.{LoadError}
 use Rattle.nextest_config_resolution_load.specs.declared.load_error.LoadError.TheVariants as load
 use Rattle.nextest_config_resolution_load.specs.declared.languages.FilterPurpose.TheVariants as purpose
@@ -15,7 +15,7 @@ use Rattle.nextest_config_resolution_scripts.specs.declared.script_rule.PlacedSc
 use Rattle.nextest_config_resolution_settings.specs.Rules.{profile_of, rules_of, script_profile_of}
 use Rattle.nextest_config_resolution_warnings.specs.Warnings.{text_of}
 use Rattle.nextest_filtering_compiling.specs.Context.{Context}
-use Rattle.nextest_filtering_compiling.specs.Filtersets.{IsFilterset, asks_tests}
+use Rattle.nextest_filtering_compiling.specs.Filtersets.{IsParsedFilterset, asks_tests}
 use Rattle.nextest_filtering_compiling.specs.declared.filterset.Filterset.{Filterset}
 use Rattle.nextest_filtering_filters.specs.Query.{Test}
 use Rattle.nextest_filtering_filters.specs.declared.known_groups.KnownGroups.{KnownGroups}
@@ -37,7 +37,7 @@ use Rattle.test_runner_core_settings.specs.declared.settings_fault.SettingsFault
 
 -- which filterset a text is in a workspace, by what it is for, and which one as a default filter
 abbrev pub IsFilter : Context → IsFilterBy Filterset
-IsFilter cx = IsFilterIn IsFilterset asks_tests cx
+IsFilter cx = IsFilterIn IsParsedFilterset asks_tests cx
 
 abbrev pub IsDefault : Context → List ℕ → Filterset → Type 0
 IsDefault cx = IsFilter cx purpose.Default

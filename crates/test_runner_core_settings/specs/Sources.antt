@@ -1,7 +1,7 @@
 -- The sources of a configuration, as the version pass takes them.
 use Rattle.std.specs.Prelude.{ℕ, List, Option, None, Some, map}
 use Rattle.nextest_config_elements_versions.specs.Sources.{Source}
-use Rattle.nextest_config_resolution_sources.specs.Counting.{counted}
+use Rattle.nextest_config_resolution_sources.specs.Counting.{counting_sources}
 use Rattle.nextest_config_resolution_sources.specs.declared.source.ConfigSource.{ConfigSource}
 use Rattle.nextest_config_resolution_sources.specs.declared.source.ConfigSourceOutcome.{ConfigSourceOutcome}
 use Rattle.nextest_config_resolution_sources.specs.declared.source.ConfigSourceOutcome.TheVariants as outcomes
@@ -18,4 +18,4 @@ source_of it = record { kind = it.kind; path = it.path; text = text_of it.outcom
 
 -- those that count, the lowest first
 abbrev pub sources_of : List ConfigSource → List Source
-sources_of sources = map source_of (counted sources)
+sources_of sources = map source_of (counting_sources sources)

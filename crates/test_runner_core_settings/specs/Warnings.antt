@@ -12,8 +12,8 @@ shown_character character =
     else encode_utf8 character
 
 -- a path, on one line
-abbrev pub shown : List ℕ → List ℕ
-shown path = flat_map shown_character (chars path)
+abbrev pub path_line_of : List ℕ → List ℕ
+path_line_of path = flat_map shown_character (chars path)
 
 -- how a warning ends where it is let pass, and where it isn't
 abbrev pub overridden : List ℕ
@@ -25,4 +25,4 @@ plain = []
 -- that the current version is below one that the source at a path asks for
 abbrev pub version_text : List ℕ → Parts → Parts → List ℕ → List ℕ → List ℕ
 version_text role asked current path end =
-    codes "version " ++ (role ++ (codes " " ++ (parts_text asked ++ (codes " current " ++ (parts_text current ++ (codes " by " ++ (shown path ++ end)))))))
+    codes "version " ++ (role ++ (codes " " ++ (parts_text asked ++ (codes " current " ++ (parts_text current ++ (codes " by " ++ (path_line_of path ++ end)))))))

@@ -124,7 +124,8 @@ fn evaluated(
     profile: &EvaluatableProfile<'_, Filterset, PlatformSpec>,
     known_groups: KnownGroups,
 ) -> Result<RunSettings, AllocError>
-    ensures text { IfOk result (λ it. it.default_filter ≡ profile.now.default_filter.filter.now.input) }
+    ensures text { IfOk result
+        (λ it. it.default_filter ≡ profile.now.default_filter.filter.now.input) }
     ensures limits { IfOk result (IsOfChain profile.now.chain) }
     ensures groups { IfOk result (λ it. it.known_groups ≡ known_groups) }
 {

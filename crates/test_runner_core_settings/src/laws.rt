@@ -1,5 +1,5 @@
 //! What holds of what inputs set. Each law is the contract of a function that does nothing.
-ghost use Rattle.test_runner_core_settings.specs.Laws.{AgreesOnChain, EnabledIsDefined, Isolated, IsolatesScripts, IsolatesTests, MoreEnableNoFewer, OneSettings, OneTest, SetsLimit, SomeSettings, SomeTest};
+ghost use Rattle.test_runner_core_settings.specs.Laws.{AgreesOnChain, EnabledIsDefined, Isolated, IsolatesScripts, IsolatesTests, MoreEnableNoFewer, OneSettings, OneTest, PassesByConfig, RefusedBySource, SetsLimit, SomeSettings, SomeTest};
 
 /// Inputs set one thing, or are refused for one reason; and it can't be that neither is so.
 pub fn one_settings()
@@ -35,4 +35,11 @@ pub fn enabled()
 /// How many failing tests stop a run is one at least.
 pub fn sets_limit()
     ensures { SetsLimit }
+{}
+
+/// Whatever configuration the sources of inputs come to by their versions and features, the current version is judged by it;
+/// and a source that is refused refuses the inputs.
+pub fn version_pass_by_sources()
+    ensures judged { PassesByConfig }
+    ensures refused { RefusedBySource }
 {}

@@ -27,7 +27,8 @@ fn with_group(
     settings: &TestSettings<'_>,
     test_group: TestGroup,
 ) -> Result<PlanSettings, AllocError>
-    ensures { test_group ≡ group_of settings.now.test_group.0 → IfOk result (λ it. it ≡ owned_of settings.now) }
+    ensures { test_group ≡ group_of settings.now.test_group.0
+        → IfOk result (λ it. it ≡ owned_of settings.now) }
 {
     Ok(PlanSettings {
         priority: settings.priority(),

@@ -1,6 +1,6 @@
 // The version pass.
 ghost use Rattle.std.specs.Prelude.{◌≡◌, IfOk};
-ghost use Rattle.test_runner_core_settings.specs.Pass.{GivesPass, judged, pass_of};
+ghost use Rattle.test_runner_core_settings.specs.Pass.{GivesPass, pass_of_config, pass_of};
 ghost use Rattle.test_runner_core_settings.specs.Told.{is_error};
 
 use crate::pass_error::{VersionPassError, VersionPassFault};
@@ -45,7 +45,8 @@ fn judge(
     config: &VersionOnlyConfig,
     inputs: &Inputs,
 ) -> Result<VersionPass, VersionPassError>
-    ensures { GivesPass result (judged config.now inputs.now.current_version inputs.now.override_version_check) }
+    ensures { GivesPass result
+        (pass_of_config config.now inputs.now.current_version inputs.now.override_version_check) }
 {
     let current = inputs.current_version.version();
     let eval = config

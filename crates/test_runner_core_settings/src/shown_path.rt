@@ -1,5 +1,5 @@
 // How a path prints in a warning.
-ghost use Rattle.test_runner_core_settings.specs.Warnings.{shown, shown_character};
+ghost use Rattle.test_runner_core_settings.specs.Warnings.{path_line_of, shown_character};
 
 use std::fmt;
 
@@ -29,9 +29,9 @@ impl fmt::Display for ShownCharacter {
 
 impl fmt::Display for ShownPath<'_> {
     ghost use Rattle.std.specs.Prelude.{Some};
-    ghost use Rattle.test_runner_core_settings.specs.Warnings.{shown};
+    ghost use Rattle.test_runner_core_settings.specs.Warnings.{path_line_of};
 
-    ghost output = { λ it. Some (shown it.0.now) };
+    ghost output = { λ it. Some (path_line_of it.0.now) };
 
     fn fmt<W: fmt::Write>(&self, f: &mut fmt::Formatter<W>) -> fmt::Result {
         for character in self.0.chars() {

@@ -1,6 +1,6 @@
 // The sources that count, as the version pass takes them.
 ghost use Rattle.std.specs.Prelude.{◌≡◌, map, option_map, IfOk};
-ghost use Rattle.nextest_config_elements_versions.specs.Sources.{seen};
+ghost use Rattle.nextest_config_elements_versions.specs.Sources.{version_source_of};
 ghost use Rattle.test_runner_core_settings.specs.Sources as words;
 
 use nextest_config_elements_versions::VersionSource;
@@ -12,7 +12,8 @@ pub(crate) fn lent_sources<'s>(
     alloc: Global,
     sources: &'s [ConfigSource],
 ) -> Result<Vec<VersionSource<'s>>, AllocError>
-    ensures { IfOk result (λ found. map seen found.items ≡ words.sources_of sources.now) }
+    ensures { IfOk result
+        (λ found. map version_source_of found.items ≡ words.sources_of sources.now) }
 {
     let mut found = Vec::new(alloc);
     for source in counted(alloc, sources)? {
@@ -23,7 +24,7 @@ pub(crate) fn lent_sources<'s>(
 
 // A source as the version pass takes it.
 fn lent(source: &ConfigSource) -> VersionSource<'_>
-    ensures { seen result ≡ words.source_of source.now }
+    ensures { version_source_of result ≡ words.source_of source.now }
 {
     VersionSource {
         kind: source.kind(),

@@ -56,7 +56,8 @@ fn warning(
     source: &VersionOrigin,
     end: &str,
 ) -> Result<Listing<Text>, AllocError>
-    ensures { IfOk result (λ told. told ≡ version_text role.now asked.now (parts_of current.now) source.now.path end.now ∷ []) }
+    ensures { IfOk result (λ told. told
+        ≡ version_text role.now asked.now (parts_of current.now) source.now.path end.now ∷ []) }
 {
     let path = ShownPath(source.path.as_str());
     let text = format!(in alloc; "version {role} {asked} current {current} by {path}{end}")?;

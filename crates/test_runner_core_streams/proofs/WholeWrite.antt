@@ -5,7 +5,7 @@ use Rattle.std.proofs.lemmas.List.{take_all}
 use Rattle.std.proofs.lemmas.Bool.Decides.{nat_tests}
 use Rattle.std.specs.Io.KnownBytes.{Appends}
 use Rattle.std.specs.declared.io.Error.{Error as IoError}
-use Rattle.test_runner_core_streams.specs.Streams.{counted, write_fails}
+use Rattle.test_runner_core_streams.specs.Streams.{failures_after, write_fails}
 
 -- so many of the bytes are taken, and no call failed
 pub record Writing (before after : Option (List ℕ)) (bytes : List ℕ) (at first_failures failures : ℕ) : Type 0 where
@@ -27,6 +27,6 @@ pub rest_is : (bytes : List ℕ) (at : ℕ) → take (length bytes - at) (drop a
 rest_is bytes at = take_all (length bytes - at) (drop at bytes) (omega (arith, length-drop at bytes))
 
 -- a call that took some bytes did not fail
-pub not_failed : (count before after : ℕ) (bytes : List ℕ) → (count ≡ 0 → ⊥) → after ≡ counted before (write_fails {E = IoError} (Ok count) bytes) → after ≡ before
+pub not_failed : (count before after : ℕ) (bytes : List ℕ) → (count ≡ 0 → ⊥) → after ≡ failures_after before (write_fails {E = IoError} (Ok count) bytes) → after ≡ before
 not_failed count before after bytes some h =
-    h ∙ ap (λ (none : Bool). counted before (none && ltb 0 (length bytes))) (let e : eqb count 0 ≡ false = grind (arith, nat_tests) in e)
+    h ∙ ap (λ (none : Bool). failures_after before (none && ltb 0 (length bytes))) (let e : eqb count 0 ≡ false = grind (arith, nat_tests) in e)

@@ -23,8 +23,8 @@ TakesAll (Ok value) before after bytes = Appends before after bytes
 TakesAll (Err fault) before after bytes = (count : ℕ) × Appends before after (take count bytes)
 
 -- a number of failed calls, after a call that failed or did not
-abbrev pub counted : ℕ → Bool → ℕ
-counted failures failed = if failed then failures + 1 else failures
+abbrev pub failures_after : ℕ → Bool → ℕ
+failures_after failures failed = if failed then failures + 1 else failures
 
 -- a reader over another: the one below, and how its calls went
 pub record Counted (S : Type 0) : Type 0 where

@@ -1,6 +1,6 @@
 // The failed calls of a stream.
 ghost use Rattle.std.specs.Prelude.{◌≡◌, ◌^◌, ◌<◌, false};
-ghost use Rattle.test_runner_core_streams.specs.Streams.{counted};
+ghost use Rattle.test_runner_core_streams.specs.Streams.{failures_after};
 
 // How many calls of a stream failed, and whether the last one did.
 #[derive(Clone, Copy)]
@@ -24,7 +24,7 @@ impl Failures {
     // The same after one more call, which failed or didn't.
     pub(crate) fn and(self, failed: bool) -> Self
         requires { self.count < 2 ^ 63 }
-        ensures count { result.count ≡ counted self.count failed }
+        ensures count { result.count ≡ failures_after self.count failed }
         ensures last { result.last ≡ failed }
     {
         Failures {

@@ -3,7 +3,7 @@ ghost use Rattle.std.specs.Prelude.{◌≡◌, ◌+◌, ◌^◌, ◌<◌, ◌↔
 ghost use Rattle.std.specs.IoError.{error_kind};
 ghost use Rattle.std.specs.Io.{ReadsAtMost};
 ghost use Rattle.std.specs.Io.KnownBytes.{ReadConsumes};
-ghost use Rattle.test_runner_core_streams.specs.Streams.{read_fails, counted, counted_down};
+ghost use Rattle.test_runner_core_streams.specs.Streams.{read_fails, failures_after, counted_down};
 
 use super::failures::Failures;
 use super::traits::LogReader;
@@ -37,7 +37,14 @@ impl<'a> MemoryReader<'a> {
     /// A reader of `bytes` that moves at most `piece` of them a call, and at least one: 0 counts as 1. None of
     /// its calls fails.
     pub fn new(bytes: &'a [u8], piece: usize) -> Self
-        ensures { result ≡ record { left = bytes.now; piece = max piece 1; fails_after = None; calls = 0; failures = 0; last_failed = false } }
+        ensures { result ≡ record {
+          left = bytes.now;
+          piece = max piece 1;
+          fails_after = None;
+          calls = 0;
+          failures = 0;
+          last_failed = false;
+        } }
     {
         MemoryReader {
             left: bytes,
@@ -106,7 +113,7 @@ impl<'a> LogReader for MemoryReader<'a> {
         ensures bound { ReadsAtMost result buffer.new }
         ensures bytes { ReadConsumes (Some self.old.left) (Some self.new.left) result buffer.new }
         ensures called { self.new.calls ≡ self.old.calls + 1 }
-        ensures failed { self.new.failures ≡ counted self.old.failures (read_fails result) }
+        ensures failed { self.new.failures ≡ failures_after self.old.failures (read_fails result) }
         ensures last { self.new.last_failed ≡ read_fails result }
 
         // When this one fails, and how.
@@ -115,7 +122,8 @@ impl<'a> LogReader for MemoryReader<'a> {
         ensures untouched { OnErr result (buffer.new ≡ buffer.old) }
 
         // How much it moves, and what stays.
-        ensures count { IfOk result (λ n. n ≡ min (min self.old.piece (length self.old.left)) (length buffer.old)) }
+        ensures count { IfOk result
+            (λ n. n ≡ min (min self.old.piece (length self.old.left)) (length buffer.old)) }
         ensures rest_of_buffer { IfOk result (λ n. drop n buffer.new ≡ drop n buffer.old) }
         ensures same_piece { self.new.piece ≡ self.old.piece }
         ensures fails_after { self.new.fails_after ≡ counted_down self.old.fails_after }

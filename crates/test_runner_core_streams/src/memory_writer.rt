@@ -2,7 +2,7 @@
 ghost use Rattle.std.specs.Prelude.{◌≡◌, ◌-◌, ◌^◌, ◌<◌, ◌≤◌, ◌++◌, [], false, Some, IsOk, IfOk, OnOk, OnErr, length, max, vec_capacity};
 ghost use Rattle.std.specs.Io.{WritesAtMost};
 ghost use Rattle.std.specs.Io.KnownBytes.{WriteAppends};
-ghost use Rattle.test_runner_core_streams.specs.Streams.{write_fails, counted, counted_down_to, chosen_failure, memory_answer, piece_answer, Answers};
+ghost use Rattle.test_runner_core_streams.specs.Streams.{write_fails, failures_after, counted_down_to, chosen_failure, memory_answer, piece_answer, Answers};
 
 use super::failures::Failures;
 use super::traits::{ReportWriter, write_failed};
@@ -46,7 +46,15 @@ impl MemoryWriter {
     /// A writer with room for `room` bytes in all, that takes at most `piece` of them a call, and at least one:
     /// 0 counts as 1. None of its calls is chosen to fail. It fails only where there is no memory for the room.
     pub fn new(alloc: Global, room: usize, piece: usize) -> Result<Self, AllocError>
-        ensures made { IfOk result (λ w. w ≡ record { written = []; room = room; piece = max piece 1; fails_after = None; failures = 0; last_failed = false }) }
+        ensures made { IfOk result (λ w. w ≡ record {
+          written = [];
+          room = room;
+          piece = max piece
+              1;
+          fails_after = None;
+          failures = 0;
+          last_failed = false;
+        }) }
         ensures no_room_needs_no_memory { room ≡ 0 → IsOk result }
     {
         let written = Vec::with_capacity(alloc, room)?;
@@ -134,8 +142,10 @@ impl ReportWriter for MemoryWriter {
 
         // What each writer promises.
         ensures bound { WritesAtMost result bytes.now }
-        ensures bytes { WriteAppends (Some self.old.written) (Some self.new.written) result bytes.now }
-        ensures failed { self.new.failures ≡ counted self.old.failures (write_fails result bytes.now) }
+        ensures bytes { WriteAppends (Some self.old.written)
+            (Some self.new.written) result bytes.now }
+        ensures failed { self.new.failures
+            ≡ failures_after self.old.failures (write_fails result bytes.now) }
         ensures last { self.new.last_failed ≡ write_fails result bytes.now }
 
         // What this one answers, and what stays.
@@ -161,7 +171,8 @@ impl ReportWriter for MemoryWriter {
 fn put(written: &mut Vec<u8>, room: usize, piece: &[u8]) -> io::Result<usize>
     requires fits { length written.old.items ≤ room }
     requires taken { room ≤ vec_capacity written.old }
-    ensures answer { Answers (piece_answer (length piece.now) (room - length written.old.items)) result }
+    ensures answer { Answers
+        (piece_answer (length piece.now) (room - length written.old.items)) result }
     ensures ok { OnOk result (written.new.items ≡ written.old.items ++ piece.now) }
     ensures err { OnErr result (written.new.items ≡ written.old.items) }
     ensures capacity { vec_capacity written.old ≤ vec_capacity written.new }

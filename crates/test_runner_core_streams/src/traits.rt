@@ -2,7 +2,7 @@
 ghost use Rattle.std.specs.Prelude.{◌≡◌, ℕ, ◌+◌, ◌^◌, ◌<◌, Bool, List, Option, None};
 ghost use Rattle.std.specs.Io.{ReadsAtMost, WritesAtMost};
 ghost use Rattle.std.specs.Io.KnownBytes.{ReadConsumes, WriteAppends};
-ghost use Rattle.test_runner_core_streams.specs.Streams.{read_fails, write_fails, counted};
+ghost use Rattle.test_runner_core_streams.specs.Streams.{read_fails, write_fails, failures_after};
 
 use std::io;
 
@@ -28,7 +28,8 @@ pub trait LogReader {
         ensures bound { ReadsAtMost result buffer.new }
         ensures bytes { ReadConsumes (left self.old) (left self.new) result buffer.new }
         ensures called { calls self.new ≡ calls self.old + 1 }
-        ensures failed { failures self.new ≡ counted (failures self.old) (read_fails result) }
+        ensures failed { failures self.new
+            ≡ failures_after (failures self.old) (read_fails result) }
         ensures last { last_failed self.new ≡ read_fails result };
 }
 
@@ -49,7 +50,8 @@ pub trait ReportWriter {
         requires { failures self.old < 2 ^ 63 }
         ensures bound { WritesAtMost result bytes.now }
         ensures bytes { WriteAppends (taken self.old) (taken self.new) result bytes.now }
-        ensures failed { failures self.new ≡ counted (failures self.old) (write_fails result bytes.now) }
+        ensures failed { failures self.new
+            ≡ failures_after (failures self.old) (write_fails result bytes.now) }
         ensures last { last_failed self.new ≡ write_fails result bytes.now };
 }
 

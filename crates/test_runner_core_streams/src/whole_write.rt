@@ -1,6 +1,6 @@
 // Writing all of some bytes.
 ghost use Rattle.std.specs.Prelude.{◌≡◌, ◌^◌, ◌<◌, true, OnErr, is_err};
-ghost use Rattle.test_runner_core_streams.specs.Streams.{TakesAll, counted};
+ghost use Rattle.test_runner_core_streams.specs.Streams.{TakesAll, failures_after};
 
 use super::traits::ReportWriter;
 use std::io;
@@ -12,7 +12,8 @@ use std::io::ErrorKind;
 pub fn write_all<W: ReportWriter>(writer: &mut W, bytes: &[u8]) -> io::Result<()>
     requires { W.failures writer.old < 2 ^ 63 }
     ensures bytes { TakesAll result (W.taken writer.old) (W.taken writer.new) bytes.now }
-    ensures failed { W.failures writer.new ≡ counted (W.failures writer.old) (is_err result) }
+    ensures failed { W.failures writer.new
+        ≡ failures_after (W.failures writer.old) (is_err result) }
     ensures last { OnErr result (W.last_failed writer.new ≡ true) }
 {
     let mut at = 0;

@@ -9,16 +9,16 @@ use Rattle.std.proofs.lemmas.List.{take_more, map-append, take-append-drop}
 use Rattle.std.proofs.lemmas.List.Folds.{list_any-append}
 use Rattle.std.proofs.lemmas.Map.Text.{is_eq-slice_cmp}
 use denote.Ref.{Bor}
-use Rattle.test_runner_core_workspace.specs.Ids.{lent, has_text}
+use Rattle.test_runner_core_workspace.specs.Ids.{lent_texts, has_text}
 use Rattle.test_runner_core_workspace.specs.Workspace.{is_among, has_repeat, is_known_link, is_bad_id, package_ids, refusal_by, refusal_of}
 use Rattle.test_runner_core_workspace.specs.declared.record.Link.{Link}
 use Rattle.test_runner_core_workspace.specs.declared.record.Binary.{Binary}
 use Rattle.test_runner_core_workspace.specs.declared.record.WorkspaceRecord.{WorkspaceRecord}
 
 -- one more id is lent
-pub lent_more : (ids : List (Bor (List ℕ))) (i : ℕ) (d : Bor (List ℕ)) → i < length ids → lent (take (i + 1) ids) ≡ lent (take i ids) ++ (get_or ids i d).now ∷ []
+pub lent_more : (ids : List (Bor (List ℕ))) (i : ℕ) (d : Bor (List ℕ)) → i < length ids → lent_texts (take (i + 1) ids) ≡ lent_texts (take i ids) ++ (get_or ids i d).now ∷ []
 lent_more ids i d within =
-    ap lent (take_more ids i d within) ∙ map-append (λ (text : Bor (List ℕ)). text.now) (take i ids) (get_or ids i d ∷ [])
+    ap lent_texts (take_more ids i d within) ∙ map-append (λ (text : Bor (List ℕ)). text.now) (take i ids) (get_or ids i d ∷ [])
 
 pub reorder : (a e m r : Bool) → ((a || (e || false)) || (m || r)) ≡ ((e || m) || (a || r))
 reorder true true m r = refl
@@ -89,47 +89,47 @@ packages_known set ids same (one ∷ binaries) =
     ∙ ap (λ (b : Bool). is_among ids one.package && b) (packages_known set ids same binaries)
 
 -- a test of the texts that are lent
-pub any_lent : (p : List ℕ → Bool) (ids : List (Bor (List ℕ))) → list_any (λ id. p id.now) ids ≡ list_any p (lent ids)
+pub any_lent : (p : List ℕ → Bool) (ids : List (Bor (List ℕ))) → list_any (λ id. p id.now) ids ≡ list_any p (lent_texts ids)
 any_lent p [] = refl
 any_lent p (id ∷ ids) = ap (λ (b : Bool). p id.now || b) (any_lent p ids)
 
 -- the first ids of a list, one of which stands twice
-pub has_repeat_within : (ids : List (Bor (List ℕ))) (i : ℕ) → has_repeat (lent (take i ids)) ≡ true → has_repeat (lent ids) ≡ true
+pub has_repeat_within : (ids : List (Bor (List ℕ))) (i : ℕ) → has_repeat (lent_texts (take i ids)) ≡ true → has_repeat (lent_texts ids) ≡ true
 has_repeat_within ids i e =
-    ap (λ (xs : List (Bor (List ℕ))). has_repeat (lent xs)) (sym (take-append-drop i ids))
+    ap (λ (xs : List (Bor (List ℕ))). has_repeat (lent_texts xs)) (sym (take-append-drop i ids))
     ∙ ap has_repeat (map-append (λ (text : Bor (List ℕ)). text.now) (take i ids) (drop i ids))
-    ∙ has_repeat_kept (lent (take i ids)) (lent (drop i ids)) e
+    ∙ has_repeat_kept (lent_texts (take i ids)) (lent_texts (drop i ids)) e
 
 -- an id that a set of the first ids has stands twice
 pub stands_twice : (set : BTreeSet (Bor (List ℕ))) (ids : List (Bor (List ℕ))) (i : ℕ) (d : Bor (List ℕ)) → i < length ids
-    → ((text : List ℕ) → has_text set text ≡ is_among (lent (take i ids)) text) → has_text set (get_or ids i d).now ≡ true
-    → has_repeat (lent ids) ≡ true
+    → ((text : List ℕ) → has_text set text ≡ is_among (lent_texts (take i ids)) text) → has_text set (get_or ids i d).now ≡ true
+    → has_repeat (lent_texts ids) ≡ true
 stands_twice set ids i d within same found =
     has_repeat_within ids (i + 1)
-    (ap has_repeat (lent_more ids i d within) ∙ has_repeat-push (lent (take i ids)) (get_or ids i d).now
-    ∙ ap (λ (b : Bool). b || has_repeat (lent (take i ids))) (sym (same (get_or ids i d).now) ∙ found))
+    (ap has_repeat (lent_more ids i d within) ∙ has_repeat-push (lent_texts (take i ids)) (get_or ids i d).now
+    ∙ ap (λ (b : Bool). b || has_repeat (lent_texts (take i ids))) (sym (same (get_or ids i d).now) ∙ found))
 
 -- an id that a set of the first ids hasn't stands once so far
 pub stands_once : (set : BTreeSet (Bor (List ℕ))) (ids : List (Bor (List ℕ))) (i : ℕ) (d : Bor (List ℕ)) → i < length ids
-    → ((text : List ℕ) → has_text set text ≡ is_among (lent (take i ids)) text) → has_text set (get_or ids i d).now ≡ false
-    → has_repeat (lent (take i ids)) ≡ false → has_repeat (lent (take (i + 1) ids)) ≡ false
+    → ((text : List ℕ) → has_text set text ≡ is_among (lent_texts (take i ids)) text) → has_text set (get_or ids i d).now ≡ false
+    → has_repeat (lent_texts (take i ids)) ≡ false → has_repeat (lent_texts (take (i + 1) ids)) ≡ false
 stands_once set ids i d within same found before =
-    ap has_repeat (lent_more ids i d within) ∙ has_repeat-push (lent (take i ids)) (get_or ids i d).now
-    ∙ ap (λ (b : Bool). b || has_repeat (lent (take i ids))) (sym (same (get_or ids i d).now) ∙ found) ∙ before
+    ap has_repeat (lent_more ids i d within) ∙ has_repeat-push (lent_texts (take i ids)) (get_or ids i d).now
+    ∙ ap (λ (b : Bool). b || has_repeat (lent_texts (take i ids))) (sym (same (get_or ids i d).now) ∙ found) ∙ before
 
 -- whether some binary's id is bad
-pub bad_among : (ids : List (Bor (List ℕ))) (texts : List (List ℕ)) → lent ids ≡ texts → list_any (λ id. is_bad_id id.now) ids ≡ list_any is_bad_id texts
+pub bad_among : (ids : List (Bor (List ℕ))) (texts : List (List ℕ)) → lent_texts ids ≡ texts → list_any (λ id. is_bad_id id.now) ids ≡ list_any is_bad_id texts
 bad_among ids texts e = any_lent is_bad_id ids ∙ ap (list_any is_bad_id) e
 
 -- a record whose packages have ids of their own is refused by what is looked for behind them
 pub behind_no_repeat : (workspace : WorkspaceRecord) (packages : List (Bor (List ℕ))) (set : BTreeSet (Bor (List ℕ)))
-    → lent packages ≡ package_ids workspace → has_repeat (lent packages) ≡ false
-    → ((text : List ℕ) → has_text set text ≡ is_among (lent packages) text)
+    → lent_texts packages ≡ package_ids workspace → has_repeat (lent_texts packages) ≡ false
+    → ((text : List ℕ) → has_text set text ≡ is_among (lent_texts packages) text)
     → refusal_by (has_text set) workspace ≡ refusal_of workspace
 behind_no_repeat workspace packages set of_packages once same =
     let a : has_repeat (package_ids workspace) ≡ false = ap has_repeat (sym of_packages) ∙ once in
     let b : list_all (λ link. has_text set link.from && has_text set link.to) workspace.links ≡ list_all (is_known_link (is_among (package_ids workspace))) workspace.links
-    = links_known set (lent packages) same workspace.links ∙ ap (λ (ids : List (List ℕ)). list_all (is_known_link (is_among ids)) workspace.links) of_packages in
+    = links_known set (lent_texts packages) same workspace.links ∙ ap (λ (ids : List (List ℕ)). list_all (is_known_link (is_among ids)) workspace.links) of_packages in
     let c : list_all (λ it. has_text set it.package) workspace.binaries ≡ list_all (λ it. is_among (package_ids workspace) it.package) workspace.binaries
-    = packages_known set (lent packages) same workspace.binaries ∙ ap (λ (ids : List (List ℕ)). list_all (λ it. is_among ids it.package) workspace.binaries) of_packages in
+    = packages_known set (lent_texts packages) same workspace.binaries ∙ ap (λ (ids : List (List ℕ)). list_all (λ it. is_among ids it.package) workspace.binaries) of_packages in
     rw (a, b, c) refl

@@ -6,8 +6,8 @@ use Rattle.std.specs.BTreeSet.{BTreeSet, contains_by}
 use denote.Ref.{Bor}
 
 -- the texts that are lent
-abbrev pub lent : List (Bor (List ℕ)) → List (List ℕ)
-lent texts = map (λ text. text.now) texts
+abbrev pub lent_texts : List (Bor (List ℕ)) → List (List ℕ)
+lent_texts texts = map (λ text. text.now) texts
 
 -- a set has a text
 abbrev pub has_text : BTreeSet (Bor (List ℕ)) → List ℕ → Bool

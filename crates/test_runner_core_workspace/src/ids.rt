@@ -1,7 +1,7 @@
 // The ids of packages and binaries.
 ghost use Rattle.std.specs.Prelude.{◌≡◌, ◌==◌, ◌&&◌, ◌||◌, ℕ, List, IfOk, map, length};
 ghost use Rattle.std.specs.List.{list_all, list_any};
-ghost use Rattle.test_runner_core_workspace.specs.Ids.{lent, has_text};
+ghost use Rattle.test_runner_core_workspace.specs.Ids.{lent_texts, has_text};
 ghost use Rattle.test_runner_core_workspace.specs.Workspace as refusing;
 
 use crate::record::{Binary, Link, Package};
@@ -13,7 +13,7 @@ pub(crate) fn ids_of_packages<'a>(
     alloc: Global,
     packages: &'a [Package],
 ) -> Result<Vec<&'a str>, AllocError>
-    ensures { IfOk result (λ ids. lent ids.items ≡ map (λ p. p.id) packages.now) }
+    ensures { IfOk result (λ ids. lent_texts ids.items ≡ map (λ p. p.id) packages.now) }
 {
     let mut ids = Vec::new(alloc);
     for package in packages {
@@ -27,7 +27,7 @@ pub(crate) fn ids_of_binaries<'a>(
     alloc: Global,
     binaries: &'a [Binary],
 ) -> Result<Vec<&'a str>, AllocError>
-    ensures { IfOk result (λ ids. lent ids.items ≡ map (λ b. b.id) binaries.now) }
+    ensures { IfOk result (λ ids. lent_texts ids.items ≡ map (λ b. b.id) binaries.now) }
 {
     let mut ids = Vec::new(alloc);
     for binary in binaries {
@@ -38,7 +38,8 @@ pub(crate) fn ids_of_binaries<'a>(
 
 // The set of the ids.
 pub(crate) fn set_of<'a>(alloc: Global, ids: &[&'a str]) -> Result<BTreeSet<&'a str>, AllocError>
-    ensures { IfOk result (λ set. (text : List ℕ) → has_text set text ≡ refusing.is_among (lent ids.now) text) }
+    ensures { IfOk result
+        (λ set. (text : List ℕ) → has_text set text ≡ refusing.is_among (lent_texts ids.now) text) }
 {
     let mut set = BTreeSet::new(alloc);
     for id in ids {
@@ -49,7 +50,7 @@ pub(crate) fn set_of<'a>(alloc: Global, ids: &[&'a str]) -> Result<BTreeSet<&'a 
 
 // Whether an id stands twice.
 pub(crate) fn has_repeated(alloc: Global, ids: &[&str]) -> Result<bool, AllocError>
-    ensures { IfOk result (λ repeated. repeated ≡ refusing.has_repeat (lent ids.now)) }
+    ensures { IfOk result (λ repeated. repeated ≡ refusing.has_repeat (lent_texts ids.now)) }
 {
     let mut set = BTreeSet::new(alloc);
     for id in ids {
@@ -69,7 +70,8 @@ fn is_known_link(known: &BTreeSet<&str>, link: &Link) -> bool
 
 // Whether both ends of each link are known.
 pub(crate) fn links_are_known(known: &BTreeSet<&str>, links: &[Link]) -> bool
-    ensures { result ≡ list_all (λ link. has_text known.now link.from && has_text known.now link.to) links.now }
+    ensures { result
+        ≡ list_all (λ link. has_text known.now link.from && has_text known.now link.to) links.now }
 {
     links.iter().all(|link| is_known_link(known, link))
 }

@@ -13,7 +13,7 @@ use Rattle.nextest_config_resolution_profiles.specs.Held.{AreSettingsFor}
 use Rattle.nextest_config_resolution_profiles.specs.Platforms.{built_for, built_on}
 use Rattle.nextest_config_resolution_profiles.specs.Whole.{Whole}
 use Rattle.nextest_config_resolution_profiles.specs.declared.platforms.BuildPlatforms.{BuildPlatforms}
-use Rattle.nextest_config_resolution_settings.specs.Nearest.{Source, an_override, a_script_rule, a_profile, no_layer, seen}
+use Rattle.nextest_config_resolution_settings.specs.Nearest.{Source, an_override, a_script_rule, a_profile, no_layer, setting_source_of}
 use Rattle.nextest_config_resolution_settings.specs.Tracking.{TellsAll}
 use Rattle.nextest_config_resolution_settings.specs.declared.source.SettingSource.{SettingSource}
 use Rattle.nextest_config_resolution_settings.specs.declared.test_settings.TestSettings.{TestSettings}
@@ -39,7 +39,7 @@ pub record AreRetriesBy {F S Facts : Type 0} (Is : IsFilterBy F) (IsSpec : IsSpe
   pub put_on : IsPutOn value_on (built_on platforms) (built_for platforms) early profile
   pub settings : TestSettings SettingSource
   pub are : AreSettingsFor OnTest TellsAll profile mode.Test test settings
-  pub retries : it ≡ (settings.retries.0, place_of (seen settings.retries.1))
+  pub retries : it ≡ (settings.retries.0, place_of (setting_source_of settings.retries.1))
 
 -- no profile of what the sources come to has a name
 pub record HasNoProfile {F S : Type 0} (Is : IsFilterBy F) (IsSpec : IsSpecBy S) (IsTooDeep : List ℕ → Type 0) (features : FeatureSet) (sources : List ConfigSource) (name : List ℕ) : Type 0 where

@@ -3,7 +3,7 @@ ghost use Rattle.std.specs.Prelude.{◌≡◌, IfOk};
 ghost use Rattle.nextest_filtering_arguments.specs.declared.ban.FiltersetKind.TheVariants as purpose;
 ghost use Rattle.nextest_filtering_filters.specs.Query.{test_of};
 ghost use Rattle.nextest_config_resolution_profiles.specs.Config.{IsFilterIn};
-ghost use Rattle.nextest_config_resolution_settings.specs.Nearest.{seen};
+ghost use Rattle.nextest_config_resolution_settings.specs.Nearest.{setting_source_of};
 ghost use Rattle.worked_rows.specs.Configs.{AreRetriesOf, place_of};
 
 use crate::configs::{BAR, sources_of};
@@ -48,7 +48,10 @@ fn holds<F: Filters>(
     known_groups: &KnownGroups,
     query: &TestQuery<'_>,
 ) -> Result<bool, FilterError>
-    ensures { IfOk result (λ value. (filter default : F) × F.is_parsed cx.now purpose.OverrideFilter known_groups.now filter_text filter × F.is_parsed cx.now purpose.DefaultFilter known_groups.now default_text default × F.on_test filter default (test_of query.now) value) }
+    ensures { IfOk result (λ value. (filter default : F)
+        × F.is_parsed cx.now purpose.OverrideFilter known_groups.now filter_text filter
+        × F.is_parsed cx.now purpose.DefaultFilter known_groups.now default_text default
+        × F.on_test filter default (test_of query.now) value) }
 {
     let filter = F::parse(
         alloc,
@@ -76,7 +79,8 @@ fn holds_on<S: Specs>(
     text: &str,
     facts: &S::Facts,
 ) -> Result<Option<bool>, SpecError>
-    ensures { IfOk result (λ value. (spec : S) × S.is_parsed text.now spec × (value ≡ S.value_on spec facts.now)) }
+    ensures { IfOk result
+        (λ value. (spec : S) × S.is_parsed text.now spec × (value ≡ S.value_on spec facts.now)) }
 {
     let spec = S::parse(alloc, text)?;
     Ok(spec.eval(facts))
@@ -94,8 +98,9 @@ fn retries_of<F: Filters, S: Specs>(
     platforms: &BuildPlatforms<'_, S::Facts>,
     query: &TestQuery<'_>,
 ) -> Result<Option<(RetryPolicy, Option<usize>)>, AllocError>
-    ensures { IfOk result (AreRetriesOf (IsFilterIn F.is_parsed F.has_runtime_leaves cx.now) S.is_parsed F.is_too_deep S.value_on F.on_test
-        features sources.now name.now platforms.now (test_of query.now)) }
+    ensures { IfOk result
+        (AreRetriesOf (IsFilterIn F.is_parsed F.has_runtime_leaves cx.now) S.is_parsed F.is_too_deep
+        S.value_on F.on_test features sources.now name.now platforms.now (test_of query.now)) }
 {
     let config = match NextestConfig::<F, S>::from_sources(alloc, "", cx, sources, features) {
         Ok(config) => config,
@@ -115,7 +120,7 @@ fn retries_of<F: Filters, S: Specs>(
 
 // The place in its chain of the profile that a setting comes from.
 fn place_of(source: SettingSource<'_>) -> Option<usize>
-    ensures { result ≡ place_of (seen source.entry) }
+    ensures { result ≡ place_of (setting_source_of source.entry) }
 {
     match source {
         SettingSource::Profile(place) => Some(place),

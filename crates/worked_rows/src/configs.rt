@@ -9,7 +9,7 @@ use nextest_config_elements::{FeatureSet, VersionOnlyConfig, VersionOnlyError, V
 use nextest_config_resolution::{
     BuildPlatforms, ConfigSource, ConfigSourceKind, ConfigSourceOutcome, DefaultConfigWarnings,
     EvaluatableProfile, LoadError, LoadFault, NextestConfig, ProfileError, ToolName, counted,
-    tell_file,
+    warn_file,
 };
 use nextest_text::{Listing, Text};
 use std::alloc::Global;
@@ -164,7 +164,7 @@ pub(crate) fn warnings(page: &mut Page, input: &str) -> Option<()> {
     let (path, text) = two(input, " ");
     let file = ok!(toml::table_from_str(page.alloc, text));
     let mut warnings = DefaultConfigWarnings::new(page.alloc);
-    ok!(tell_file(page.alloc, &mut warnings, path, &file));
+    ok!(warn_file(page.alloc, &mut warnings, path, &file));
     page.joined("; ", warnings.lines());
     page.or_none(0);
     Some(())

@@ -4,7 +4,7 @@ ghost use Rattle.json.specs.Tape.{node_token};
 ghost use Rattle.nextest_json.specs.Documents.{whole, Reads};
 ghost use Rattle.nextest_json.specs.Fits as limit;
 ghost use Rattle.nextest_json.specs.Fits.{fits};
-ghost use Rattle.nextest_json.specs.Seen.{seen};
+ghost use Rattle.nextest_json.specs.Seen.{data_of};
 
 use super::{DocumentError, JsonDocument, JsonMemory};
 use crate::number::number_in;
@@ -39,7 +39,7 @@ impl<'a> JsonDocument<'a> {
 
     /// The value that the whole text is.
     pub fn root(&self) -> JsonValue<'_, 'a>
-        ensures { seen result ≡ whole self.now }
+        ensures { data_of result ≡ whole self.now }
     {
         JsonValue::of_place(self.tape.root())
     }

@@ -3,8 +3,8 @@ ghost use Rattle.std.specs.Prelude.{◌≡◌, [], ◌∷◌, Some, IfNone, IfSo
 ghost use Rattle.json.specs.Token.{begin_array};
 ghost use Rattle.serde_json.specs.View.{view};
 ghost use Rattle.nextest_json.specs.Rest.{items_at};
-ghost use Rattle.nextest_json.specs.Left.{left};
-ghost use Rattle.nextest_json.specs.Seen.{seen};
+ghost use Rattle.nextest_json.specs.Left.{items_left};
+ghost use Rattle.nextest_json.specs.Seen.{data_of};
 
 use super::{JsonItems, Rest};
 use crate::value::JsonValue;
@@ -15,7 +15,7 @@ impl<'t, 'a> JsonItems<'t, 'a> {
     // The items that stand at the places of a text.
     pub(crate) fn of_places(items: Items<'t, 'a>) -> JsonItems<'t, 'a>
         requires { is_some (items_at items) ≡ true }
-        ensures { Some (left result) ≡ items_at items.entry }
+        ensures { Some (items_left result) ≡ items_at items.entry }
     {
         JsonItems {
             rest: Rest::Places(items),
@@ -24,7 +24,7 @@ impl<'t, 'a> JsonItems<'t, 'a> {
 
     // The items that are trees.
     pub(crate) fn of_trees(values: &'t [Value]) -> JsonItems<'t, 'a>
-        ensures { left result ≡ map view values.now }
+        ensures { items_left result ≡ map view values.now }
     {
         JsonItems {
             rest: Rest::Trees(values),
@@ -33,8 +33,9 @@ impl<'t, 'a> JsonItems<'t, 'a> {
 
     /// The next item.
     pub fn next(&mut self) -> Option<JsonValue<'t, 'a>>
-        ensures none { IfNone result (left self.old ≡ []) }
-        ensures some { IfSome result (λ item. left self.old ≡ seen item ∷ left self.new) }
+        ensures none { IfNone result (items_left self.old ≡ []) }
+        ensures some { IfSome result
+            (λ item. items_left self.old ≡ data_of item ∷ items_left self.new) }
     {
         match &mut self.rest {
             Rest::Places(items) => match items.next() {

@@ -3,9 +3,9 @@ ghost use Rattle.std.specs.Prelude.{◌≡◌, Some, is_some, option_and_then, o
 ghost use Rattle.serde_json.specs.Find.{as_bool, as_i64, as_null, as_number, as_object, as_str, as_u64, get};
 ghost use Rattle.serde_json.specs.View.{number_view, view};
 ghost use Rattle.nextest_json.specs.Found.{found_at};
-ghost use Rattle.nextest_json.specs.Left.{left};
+ghost use Rattle.nextest_json.specs.Left.{items_left};
 ghost use Rattle.nextest_json.specs.Listed.{items};
-ghost use Rattle.nextest_json.specs.Seen.{seen};
+ghost use Rattle.nextest_json.specs.Seen.{data_of};
 
 use super::{JsonValue, Source};
 use crate::items::JsonItems;
@@ -16,7 +16,7 @@ use serde_json::{Number, Value};
 impl<'t, 'a> JsonValue<'t, 'a> {
     /// The value that a tree is.
     pub fn of_tree(value: &'t Value) -> JsonValue<'t, 'a>
-        ensures { seen result ≡ view value.now }
+        ensures { data_of result ≡ view value.now }
     {
         JsonValue {
             source: Source::Tree(value),
@@ -26,7 +26,7 @@ impl<'t, 'a> JsonValue<'t, 'a> {
     // The value at a place of a text.
     pub(crate) fn of_place(element: Element<'t, 'a>) -> JsonValue<'t, 'a>
         requires { is_some (found_at element) ≡ true }
-        ensures { Some (seen result) ≡ found_at element.entry }
+        ensures { Some (data_of result) ≡ found_at element.entry }
     {
         JsonValue {
             source: Source::Place(element),
@@ -35,7 +35,7 @@ impl<'t, 'a> JsonValue<'t, 'a> {
 
     /// What an object has under a name, the last of that name. The time grows with the object's members.
     pub fn get(&self, name: &str) -> Option<JsonValue<'t, 'a>>
-        ensures { option_map seen result ≡ get name.now (seen self.now) }
+        ensures { option_map data_of result ≡ get name.now (data_of self.now) }
     {
         match &self.source {
             Source::Place(element) => match element.get(name) {
@@ -51,7 +51,7 @@ impl<'t, 'a> JsonValue<'t, 'a> {
 
     /// The text, where the value is one.
     pub fn as_str(&self) -> Option<&'t str>
-        ensures { option_map (λ text. text.now) result ≡ as_str (seen self.now) }
+        ensures { option_map (λ text. text.now) result ≡ as_str (data_of self.now) }
     {
         match &self.source {
             Source::Place(element) => element.as_str(),
@@ -61,7 +61,7 @@ impl<'t, 'a> JsonValue<'t, 'a> {
 
     /// The truth value, where the value is one.
     pub fn as_bool(&self) -> Option<bool>
-        ensures { result ≡ as_bool (seen self.now) }
+        ensures { result ≡ as_bool (data_of self.now) }
     {
         match &self.source {
             Source::Place(element) => element.as_bool(),
@@ -71,7 +71,7 @@ impl<'t, 'a> JsonValue<'t, 'a> {
 
     /// The number, where the value is one.
     pub fn as_number(&self) -> Option<Number>
-        ensures { option_map number_view result ≡ as_number (seen self.now) }
+        ensures { option_map number_view result ≡ as_number (data_of self.now) }
     {
         match &self.source {
             Source::Place(element) => match element.as_number() {
@@ -84,7 +84,7 @@ impl<'t, 'a> JsonValue<'t, 'a> {
 
     /// The number, where the value is one from 0 to 18,446,744,073,709,551,615 without point and exponent.
     pub fn as_u64(&self) -> Option<u64>
-        ensures { result ≡ option_and_then as_u64 (as_number (seen self.now)) }
+        ensures { result ≡ option_and_then as_u64 (as_number (data_of self.now)) }
     {
         match self.as_number() {
             Some(number) => number.as_u64(),
@@ -94,7 +94,7 @@ impl<'t, 'a> JsonValue<'t, 'a> {
 
     /// The number, where the value is one without point and exponent that 64 bits with a sign hold.
     pub fn as_i64(&self) -> Option<i64>
-        ensures { result ≡ option_and_then as_i64 (as_number (seen self.now)) }
+        ensures { result ≡ option_and_then as_i64 (as_number (data_of self.now)) }
     {
         match self.as_number() {
             Some(number) => number.as_i64(),
@@ -104,7 +104,7 @@ impl<'t, 'a> JsonValue<'t, 'a> {
 
     /// Whether the value is null.
     pub fn is_null(&self) -> bool
-        ensures { result ≡ is_some (as_null (seen self.now)) }
+        ensures { result ≡ is_some (as_null (data_of self.now)) }
     {
         match &self.source {
             Source::Place(element) => element.is_null(),
@@ -114,7 +114,7 @@ impl<'t, 'a> JsonValue<'t, 'a> {
 
     /// Whether the value is an object.
     pub fn is_object(&self) -> bool
-        ensures { result ≡ is_some (as_object (seen self.now)) }
+        ensures { result ≡ is_some (as_object (data_of self.now)) }
     {
         match &self.source {
             Source::Place(element) => element.members().is_some(),
@@ -123,7 +123,7 @@ impl<'t, 'a> JsonValue<'t, 'a> {
     }
     /// The items, where the value is a list.
     pub fn items(&self) -> Option<JsonItems<'t, 'a>>
-        ensures { option_map left result ≡ items (seen self.now) }
+        ensures { option_map items_left result ≡ items (data_of self.now) }
     {
         match &self.source {
             Source::Place(element) => match element.items() {

@@ -2,7 +2,7 @@ use Rattle.std.proofs.Common.{get_or, map, option_map}
 use Rattle.std.specs.List.{flat_map}
 use Rattle.toml.specs.View.{table_view}
 use Rattle.nextest_config_resolution_load.specs.Checks.{rules_of_source, source_checks}
-use Rattle.nextest_config_resolution_load.specs.Files.{members_in, told_in}
+use Rattle.nextest_config_resolution_load.specs.Files.{members_in, warnings_of_file}
 use Rattle.nextest_config_resolution_load.specs.Reading.{AreReadFiles, AreReadInFile}
 use Rattle.nextest_config_resolution_load.proofs.Passing.{kept_all, kept_at, passes_on, refuses_at, seen_at, seen_over, seen_within, zip_at}
 use Rattle.nextest_config_resolution_load.proofs.Sources.{files_more, files_read, now_of, told_more}
@@ -38,7 +38,7 @@ loop-source-preserved g c =
       kept = kept_at Is IsSpec g.R.Languages.is_too_deep (source_checks features) all place source.now within at c.loop-source.invariant.kept read.0;
       files = files_more (map members_in c.loop-source.files.items) (map members_in c.push_file.new.files.items) all place source.now file within at read.1.table
           c.loop-source.invariant.files c.in_ok-push_file.ensures.files;
-      told = told_more (flat_map told_in c.loop-source.files.items) (flat_map told_in c.push_file.new.files.items) all place c.as_str.result.now source.now file within at read.1.table
+      told = told_more (flat_map warnings_of_file c.loop-source.files.items) (flat_map warnings_of_file c.push_file.new.files.items) all place c.as_str.result.now source.now file within at read.1.table
           c.as_str.ensures c.loop-source.invariant.told c.in_ok-push_file.ensures.told;
       rules = zip_at (λ source own. AreReadInFile Is IsSpec (rules_of_source source) own) all c.loop-source.rules.items c.push.new.self.items place source.now c.in_ok-read.read.rules within at
           c.loop-source.invariant.rules read.1.rules c.in_ok-push.ensures.items;

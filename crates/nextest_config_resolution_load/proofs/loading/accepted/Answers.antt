@@ -1,6 +1,6 @@
 use Rattle.std.proofs.Common.{[], ◌∷◌, map, refl}
 use Rattle.nextest_config_resolution_load.specs.Checks.{default_checks, inheritance, merged_checks, named_checks, parents_of}
-use Rattle.nextest_config_resolution_load.specs.Load.{named}
+use Rattle.nextest_config_resolution_load.specs.Load.{named_of}
 use Rattle.nextest_config_resolution_load.specs.Reading.{IsCompleted, all_placed, overrides_of, read_as, scripts_of, values_of}
 use Rattle.nextest_config_resolution_load.proofs.Passing.{kept_both, passes_on, refuses_before, refuses_behind}
 use Rattle.nextest_config_resolution_load.proofs.loading.accepted.Goals as goal
@@ -13,7 +13,7 @@ returns-in_err-check_names g c =
     let Is = g.R.Languages.is_filter c.args.cx.now in
     let IsSpec = g.R.Languages.is_spec in
     let IsTooDeep = g.R.Languages.is_too_deep in
-    let profiles = map named c.args.read.profiles in
+    let profiles = map named_of c.args.read.profiles in
     let rules = all_placed (overrides_of c.args.rules.items) in
     let scripts = all_placed (scripts_of c.args.rules.items) in
     let told = c.in_err-check_names.field-0.0 in
@@ -27,7 +27,7 @@ returns-in_err-check_parents g c =
     let Is = g.R.Languages.is_filter c.args.cx.now in
     let IsSpec = g.R.Languages.is_spec in
     let IsTooDeep = g.R.Languages.is_too_deep in
-    let profiles = map named c.args.read.profiles in
+    let profiles = map named_of c.args.read.profiles in
     let rules = all_placed (overrides_of c.args.rules.items) in
     let scripts = all_placed (scripts_of c.args.rules.items) in
     let named_in = named_checks rules scripts (values_of c.args.read) in
@@ -43,7 +43,7 @@ returns-in_err-default_filters g c =
     let Is = g.R.Languages.is_filter c.args.cx.now in
     let IsSpec = g.R.Languages.is_spec in
     let IsTooDeep = g.R.Languages.is_too_deep in
-    let profiles = map named c.args.read.profiles in
+    let profiles = map named_of c.args.read.profiles in
     let rules = all_placed (overrides_of c.args.rules.items) in
     let scripts = all_placed (scripts_of c.args.rules.items) in
     let named_in = named_checks rules scripts (values_of c.args.read) in
@@ -59,7 +59,7 @@ pub returns : goal.returns
 returns g c =
     let Is = g.R.Languages.is_filter c.args.cx.now in
     let IsSpec = g.R.Languages.is_spec in
-    let profiles = map named c.args.read.profiles in
+    let profiles = map named_of c.args.read.profiles in
     let rules = all_placed (overrides_of c.args.rules.items) in
     let scripts = all_placed (scripts_of c.args.rules.items) in
     let named_in = named_checks rules scripts (values_of c.args.read) in (

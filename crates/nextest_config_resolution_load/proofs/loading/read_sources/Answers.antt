@@ -2,16 +2,16 @@ use Rattle.std.proofs.Common.{◌≡◌, Bor, List, filter_map, map, ap, ◌∙�
 use Rattle.std.specs.List.{AllByRecursion, flat_map}
 use Rattle.toml.specs.Data.{table, Members}
 use Rattle.toml.specs.View.{table_view}
-use Rattle.nextest_config_resolution_load.specs.Checks.{bad_merged, config_in, file_of, members_of, merged_in, moved, raised, source_checks, value_checks}
+use Rattle.nextest_config_resolution_load.specs.Checks.{bad_merged, config_in, file_of, members_of, merged_in, file_with_setup, tree_of_files, source_checks, value_checks}
 use Rattle.nextest_config_resolution_load.specs.Files.{members_in}
 use Rattle.nextest_config_resolution_load.specs.Load.{IsKept}
 use Rattle.nextest_config_resolution_load.specs.Reading.{AreReadSources, AreRulesOf, early_checks, read_as}
 use Rattle.nextest_config_resolution_load.specs.Refusing.{RefusesFor}
-use Rattle.nextest_config_resolution_load.specs.Telling.{told_of}
+use Rattle.nextest_config_resolution_load.specs.Warn.{warnings_for}
 use Rattle.nextest_config_resolution_load.specs.declared.placed_file.PlacedFile.{PlacedFile}
 use Rattle.nextest_config_resolution_load.proofs.Passing.{kept_both, passes_on, refuses_before, refuses_behind}
 use Rattle.nextest_config_resolution_load.proofs.loading.read_sources.Goals as goal
-use Rattle.nextest_config_resolution_sources.specs.Counting.{counted}
+use Rattle.nextest_config_resolution_sources.specs.Counting.{counting_sources}
 use Rattle.nextest_config_resolution_sources.specs.declared.source.ConfigSource.{ConfigSource}
 
 pub returns-in_err-read : goal.returns-in_err-read
@@ -23,10 +23,10 @@ returns-in_err-read g c =
     let built_in = table_view c.args.built_in.now in
     let sources = c.args.sources.now in
     let told = c.in_err-read.field-0.0 in
-    let same : map (λ it. it.now) c.as_slice.result.now ≡ counted sources =
+    let same : map (λ it. it.now) c.as_slice.result.now ≡ counting_sources sources =
     ap (λ (lent : List (Bor ConfigSource)). map (λ it. it.now) lent) c.as_slice.ensures.value ∙ c.in_ok-counted.ensures in
     passes_on Is IsSpec IsTooDeep (AreReadSources Is IsSpec built_in sources) (early_checks features built_in sources) told c.from_residual-in_err-read.result
-    (refuses_before Is IsSpec IsTooDeep (flat_map (source_checks features) (counted sources)) (value_checks bad_merged (config_in (merged_in built_in sources))) told
+    (refuses_before Is IsSpec IsTooDeep (flat_map (source_checks features) (counting_sources sources)) (value_checks bad_merged (config_in (merged_in built_in sources))) told
     (subst (λ (all : List ConfigSource). RefusesFor Is IsSpec IsTooDeep (flat_map (source_checks features) all) told) same c.in_err-read.ensures))
     c.from_residual-in_err-read.ensures.1
 
@@ -39,14 +39,14 @@ returns-in_err-config g c =
     let built_in = table_view c.args.built_in.now in
     let sources = c.args.sources.now in
     let told = c.in_err-config.field-0.0 in
-    let same : map (λ it. it.now) c.as_slice.result.now ≡ counted sources =
+    let same : map (λ it. it.now) c.as_slice.result.now ≡ counting_sources sources =
     ap (λ (lent : List (Bor ConfigSource)). map (λ it. it.now) lent) c.as_slice.ensures.value ∙ c.in_ok-counted.ensures in
-    let files : map members_in c.as_slice-2.result.now ≡ filter_map file_of (counted sources) =
+    let files : map members_in c.as_slice-2.result.now ≡ filter_map file_of (counting_sources sources) =
     ap (λ (them : List PlacedFile). map members_in them) c.as_slice-2.ensures.value ∙ c.in_ok-read.ensures.1.files ∙ ap (filter_map file_of) same in
     passes_on Is IsSpec IsTooDeep (AreReadSources Is IsSpec built_in sources) (early_checks features built_in sources) told c.from_residual-in_err-config.result
-    (refuses_behind Is IsSpec IsTooDeep (flat_map (source_checks features) (counted sources)) (value_checks bad_merged (config_in (merged_in built_in sources))) told
+    (refuses_behind Is IsSpec IsTooDeep (flat_map (source_checks features) (counting_sources sources)) (value_checks bad_merged (config_in (merged_in built_in sources))) told
     (subst (λ (all : List ConfigSource). AllByRecursion (IsKept Is IsSpec) (flat_map (source_checks features) all)) same c.in_ok-read.ensures.0)
-    (subst (λ (given : List Members). RefusesFor Is IsSpec IsTooDeep (value_checks bad_merged (config_in (members_of (raised (table built_in) (map moved given))))) told) files c.in_err-config.ensures.read))
+    (subst (λ (given : List Members). RefusesFor Is IsSpec IsTooDeep (value_checks bad_merged (config_in (members_of (tree_of_files (table built_in) (map file_with_setup given))))) told) files c.in_err-config.ensures.read))
     c.from_residual-in_err-config.ensures.1
 
 pub returns : goal.returns
@@ -58,17 +58,17 @@ returns g c =
     let sources = c.args.sources.now in
     let config = c.in_ok-config.config in
     let read = c.in_ok-read.read in
-    let same : map (λ it. it.now) c.as_slice.result.now ≡ counted sources =
+    let same : map (λ it. it.now) c.as_slice.result.now ≡ counting_sources sources =
     ap (λ (lent : List (Bor ConfigSource)). map (λ it. it.now) lent) c.as_slice.ensures.value ∙ c.in_ok-counted.ensures in
-    let files : map members_in c.as_slice-2.result.now ≡ filter_map file_of (counted sources) =
+    let files : map members_in c.as_slice-2.result.now ≡ filter_map file_of (counting_sources sources) =
     ap (λ (them : List PlacedFile). map members_in them) c.as_slice-2.ensures.value ∙ c.in_ok-read.ensures.1.files ∙ ap (filter_map file_of) same in (
-      kept_both Is IsSpec g.R.Languages.is_too_deep (flat_map (source_checks features) (counted sources)) (value_checks bad_merged (config_in (merged_in built_in sources)))
+      kept_both Is IsSpec g.R.Languages.is_too_deep (flat_map (source_checks features) (counting_sources sources)) (value_checks bad_merged (config_in (merged_in built_in sources)))
           (subst (λ (all : List ConfigSource). AllByRecursion (IsKept Is IsSpec) (flat_map (source_checks features) all)) same c.in_ok-read.ensures.0)
-          (subst (λ (given : List Members). AllByRecursion (IsKept Is IsSpec) (value_checks bad_merged (config_in (members_of (raised (table built_in) (map moved given)))))) files c.in_ok-config.ensures.read.0),
+          (subst (λ (given : List Members). AllByRecursion (IsKept Is IsSpec) (value_checks bad_merged (config_in (members_of (tree_of_files (table built_in) (map file_with_setup given)))))) files c.in_ok-config.ensures.read.0),
       record {
-        values = subst (λ (given : List Members). config_in (members_of (raised (table built_in) (map moved given))) ≡ read_as config) files c.in_ok-config.ensures.read.1;
+        values = subst (λ (given : List Members). config_in (members_of (tree_of_files (table built_in) (map file_with_setup given))) ≡ read_as config) files c.in_ok-config.ensures.read.1;
         rises = c.in_ok-config.ensures.rises;
-        told = c.in_ok-read.ensures.1.told ∙ ap (flat_map told_of) same;
+        told = c.in_ok-read.ensures.1.told ∙ ap (flat_map warnings_for) same;
         rules = subst (λ (all : List ConfigSource). AreRulesOf Is IsSpec all read.rules.items) same c.in_ok-read.ensures.1.rules;
       },
     )

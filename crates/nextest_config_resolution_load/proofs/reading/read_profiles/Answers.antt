@@ -8,7 +8,7 @@ use Rattle.nextest_config_elements_toml.specs.Reading.{under}
 use Rattle.nextest_config_resolution_merge.specs.Nesting.{OfSorted}
 use Rattle.nextest_config_resolution_merge.specs.Tree.{get_path, keys_in, AreSorted}
 use Rattle.nextest_config_resolution_merge.proofs.Looked.{sorted_path}
-use Rattle.nextest_config_resolution_load.specs.Load.{named}
+use Rattle.nextest_config_resolution_load.specs.Load.{named_of}
 use Rattle.nextest_config_resolution_load.specs.Reading.{GivesSeen}
 use Rattle.nextest_config_resolution_load.proofs.Profiles.{Left, all_left, next_left, goes_on, stops_seen, ends, member_path, has_table, no_names, some_texts, profiles_there}
 use Rattle.nextest_config_resolution_load.proofs.reading.read_profiles.Goals as goal
@@ -39,10 +39,10 @@ returns-in-Err c = λ top it.
     let names = ap texts c.as_slice-names.ensures.value ∙ c.in_ok-found.ensures (table top) it in
     let there = has_table (get_path path (table top)) (texts items) names (some_texts items (λ none. false≢true (sym c.if-is_empty.false ∙ c.is_empty.ensures ∙ ap (λ n. n == 0) none))) in
     let all = there.members in
-    let left = subst (λ list. Left (texts list) (map named c.loop-name.profiles) all) (drop_more items place blank c.loop-name-test.true) (c.loop-name.invariant top it all there.is) in
-    let next = next_left item.now (texts (drop (place + 1) items)) (map named c.loop-name.profiles) all left in
-    subst (GivesSeen (map named) (Err c.in-Err.error)) (sym (profiles_there top all there.is))
-    (stops_seen item.now (texts (drop (place + 1) items)) (map named c.loop-name.profiles) all next c.in-Err.error
+    let left = subst (λ list. Left (texts list) (map named_of c.loop-name.profiles) all) (drop_more items place blank c.loop-name-test.true) (c.loop-name.invariant top it all there.is) in
+    let next = next_left item.now (texts (drop (place + 1) items)) (map named_of c.loop-name.profiles) all left in
+    subst (GivesSeen (map named_of) (Err c.in-Err.error)) (sym (profiles_there top all there.is))
+    (stops_seen item.now (texts (drop (place + 1) items)) (map named_of c.loop-name.profiles) all next c.in-Err.error
     (c.in-Err.ensures top it next.given (member_path item.now top all next.given there.is next.here)))
 
 pub loop-name-preserved : goal.loop-name-preserved
@@ -50,10 +50,10 @@ loop-name-preserved c = λ top it all at.
     let items = c.as_slice-names.result.now in
     let place = c.loop-name.name-index in
     let item = get_or items place blank in
-    let left = subst (λ list. Left (texts list) (map named c.loop-name.profiles) all) (drop_more items place blank c.loop-name-test.true) (c.loop-name.invariant top it all at) in
-    let next = next_left item.now (texts (drop (place + 1) items)) (map named c.loop-name.profiles) all left in
-    rw (c.in_ok-push-in-Ok.ensures.ok, map_push named c.loop-name.profiles c.in-Ok.profile)
-    (goes_on item.now (texts (drop (place + 1) items)) (map named c.loop-name.profiles) all next (named c.in-Ok.profile)
+    let left = subst (λ list. Left (texts list) (map named_of c.loop-name.profiles) all) (drop_more items place blank c.loop-name-test.true) (c.loop-name.invariant top it all at) in
+    let next = next_left item.now (texts (drop (place + 1) items)) (map named_of c.loop-name.profiles) all left in
+    rw (c.in_ok-push-in-Ok.ensures.ok, map_push named_of c.loop-name.profiles c.in-Ok.profile)
+    (goes_on item.now (texts (drop (place + 1) items)) (map named_of c.loop-name.profiles) all next (named_of c.in-Ok.profile)
     (c.in-Ok.ensures top it next.given (member_path item.now top all next.given at next.here)))
 
 pub returns : goal.returns
@@ -65,5 +65,5 @@ returns c = λ top it.
     let past : length items ≤ c.loop-name.name-index = grind (arith, common_steps) in
     profiles_there top all there.is
     ∙ ap (λ reading. under (codes "profile") reading)
-    (ends (map named c.loop-name.profiles) all
-    (subst (λ list. Left (texts list) (map named c.loop-name.profiles) all) (drop_all c.loop-name.name-index items past) (c.loop-name.invariant top it all there.is)))
+    (ends (map named_of c.loop-name.profiles) all
+    (subst (λ list. Left (texts list) (map named_of c.loop-name.profiles) all) (drop_all c.loop-name.name-index items past) (c.loop-name.invariant top it all there.is)))

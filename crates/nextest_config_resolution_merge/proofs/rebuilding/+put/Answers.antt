@@ -5,8 +5,8 @@ use Rattle.toml.specs.Data.{table, get_member}
 use Rattle.toml.specs.View.{table_view}
 use Rattle.nextest_config_elements_toml.specs.Paths.{texts}
 use Rattle.nextest_config_resolution_merge.specs.Entries.{data_of}
-use Rattle.nextest_config_resolution_merge.specs.Nesting.{put, inside}
-use Rattle.nextest_config_resolution_merge.specs.Tree.{set}
+use Rattle.nextest_config_resolution_merge.specs.Nesting.{with_value_at, inside}
+use Rattle.nextest_config_resolution_merge.specs.Tree.{with_member}
 use Rattle.nextest_config_resolution_merge.proofs.Nested.{put_more, no_texts}
 use Rattle.nextest_config_resolution_merge.proofs.rebuilding.+put.Goals as goal
 
@@ -17,5 +17,5 @@ put_below-returns t c =
     let some : rest ≡ [] → ⊥ = λ none. false≢true (sym c.if-is_empty.false ∙ c.is_empty.ensures ∙ ap (λ n. n == 0) (no_texts c.args.rest.now none)) in
     rw (put_more c.args.key.now rest given (table_view c.args.members.now) some)
     (c.in_ok-set.ensures
-    ∙ ap (λ value. set c.args.key.now value (table_view c.taken.new.members)) (view-Table _ ∙ ap table (c.in_ok-put.ensures ∙ ap (put rest given) c.in_ok-inner.ensures.inner))
-    ∙ c.in_ok-inner.ensures.left (table (put rest given (inside (get_member c.args.key.now (table_view c.args.members.now))))))
+    ∙ ap (λ value. with_member c.args.key.now value (table_view c.taken.new.members)) (view-Table _ ∙ ap table (c.in_ok-put.ensures ∙ ap (with_value_at rest given) c.in_ok-inner.ensures.inner))
+    ∙ c.in_ok-inner.ensures.left (table (with_value_at rest given (inside (get_member c.args.key.now (table_view c.args.members.now))))))

@@ -1,6 +1,6 @@
 use Rattle.std.proofs.Common.{Bor, List, map, subst, sym, take, ◌+◌, ap}
-use Rattle.nextest_config_resolution_load.specs.Load.{named}
-use Rattle.nextest_config_resolution_settings.specs.Nearest.{lent}
+use Rattle.nextest_config_resolution_load.specs.Load.{named_of}
+use Rattle.nextest_config_resolution_settings.specs.Nearest.{lent_layers}
 use Rattle.nextest_config_resolution_profiles.specs.Chains.{AreAt}
 use Rattle.nextest_config_resolution_profiles.proofs.Names.{one_lent}
 use Rattle.nextest_config_resolution_values.specs.declared.profile_config.ProfileConfig.{ProfileConfig}
@@ -11,6 +11,6 @@ loop-place-preserved c =
     let all = c.args.profiles.now in
     let places = c.args.places.now in
     let i = c.loop-place.place-index in
-    subst (λ vs. AreAt (map named all) (take (i + 1) places) (lent vs)) (sym {A = List (Bor ProfileConfig)} c.in_ok-push.ensures.items)
+    subst (λ vs. AreAt (map named_of all) (take (i + 1) places) (lent_layers vs)) (sym {A = List (Bor ProfileConfig)} c.in_ok-push.ensures.items)
     (one_lent all places i 0 c.loop-place.values.items c.index-profiles-place.result _ c.loop-place-test.true
     (c.requires i 0 c.loop-place-test.true) c.index-profiles-place.is (ap (λ p. p.config) (sym c.index-profiles-place.is)) c.loop-place.invariant)

@@ -1,6 +1,6 @@
 use Rattle.std.proofs.Common.{◌≡◌, ◌++◌, drop}
 use Rattle.toml.specs.View.{items_view, members_view}
-use Rattle.nextest_config_resolution_warnings.specs.Keys.{seen}
+use Rattle.nextest_config_resolution_warnings.specs.Keys.{keys_of}
 use Rattle.nextest_config_resolution_warnings.specs.Steps.{paths_below}
 use Rattle.nextest_config_resolution_warnings.specs.Unknown.{unknown_items, unknown_members}
 use Rattle.nextest_config_resolution_warnings.proofs.walk.+walk.Given as goal
@@ -9,8 +9,8 @@ use Rattle.nextest_config_resolution_warnings.proofs.walk.+walk.Given as goal
 abbrev pub invariant-walk_table-members : goal.invariant-walk_table-members
 invariant-walk_table-members l = record {
   steps : l.steps.items ≡ l.initial.steps.items;
-  found : l.found ++ paths_below l.initial.steps.items (unknown_members (seen l.keys) (members_view l.key-iterator))
-      ≡ l.initial.found ++ paths_below l.initial.steps.items (unknown_members (seen l.keys) (members_view l.table.entries));
+  found : l.found ++ paths_below l.initial.steps.items (unknown_members (keys_of l.keys) (members_view l.key-iterator))
+      ≡ l.initial.found ++ paths_below l.initial.steps.items (unknown_members (keys_of l.keys) (members_view l.table.entries));
 }
 
 abbrev pub invariant-walk_items-items : goal.invariant-walk_items-items

@@ -1,5 +1,5 @@
 use Rattle.std.proofs.Common.{◌≡◌, ◌∷◌, ℕ, List, [], true, false, refl, sym, ◌∙◌}
-use Rattle.nextest_filtering_ast.specs.Grammar.{unblanked, ReadsMatcher}
+use Rattle.nextest_filtering_ast.specs.Grammar.{after_blanks, ReadsMatcher}
 use Rattle.nextest_filtering_arguments.specs.Faults.{IsSuffix}
 use Rattle.nextest_filtering_arguments.specs.Matchers.{ReadsCompared, ReadsPattern, comparison_of, subject_of}
 use Rattle.nextest_filtering_arguments.proofs.Spans.{suffix_trans, suffix_token}
@@ -8,7 +8,7 @@ use Rattle.nextest_filtering_arguments.proofs.Signs.{sign_there, sign_back, slas
 use Rattle.nextest_filtering_arguments.proofs.matchers.matcher.Goals as goal
 
 -- what follows a sign is a rest of the text, and of the input
-behind_sign : (sign : ℕ) (ahead text inside : List ℕ) → ahead ≡ unblanked text → ahead ≡ sign ∷ inside → IsSuffix inside text
+behind_sign : (sign : ℕ) (ahead text inside : List ℕ) → ahead ≡ after_blanks text → ahead ≡ sign ∷ inside → IsSuffix inside text
 behind_sign sign ahead text inside skipped is = suffix_token (sign ∷ []) inside text (sym skipped ∙ is)
 
 pub pattern-requires : goal.pattern-requires

@@ -1,7 +1,7 @@
 use Rattle.std.proofs.Common.{◌≡◌, List, map, ap, subst, ◌∙◌, arith}
 use Rattle.std.specs.Prelude.{vec_len}
 use Rattle.nextest_filtering_ast.specs.declared.leaf.ParsedLeaf.{ParsedLeaf}
-use Rattle.nextest_filtering_compiling.specs.Bans.{banned}
+use Rattle.nextest_filtering_compiling.specs.Bans.{bans_of}
 use Rattle.nextest_filtering_compiling.specs.Compiling.{AreCompiled}
 use Rattle.nextest_filtering_compiling.specs.Faults.{Have}
 use Rattle.nextest_filtering_compiling.specs.Leaves.{behind, leaves_of}
@@ -17,7 +17,7 @@ returns c =
     let faults = c.in_ok-made.field-0.faults in
     let first : map behind c.as_slice.result.now ≡ leaves_of t = ap (map behind) c.as_slice.ensures.value ∙ c.in_ok-leaves.ensures in
     let second : map behind c.as_slice-2.result.now ≡ leaves_of t = ap (map behind) c.as_slice-2.ensures.value ∙ c.in_ok-leaves.ensures in
-    filtered_as cx c.args.kind known t bans.items faults.items c.in_ok-made.field-0.leaves.items c.in_ok-shape_of.field-0 c.new.result (c.in_ok-banned.ensures ∙ ap (banned c.args.kind) first)
+    filtered_as cx c.args.kind known t bans.items faults.items c.in_ok-made.field-0.leaves.items c.in_ok-shape_of.field-0 c.new.result (c.in_ok-banned.ensures ∙ ap (bans_of c.args.kind) first)
     (is_nothing bans.items (vec_len bans) c.is_empty.result c.is_empty.ensures c.if-not-is_empty.false (omega (arith, bans.ok.0)))
     (subst (λ (leaves : List ParsedLeaf). Have cx known leaves faults.items) second c.in_ok-made.ensures.faults)
     (λ none. subst (λ (leaves : List ParsedLeaf). AreCompiled cx.graph leaves c.in_ok-made.field-0.leaves.items) second (c.in_ok-made.ensures.leaves none))

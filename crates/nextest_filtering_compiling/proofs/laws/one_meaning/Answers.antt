@@ -1,4 +1,4 @@
-use Rattle.nextest_filtering_compiling.specs.Meaning.{one_meaning}
+use Rattle.nextest_filtering_compiling.proofs.Trees.{one_meaning}
 use Rattle.nextest_filtering_compiling.proofs.laws.one_meaning.Goals as goal
 
 pub returns : goal.returns

@@ -2,10 +2,13 @@ use Rattle.std.proofs.Common.{◌≡◌, List, ℕ, [], Option, Some, None, Ok, 
 use Rattle.test_runner_core_log_reader.specs.Calls.{Hands, HandsAhead, HandsBytes, idle_reads}
 use Rattle.test_runner_core_log_reader.specs.declared.next.Next.{Next}
 use Rattle.test_runner_core_log_reader.proofs.WholeLines.{takes_none}
-use Rattle.test_runner_core_session.specs.Session.{SessionState}
+use Rattle.test_runner_core_run_model.specs.Finishing.{KeepsReasons}
+use Rattle.test_runner_core_run_model.specs.State.{initial}
+use Rattle.test_runner_core_session.specs.Session.{SessionState, run_plan}
+use Rattle.test_runner_core_reporter.specs.Keeping.{record_to_keep}
+use Rattle.test_runner_core_reporter.proofs.KeptRuns.{initial_with, reasons_with}
 use Rattle.test_runner_core_reporter.specs.Opening.{opening}
-use Rattle.test_runner_core.specs.Inside.{JudgedLines, JudgesLine}
-use Rattle.test_runner_core.specs.Report.{SoFar}
+use Rattle.test_runner_core.specs.Inside.{JudgesLine, KeepsJudged}
 use Rattle.test_runner_core.specs.declared.refused_line.LineRefusal.{LineRefusal}
 use Rattle.test_runner_core.specs.declared.refused_line.RefusedLine.{RefusedLine}
 use Rattle.test_runner_core.proofs.Course.{reached, so_far_none}
@@ -21,7 +24,9 @@ loop-fault-init g c =
         front = [];
         parts = opening plan;
         planned = refl;
-        so_far = subst (λ (s : SessionState). SoFar plan [] s.run (opening plan)) (sym begins) (so_far_none plan);
+        real = initial (run_plan plan);
+        kept = ap (λ (s : SessionState). s.run) begins ∙ initial_with (record_to_keep plan.tests) (run_plan plan);
+        so_far = so_far_none plan;
         told = told_from_nothing plan c.plan.result.now (g.W.ReportWriter.taken c.args.report.now) (g.W.ReportWriter.taken c.report_opening.new.report) (string_bytes c.args.text.now) (string_bytes c.report_opening.new.text)
             c.plan.ensures c.requires.empty c.in_ok-report_opening.ensures.writes;
         items = nothing_ahead c.args.lines.now (g.R.LogReader.left c.args.log.now);
@@ -63,7 +68,7 @@ returns-in-Refused-clause-judged g c =
     (taken c.loop-fault.report) (taken c.next_line.new.report) (string_bytes c.loop-fault.text) (string_bytes c.next_line.new.text) c.loop-fault.number c.in-Refused.fault
     c.loop-fault.invariant.here hands c.in_ok-next_line.ensures.items.3 in
     let same = c.refused_at.ensures ∙ ap (λ (r : LineRefusal). record { line = c.loop-fault.number; refusal = r }) c.refusal_for.ensures in
-    subst (λ (found : RefusedLine). JudgedLines c.args.session.now.plan c.loop-fault.session.run (Some found) c.args.lines.now (left c.args.log.now) (taken c.args.report.now) (taken c.next_line.new.report) (string_bytes c.next_line.new.text))
+    subst (λ (found : RefusedLine). KeepsJudged c.args.session.now.plan c.loop-fault.session.run (Some found) c.args.lines.now (left c.args.log.now) (taken c.args.report.now) (taken c.next_line.new.report) (string_bytes c.next_line.new.text))
     (sym same) judged
 
 pub returns-in-End-clause-judged : goal.returns-in-End-clause-judged
@@ -78,7 +83,8 @@ returns-in-End-clause-judged g c =
 pub judge_line-requires-clause-reached : goal.judge_line-requires-clause-reached
 judge_line-requires-clause-reached g c =
     let here = c.loop-fault.invariant.here in
-    reached c.args.session.now.plan here.front c.loop-fault.session.run here.parts here.so_far
+    let plan = c.args.session.now.plan in
+    subst KeepsReasons (sym here.kept) (reasons_with (record_to_keep plan.tests) here.real (reached plan here.front here.real here.parts here.so_far))
 
 pub returns-in_err-refusal-clause-judged : goal.returns-in_err-refusal-clause-judged
 returns-in_err-refusal-clause-judged g c =
@@ -102,7 +108,7 @@ returns-in-Some-clause-judged g c =
     let judged =
     subst (λ (bytes : List ℕ). JudgesLine (Ok (Some c.in-Some.refusal)) c.loop-fault.session bytes c.judge_line.new.session (taken c.next_line.new.report) (string_bytes c.next_line.new.text)
     (taken c.judge_line.new.report) (string_bytes c.judge_line.new.text)) c.line.ensures (rw c.in-Some.is at c.in_ok-refusal.ensures.judged) in
-    subst (λ (found : RefusedLine). JudgedLines c.args.session.now.plan c.judge_line.new.session.run (Some found) c.args.lines.now (left c.args.log.now) (taken c.args.report.now) (taken c.judge_line.new.report) (string_bytes c.judge_line.new.text))
+    subst (λ (found : RefusedLine). KeepsJudged c.args.session.now.plan c.judge_line.new.session.run (Some found) c.args.lines.now (left c.args.log.now) (taken c.args.report.now) (taken c.judge_line.new.report) (string_bytes c.judge_line.new.text))
     (sym c.refused_at-in-Some.ensures)
     (line_refused c.args.session.now.plan c.args.lines.now (left c.args.log.now) (taken c.args.report.now) c.loop-fault.session c.judge_line.new.session c.loop-fault.lines c.next_line.new.lines (left c.loop-fault.log) (left c.next_line.new.log)
     (taken c.loop-fault.report) (taken c.next_line.new.report) (taken c.judge_line.new.report) (string_bytes c.loop-fault.text) (string_bytes c.next_line.new.text) (string_bytes c.judge_line.new.text) c.loop-fault.number c.in-Some.refusal

@@ -2,7 +2,7 @@ use Rattle.std.proofs.Common.{[], string_bytes, subst, inl}
 use Rattle.test_runner_core_line_syntax.specs.Lent.{line_meant}
 use Rattle.test_runner_core_reporter.proofs.Told.{front_none}
 use Rattle.test_runner_core.specs.Inside.{Steps}
-use Rattle.test_runner_core.specs.declared.judging_line.Step.{Step}
+use Rattle.test_runner_core.specs.declared.judging_line.LineStep.{LineStep}
 use Rattle.test_runner_core.proofs.OneStep.{line_fails, step_fails, step_tells}
 use Rattle.test_runner_core.proofs.judging_line.report_line.Goals as goal
 
@@ -16,7 +16,7 @@ returns-in_err-report_step-in-Taken-clause-judged g c =
     let old = c.args.session.now in
     let new = c.take_step.new.session in
     let line = line_meant c.args.line in
-    let taken = subst (λ (found : Step). Steps found old line new) c.in-Taken.is c.in_ok-refusal.ensures.taken in
+    let taken = subst (λ (found : LineStep). Steps found old line new) c.in-Taken.is c.in_ok-refusal.ensures.taken in
     step_fails c.from_residual-in_err-report_step-in-Taken.result old new new line _ (g.W.ReportWriter.taken c.args.report.now) (string_bytes c.args.text.now) _ _
     c.from_residual-in_err-report_step-in-Taken.ensures.0 c.requires.reached taken c.in_err-report_step-in-Taken.ensures.writes
 
@@ -25,5 +25,5 @@ returns-in_ok-report_step-in-Taken-clause-judged g c =
     let old = c.args.session.now in
     let new = c.take_step.new.session in
     let line = line_meant c.args.line in
-    let taken = subst (λ (found : Step). Steps found old line new) c.in-Taken.is c.in_ok-refusal.ensures.taken in
+    let taken = subst (λ (found : LineStep). Steps found old line new) c.in-Taken.is c.in_ok-refusal.ensures.taken in
     step_tells old new line _ (g.W.ReportWriter.taken c.args.report.now) (string_bytes c.args.text.now) _ _ c.requires.reached taken c.in_ok-report_step-in-Taken.ensures.writes

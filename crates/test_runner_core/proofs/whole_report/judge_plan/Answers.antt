@@ -1,10 +1,12 @@
 use Rattle.std.proofs.Common.{◌≡◌, Err, string_bytes, ap, ◌∙◌, subst}
 use Rattle.std.proofs.lemmas.Result.{err_from_is_err_and}
 use Rattle.test_runner_core_plan.specs.declared.plan.Plan.{Plan}
+use Rattle.test_runner_core_run_model.specs.State.{State}
 use Rattle.test_runner_core_session.specs.Session.{SessionState}
 use Rattle.test_runner_core_reporter.specs.Writes.{WritesAll, WritesPrefix}
-use Rattle.test_runner_core.specs.Inside.{JudgedLines, JudgesLines}
-use Rattle.test_runner_core.specs.Report.{ending}
+use Rattle.test_runner_core.specs.Inside.{JudgesLines, KeepsJudged}
+use Rattle.test_runner_core.specs.Report.{ending, exit_status}
+use Rattle.test_runner_core.proofs.Kept.{ended_as, exit_as, unended_as}
 use Rattle.test_runner_core.proofs.Whole.{reports_none, reports_unended, reports_unjudged, reports_whole}
 use Rattle.test_runner_core.proofs.whole_report.judge_plan.Goals as goal
 
@@ -36,14 +38,15 @@ returns-in_err-end_report-clause-reports g c =
     let session = c.judge_lines.new.session in
     let found = c.in_ok-found.found in
     let judged =
-    subst (λ (p : Plan). JudgedLines p session.run found c.args.lines.now (left c.args.log.now) (taken c.args.report.now) (taken c.judge_lines.new.report) (string_bytes c.judge_lines.new.text))
+    subst (λ (p : Plan). KeepsJudged p session.run found c.args.lines.now (left c.args.log.now) (taken c.args.report.now) (taken c.judge_lines.new.report) (string_bytes c.judge_lines.new.text))
     plan c.in_ok-found.ensures.judged in
     let failed =
     subst (λ (p : Plan). WritesPrefix (ending p session.run found) (taken c.judge_lines.new.report) (string_bytes c.judge_lines.new.text) (taken c.end_report.new.report))
     (c.in_ok-found.ensures.plan ∙ plan) c.in_err-end_report.ensures.writes in
     let p = err_from_is_err_and c.from_residual-in_err-end_report.result c.from_residual-in_err-end_report.ensures.1 in
-    rw (p.1, p.2) (reports_unended c.in_err-end_report.field-0.0 c.args.plan.now session.run found c.args.lines.now (left c.args.log.now) (left c.judge_lines.new.log) (taken c.args.report.now)
-    (taken c.judge_lines.new.report) (taken c.end_report.new.report) (string_bytes c.judge_lines.new.text) judged failed)
+    rw (p.1, p.2) (reports_unended c.in_err-end_report.field-0.0 c.args.plan.now judged.0 found c.args.lines.now (left c.args.log.now) (left c.judge_lines.new.log) (taken c.args.report.now)
+    (taken c.judge_lines.new.report) (taken c.end_report.new.report) (string_bytes c.judge_lines.new.text) judged.2
+    (unended_as c.args.plan.now session.run judged.0 found (taken c.judge_lines.new.report) (string_bytes c.judge_lines.new.text) (taken c.end_report.new.report) judged.1 failed))
 
 pub returns-clause-reports : goal.returns-clause-reports
 returns-clause-reports g c =
@@ -53,10 +56,13 @@ returns-clause-reports g c =
     let session = c.judge_lines.new.session in
     let found = c.in_ok-found.found in
     let judged =
-    subst (λ (p : Plan). JudgedLines p session.run found c.args.lines.now (left c.args.log.now) (taken c.args.report.now) (taken c.judge_lines.new.report) (string_bytes c.judge_lines.new.text))
+    subst (λ (p : Plan). KeepsJudged p session.run found c.args.lines.now (left c.args.log.now) (taken c.args.report.now) (taken c.judge_lines.new.report) (string_bytes c.judge_lines.new.text))
     plan c.in_ok-found.ensures.judged in
     let ended =
     subst (λ (p : Plan). WritesAll (ending p session.run found) (taken c.judge_lines.new.report) (string_bytes c.judge_lines.new.text) (taken c.end_report.new.report) (string_bytes c.end_report.new.text))
     (c.in_ok-found.ensures.plan ∙ plan) c.in_ok-end_report.ensures.writes in
-    reports_whole c.args.plan.now session.run found c.args.lines.now (left c.args.log.now) (left c.judge_lines.new.log) (taken c.args.report.now) (taken c.judge_lines.new.report) (taken c.end_report.new.report)
-    (string_bytes c.judge_lines.new.text) (string_bytes c.end_report.new.text) c.in_ok-end_report.field-0 judged ended c.in_ok-end_report.ensures.empty c.in_ok-end_report.ensures.code
+    reports_whole c.args.plan.now judged.0 found c.args.lines.now (left c.args.log.now) (left c.judge_lines.new.log) (taken c.args.report.now) (taken c.judge_lines.new.report) (taken c.end_report.new.report)
+    (string_bytes c.judge_lines.new.text) (string_bytes c.end_report.new.text) c.in_ok-end_report.field-0 judged.2
+    (ended_as c.args.plan.now session.run judged.0 found (taken c.judge_lines.new.report) (string_bytes c.judge_lines.new.text) (taken c.end_report.new.report) (string_bytes c.end_report.new.text) judged.1 ended)
+    c.in_ok-end_report.ensures.empty
+    (c.in_ok-end_report.ensures.code ∙ ap (λ (s : State). exit_status s found) judged.1 ∙ exit_as c.args.plan.now judged.0 found)

@@ -1,6 +1,6 @@
 use Rattle.std.proofs.Common.{Err, Ok, ap, refl, sym, ◌∙◌}
 use Rattle.std.proofs.lemmas.Result.{err_from_is_err_and}
-use Rattle.test_runner_core_listing.specs.Listing.{accepted}
+use Rattle.test_runner_core_listing.specs.Listing.{accepted_answer}
 use Rattle.test_runner_core_listing.proofs.Asked.{answer_still}
 use Rattle.test_runner_core_listing.proofs.Listed.{adds_listed, adds_none, answer_now, asks_listed, asks_none, listed_as}
 use Rattle.test_runner_core_listing.proofs.listing.list_by.Goals.{then-branch+in_ok-list_one, else-branch}
@@ -17,7 +17,7 @@ returns g c =
     let same = c.in_ok-is_listed.ensures.same in
     let value = c.in_ok-is_listed.field-0 in
     let says = c.in_ok-is_listed.ensures.value in
-    let answered = accepted (g.L.Lister.answer lister binary) in
+    let answered = accepted_answer (g.L.Lister.answer lister binary) in
     elim c.if-branch.branch [
       | then-branch+in_ok-list_one w ↦ record {
         adds = λ chosen are.
@@ -51,7 +51,7 @@ returns-in_err-list_one g c =
     let same = c.in_ok-is_listed.ensures.same in
     let value = c.in_ok-is_listed.field-0 in
     let says = c.in_ok-is_listed.ensures.value in
-    let answered = accepted (g.L.Lister.answer lister binary) in
+    let answered = accepted_answer (g.L.Lister.answer lister binary) in
     let p = err_from_is_err_and c.from_residual-in_err-list_one.result c.from_residual-in_err-list_one.ensures.1 in
     let result = p.1 ∙ ap Err p.2 in
     let error = c.in_err-list_one.field-0.0 in

@@ -5,7 +5,7 @@ use Rattle.std.proofs.lemmas.List.{map-id}
 use Rattle.nextest_config_resolution_profiles.specs.HeldRules.{IsHeldRow}
 use Rattle.nextest_config_resolution_profiles.proofs.Columns.{held_at}
 use Rattle.nextest_filtering_compiling.specs.Filtersets.{HasOnTest}
-use Rattle.test_runner_core_listing.specs.Answers.{seen, seen_test}
+use Rattle.test_runner_core_listing.specs.Answers.{query_of, seen_test}
 use Rattle.test_runner_core_plan.specs.declared.plan.PlanTest.{PlanTest}
 use Rattle.test_runner_core_planning.specs.Plan.{with_settings}
 use Rattle.test_runner_core_planning.proofs.Settled.{all_settled, held_names, placed, test_more}
@@ -21,9 +21,9 @@ loop-place-preserved c =
     let numbered = YieldsList-from_enumerate {s = start} listed (search rules) in
     let turn = YieldsList-turn numbered c.loop-place.yielded c.loop-place.place-iterator c.loop-place.yielded_by c.next.result c.next.new.self (c.in-Some.place, c.in-Some.name) c.in-Some.is c.next.ensures.steps in
     let stands = placed names (length c.loop-place.yielded) (c.in-Some.place, c.in-Some.name) turn.0 turn.1 in
-    let held = held_names HasOnTest profile (seen binary) c.as_slice.result.now names c.in_ok-held.held c.as_slice.ensures c.in_ok-held.ensures in
+    let held = held_names HasOnTest profile (query_of binary) c.as_slice.result.now names c.in_ok-held.held c.as_slice.ensures c.in_ok-held.ensures in
     let row : IsHeldRow HasOnTest profile (seen_test binary c.in-Some.name) c.as_slice-in-loop-place.result.now
-    = rw (c.as_slice-in-loop-place.ensures.value ∙ c.in_ok-row.ensures) (held_at HasOnTest profile (seen binary) names c.in_ok-held.held held c.in-Some.place c.in-Some.name stands) in
+    = rw (c.as_slice-in-loop-place.ensures.value ∙ c.in_ok-row.ensures) (held_at HasOnTest profile (query_of binary) names c.in_ok-held.held held c.in-Some.place c.in-Some.name stands) in
     record {
       shared = c.in_ok-settings.ensures.shared;
       tests = λ of_test has.
@@ -49,5 +49,5 @@ returns-clause-scripts c = λ before has.
     let profile = c.args.profile.now in
     let binary = c.args.of_binary.binary.now in
     let names = c.args.of_binary.names in
-    c.in_ok-add_scripts.ensures (seen binary) names before (held_names HasOnTest profile (seen binary) c.as_slice.result.now names c.in_ok-held.held c.as_slice.ensures c.in_ok-held.ensures)
+    c.in_ok-add_scripts.ensures (query_of binary) names before (held_names HasOnTest profile (query_of binary) c.as_slice.result.now names c.in_ok-held.held c.as_slice.ensures c.in_ok-held.ensures)
     c.len.ensures has

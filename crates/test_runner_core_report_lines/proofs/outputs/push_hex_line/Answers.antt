@@ -14,23 +14,23 @@ hex_line_grown old word hex first second third new one two three four =
 pub returns-in_err-push_text-clause-ok : goal.returns-in_err-push_text-clause-ok
 returns-in_err-push_text-clause-ok c = IfOk-from_err c.from_residual.result _ c.from_residual.ensures.0
 
-pub returns-in_err-push_text-clause-kept : goal.returns-in_err-push_text-clause-kept
-returns-in_err-push_text-clause-kept c = c.push_text.ensures.kept
+pub returns-in_err-push_text-clause-grows : goal.returns-in_err-push_text-clause-grows
+returns-in_err-push_text-clause-grows c = c.push_text.ensures.grows
 
 pub returns-in_err-push_text-2-clause-ok : goal.returns-in_err-push_text-2-clause-ok
 returns-in_err-push_text-2-clause-ok c =
     IfOk-from_err c.from_residual-in_err-push_text-2.result _ c.from_residual-in_err-push_text-2.ensures.0
 
-pub returns-in_err-push_text-2-clause-kept : goal.returns-in_err-push_text-2-clause-kept
-returns-in_err-push_text-2-clause-kept c = extends_then _ _ _ c.push_text.ensures.kept c.push_text-2.ensures.kept
+pub returns-in_err-push_text-2-clause-grows : goal.returns-in_err-push_text-2-clause-grows
+returns-in_err-push_text-2-clause-grows c = extends_then _ _ _ c.push_text.ensures.grows c.push_text-2.ensures.grows
 
 pub returns-in_err-push_hex-clause-ok : goal.returns-in_err-push_hex-clause-ok
 returns-in_err-push_hex-clause-ok c =
     IfOk-from_err c.from_residual-in_err-push_hex.result _ c.from_residual-in_err-push_hex.ensures.0
 
-pub returns-in_err-push_hex-clause-kept : goal.returns-in_err-push_hex-clause-kept
-returns-in_err-push_hex-clause-kept c =
-    extends_then _ _ _ (extends_then _ _ _ c.push_text.ensures.kept c.push_text-2.ensures.kept) c.push_hex.ensures.kept
+pub returns-in_err-push_hex-clause-grows : goal.returns-in_err-push_hex-clause-grows
+returns-in_err-push_hex-clause-grows c =
+    extends_then _ _ _ (extends_then _ _ _ c.push_text.ensures.grows c.push_text-2.ensures.grows) c.push_hex.ensures.grows
 
 pub returns-clause-ok : goal.returns-clause-ok
 returns-clause-ok c =
@@ -38,7 +38,7 @@ returns-clause-ok c =
     (hex_line_grown (string_bytes c.args.text.now) c.args.word.now (encode_lower c.args.bytes.now) _ _ _ (string_bytes c.push_feed.new.text) c.in_ok-push_text.ensures.ok c.in_ok-push_text-2.ensures.ok c.in_ok-push_hex.ensures.ok)
     c.push_feed.ensures.ok
 
-pub returns-clause-kept : goal.returns-clause-kept
-returns-clause-kept c =
-    let written = extends_then _ _ _ (extends_then _ _ _ c.push_text.ensures.kept c.push_text-2.ensures.kept) c.push_hex.ensures.kept in
-    extends_then _ _ _ written c.push_feed.ensures.kept
+pub returns-clause-grows : goal.returns-clause-grows
+returns-clause-grows c =
+    let written = extends_then _ _ _ (extends_then _ _ _ c.push_text.ensures.grows c.push_text-2.ensures.grows) c.push_hex.ensures.grows in
+    extends_then _ _ _ written c.push_feed.ensures.grows

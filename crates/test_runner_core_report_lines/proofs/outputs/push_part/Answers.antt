@@ -13,23 +13,23 @@ part_grown old word kind place first second third new one two three four =
 pub returns-in_err-push_text-clause-ok : goal.returns-in_err-push_text-clause-ok
 returns-in_err-push_text-clause-ok c = IfOk-from_err c.from_residual.result _ c.from_residual.ensures.0
 
-pub returns-in_err-push_text-clause-kept : goal.returns-in_err-push_text-clause-kept
-returns-in_err-push_text-clause-kept c = c.push_text.ensures.kept
+pub returns-in_err-push_text-clause-grows : goal.returns-in_err-push_text-clause-grows
+returns-in_err-push_text-clause-grows c = c.push_text.ensures.grows
 
 pub returns-in_err-push_field-clause-ok : goal.returns-in_err-push_field-clause-ok
 returns-in_err-push_field-clause-ok c =
     IfOk-from_err c.from_residual-in_err-push_field.result _ c.from_residual-in_err-push_field.ensures.0
 
-pub returns-in_err-push_field-clause-kept : goal.returns-in_err-push_field-clause-kept
-returns-in_err-push_field-clause-kept c = extends_then _ _ _ c.push_text.ensures.kept c.push_field.ensures.kept
+pub returns-in_err-push_field-clause-grows : goal.returns-in_err-push_field-clause-grows
+returns-in_err-push_field-clause-grows c = extends_then _ _ _ c.push_text.ensures.grows c.push_field.ensures.grows
 
 pub returns-in_err-push_place-clause-ok : goal.returns-in_err-push_place-clause-ok
 returns-in_err-push_place-clause-ok c =
     IfOk-from_err c.from_residual-in_err-push_place.result _ c.from_residual-in_err-push_place.ensures.0
 
-pub returns-in_err-push_place-clause-kept : goal.returns-in_err-push_place-clause-kept
-returns-in_err-push_place-clause-kept c =
-    extends_then _ _ _ (extends_then _ _ _ c.push_text.ensures.kept c.push_field.ensures.kept) c.push_place.ensures.kept
+pub returns-in_err-push_place-clause-grows : goal.returns-in_err-push_place-clause-grows
+returns-in_err-push_place-clause-grows c =
+    extends_then _ _ _ (extends_then _ _ _ c.push_text.ensures.grows c.push_field.ensures.grows) c.push_place.ensures.grows
 
 pub returns-clause-ok : goal.returns-clause-ok
 returns-clause-ok c =
@@ -39,7 +39,7 @@ returns-clause-ok c =
     (part_grown (string_bytes c.args.text.now) (codes "slice") c.args.kind.now place _ _ _ (string_bytes c.push_feed.new.text) c.in_ok-push_text.ensures.ok c.in_ok-push_field.ensures.ok c.in_ok-push_place.ensures.ok)
     c.push_feed.ensures.ok
 
-pub returns-clause-kept : goal.returns-clause-kept
-returns-clause-kept c =
-    let placed = extends_then _ _ _ (extends_then _ _ _ c.push_text.ensures.kept c.push_field.ensures.kept) c.push_place.ensures.kept in
-    extends_then _ _ _ placed c.push_feed.ensures.kept
+pub returns-clause-grows : goal.returns-clause-grows
+returns-clause-grows c =
+    let placed = extends_then _ _ _ (extends_then _ _ _ c.push_text.ensures.grows c.push_field.ensures.grows) c.push_place.ensures.grows in
+    extends_then _ _ _ placed c.push_feed.ensures.grows

@@ -24,15 +24,15 @@ written_grown told out err old first second new is_out is_err one two three =
 pub returns-in_err-push_stream-clause-ok : goal.returns-in_err-push_stream-clause-ok
 returns-in_err-push_stream-clause-ok c = IfOk-from_err c.from_residual.result _ c.from_residual.ensures.0
 
-pub returns-in_err-push_stream-clause-kept : goal.returns-in_err-push_stream-clause-kept
-returns-in_err-push_stream-clause-kept c = c.push_stream.ensures.kept
+pub returns-in_err-push_stream-clause-grows : goal.returns-in_err-push_stream-clause-grows
+returns-in_err-push_stream-clause-grows c = c.push_stream.ensures.grows
 
 pub returns-in_err-push_stream-2-clause-ok : goal.returns-in_err-push_stream-2-clause-ok
 returns-in_err-push_stream-2-clause-ok c =
     IfOk-from_err c.from_residual-in_err-push_stream-2.result _ c.from_residual-in_err-push_stream-2.ensures.0
 
-pub returns-in_err-push_stream-2-clause-kept : goal.returns-in_err-push_stream-2-clause-kept
-returns-in_err-push_stream-2-clause-kept c = extends_then _ _ _ c.push_stream.ensures.kept c.push_stream-2.ensures.kept
+pub returns-in_err-push_stream-2-clause-grows : goal.returns-in_err-push_stream-2-clause-grows
+returns-in_err-push_stream-2-clause-grows c = extends_then _ _ _ c.push_stream.ensures.grows c.push_stream-2.ensures.grows
 
 pub returns-clause-ok : goal.returns-clause-ok
 returns-clause-ok c =
@@ -40,6 +40,6 @@ returns-clause-ok c =
     (written_grown (told_of c.args.output.now) (option_copied c.out_of.result) (option_copied c.err_of.result) (string_bytes c.args.text.now) _ _ (string_bytes c.push_message.new.text) c.out_of.ensures c.err_of.ensures c.in_ok-push_stream.ensures.ok c.in_ok-push_stream-2.ensures.ok)
     c.push_message.ensures.ok
 
-pub returns-clause-kept : goal.returns-clause-kept
-returns-clause-kept c =
-    extends_then _ _ _ (extends_then _ _ _ c.push_stream.ensures.kept c.push_stream-2.ensures.kept) c.push_message.ensures.kept
+pub returns-clause-grows : goal.returns-clause-grows
+returns-clause-grows c =
+    extends_then _ _ _ (extends_then _ _ _ c.push_stream.ensures.grows c.push_stream-2.ensures.grows) c.push_message.ensures.grows

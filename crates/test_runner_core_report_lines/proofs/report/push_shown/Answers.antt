@@ -5,7 +5,7 @@ use Rattle.test_runner_core_report_lines.proofs.Fronts.{all_stands, front_utf8, 
 use Rattle.test_runner_core_report_lines.proofs.report.push_shown.Goals as goal
 
 pub all_or_nothing-requires : goal.all_or_nothing-requires
-all_or_nothing-requires c = front_utf8 c.args.text.now (string_bytes c.push_if_kept-added.new.text) c.len-length.result (c.len-length.ensures ∙ length_known c.args.text.now) c.push_if_kept-added.ensures.kept
+all_or_nothing-requires c = front_utf8 c.args.text.now (string_bytes c.push_if_kept-added.new.text) c.len-length.result (c.len-length.ensures ∙ length_known c.args.text.now) c.push_if_kept-added.ensures.grows
 
 pub returns-clause-ok : goal.returns-clause-ok
 returns-clause-ok c =
@@ -15,4 +15,4 @@ returns-clause-ok c =
 pub returns-clause-err : goal.returns-clause-err
 returns-clause-err c =
     nothing_stands c.push_if_kept-added.result c.all_or_nothing.result c.len-length.result (string_bytes c.args.text.now) (string_bytes c.push_if_kept-added.new.text) (string_bytes c.all_or_nothing.new.text)
-    c.all_or_nothing.ensures.answer c.all_or_nothing.ensures.bytes (c.len-length.ensures ∙ length_known c.args.text.now) c.push_if_kept-added.ensures.kept
+    c.all_or_nothing.ensures.answer c.all_or_nothing.ensures.bytes (c.len-length.ensures ∙ length_known c.args.text.now) c.push_if_kept-added.ensures.grows

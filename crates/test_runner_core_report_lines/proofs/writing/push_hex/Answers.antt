@@ -10,5 +10,5 @@ loop-rest-preserved c =
     let l = c.loop-rest in
     record {
       whole = hex_more l.rest.now c.split_at.result.0.now c.split_at.result.1.now _ (string_bytes l.text) (string_bytes c.push_chunk.new.text) (split c) c.in_ok-push_chunk.ensures.ok l.invariant.whole;
-      kept = extends_then _ _ _ l.invariant.kept c.push_chunk.ensures.kept;
+      kept = extends_then _ _ _ l.invariant.kept c.push_chunk.ensures.grows;
     }

@@ -33,11 +33,11 @@ fits_more : (tests : List TestState) (stats : RunStats) → CountsNoTest stats �
 fits_more tests stats none few =
     record {
       finished = bound is_finished stats.finished_count none.finished;
-      passed = bound (counts rows.passed) stats.passed none.passed;
+      passed = bound (counts rows.is_passed) stats.passed none.passed;
       passed_slow = bound (counts rows.passed_slow) stats.passed_slow none.passed_slow;
       passed_timed_out = bound (counts rows.passed_timed_out) stats.passed_timed_out none.passed_timed_out;
       flaky = bound (counts rows.flaky) stats.flaky none.flaky;
-      failed = bound (counts rows.failed) stats.failed none.failed;
+      failed = bound (counts rows.is_failed) stats.failed none.failed;
       failed_slow = bound (counts rows.failed_slow) stats.failed_slow none.failed_slow;
       failed_timed_out = bound (counts rows.failed_timed_out) stats.failed_timed_out none.failed_timed_out;
       leaky = bound (counts rows.leaky) stats.leaky none.leaky;
@@ -53,11 +53,11 @@ one_more : (tests : List TestState) (i : ℕ) (test : TestState) (stats : RunSta
     → with_finished test (with_tests (take i tests) stats) ≡ with_tests (take (i + 1) tests) stats
 one_more tests i test stats within is =
     let e0 = row is_finished stats.finished_count in
-    let e1 = row (counts rows.passed) stats.passed in
+    let e1 = row (counts rows.is_passed) stats.passed in
     let e2 = row (counts rows.passed_slow) stats.passed_slow in
     let e3 = row (counts rows.passed_timed_out) stats.passed_timed_out in
     let e4 = row (counts rows.flaky) stats.flaky in
-    let e5 = row (counts rows.failed) stats.failed in
+    let e5 = row (counts rows.is_failed) stats.failed in
     let e6 = row (counts rows.failed_slow) stats.failed_slow in
     let e7 = row (counts rows.failed_timed_out) stats.failed_timed_out in
     let e8 = row (counts rows.leaky) stats.leaky in

@@ -13,7 +13,7 @@ use Rattle.test_runner_core_settings.proofs.configured.run_settings.Goals as goa
 pub returns-in_err-early : goal.returns-in_err-early
 returns-in_err-early c =
     let p = err_from_is_err_and c.from_residual.result c.from_residual.ensures.1 in
-    rw (p.1, p.2) (λ cx reads. never_chosen cx c.args.inputs.now c.args.config.now c.as_str.result.now c.in_err-early.field-0.0 reads c.as_str.ensures c.in_err-early.ensures)
+    rw (p.1, p.2) (λ cx reads. never_chosen cx c.args.inputs.now c.args.config.now c.as_str.result.now c.in_err-early.field-0.0 reads c.as_str.ensures c.in_err-early.ensures.exact)
 
 pub returns-in_err-host : goal.returns-in_err-host
 returns-in_err-host c =
@@ -22,7 +22,7 @@ returns-in_err-host c =
     let early = c.in_ok-early.early in
     let error = c.in_err-host.field-0.0 in
     let p = err_from_is_err_and c.from_residual-in_err-host.result c.from_residual-in_err-host.ensures.1 in
-    let found = subst (λ (name : List ℕ). IsEarly config name early) c.as_str.ensures c.in_ok-early.ensures in
+    let found = subst (λ (name : List ℕ). IsEarly config name early) c.as_str.ensures c.in_ok-early.ensures.exact in
     rw (p.1, p.2) (λ cx reads. repeats_or_lacks cx inputs config reads early found error (λ e. host_repeats inputs (refused_host inputs.host error c.in_err-host.ensures e)))
 
 pub returns-in_err-target : goal.returns-in_err-target
@@ -32,7 +32,7 @@ returns-in_err-target c =
     let early = c.in_ok-early.early in
     let error = c.in_err-target.field-0.0 in
     let p = err_from_is_err_and c.from_residual-in_err-target.result c.from_residual-in_err-target.ensures.1 in
-    let found = subst (λ (name : List ℕ). IsEarly config name early) c.as_str.ensures c.in_ok-early.ensures in
+    let found = subst (λ (name : List ℕ). IsEarly config name early) c.as_str.ensures c.in_ok-early.ensures.exact in
     rw (p.1, p.2) (λ cx reads. repeats_or_lacks cx inputs config reads early found error (λ e. target_repeats inputs c.in_ok-host.ensures.1 (refused_target inputs.target error c.in_err-target.ensures e)))
 
 pub returns : goal.returns
@@ -43,7 +43,7 @@ returns c = λ cx reads.
     let platforms = c.platforms_of-platforms.result in
     let profile = c.apply_build_platforms-profile.result in
     let settings = c.in_ok-settings.settings in
-    let found = subst (λ (name : List ℕ). IsEarly config name early) c.as_str.ensures c.in_ok-early.ensures in
+    let found = subst (λ (name : List ℕ). IsEarly config name early) c.as_str.ensures c.in_ok-early.ensures.exact in
     let host = c.platforms_of-platforms.ensures.host ∙ c.in_ok-host.ensures.0 in
     let target = c.platforms_of-platforms.ensures.target ∙ ap (λ (it : Option Facts). unwrap_or it c.in_ok-host.host) c.in_ok-target.ensures.0
     ∙ ap (λ (it : Facts). unwrap_or (option_map facts_of inputs.target) it) c.in_ok-host.ensures.0 in

@@ -1,6 +1,6 @@
 use Rattle.std.proofs.Common.{◌≡◌, ℕ, List, [], true, false, take, get_or, ap, sym, ◌∙◌}
 use Rattle.std.proofs.lemmas.Bool.{not-true, not-false}
-use Rattle.test_runner_core_workspace.specs.Ids.{lent, has_text}
+use Rattle.test_runner_core_workspace.specs.Ids.{lent_texts, has_text}
 use Rattle.test_runner_core_workspace.specs.Workspace.{is_among}
 use Rattle.test_runner_core_workspace.proofs.Repeats.{lent_more, is_among_more, stands_twice, stands_once}
 use Rattle.test_runner_core_workspace.proofs.ids.has_repeated.Goals as goal
@@ -18,7 +18,7 @@ loop-id-preserved c =
     record {
       known = λ text.
           is_among_more c.loop-id.set c.insert.new.self (get_or c.args.ids.now c.loop-id.id-index (record { ref_ptr = (0, 0); now = [] }))
-          (lent (take c.loop-id.id-index c.args.ids.now)) c.in_ok-insert.ensures.updates c.loop-id.invariant.known text
+          (lent_texts (take c.loop-id.id-index c.args.ids.now)) c.in_ok-insert.ensures.updates c.loop-id.invariant.known text
           ∙ ap (λ (texts : List (List ℕ)). is_among texts text) (sym (lent_more c.args.ids.now c.loop-id.id-index (record { ref_ptr = (0, 0); now = [] }) c.loop-id-test.true));
       single = stands_once c.loop-id.set c.args.ids.now c.loop-id.id-index (record { ref_ptr = (0, 0); now = [] }) c.loop-id-test.true c.loop-id.invariant.known found c.loop-id.invariant.single;
     }

@@ -1,7 +1,7 @@
 use Rattle.std.proofs.Common.{◌≡◌, ℕ, List, take}
-use Rattle.test_runner_core_workspace.specs.Ids.{lent, has_text}
+use Rattle.test_runner_core_workspace.specs.Ids.{lent_texts, has_text}
 use Rattle.test_runner_core_workspace.specs.Workspace.{is_among}
 use Rattle.test_runner_core_workspace.proofs.ids.set_of.Given as goal
 
 abbrev pub invariant-loop-id : goal.invariant-loop-id
-invariant-loop-id l = (text : List ℕ) → has_text l.set text ≡ is_among (lent (take l.id-index l.ids)) text
+invariant-loop-id l = (text : List ℕ) → has_text l.set text ≡ is_among (lent_texts (take l.id-index l.ids)) text

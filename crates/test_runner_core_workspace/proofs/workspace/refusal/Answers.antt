@@ -1,6 +1,6 @@
 use Rattle.std.proofs.Common.{◌≡◌, ℕ, List, Option, IfOk, false, subst}
 use denote.Ref.{Bor}
-use Rattle.test_runner_core_workspace.specs.Ids.{lent, has_text}
+use Rattle.test_runner_core_workspace.specs.Ids.{lent_texts, has_text}
 use Rattle.test_runner_core_workspace.specs.Workspace.{is_among, has_repeat, package_ids, refusal_of, refusal_by}
 use Rattle.test_runner_core_workspace.specs.declared.record.WorkspaceRecord.{WorkspaceRecord}
 use Rattle.test_runner_core_workspace.specs.declared.workspace_fault.WorkspaceFault.{WorkspaceFault}
@@ -11,9 +11,9 @@ pub returns : goal.returns
 returns c =
     let workspace : WorkspaceRecord = c.args.record.now in
     let packages : List (Bor (List ℕ)) = c.in_ok-packages.packages.items in
-    let of_packages : lent packages ≡ package_ids workspace = cc (c.in_ok-packages.ensures) in
-    let once : has_repeat (lent packages) ≡ false = cc (c.in_ok-has_repeated.ensures) in
-    let same : (text : List ℕ) → has_text c.in_ok-known.known text ≡ is_among (lent packages) text
+    let of_packages : lent_texts packages ≡ package_ids workspace = cc (c.in_ok-packages.ensures) in
+    let once : has_repeat (lent_texts packages) ≡ false = cc (c.in_ok-has_repeated.ensures) in
+    let same : (text : List ℕ) → has_text c.in_ok-known.known text ≡ is_among (lent_texts packages) text
     = λ text. rw (← c.as_slice-3.ensures.value) (c.in_ok-known.ensures text) in
     let reason : refusal_by (has_text c.in_ok-known.known) workspace ≡ refusal_of workspace
     = behind_no_repeat workspace packages c.in_ok-known.known of_packages once same in

@@ -2,7 +2,7 @@ use Rattle.std.proofs.Common.{◌≡◌, ◌++◌, [], ◌∷◌, ℕ, List, ap,
 use Rattle.std.specs.Prelude.{option_map, string_bytes}
 use Rattle.nextest_config_resolution_commands.specs.Splitting.{words_from}
 use Rattle.nextest_config_resolution_commands.specs.declared.steps.Place.TheVariants as place
-use Rattle.nextest_config_resolution_commands.specs.declared.steps.Step.TheVariants as step
+use Rattle.nextest_config_resolution_commands.specs.declared.steps.SplitStep.TheVariants as step
 use Rattle.nextest_config_resolution_commands.proofs.Characters as lemma
 use Rattle.nextest_config_resolution_commands.proofs.words.WordsSoFar.take.Goals as goal
 

@@ -1,10 +1,10 @@
-use Rattle.std.proofs.Common.{◌≡◌, List, Option, ap, ◌∙◌, subst}
+use Rattle.std.proofs.Common.{◌≡◌, List, Option, map, ap, ◌∙◌, subst}
 use Rattle.nextest_config_resolution_inheritance.specs.Inheritance.{name_at}
 use Rattle.nextest_config_resolution_load.specs.declared.loaded_config.NamedProfile.{NamedProfile}
 use Rattle.nextest_config_resolution_load.specs.Load.{LoadedOverride, LoadedScriptRule}
 use Rattle.nextest_config_resolution_profiles.specs.Chains.{IsChained}
 use Rattle.nextest_config_resolution_profiles.specs.Config.{dir_in_store}
-use Rattle.nextest_config_resolution_profiles.proofs.Names.{all_of, name_is}
+use Rattle.nextest_config_resolution_profiles.proofs.Names.{all_of, known_rise, name_is}
 use Rattle.nextest_config_resolution_profiles.proofs.PutOn.{early_askable}
 use Rattle.nextest_config_resolution_profiles.proofs.config.NextestConfig.profile.Goals as goal
 
@@ -32,15 +32,23 @@ returns-in_ok-dir_in_store-in-Some g c =
     let groups : c.as_slice-groups.result.now ≡ whole.loaded.groups = cc (c.as_slice-groups.ensures, ap (λ whole. whole.loaded.groups) c.self.view_is) in
     let dir = c.store.result.now in
     record {
-      named = called;
-      stored = (dir, c.store.ensures, c.in_ok-dir_in_store-in-Some.ensures ∙ ap (λ r. dir_in_store r dir c.as_str-name.result.now) root ∙ ap (dir_in_store whole.root dir) called);
-      chained = chained.chained;
-      filtered = chained.filtered;
-      ruled = chained.ruled;
-      scripted = chained.scripted;
-      grouped = groups;
-      defined = ap (λ whole. whole.loaded.scripts) c.self.view_is;
+      exact = record {
+        named = called;
+        stored = (dir, c.store.ensures, c.in_ok-dir_in_store-in-Some.ensures ∙ ap (λ r. dir_in_store r dir c.as_str-name.result.now) root ∙ ap (dir_in_store whole.root dir) called);
+        chained = chained.chained;
+        filtered = chained.filtered;
+        ruled = chained.ruled;
+        scripted = chained.scripted;
+        grouped = groups;
+        defined = ap (λ whole. whole.loaded.scripts) c.self.view_is;
+      };
+      rises = tt;
     }
+
+pub returns-in_ok-all_names-in-None-clause-rises : goal.returns-in_ok-all_names-in-None-clause-rises
+returns-in_ok-all_names-in-None-clause-rises g c =
+    known_rise c.self.inside.loaded.profiles c.in_ok-all_names-in-None.field-0 c.self.invariant.rises
+    (c.in_ok-all_names-in-None.ensures ∙ ap (map (λ (it : NamedProfile). it.name)) c.as_slice-profiles.ensures)
 
 pub invariant_of-result : goal.invariant_of-result
 invariant_of-result g c =

@@ -6,7 +6,7 @@ use Rattle.nextest_config_resolution_profiles.specs.HeldRules.{AreColumns, AreHe
 use Rattle.nextest_config_resolution_profiles.specs.declared.chain_rule.ChainRule.{ChainRule}
 use Rattle.nextest_config_resolution_profiles.proofs.evaluatable_profile.EvaluatableProfile.held_rules.Goals as goal
 use Rattle.nextest_config_resolution_scripts.specs.declared.script_rule.PlacedScriptRule.{PlacedScriptRule}
-use Rattle.nextest_config_resolution_settings.specs.Nearest.{lent}
+use Rattle.nextest_config_resolution_settings.specs.Nearest.{lent_layers}
 use Rattle.nextest_filtering_filters.specs.Query.{binary_of}
 
 pub returns : goal.returns
@@ -14,7 +14,7 @@ returns g c =
     let OnTest = g.F.Filters.on_test in
     let default = c.self.inside.default_filter.filter.now in
     let binary = binary_of c.args.binary.now in
-    let names = lent c.args.names.now in
+    let names = lent_layers c.args.names.now in
     let overrides = map (λ column. column.items) c.in_ok-overrides.overrides.items in
     let scripts = map (λ column. column.items) c.in_ok-scripts.scripts.items in
     subst (λ (it : Evaluatable g.row.F.Denot g.row.S.Denot). AreHeldColumns OnTest it binary names (record { overrides = overrides; scripts = scripts })) c.self.view_is

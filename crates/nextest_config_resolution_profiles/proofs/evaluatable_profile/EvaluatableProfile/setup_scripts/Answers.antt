@@ -8,7 +8,7 @@ use Rattle.nextest_config_resolution_profiles.proofs.evaluatable_profile.Evaluat
 use Rattle.nextest_config_resolution_scripts.specs.declared.script_config.NamedScript.{NamedScript}
 use Rattle.nextest_config_resolution_scripts.specs.declared.script_rule.PlacedScriptRule.{PlacedScriptRule}
 use Rattle.nextest_config_resolution_scripts.specs.declared.setup_script.SetupScriptConfig.{SetupScriptConfig}
-use Rattle.nextest_config_resolution_settings.specs.Nearest.{lent}
+use Rattle.nextest_config_resolution_settings.specs.Nearest.{lent_layers}
 use Rattle.nextest_filtering_filters.specs.Query.{test_of}
 
 pub returns : goal.returns
@@ -21,7 +21,7 @@ returns g c =
     let names = c.add_all.new.self in
     let has : HasEnabled OnTest profile matching names
     = enabled_both OnTest profile [] matching start names found.row (none_enabled OnTest profile start c.new-names.ensures) found.told
-    (λ id. c.in_ok-add_all.ensures id ∙ ap (λ (rules : List PlacedScriptRule). has_name start id || is_named rules id) (ap lent c.as_slice.ensures.value ∙ found.same)) in
+    (λ id. c.in_ok-add_all.ensures id ∙ ap (λ (rules : List PlacedScriptRule). has_name start id || is_named rules id) (ap lent_layers c.as_slice.ensures.value ∙ found.same)) in
     IfOk-weaker c.defined.result _ _ (λ it them. record {
       names = them.names;
       are = same_names them.names has them.are;

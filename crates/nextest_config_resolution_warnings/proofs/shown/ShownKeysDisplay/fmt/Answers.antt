@@ -4,16 +4,16 @@ use Rattle.std.proofs.lemmas.Grind.{common_steps}
 use Rattle.std.specs.Fmt.{HasWritten}
 use Rattle.std.specs.List.{flat_map}
 use Rattle.nextest_config_resolution_warnings.proofs.Showing.{dotted, shown_keys-first}
-use Rattle.nextest_config_resolution_warnings.specs.Shown.{shown, shown_keys}
+use Rattle.nextest_config_resolution_warnings.specs.Shown.{one_line_of, shown_keys}
 use Rattle.nextest_config_resolution_warnings.proofs.shown.ShownKeysDisplay.fmt.Goals as goal
 
 pub returns-clause-writes : goal.returns-clause-writes
 returns-clause-writes g c = λ plain ok.
     let first = c.in-Some.first.now in
     let more = c.in-Some.more.now in
-    let one : HasWritten g.W.Write.write_str_gives c.args.f.now (shown first) c.write.new.self = search rules in
+    let one : HasWritten g.W.Write.write_str_gives c.args.f.now (one_line_of first) c.write.new.self = search rules in
     let all : take c.loop-key.key-index more ≡ more = grind (arith, common_steps) in
     let whole : c.args.self.now.0.now ≡ first ∷ more = grind (arith, common_steps) in
     has_written_of_eq _ _ _ _ _
-    (ap (λ (keys : List (List ℕ)). shown first ++ flat_map dotted keys) all ∙ sym (shown_keys-first first more) ∙ ap shown_keys (sym whole))
+    (ap (λ (keys : List (List ℕ)). one_line_of first ++ flat_map dotted keys) all ∙ sym (shown_keys-first first more) ∙ ap shown_keys (sym whole))
     (has_written_append _ _ _ _ _ _ one (c.loop-key.invariant one.plain))

@@ -1,7 +1,7 @@
 use Rattle.std.proofs.Common.{◌∷◌, refl, ap}
 use Rattle.nextest_filtering_filters.specs.Formula.{leaf}
 use Rattle.nextest_filtering_filters.specs.Steps.{waiting_of}
-use Rattle.nextest_filtering_filters.specs.declared.step.Step.TheVariants as step
+use Rattle.nextest_filtering_filters.specs.declared.step.FormulaStep.TheVariants as step
 use Rattle.nextest_filtering_filters.proofs.Building.{made_more}
 use Rattle.nextest_filtering_filters.proofs.builder.FormulaBuilder.leaf.Goals as goal
 

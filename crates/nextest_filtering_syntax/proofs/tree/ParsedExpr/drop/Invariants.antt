@@ -1,4 +1,4 @@
-use Rattle.nextest_filtering_syntax.specs.Walking.{weight_with}
+use Rattle.nextest_filtering_syntax.proofs.Walking.{weight_with}
 use Rattle.nextest_filtering_syntax.proofs.tree.ParsedExpr.drop.Given as goal
 
 abbrev pub decreases-loop-self : goal.decreases-loop-self

@@ -1,8 +1,8 @@
 use Rattle.std.proofs.Common.{◌∷◌, Some, None, ap, ◌∙◌, sym, refl, map}
 use Rattle.std.proofs.lemmas.List.{nil_from_length}
 use Rattle.serde_json.specs.View.{view}
-use Rattle.nextest_json.specs.Left.{left}
-use Rattle.nextest_json.specs.Seen.{seen}
+use Rattle.nextest_json.specs.Left.{items_left}
+use Rattle.nextest_json.specs.Seen.{data_of}
 use Rattle.nextest_json.proofs.Lists.{at_places, in_trees, next_at, next_seen, still_there}
 use Rattle.nextest_json.proofs.items.JsonItems.next.Goals as goal
 
@@ -13,14 +13,14 @@ pub of_place-requires : goal.of_place-requires
 of_place-requires c = (next_at c.in-Places.items c.next.new.self (Some c.in-Some.item) _ (at_places c.args.self.now c.in-Places.items c.in-Places.is) c.in-Some.ensures.value).0
 
 pub returns-in-Some-clause-some : goal.returns-in-Some-clause-some
-unfolding left
-returns-in-Some-clause-some c = next_seen c.in-Places.items c.next.new.self c.in-Some.item _ (seen c.of_place.result) _ (at_places c.args.self.now c.in-Places.items c.in-Places.is) c.in-Some.ensures.value c.of_place.ensures refl
+unfolding items_left
+returns-in-Some-clause-some c = next_seen c.in-Places.items c.next.new.self c.in-Some.item _ (data_of c.of_place.result) _ (at_places c.args.self.now c.in-Places.items c.in-Places.is) c.in-Some.ensures.value c.of_place.ensures refl
 
 pub returns-in-None-clause-none : goal.returns-in-None-clause-none
 returns-in-None-clause-none c = next_at c.in-Places.items c.next.new.self None _ (at_places c.args.self.now c.in-Places.items c.in-Places.is) c.in-None.ensures.value
 
 pub returns-in-Some-split_first-clause-some : goal.returns-in-Some-split_first-clause-some
-unfolding left
+unfolding items_left
 returns-in-Some-split_first-clause-some c =
     sym (in_trees c.args.self.now c.in-Trees.values c.in-Trees.is)
     ∙ ap (map view) c.in-Some-split_first.ensures.cases.0

@@ -1,7 +1,7 @@
 use Rattle.std.proofs.Common.{refl}
-use Rattle.nextest_json.specs.Seen.{seen}
+use Rattle.nextest_json.specs.Seen.{data_of}
 use Rattle.nextest_json.proofs.value.JsonValue.of_tree.Goals as goal
 
 pub returns : goal.returns
-unfolding seen
+unfolding data_of
 returns c = refl

@@ -1,6 +1,6 @@
 use Rattle.std.proofs.Common.{◌≡◌, ◌∷◌, ◌++◌}
 use Rattle.std.specs.Prelude.{codes, string_bytes}
-use Rattle.test_runner_core_line_syntax.specs.Spelling.{joined}
+use Rattle.test_runner_core_line_syntax.specs.Spelling.{line_of_fields}
 use Rattle.test_runner_core_line_syntax.proofs.Writable.{script_record, script_printed, end_record, end_printed}
 use Rattle.test_runner_core_line_syntax.proofs.log_line.LogLine.print.Goals as goal
 
@@ -17,7 +17,7 @@ returns-in_ok-push_record-in-Script c =
     let id_is = c.as_str.ensures in
     let record_is = text.1.2 in
     let record_behind = text.2 in
-    let whole : string_bytes c.push_record.new.line ≡ (codes "script" ++ 9 ∷ id) ++ 9 ∷ joined text.1.0 = cc in
+    let whole : string_bytes c.push_record.new.line ≡ (codes "script" ++ 9 ∷ id) ++ 9 ∷ line_of_fields text.1.0 = cc in
     rw c.in-Script.is (script_printed id c.in-Script.record text.1.0 (string_bytes c.push_record.new.line) has text.1.1 whole)
 
 pub push_record-requires-in-End : goal.push_record-requires-in-End
@@ -36,5 +36,5 @@ returns-in_ok-push_record-in-End c =
     let name_is = c.as_str-in-End-2.ensures in
     let record_is = text.1.2 in
     let record_behind = text.2 in
-    let whole : string_bytes c.push_record-in-End.new.line ≡ ((codes "end" ++ 9 ∷ binary) ++ 9 ∷ name) ++ 9 ∷ joined text.1.0 = cc in
+    let whole : string_bytes c.push_record-in-End.new.line ≡ ((codes "end" ++ 9 ∷ binary) ++ 9 ∷ name) ++ 9 ∷ line_of_fields text.1.0 = cc in
     rw c.in-End.is (end_printed binary name c.in-End.record text.1.0 (string_bytes c.push_record-in-End.new.line) has text.1.1 whole)

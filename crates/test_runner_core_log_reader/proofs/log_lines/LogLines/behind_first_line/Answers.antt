@@ -2,7 +2,7 @@ use Rattle.std.proofs.Common.{◌≡◌, ℕ, ◌+◌, ◌<◌, ◌≤◌, ◌^�
 use Rattle.std.proofs.lemmas.Result.{IfOk-from_err}
 use Rattle.test_runner_core_log_reader.specs.declared.limits.TheConstants.{FIRST_LINE_LIMIT, LOG_LIMIT}
 use Rattle.test_runner_core_log_reader.specs.Limits.{first_line_reads}
-use Rattle.test_runner_core_log_reader.specs.Cursor.{Cursor, Unmoved, received}
+use Rattle.test_runner_core_log_reader.specs.Cursor.{Cursor, Unmoved, bytes_received}
 use Rattle.test_runner_core_log_reader.specs.Calls.{WaitsMore}
 use Rattle.test_runner_core_log_reader.specs.Feeds.{IsPlain}
 use Rattle.test_runner_core_log_reader.proofs.Filling.{on_err}
@@ -10,7 +10,7 @@ use Rattle.test_runner_core_log_reader.proofs.Reading.{ahead_unmoved, ahead_then
 use Rattle.test_runner_core_log_reader.proofs.FirstLine.{beginning, gets_plain, parts_at_feed, parts_at_end}
 use Rattle.test_runner_core_log_reader.proofs.log_lines.LogLines.behind_first_line.Goals as goal
 
-first_received : (old new : Cursor) → old.handed ≡ 0 → Unmoved old new → length old.waiting ≤ FIRST_LINE_LIMIT → received new ≤ LOG_LIMIT
+first_received : (old new : Cursor) → old.handed ≡ 0 → Unmoved old new → length old.waiting ≤ FIRST_LINE_LIMIT → bytes_received new ≤ LOG_LIMIT
 first_received old new none same short = omega (arith, same.handed, ap length same.waiting)
 
 calls_below : (calls first : ℕ) → calls ≤ first + FIRST_LINE_LIMIT + 1 → first + 2 ^ 31 ≤ 2 ^ 63 → calls < 2 ^ 63

@@ -1,5 +1,5 @@
 use Rattle.std.proofs.Common.{◌+◌, ◌-◌}
-use Rattle.test_runner_core_log_reader.specs.Cursor.{received}
+use Rattle.test_runner_core_log_reader.specs.Cursor.{bytes_received}
 use Rattle.test_runner_core_log_reader.specs.declared.limits.TheConstants.{LOG_LIMIT}
 use Rattle.test_runner_core_log_reader.proofs.FirstLine.{ReadingFirst}
 use Rattle.test_runner_core_log_reader.proofs.log_lines.LogLines.behind_first_line.Given as goal
@@ -10,4 +10,4 @@ invariant-loop-lines g l =
     l.lines (g.R.LogReader.left l.reader) (g.R.LogReader.calls l.reader) (g.R.LogReader.failures l.reader)
 
 abbrev pub decreases-loop-lines : goal.decreases-loop-lines
-decreases-loop-lines g l = LOG_LIMIT + 2 - received l.lines
+decreases-loop-lines g l = LOG_LIMIT + 2 - bytes_received l.lines

@@ -2,7 +2,7 @@ use Rattle.std.proofs.Common.{◌≡◌, ℕ, ◌+◌, ◌<◌, ◌≤◌, ◌^�
 use Rattle.std.specs.Result.{IsErr}
 use Rattle.std.proofs.lemmas.List.{take_all}
 use Rattle.test_runner_core_log_reader.specs.Items.{items}
-use Rattle.test_runner_core_log_reader.specs.Cursor.{Cursor, Unmoved, received, items_ahead}
+use Rattle.test_runner_core_log_reader.specs.Cursor.{Cursor, Unmoved, bytes_received, items_ahead}
 use Rattle.test_runner_core_log_reader.specs.Feeds.{IsPlain}
 use Rattle.test_runner_core_log_reader.specs.Calls.{idle_reads, Hands, HandsAhead, HandsBytes, KeepsAhead, Scanned, TakesLine, WaitsMore}
 use Rattle.test_runner_core_log_reader.specs.declared.limits.TheConstants.{LOG_LIMIT}
@@ -18,10 +18,10 @@ use Rattle.test_runner_core_log_reader.proofs.Telling.{tells_unmoved, never_wait
 use Rattle.test_runner_core_log_reader.proofs.log_lines.LogLines.next.Goals as goal
 
 -- how many bytes were read, after a look at those that wait
-received_unmoved : (old new : Cursor) → Unmoved old new → received new ≡ received old
+received_unmoved : (old new : Cursor) → Unmoved old new → bytes_received new ≡ bytes_received old
 received_unmoved old new same = omega (arith, same.handed, ap length same.waiting)
 
-received_line : (old new : Cursor) → Scanned scanned.Line old new → received new ≡ received old
+received_line : (old new : Cursor) → Scanned scanned.Line old new → bytes_received new ≡ bytes_received old
 received_line old new line = omega (arith, line.3, ap length line.0, length-append new.line (10 ∷ new.waiting))
 
 -- each call brought a byte, up to those that brought none
@@ -86,18 +86,18 @@ idle_err (Err fault) is = refl
 waits_same : (old new : Cursor) → WaitsMore old new 0 → new.waiting ≡ old.waiting
 waits_same old new more = let size = more.size in sym (take_all (length old.waiting) new.waiting (omega arith)) ∙ more.front
 
-received_same : (first old new : Cursor) → Unmoved first old → WaitsMore old new 0 → new.handed ≡ old.handed → received new ≡ received first
+received_same : (first old new : Cursor) → Unmoved first old → WaitsMore old new 0 → new.handed ≡ old.handed → bytes_received new ≡ bytes_received first
 received_same first old new same more handed = omega (arith, same.handed, ap length same.waiting, more.size, handed)
 
 pub fill-requires-clause-more : goal.fill-requires-clause-more
 fill-requires-clause-more g c =
     let waits = c.in-Waits.ensures in
-    at_most_same (received c.loop-fault.self) (received c.scan.new.self) LOG_LIMIT waits.2 (received_unmoved c.loop-fault.self c.scan.new.self waits.0)
+    at_most_same (bytes_received c.loop-fault.self) (bytes_received c.scan.new.self) LOG_LIMIT waits.2 (received_unmoved c.loop-fault.self c.scan.new.self waits.0)
 
 pub fill-requires-clause-calls_fit : goal.fill-requires-clause-calls_fit
 fill-requires-clause-calls_fit g c =
     let calls = g.R.LogReader.calls in
-    calls_below (calls c.loop-fault.reader) (received c.args.self.now) (calls c.args.reader.now) (received c.loop-fault.self)
+    calls_below (calls c.loop-fault.reader) (bytes_received c.args.self.now) (calls c.args.reader.now) (bytes_received c.loop-fault.self)
     c.loop-fault.invariant.grown c.loop-fault.invariant.limit c.requires.calls_fit
 
 pub fill-requires-clause-failures_fit : goal.fill-requires-clause-failures_fit
@@ -115,12 +115,12 @@ returns-in-Line-clause-handed g c =
 pub returns-in-Line-clause-reads : goal.returns-in-Line-clause-reads
 returns-in-Line-clause-reads g c =
     let calls = g.R.LogReader.calls in
-    reads_idle (calls c.loop-fault.reader) (calls c.args.reader.now) (received c.args.self.now) (received c.loop-fault.self) (received c.scan.new.self) 0
+    reads_idle (calls c.loop-fault.reader) (calls c.args.reader.now) (bytes_received c.args.self.now) (bytes_received c.loop-fault.self) (bytes_received c.scan.new.self) 0
     c.loop-fault.invariant.grown (received_line c.loop-fault.self c.scan.new.self c.in-Line.ensures) refl
 
 pub returns-in-Line-clause-limit : goal.returns-in-Line-clause-limit
 returns-in-Line-clause-limit g c =
-    limit_idle (received c.loop-fault.self) (received c.scan.new.self) 0 (LOG_LIMIT + 1)
+    limit_idle (bytes_received c.loop-fault.self) (bytes_received c.scan.new.self) 0 (LOG_LIMIT + 1)
     c.loop-fault.invariant.limit (received_line c.loop-fault.self c.scan.new.self c.in-Line.ensures) refl
 
 pub returns-in-Line-clause-failures : goal.returns-in-Line-clause-failures
@@ -142,13 +142,13 @@ returns-in-Refused-clause-handed g c = c.in-Refused.ensures.0.handed ∙ c.loop-
 pub returns-in-Refused-clause-reads : goal.returns-in-Refused-clause-reads
 returns-in-Refused-clause-reads g c =
     let calls = g.R.LogReader.calls in
-    reads_idle (calls c.loop-fault.reader) (calls c.args.reader.now) (received c.args.self.now) (received c.loop-fault.self) (received c.scan.new.self)
+    reads_idle (calls c.loop-fault.reader) (calls c.args.reader.now) (bytes_received c.args.self.now) (bytes_received c.loop-fault.self) (bytes_received c.scan.new.self)
     (idle_reads (Ok (found.Refused c.in-Refused.fault)))
     c.loop-fault.invariant.grown (received_unmoved c.loop-fault.self c.scan.new.self c.in-Refused.ensures.0) c.in-Refused.ensures.2
 
 pub returns-in-Refused-clause-limit : goal.returns-in-Refused-clause-limit
 returns-in-Refused-clause-limit g c =
-    limit_idle (received c.loop-fault.self) (received c.scan.new.self) (idle_reads (Ok (found.Refused c.in-Refused.fault))) (LOG_LIMIT + 1)
+    limit_idle (bytes_received c.loop-fault.self) (bytes_received c.scan.new.self) (idle_reads (Ok (found.Refused c.in-Refused.fault))) (LOG_LIMIT + 1)
     c.loop-fault.invariant.limit (received_unmoved c.loop-fault.self c.scan.new.self c.in-Refused.ensures.0) c.in-Refused.ensures.2
 
 pub returns-in-Refused-clause-failures : goal.returns-in-Refused-clause-failures
@@ -180,14 +180,14 @@ pub returns-in_err-count-clause-reads : goal.returns-in_err-count-clause-reads
 returns-in_err-count-clause-reads g c =
     let calls = g.R.LogReader.calls in
     let same = received_same c.loop-fault.self c.scan.new.self c.fill.new.self c.in-Waits.ensures.0 c.in_err-count.ensures.err c.in_err-count.ensures.handed in
-    reads_more (calls c.fill.new.reader) (calls c.loop-fault.reader) (calls c.args.reader.now) (received c.args.self.now) (received c.loop-fault.self) (received c.fill.new.self)
+    reads_more (calls c.fill.new.reader) (calls c.loop-fault.reader) (calls c.args.reader.now) (bytes_received c.args.self.now) (bytes_received c.loop-fault.self) (bytes_received c.fill.new.self)
     (idle_reads c.from_residual.result)
     c.loop-fault.invariant.grown c.in_err-count.ensures.called same (idle_err c.from_residual.result c.from_residual.ensures.0)
 
 pub returns-in_err-count-clause-limit : goal.returns-in_err-count-clause-limit
 returns-in_err-count-clause-limit g c =
     let same = received_same c.loop-fault.self c.scan.new.self c.fill.new.self c.in-Waits.ensures.0 c.in_err-count.ensures.err c.in_err-count.ensures.handed in
-    limit_more (received c.loop-fault.self) (received c.fill.new.self) (idle_reads c.from_residual.result) LOG_LIMIT
+    limit_more (bytes_received c.loop-fault.self) (bytes_received c.fill.new.self) (idle_reads c.from_residual.result) LOG_LIMIT
     c.in-Waits.ensures.2 same (idle_err c.from_residual.result c.from_residual.ensures.0)
 
 pub returns-in_err-count-clause-cut : goal.returns-in_err-count-clause-cut
@@ -199,11 +199,11 @@ returns-in_err-count-clause-cut g c =
 pub loop-fault-init : goal.loop-fault-init
 loop-fault-init g c =
     let x = c.self.inside in
-    let within : received c.args.self.now ≤ LOG_LIMIT + 1 =
-    subst (λ (v : Cursor). received v ≤ LOG_LIMIT + 1) c.self.view_is (omega (arith, c.self.invariant.received, length-range x.buffer.items x.start x.end (omega (arith, x.buffer.ok.0, c.self.invariant.filled)))) in
+    let within : bytes_received c.args.self.now ≤ LOG_LIMIT + 1 =
+    subst (λ (v : Cursor). bytes_received v ≤ LOG_LIMIT + 1) c.self.view_is (omega (arith, c.self.invariant.received, length-range x.buffer.items x.start x.end (omega (arith, x.buffer.ok.0, c.self.invariant.filled)))) in
     let left = g.R.LogReader.left c.args.reader.now in
     let same = c.give_back.ensures in
-    let size : received c.give_back.new.self ≡ received c.args.self.now = omega (arith, ap length same.waiting, same.handed) in
+    let size : bytes_received c.give_back.new.self ≡ bytes_received c.args.self.now = omega (arith, ap length same.waiting, same.handed) in
     record {
       ahead = ahead_unmoved c.args.self.now c.args.self.now c.give_back.new.self left left (ahead_refl c.args.self.now left) same.waiting;
       handed = same.handed;

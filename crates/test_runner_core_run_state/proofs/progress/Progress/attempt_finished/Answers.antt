@@ -1,7 +1,7 @@
 use Rattle.std.proofs.Common.{◌≡◌, Bool, not, ◌&&◌, Ok, ap, sym, subst, ◌∙◌}
 use Rattle.std.specs.Prelude.{is_some}
 use Rattle.test_runner_core_run_model.specs.State.{State}
-use Rattle.test_runner_core_run_model.specs.Step.{attempt_ended, limited}
+use Rattle.test_runner_core_run_model.specs.Step.{attempt_ended, after_limit}
 use Rattle.test_runner_core_run_state.specs.Parts.{IsRunningAt}
 use Rattle.test_runner_core_run_state.specs.Progress.{EndsAttempt}
 use Rattle.test_runner_core_run_state.specs.contracts.progress.Progress.{the_view}
@@ -27,7 +27,7 @@ returns c =
     let taken =
     subst (λ (s : State). attempt_ended s c.args.test c.args.record ≡ Ok new) c.self.view_is
     (end_leads state c.args.test c.args.record c.end-finished.new.self.tests c.end-finished.result it ends.test ends.is_finished
-    ∙ ap (λ (s : State). Ok (limited c.end-finished.result s)) (sym ends.rest)
+    ∙ ap (λ (s : State). Ok (after_limit c.end-finished.result s)) (sym ends.rest)
     ∙ ap (λ (s : State). Ok s) (c.limit_stop-exceeded.ensures ∙ sym c.stop_for.ensures)) in
     takes_step c.args.self.now new (events.Ended c.args.test c.args.record) c.finished.result taken
     (ended_is new c.args.test c.args.record c.finished.result.ended c.finished.ensures.ended)

@@ -5,7 +5,7 @@ use Rattle.nextest_run_events_counters.specs.Summary.{failed_count}
 use Rattle.nextest_run_events_results.specs.declared.cancel_reason.CancelReason.TheVariants as why
 use Rattle.nextest_run_events_counters.specs.declared.run_stats.RunStats.{RunStats}
 use Rattle.test_runner_core_run_model.specs.State.{State}
-use Rattle.test_runner_core_run_model.specs.Step.{limited, stopped_by}
+use Rattle.test_runner_core_run_model.specs.Step.{after_limit, stopped_by}
 use Rattle.test_runner_core_run_state.specs.contracts.progress.Progress.{the_view}
 use Rattle.test_runner_core_run_state.proofs.Taken.{limited_when}
 use Rattle.test_runner_core_run_state.proofs.Totals.{failed_fits, failed_is}
@@ -22,20 +22,20 @@ failed_count-requires c =
 pub returns-in-Some-Wait : goal.returns-in-Some-Wait
 returns-in-Some-Wait c =
     let state = the_view c.self.inside in
-    subst (λ (s : State). limited c.args.finished s ≡ stopped_by why.TestFailure s) c.self.view_is
+    subst (λ (s : State). after_limit c.args.finished s ≡ stopped_by why.TestFailure s) c.self.view_is
     (limited_when state c.args.finished _ c.if-not-finished.false (sym c.is_some.ensures ∙ c.if-is_some.false)
     (ap (mode_at state.limit) (sym (failed_is state) ∙ sym (ap failed_count c.self.invariant) ∙ sym c.failed_count.ensures) ∙ sym c.is_exceeded.ensures ∙ c.in-Some-Wait.is ∙ ap (λ (m : TerminateMode). Some m) c.in-Some-Wait.field-0-is))
 
 pub returns-in-Some-Immediate : goal.returns-in-Some-Immediate
 returns-in-Some-Immediate c =
     let state = the_view c.self.inside in
-    subst (λ (s : State). limited c.args.finished s ≡ stopped_by why.TestFailureImmediate s) c.self.view_is
+    subst (λ (s : State). after_limit c.args.finished s ≡ stopped_by why.TestFailureImmediate s) c.self.view_is
     (limited_when state c.args.finished _ c.if-not-finished.false (sym c.is_some.ensures ∙ c.if-is_some.false)
     (ap (mode_at state.limit) (sym (failed_is state) ∙ sym (ap failed_count c.self.invariant) ∙ sym c.failed_count.ensures) ∙ sym c.is_exceeded.ensures ∙ c.in-Some-Immediate.is ∙ ap (λ (m : TerminateMode). Some m) c.in-Some-Immediate.field-0-is))
 
 pub returns-in-None : goal.returns-in-None
 returns-in-None c =
     let state = the_view c.self.inside in
-    subst (λ (s : State). limited c.args.finished s ≡ s) c.self.view_is
+    subst (λ (s : State). after_limit c.args.finished s ≡ s) c.self.view_is
     (limited_when state c.args.finished None c.if-not-finished.false (sym c.is_some.ensures ∙ c.if-is_some.false)
     (ap (mode_at state.limit) (sym (failed_is state) ∙ sym (ap failed_count c.self.invariant) ∙ sym c.failed_count.ensures) ∙ sym c.is_exceeded.ensures ∙ c.in-None.is))

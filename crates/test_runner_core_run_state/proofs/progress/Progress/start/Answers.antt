@@ -1,6 +1,6 @@
 use Rattle.std.proofs.Common.{◌≡◌, List, None, Ok, refl, sym, subst}
 use Rattle.test_runner_core_run_model.specs.State.{TestState, State}
-use Rattle.test_runner_core_run_model.specs.Step.{started}
+use Rattle.test_runner_core_run_model.specs.Step.{state_after_start}
 use Rattle.test_runner_core_run_model.specs.Decisions.{Decides}
 use Rattle.test_runner_core_run_model.specs.declared.event.Event.TheVariants as events
 use Rattle.test_runner_core_run_model.specs.declared.mark.Mark.TheVariants as marks
@@ -39,5 +39,5 @@ returns c =
     c.in_default-start_refusal.ensures state c.args.test
     (record { planned_scripts = sym c.planned-planned.ensures; ended_scripts = sym c.ended-ended.ensures.count; reason = sym c.is_some-is_stopped.ensures })
     (shown_test state c.args.test c.in-Some.mark c.in-Some.ensures) in
-    subst (λ (s : State). started s c.args.test ≡ Ok (record state { tests = c.start.new.self })) c.self.view_is
+    subst (λ (s : State). state_after_start s c.args.test ≡ Ok (record state { tests = c.start.new.self })) c.self.view_is
     (start_leads state c.args.test c.start.new.self taken c.in_ok-start.ensures.ok)

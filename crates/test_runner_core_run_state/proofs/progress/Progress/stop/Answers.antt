@@ -3,7 +3,7 @@ use Rattle.std.specs.Option.{option_map_or}
 use Rattle.nextest_run_events_results.specs.Cancel.{graver_reason}
 use Rattle.nextest_run_events_results.specs.declared.cancel_reason.CancelReason.{CancelReason}
 use Rattle.test_runner_core_run_model.specs.State.{State}
-use Rattle.test_runner_core_run_model.specs.Step.{stopped, stopped_by}
+use Rattle.test_runner_core_run_model.specs.Step.{state_after_stop, stopped_by}
 use Rattle.test_runner_core_run_model.specs.declared.event.Event.TheVariants as events
 use Rattle.test_runner_core_run_state.specs.contracts.progress.Progress.{the_view}
 use Rattle.test_runner_core_run_state.proofs.Taken.{stop_leads, stops_unless, takes_step}
@@ -15,7 +15,7 @@ returns-in-Some-cancel_reason c =
     let old = c.args.self.now in
     let new = record state { reason = Some c.graver.result } in
     let happens =
-    subst (λ (s : State). stopped s c.args.reason ≡ Ok new) c.self.view_is
+    subst (λ (s : State). state_after_stop s c.args.reason ≡ Ok new) c.self.view_is
     (stop_leads state c.args.reason (c.in_default.ensures state)
     ∙ ap (λ (o : Option CancelReason). Ok (option_map_or (λ old. record state { reason = Some (graver_reason old c.args.reason) }) o (stopped_by c.args.reason state))) c.in-Some-cancel_reason.is
     ∙ ap (λ (r : CancelReason). Ok (record state { reason = Some r })) (sym c.graver.ensures)) in

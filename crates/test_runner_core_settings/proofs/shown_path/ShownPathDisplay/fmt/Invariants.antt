@@ -1,12 +1,12 @@
 use Rattle.std.proofs.Common.{◌≡◌, ◌++◌, ℕ, List}
 use Rattle.std.specs.Prelude.{IsUtf8}
 use Rattle.std.specs.Fmt.{HasWritten, IsPlainFormatter}
-use Rattle.test_runner_core_settings.specs.Warnings.{shown}
+use Rattle.test_runner_core_settings.specs.Warnings.{path_line_of}
 use Rattle.test_runner_core_settings.proofs.shown_path.ShownPathDisplay.fmt.Given as goal
 
 abbrev pub invariant-loop-character : goal.invariant-loop-character
 invariant-loop-character g l =
     (IsPlainFormatter l.initial.f
     → (done : List ℕ) × HasWritten g.W.Write.write_str_gives l.initial.f done l.f
-    × (shown l.self.0.now ≡ done ++ shown l.character-iterator.rest.now))
+    × (path_line_of l.self.0.now ≡ done ++ path_line_of l.character-iterator.rest.now))
     × IsUtf8 l.character-iterator.rest.now
