@@ -54,8 +54,9 @@ pub fn on_test<G: GroupLookup>(
     default: &EvalContext<'_>,
     groups: &G,
 ) -> Result<bool, AllocError>
-    ensures { IfOk result (λ value. IsValue (IsOn (filter_of filterset.now.compiled) (filter_of
-        default.now) (test_of test.now) (G.member groups.now (test_of test.now))) (Some value)) }
+    ensures { IfOk result (λ value. IsValue
+        (IsOn (filter_of filterset.now.compiled) (filter_of default.now) (test_of test.now)
+        (G.member groups.now (test_of test.now))) (Some value)) }
 {
     filterset.matches_test_with_groups(alloc, test, default, groups)
 }

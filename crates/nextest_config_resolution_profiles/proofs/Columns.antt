@@ -13,7 +13,7 @@ use Rattle.nextest_config_resolution_overrides.specs.declared.placed_override.Pl
 use Rattle.nextest_config_resolution_profiles.specs.ChainRules.{seen_rule, seen_rules}
 use Rattle.nextest_config_resolution_profiles.specs.Evaluatable.{Evaluatable}
 use Rattle.nextest_config_resolution_profiles.specs.Held.{AreSettingsFor, Holds, layers_of, placed_of}
-use Rattle.nextest_config_resolution_profiles.specs.HeldRules.{AreColumns, AreHeldColumns, AreTold, AreToldBy, Columns, IsColumn, IsHeldRow, TellsEach, held_row, rules_at, row_at, value_at}
+use Rattle.nextest_config_resolution_profiles.specs.HeldRules.{AreColumns, AreHeldColumns, IsRowOn, IsRowBy, Columns, IsColumn, IsHeldRow, TellsEach, held_row, rules_at, row_at, value_at}
 use Rattle.nextest_config_resolution_profiles.specs.Platforms.{RuleOn}
 use Rattle.nextest_config_resolution_profiles.specs.declared.chain_rule.ChainRule.{ChainRule}
 use Rattle.nextest_config_resolution_profiles.proofs.Holding.{settings_found}
@@ -47,7 +47,7 @@ module _ {P F S : Type 0} (OnTest : F → F → Test → Bool → Type 0) (defau
 
   -- what they say of a test
   pub row_of : (place : ℕ) (name : List ℕ) → slice_get names place ≡ Some name → (rules : List (RuleOn P F S)) (columns : List (List Bool)) → AreColumns OnTest default binary names rules columns
-      → AreTold OnTest default (record { binary = binary; name = name }) rules (row_at place columns)
+      → IsRowOn OnTest default (record { binary = binary; name = name }) rules (row_at place columns)
   row_of place name at [] [] all = tt
   row_of place name at [] (column ∷ columns) all = absurd all
   row_of place name at (rule ∷ rules) [] all = absurd all
@@ -117,7 +117,7 @@ picked_more {P} {F} {S} row rules place rule is_asked before after within is ask
 -- ---- a row in two parts
 
 -- rules have as many values
-pub told_length : {R : Type 0} (Holding : R → Type 0) (rules : List R) (row : List Bool) → AreToldBy Holding rules row → length row ≡ length rules
+pub told_length : {R : Type 0} (Holding : R → Type 0) (rules : List R) (row : List Bool) → IsRowBy Holding rules row → length row ≡ length rules
 told_length Holding [] [] all = refl
 told_length Holding [] (value ∷ row) all = absurd all
 told_length Holding (rule ∷ rules) [] all = absurd all

@@ -18,7 +18,7 @@ use Rattle.nextest_config_resolution_load.proofs.Passing.{taken_more}
 use Rattle.nextest_config_resolution_profiles.specs.Enabled.{AreNamesOf, HasEnabled, HoldsOnSome, IsEnabled, any_in, defined_as, has_name, is_named, setup_of, test_in}
 use Rattle.nextest_config_resolution_profiles.specs.Evaluatable.{Evaluatable}
 use Rattle.nextest_config_resolution_profiles.specs.Held.{Holds, placed_of}
-use Rattle.nextest_config_resolution_profiles.specs.HeldRules.{AreColumns, AreToldBy, IsColumn, rules_at, value_at}
+use Rattle.nextest_config_resolution_profiles.specs.HeldRules.{AreColumns, IsRowBy, IsColumn, rules_at, value_at}
 use Rattle.nextest_config_resolution_profiles.specs.Platforms.{RuleOn, ScriptRuleOn}
 use Rattle.nextest_config_resolution_profiles.specs.RuleLaws.{MoreEnableNoFewer}
 use Rattle.nextest_config_resolution_scripts.specs.declared.script_config.NamedScript.{NamedScript}
@@ -113,7 +113,7 @@ module _ {F S : Type 0} (Holding : ScriptRuleOn F S → Type 0) where
   names_behind : (first : ScriptRuleOn F S) (rules : List (ScriptRuleOn F S)) (id : List ℕ) → Names Holding rules id → Names Holding (first ∷ rules) id
   names_behind first rules id it = record { rule = it.rule; of = Contains-append_right (first ∷ []) rules it.rule it.of; holds = it.holds; names = it.names }
 
-  pub named_by : (rules : List (ScriptRuleOn F S)) (row : List Bool) → AreToldBy Holding rules row → (id : List ℕ) → is_named (map placed_of (rules_at row rules)) id ≡ true → Names Holding rules id
+  pub named_by : (rules : List (ScriptRuleOn F S)) (row : List Bool) → IsRowBy Holding rules row → (id : List ℕ) → is_named (map placed_of (rules_at row rules)) id ≡ true → Names Holding rules id
   named_by [] row told id h = absurd (false≢true h)
   named_by (rule ∷ rules) [] told id h = absurd told
   named_by (rule ∷ rules) (true ∷ row) told id h = by_side (named_by rules row told.1 id) (either (list_any (bytes_eq id) (setup_of rule)) (is_named (map placed_of (rules_at row rules)) id) h)
@@ -123,7 +123,7 @@ module _ {F S : Type 0} (Holding : ScriptRuleOn F S → Type 0) where
       by_side rest (inr behind) = names_behind rule rules id (rest behind)
   named_by (rule ∷ rules) (false ∷ row) told id h = names_behind rule rules id (named_by rules row told.1 id h)
 
-  pub named_back : (rules : List (ScriptRuleOn F S)) (row : List Bool) → AreToldBy Holding rules row → (id : List ℕ) → Names Holding rules id → is_named (map placed_of (rules_at row rules)) id ≡ true
+  pub named_back : (rules : List (ScriptRuleOn F S)) (row : List Bool) → IsRowBy Holding rules row → (id : List ℕ) → Names Holding rules id → is_named (map placed_of (rules_at row rules)) id ≡ true
   named_back [] row told id it = absurd (none it.of)
     where
       none : {x : ScriptRuleOn F S} → Contains [] x → ⊥
@@ -228,7 +228,7 @@ module _ {P F S : Type 0} (OnTest : F → F → Test → Bool → Type 0) (defau
       )
 
   pub told_by_columns : (rules : List (RuleOn P F S)) (columns : List (List Bool)) (count : ℕ) → count ≡ length names → AreColumns OnTest default binary names rules columns
-      → AreToldBy (HoldsOnSome OnTest default (map (test_in binary) names)) rules (map (any_in count) columns)
+      → IsRowBy (HoldsOnSome OnTest default (map (test_in binary) names)) rules (map (any_in count) columns)
   told_by_columns [] [] count same are = tt
   told_by_columns [] (column ∷ columns) count same are = absurd are
   told_by_columns (rule ∷ rules) [] count same are = absurd are
@@ -246,7 +246,7 @@ module _ {F S : Type 0} (OnTest : F → F → Test → Bool → Type 0) (profile
 
   -- by what holds on some tests and what holds on others
   pub enabled_both : (tests more : List Test) (old new : BTreeSet (List ℕ)) (row : List Bool) → HasEnabled OnTest profile tests old
-      → AreToldBy (HoldsOnSome OnTest profile.default_filter.filter.now more) profile.script_rules row
+      → IsRowBy (HoldsOnSome OnTest profile.default_filter.filter.now more) profile.script_rules row
       → ((id : List ℕ) → has_name new id ≡ (has_name old id || is_named (map placed_of (rules_at row profile.script_rules)) id)) → HasEnabled OnTest profile (tests ++ more) new
   enabled_both tests more old new row before told adds = λ id. (
     (λ h. forth id (either (has_name old id) (is_named (map placed_of (rules_at row profile.script_rules)) id) (sym (adds id) ∙ h))),

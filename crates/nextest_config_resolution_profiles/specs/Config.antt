@@ -80,12 +80,12 @@ pub record IsEarly {F S : Type 0} (config : Whole F S) (name : Name) (it : Early
 -- the profile of a name, or that none has it, with the names of all; want of memory says nothing
 abbrev pub IsProfile : {F S : Type 0} → Whole F S → Name → Result (Early F S) ProfileError → Type 0
 IsProfile config name (Ok it) = IsEarly config name it
-IsProfile config name (Err (error.NotFound told)) = (told.name ≡ name) × (told.known ≡ names_of config) × ¬ Contains (names_of config) name
+IsProfile config name (Err (error.NotFound missing)) = (missing.name ≡ name) × (missing.known ≡ names_of config) × ¬ Contains (names_of config) name
 IsProfile config name (Err error.OutOfMemory) = ⊤
 
 -- the names of all profiles, which a refusal gives, rise by their bytes
 abbrev pub KnownRise : {E : Type 0} → Result E ProfileError → Type 0
-KnownRise (Err (error.NotFound told)) = IsStrictlySortedBy (slice_cmp nat_cmp) told.known
+KnownRise (Err (error.NotFound missing)) = IsStrictlySortedBy (slice_cmp nat_cmp) missing.known
 KnownRise (Err error.OutOfMemory) = ⊤
 KnownRise (Ok it) = ⊤
 

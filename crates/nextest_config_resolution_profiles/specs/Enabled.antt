@@ -8,7 +8,7 @@ use Rattle.std.specs.Ordering.{nat_cmp}
 use Rattle.std.specs.Str.{bytes_eq}
 use Rattle.nextest_config_resolution_profiles.specs.Evaluatable.{Evaluatable}
 use Rattle.nextest_config_resolution_profiles.specs.Held.{Holds, holds_for, placed_of}
-use Rattle.nextest_config_resolution_profiles.specs.HeldRules.{AreToldBy, rules_at}
+use Rattle.nextest_config_resolution_profiles.specs.HeldRules.{IsRowBy, rules_at}
 use Rattle.nextest_config_resolution_profiles.specs.Platforms.{RuleOn, ScriptRuleOn}
 use Rattle.nextest_config_resolution_profiles.specs.declared.enabled.Asked.{Asked}
 use Rattle.nextest_config_resolution_profiles.specs.declared.enabled.Asked.TheVariants as asked
@@ -113,5 +113,5 @@ test_in binary name = record { binary = binary; name = name }
 pub record FindsAsked {F S : Type 0} (OnTest : F → F → Test → Bool → Type 0) (OnBinary : F → F → Binary → Option Bool → Type 0)
     (profile : Evaluatable F S) (asked : Asked) (found : List PlacedScriptRule) : Type 0 where
   pub row : List Bool
-  pub told : AreToldBy (HoldsAsked OnTest OnBinary profile.default_filter.filter.now asked) profile.script_rules row
+  pub told : IsRowBy (HoldsAsked OnTest OnBinary profile.default_filter.filter.now asked) profile.script_rules row
   pub same : found ≡ map placed_of (rules_at row profile.script_rules)

@@ -8,20 +8,20 @@ use Rattle.nextest_filtering_filters.specs.Meaning.{Tells}
 use Rattle.nextest_filtering_filters.specs.Query.{Binary, Test}
 
 -- of which of some rules this is so, in their order
-abbrev pub AreToldBy : {R : Type 0} → (R → Type 0) → List R → List Bool → Type 0
-AreToldBy Holding rules row = AllZip (λ rule value. Tells (Holding rule) value) rules row
+abbrev pub IsRowBy : {R : Type 0} → (R → Type 0) → List R → List Bool → Type 0
+IsRowBy Holding rules row = AllZip (λ rule value. Tells (Holding rule) value) rules row
 
 -- whether each of some rules holds on a test
-abbrev pub AreTold : {P F S : Type 0} → (F → F → Test → Bool → Type 0) → F → Test → List (RuleOn P F S) → List Bool → Type 0
-AreTold OnTest default test rules row = AreToldBy (Holds OnTest default test) rules row
+abbrev pub IsRowOn : {P F S : Type 0} → (F → F → Test → Bool → Type 0) → F → Test → List (RuleOn P F S) → List Bool → Type 0
+IsRowOn OnTest default test rules row = IsRowBy (Holds OnTest default test) rules row
 
 -- whether each of the overrides of a profile does, and then whether each of its script rules does
 pub record IsHeldRow {F S : Type 0} (OnTest : F → F → Test → Bool → Type 0) (profile : Evaluatable F S) (test : Test) (row : List Bool) : Type 0 where
   pub front : List Bool
   pub back : List Bool
   pub divided : row ≡ front ++ back
-  pub overrides : AreTold OnTest profile.default_filter.filter.now test profile.rules front
-  pub scripts : AreTold OnTest profile.default_filter.filter.now test profile.script_rules back
+  pub overrides : IsRowOn OnTest profile.default_filter.filter.now test profile.rules front
+  pub scripts : IsRowOn OnTest profile.default_filter.filter.now test profile.script_rules back
 
 -- the rules at which a row is true, in their order
 abbrev pub rules_at : {R : Type 0} → List Bool → List R → List R

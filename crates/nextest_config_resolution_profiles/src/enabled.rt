@@ -8,7 +8,7 @@ ghost use Rattle.std.specs.Str.{bytes_eq};
 ghost use Rattle.nextest_config_resolution_profiles.specs.Asking.{IsAskable};
 ghost use Rattle.nextest_config_resolution_profiles.specs.ChainRules.{rule_in, rules_in, seen_rule, seen_rules};
 ghost use Rattle.nextest_config_resolution_profiles.specs.Enabled as words;
-ghost use Rattle.nextest_config_resolution_profiles.specs.HeldRules.{AreHeldColumns, AreToldBy};
+ghost use Rattle.nextest_config_resolution_profiles.specs.HeldRules.{AreHeldColumns, IsRowBy};
 ghost use Rattle.nextest_config_resolution_settings.specs.Nearest.{lent_layers};
 ghost use Rattle.nextest_filtering_filters.specs.Meaning.{Tells};
 ghost use Rattle.nextest_filtering_filters.specs.Query.{Binary, Test, binary_of, test_of};
@@ -214,7 +214,7 @@ fn asked_of<P, F: Filters, S>(
 ) -> Result<Vec<bool>, AllocError>
     requires serves { F.serves_as_default default.now ≡ true }
     requires askable { All (IsAskable F.serves_as_default F.asks_groups) (rules_in rules.now) }
-    ensures { IfOk result (λ row. AreToldBy (words.HoldsAsked F.on_test F.on_binary default.now
+    ensures { IfOk result (λ row. IsRowBy (words.HoldsAsked F.on_test F.on_binary default.now
         asked.entry) (seen_rules rules.now) row.items) }
 {
     let mut row = Vec::with_capacity(alloc, rules.len())?;

@@ -94,7 +94,7 @@ impl<'i> Faults<'i> {
     /// Whether the text gets no tree.
     pub fn is_hopeless(&self) -> bool
         ensures value { result ≡ self.now.hopeless }
-        ensures told { result ≡ true → 0 < count self.now }
+        ensures reported { result ≡ true → 0 < count self.now }
     {
         self.hopeless
     }

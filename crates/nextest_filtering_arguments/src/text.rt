@@ -34,7 +34,7 @@ fn report_spans(
     requires suffix { IsSuffix ahead.now faults.old.input }
     requires spans { AllByRecursion (IsSpanOf ahead.now) spans.now }
     ensures input { faults.new.input ≡ faults.old.input }
-    ensures told { OnOk result (count faults.new ≡ count faults.old + length spans.now) }
+    ensures reported { OnOk result (count faults.new ≡ count faults.old + length spans.now) }
 {
     for span in spans {
         let place = faults.span_within(ahead, span.offset, span.length);
@@ -53,7 +53,7 @@ fn report_escapes(
     requires suffix { IsSuffix ahead.now faults.old.input }
     requires front { IsFront whole.now ahead.now }
     ensures input { faults.new.input ≡ faults.old.input }
-    ensures told { OnOk result (IsLookedAt whole.now (count faults.old) (count faults.new)) }
+    ensures reported { OnOk result (IsLookedAt whole.now (count faults.old) (count faults.new)) }
 {
     let read = unescape(alloc, whole)?;
     report_spans(faults, ahead, read.bad.as_slice())

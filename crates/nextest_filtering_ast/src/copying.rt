@@ -1,14 +1,14 @@
-// Matchers copied and compared.
+// Matchers and predicates copied and compared.
 ghost use Rattle.std.specs.Prelude.{◌≡◌};
 ghost use Rattle.std.specs.Cmp.{partial_equiv_from_equiv};
-ghost use Rattle.nextest_filtering_ast.specs.Tree.{matcher_of};
 ghost use Rattle.nextest_filtering_ast.specs.Same.{same_value, same_value_equiv};
 
+use crate::leaf::ParsedLeaf;
 use crate::matcher::NameMatcher;
 use std::alloc::AllocError;
 
 impl Clone for NameMatcher {
-    ghost is_clone = { λ original copy. matcher_of copy ≡ matcher_of original };
+    ghost is_clone = { λ original copy. copy ≡ original };
 
     fn clone(&self) -> Result<NameMatcher, AllocError> {
         match self {
@@ -67,4 +67,25 @@ impl PartialEq for NameMatcher {
 
 impl Eq for NameMatcher {
     ghost laws = { same_value_equiv };
+}
+
+impl Clone for ParsedLeaf {
+    ghost is_clone = { λ original copy. copy ≡ original };
+
+    fn clone(&self) -> Result<ParsedLeaf, AllocError> {
+        Ok(match self {
+            ParsedLeaf::Package(matcher, span) => ParsedLeaf::Package(matcher.clone()?, *span),
+            ParsedLeaf::Deps(matcher, span) => ParsedLeaf::Deps(matcher.clone()?, *span),
+            ParsedLeaf::Rdeps(matcher, span) => ParsedLeaf::Rdeps(matcher.clone()?, *span),
+            ParsedLeaf::Kind(matcher, span) => ParsedLeaf::Kind(matcher.clone()?, *span),
+            ParsedLeaf::Binary(matcher, span) => ParsedLeaf::Binary(matcher.clone()?, *span),
+            ParsedLeaf::BinaryId(matcher, span) => ParsedLeaf::BinaryId(matcher.clone()?, *span),
+            ParsedLeaf::Platform(platform, span) => ParsedLeaf::Platform(*platform, *span),
+            ParsedLeaf::Test(matcher, span) => ParsedLeaf::Test(matcher.clone()?, *span),
+            ParsedLeaf::Group(matcher, span) => ParsedLeaf::Group(matcher.clone()?, *span),
+            ParsedLeaf::Default(span) => ParsedLeaf::Default(*span),
+            ParsedLeaf::All => ParsedLeaf::All,
+            ParsedLeaf::None => ParsedLeaf::None,
+        })
+    }
 }

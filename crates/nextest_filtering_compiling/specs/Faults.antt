@@ -35,7 +35,7 @@ NoGroup groups.Unavailable m = ⊥
 -- the fault that a predicate has where this is so, and none where it isn't
 abbrev pub Has : ParseSingleError → Type 0 → Option ParseSingleError → Type 0
 Has it Bad None = Bad → ⊥
-Has it Bad (Some told) = (told ≡ it) × Bad
+Has it Bad (Some fault) = (fault ≡ it) × Bad
 
 -- the fault of a predicate, if it has one
 abbrev pub LeafHas : Context → KnownGroups → SourceSpan → Leaf → Option ParseSingleError → Type 0
@@ -45,11 +45,11 @@ LeafHas cx known span (matching dependents m) = Has (fault.NoPackageMatch span) 
 LeafHas cx known span (matching binary_id m) = Has (fault.NoBinaryIdMatch span) (NoBinary cx (λ it. it.0) m)
 LeafHas cx known span (matching binary_name m) = Has (fault.NoBinaryNameMatch span) (NoBinary cx (λ it. it.1) m)
 LeafHas cx known span (matching group m) = Has (fault.NoGroupMatch span) (NoGroup known m)
-LeafHas cx known span other = (λ told. told ≡ None)
+LeafHas cx known span other = (λ fault. fault ≡ None)
 
 abbrev pub faults_of_option : Option ParseSingleError → List ParseSingleError
 faults_of_option None = []
-faults_of_option (Some told) = told ∷ []
+faults_of_option (Some fault) = fault ∷ []
 
 -- the faults of predicates, from left to right
 abbrev pub Have : Context → KnownGroups → List ParsedLeaf → List ParseSingleError → Type 0

@@ -151,8 +151,7 @@ impl Filterset {
         requires no_group { list_any is_group self.now.compiled.leaves ≡ false }
         ensures { IfOk result (λ values. AllZip (λ name value. IsValue
             (IsOn (filter_of self.now.compiled) (filter_of ecx.now) (record {
-              binary = binary_of
-                  binary.now;
+              binary = binary_of binary.now;
               name = name.now;
             }) (λ matcher. ⊥)) (Some value)) names.now values.items) }
     {

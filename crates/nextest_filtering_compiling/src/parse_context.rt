@@ -37,6 +37,18 @@ impl Model for ParseContext {
         × (it.reachability.count ≡ length it.graph.packages) };
 }
 
+impl Clone for ParseContext {
+    ghost is_clone = { λ original copy. copy ≡ original };
+
+    fn clone(&self) -> Result<ParseContext, AllocError> {
+        Ok(ParseContext {
+            graph: self.graph.clone()?,
+            reachability: self.reachability.clone()?,
+            binaries: self.binaries.clone()?,
+        })
+    }
+}
+
 impl ParseContext {
     /// A workspace of these packages, whose binaries aren't known. It fails only on allocation.
     pub fn new(alloc: Global, graph: PackageGraph) -> Result<ParseContext, AllocError>

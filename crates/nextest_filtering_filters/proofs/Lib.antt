@@ -8,3 +8,4 @@ pub mod Sure
 pub mod Deciding
 pub mod EachTest
 pub mod TestColumns
+pub mod Copies

@@ -10,7 +10,7 @@ use Rattle.nextest_filtering_filters.specs.declared.values.Values.{Values}
 use Rattle.nextest_filtering_filters.proofs.Giving.{gives_less, gives_one, gives_with, with_gives}
 use Rattle.nextest_filtering_ast.specs.Meaning.{MatchesName}
 use Rattle.nextest_filtering_ast.specs.Tree.{Matcher, matcher_of}
-use Rattle.nextest_filtering_filters.specs.Asking.{AreOn, AreTold, IsKept, IsTold, PartOf, left_by, values_may}
+use Rattle.nextest_filtering_filters.specs.Asking.{AreOn, AreLeafValues, IsKept, IsLeafValue, PartOf, left_by, values_may}
 use Rattle.nextest_filtering_filters.specs.Filter.{Compiled, filter_of, is_default, leaf_at}
 use Rattle.nextest_filtering_filters.specs.Meaning.{CanBeOn, Either, IsOn, MayBe, Never, Tells}
 use Rattle.nextest_filtering_filters.specs.Query.{Binary, Test}
@@ -117,18 +117,18 @@ one_of : (Can : Bool → Type 0) → ((a b : Bool) → Can a → Can b → a ≡
 one_of Can single None it is both = absurd (let no_way = single true false both.0 both.1 in cc)
 one_of Can single (Some one) it is can = subst (λ v. IsValue Can (Some v)) (sym (is one refl)) can
 
-pub on_test : (it : Compiled) (binary : Binary) (name : List ℕ) (Member : Matcher → Type 0) (default : Bool) (values lent : List Values) (steps : List FormulaStep) → AllZip (AreTold binary name Member default) it.leaves values
+pub on_test : (it : Compiled) (binary : Binary) (name : List ℕ) (Member : Matcher → Type 0) (default : Bool) (values lent : List Values) (steps : List FormulaStep) → AllZip (AreLeafValues binary name Member default) it.leaves values
     → lent ≡ values → steps ≡ it.steps → (value : Option Bool) (one : Bool) → ((other : Bool) → value ≡ Some other → one ≡ other) → IsValue (Gives (may_by (values_at lent)) (formula_of steps)) value
-    → IsValue (Gives (IsTold binary name Member default) (filter_of it)) (Some one)
+    → IsValue (Gives (IsLeafValue binary name Member default) (filter_of it)) (Some one)
 on_test it binary name Member default values lent steps all same is value one answered given =
-    let May = IsTold binary name Member default in
+    let May = IsLeafValue binary name Member default in
     one_of (Gives May (filter_of it)) (told_one binary name Member (λ other. other ≡ default) (λ a b first second. first ∙ sym second) (filter_of it)) value one answered
     (by_places May (nowhere_false (May leaf.None) refl (λ is. cc)) it values all value (lent_value values lent it.steps steps value same is given))
 
-pub some_on_test : (binary : Binary) (name : List ℕ) (Member : Matcher → Type 0) (default : Bool) (leaves : List FiltersetLeaf) (values lent : List Values) → AllZip (AreTold binary name Member default) leaves values → lent ≡ values
+pub some_on_test : (binary : Binary) (name : List ℕ) (Member : Matcher → Type 0) (default : Bool) (leaves : List FiltersetLeaf) (values lent : List Values) → AllZip (AreLeafValues binary name Member default) leaves values → lent ≡ values
     → All IsSome lent
 some_on_test binary name Member default leaves values lent all same =
-    subst (All IsSome) (sym same) (all_second (AreTold binary name Member default) IsSome (λ l v so. so.1) leaves values all)
+    subst (All IsSome) (sym same) (all_second (AreLeafValues binary name Member default) IsSome (λ l v so. so.1) leaves values all)
 
 -- ---- the default filter
 
@@ -204,12 +204,12 @@ only_value Can false true is can = absurd (is.1 can)
 
 pub is_on : (filter default : Compiled) (test : Test) (Member : Matcher → Type 0) (one : Bool)
     → (list_any is_default filter.leaves ≡ true → IsValue (Gives (MayBe test.binary (λ m. Tells (MatchesName m test.name)) (λ m. Tells (Member m)) Never) (filter_of default)) (Some one))
-    → (value : Option Bool) → IsValue (Gives (IsTold test.binary test.name Member one) (filter_of filter)) value → IsValue (IsOn (filter_of filter) (filter_of default) test Member) value
+    → (value : Option Bool) → IsValue (Gives (IsLeafValue test.binary test.name Member one) (filter_of filter)) value → IsValue (IsOn (filter_of filter) (filter_of default) test Member) value
 is_on filter default test Member one exact =
     let Name : Matcher → Bool → Type 0 = λ m. Tells (MatchesName m test.name) in
     let Group : Matcher → Bool → Type 0 = λ m. Tells (Member m) in
     let Can = Gives (MayBe test.binary Name Group Never) (filter_of default) in
-    is_value_same (Gives (IsTold test.binary test.name Member one) (filter_of filter)) (IsOn (filter_of filter) (filter_of default) test Member)
+    is_value_same (Gives (IsLeafValue test.binary test.name Member one) (filter_of filter)) (IsOn (filter_of filter) (filter_of default) test Member)
     (by_default filter test.binary Name Group (λ other. other ≡ one) Can (λ asked other is. subst Can (sym is) (exact asked).0))
     (by_default filter test.binary Name Group Can (λ other. other ≡ one) (λ asked other can. only_value Can one other (exact asked) can))
 

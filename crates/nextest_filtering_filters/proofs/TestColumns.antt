@@ -7,7 +7,7 @@ use Rattle.nextest_filtering_ast.specs.Matching.{comparison_of, text_of}
 use Rattle.nextest_filtering_ast.specs.Meaning.{Compares, MatchesName}
 use Rattle.nextest_filtering_ast.specs.Tree.{Comparison, Matcher, matcher_of}
 use Rattle.nextest_filtering_ast.specs.declared.matching.NameMatching.{NameMatching}
-use Rattle.nextest_filtering_filters.specs.Asking.{AreTold, IsColumn, IsFor, IsTold}
+use Rattle.nextest_filtering_filters.specs.Asking.{AreLeafValues, IsColumn, IsFor, IsLeafValue}
 use Rattle.nextest_filtering_filters.specs.Columns.{IsLong, OnEach, just, value_at, values_in}
 use Rattle.nextest_filtering_filters.specs.Deciding.{AllLeaves, HasReadable}
 use Rattle.nextest_filtering_filters.specs.Filter.{Compiled, filter_of, is_default, leaf_at}
@@ -55,10 +55,10 @@ exactly_one Can single false can = (((λ so. cc), (λ has. let no_way = single f
 
 -- the values of predicates on the test at a place
 told_at : (binary : Binary) (names : List (Bor (List ℕ))) (default : List Bool) (leaves : List FiltersetLeaf) (columns : List (Vec Bool)) → AllZip (IsColumn binary names default) leaves columns
-    → (place : ℕ) (name : Bor (List ℕ)) → slice_get names place ≡ Some name → AllZip (AreTold binary name.now (λ m. ⊥) (value_at default place)) leaves (values_in columns place)
+    → (place : ℕ) (name : Bor (List ℕ)) → slice_get names place ≡ Some name → AllZip (AreLeafValues binary name.now (λ m. ⊥) (value_at default place)) leaves (values_in columns place)
 told_at binary names default leaves columns all place name at =
-    let Told : FiltersetLeaf → Bool → Type 0 = IsTold binary name.now (λ m. ⊥) (value_at default place) in
-    zip_map (IsColumn binary names default) (AreTold binary name.now (λ m. ⊥) (value_at default place)) (λ (column : Vec Bool). just (value_at column.items place))
+    let Told : FiltersetLeaf → Bool → Type 0 = IsLeafValue binary name.now (λ m. ⊥) (value_at default place) in
+    zip_map (IsColumn binary names default) (AreLeafValues binary name.now (λ m. ⊥) (value_at default place)) (λ (column : Vec Bool). just (value_at column.items place))
     (λ l column is. (
       exactly_one (Told l)
           (may_one binary (λ m. Tells (MatchesName m name.now)) (λ m. Tells ⊥) (λ other. other ≡ value_at default place) (λ m. tells_one (MatchesName m name.now)) (λ m. tells_one ⊥)
@@ -73,7 +73,7 @@ told_at binary names default leaves columns all place name at =
 pub on_tests : (it : Compiled) (binary : Binary) (names : List (Bor (List ℕ))) (default : List Bool) (columns lent : List (Vec Bool)) (steps : List FormulaStep) (column : Vec Bool)
     → AllZip (IsColumn binary names default) it.leaves columns → lent ≡ columns → steps ≡ it.steps
     → ((place : ℕ) → place < length names → IsValue (Gives (may_by (values_at (values_in lent place))) (formula_of steps)) (Some (value_at column.items place)))
-    → OnEach names (λ place name. IsValue (Gives (IsTold binary name (λ m. ⊥) (value_at default place)) (filter_of it)) (Some (value_at column.items place)))
+    → OnEach names (λ place name. IsValue (Gives (IsLeafValue binary name (λ m. ⊥) (value_at default place)) (filter_of it)) (Some (value_at column.items place)))
 on_tests it binary names default columns lent steps column all same is values place name at =
     on_test it binary name.now (λ m. ⊥) (value_at default place) (values_in columns place) (values_in lent place) steps (told_at binary names default it.leaves columns all place name at)
     (ap (λ (l : List (Vec Bool)). values_in l place) same) is (Some (value_at column.items place)) (value_at column.items place) (λ other one. cc) (values place (within names place name at))
@@ -82,7 +82,7 @@ on_tests it binary names default columns lent steps column all same is values pl
 pub tests_are_on : (filter default : Compiled) (binary : Binary) (names : List (Bor (List ℕ))) (others column : List Bool) → length column ≡ length names
     → (list_any is_default filter.leaves ≡ true
     → OnEach names (λ place name. IsValue (Gives (MayBe binary (λ m. Tells (MatchesName m name)) (λ m. Tells ⊥) Never) (filter_of default)) (Some (value_at others place))))
-    → OnEach names (λ place name. IsValue (Gives (IsTold binary name (λ m. ⊥) (value_at others place)) (filter_of filter)) (Some (value_at column place)))
+    → OnEach names (λ place name. IsValue (Gives (IsLeafValue binary name (λ m. ⊥) (value_at others place)) (filter_of filter)) (Some (value_at column place)))
     → AllZip (λ name value. IsValue (IsOn (filter_of filter) (filter_of default) (record { binary = binary; name = name.now }) (λ matcher. ⊥)) (Some value)) names column
 tests_are_on filter default binary names others column long exact told =
     zip_by_places (λ (name : Bor (List ℕ)) value. IsValue (IsOn (filter_of filter) (filter_of default) (record { binary = binary; name = name.now }) (λ matcher. ⊥)) (Some value)) names column false long

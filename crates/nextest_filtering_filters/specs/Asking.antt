@@ -44,8 +44,8 @@ abbrev pub values_may : Values → Bool → Type 0
 values_may values = may_by (λ number. values) 0
 
 -- what a predicate is on a test of this name and these groups, where the default filter is so
-abbrev pub IsTold : Binary → List ℕ → (Matcher → Type 0) → Bool → FiltersetLeaf → Bool → Type 0
-IsTold binary name Member default it value =
+abbrev pub IsLeafValue : Binary → List ℕ → (Matcher → Type 0) → Bool → FiltersetLeaf → Bool → Type 0
+IsLeafValue binary name Member default it value =
     MayBe binary (λ m. Tells (MatchesName m name)) (λ m. Tells (Member m)) (λ other. other ≡ default) it value
 
 -- the values that a predicate may have on a binary, where the default filter may have these
@@ -53,13 +53,13 @@ abbrev pub AreOn : Binary → Values → FiltersetLeaf → Values → Type 0
 AreOn binary default it values = AreValues (MayBe binary Either Either (values_may default) it) values × IsSome values
 
 -- the value that a predicate has on a test, as values
-abbrev pub AreTold : Binary → List ℕ → (Matcher → Type 0) → Bool → FiltersetLeaf → Values → Type 0
-AreTold binary name Member default it values = AreValues (IsTold binary name Member default it) values × IsSome values
+abbrev pub AreLeafValues : Binary → List ℕ → (Matcher → Type 0) → Bool → FiltersetLeaf → Values → Type 0
+AreLeafValues binary name Member default it values = AreValues (IsLeafValue binary name Member default it) values × IsSome values
 
 -- what a predicate is on each of some tests of a binary, whose groups nobody knows, where this is what the default filter is
 abbrev pub IsColumn : Binary → List (Bor (List ℕ)) → List Bool → FiltersetLeaf → Vec Bool → Type 0
 IsColumn binary names default it column = IsLong (length names) column
-    × OnEach names (λ place name. IsTold binary name (λ m. ⊥) (value_at default place) it (value_at column.items place))
+    × OnEach names (λ place name. IsLeafValue binary name (λ m. ⊥) (value_at default place) it (value_at column.items place))
 
 -- what is kept of a default filter on a binary, beside a filter: nothing only where the filter doesn't ask for it
 abbrev pub IsKept : Compiled → Compiled → Binary → Option PartOf → Type 0

@@ -7,6 +7,7 @@ pub mod FormulaLaws
 pub mod WorkedRows
 pub mod Query
 pub mod Filter
+pub mod Copies
 pub mod Meaning
 pub mod Asking
 pub mod Laws

@@ -3,7 +3,7 @@ ghost use Rattle.std.specs.Prelude.{◌≡◌, Bool, IfOk, length};
 ghost use Rattle.std.specs.List.{AllZip};
 ghost use Rattle.nextest_filtering_filters.specs.Formula.{AreValues};
 ghost use Rattle.nextest_filtering_filters.specs.Values.{IsSome, may_by};
-ghost use Rattle.nextest_filtering_filters.specs.Asking.{IsColumn, IsFor, IsTold, values_may};
+ghost use Rattle.nextest_filtering_filters.specs.Asking.{IsColumn, IsFor, IsLeafValue, values_may};
 ghost use Rattle.nextest_filtering_filters.specs.Meaning.{Either, MayBe, Tells};
 ghost use Rattle.nextest_filtering_filters.specs.Query.{Binary, binary_of, test_of};
 ghost use Rattle.nextest_filtering_filters.specs.declared.leaf.FiltersetLeaf.{FiltersetLeaf};
@@ -36,7 +36,7 @@ fn matched(
     matching: &mut NameMatching<'_>,
     names: &[&str],
 ) -> Result<Vec<bool>, AllocError>
-    ensures told { IfOk result (λ column. AllZip (λ name value.
+    ensures column { IfOk result (λ column. AllZip (λ name value.
         Tells (Compares (comparison_of matching.old) (text_of matching.old) name.now) value)
         names.now column.items) }
     ensures comparison { comparison_of matching.new ≡ comparison_of matching.old }
@@ -106,7 +106,7 @@ impl<'f> Asked<'f> {
         groups: &G,
     ) -> Result<bool, AllocError>
         ensures value { IfOk result (λ value. (binary : Binary) (leaf : FiltersetLeaf)
-            → IsFor binary leaf self.old → IsTold binary (test_of test.now).name
+            → IsFor binary leaf self.old → IsLeafValue binary (test_of test.now).name
             (G.member groups.now (test_of test.now)) default leaf value) }
         ensures stays { (binary : Binary) (leaf : FiltersetLeaf) → IsFor binary leaf self.old
             → IsFor binary leaf self.new }

@@ -35,6 +35,19 @@ impl Model for CompiledExpr {
     ghost view = { λ it. record { steps = it.formula; leaves = it.leaves.items } };
 }
 
+impl Clone for CompiledExpr {
+    ghost use Rattle.nextest_filtering_filters.specs.Copies.{IsCopy};
+
+    ghost is_clone = { IsCopy };
+
+    fn clone(&self) -> Result<CompiledExpr, AllocError> {
+        Ok(CompiledExpr {
+            formula: self.formula.clone()?,
+            leaves: self.leaves.clone()?,
+        })
+    }
+}
+
 impl CompiledExpr {
     /// A formula over predicates, each known by its place in the list. A place where none stands holds nowhere.
     pub fn new(formula: Formula, leaves: Vec<FiltersetLeaf>) -> CompiledExpr

@@ -185,9 +185,11 @@ impl<'f> BinaryEvaluator<'f> {
         test_name: &str,
         groups: &G,
     ) -> Result<bool, AllocError>
-        ensures value { IfOk result (λ value. IsValue (IsOn (filter_of self.old.filter) (filter_of
-            self.old.default) (record { binary = self.old.binary; name = test_name.now }) (G.member
-            groups.now (record { binary = self.old.binary; name = test_name.now }))) (Some value)) }
+        ensures value { IfOk result (λ value. IsValue
+            (IsOn (filter_of self.old.filter) (filter_of self.old.default)
+            (record { binary = self.old.binary; name = test_name.now })
+            (G.member groups.now (record { binary = self.old.binary; name = test_name.now })))
+            (Some value)) }
         ensures same { self.new ≡ self.old }
     {
         let test = TestQuery {

@@ -28,6 +28,16 @@ impl Model for Formula {
     ghost invariant = { λ it. IsOf it.steps.items (formula_of it.steps.items) };
 }
 
+impl Clone for Formula {
+    ghost is_clone = { λ original copy. copy ≡ original };
+
+    fn clone(&self) -> Result<Formula, AllocError> {
+        Ok(Formula {
+            steps: self.steps.clone()?,
+        })
+    }
+}
+
 // Takes the last one off.
 pub(crate) fn take_last<T>(waiting: &mut Vec<T>) -> T
     requires some { 1 ≤ vec_len waiting.old }

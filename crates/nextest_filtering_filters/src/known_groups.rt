@@ -1,8 +1,8 @@
 // The groups that a filterset may name.
 use nextest_text::{Listing, Text};
 
-/// The groups that a filterset may name.
-#[derive(Clone, Debug)]
+/// The groups that a filterset may name. Two are the same with the same names in the same order.
+#[derive(Clone, Debug, PartialEq, Eq)]
 pub enum KnownGroups {
     /// `@global`, and those of these names.
     Known(Listing<Text>),

@@ -3,10 +3,11 @@ ghost use Rattle.std.specs.Prelude.{◌≡◌};
 ghost use Rattle.nextest_filtering_filters.specs.Filter.{is_runtime_only};
 
 use nextest_filtering_ast::{BuildPlatform, NameMatcher, SourceSpan};
+use std::alloc::AllocError;
 use std::collections::BTreeSet;
 
-/// A predicate, as it is asked.
-#[derive(Clone)]
+/// A predicate, as it is asked. Two are the same with the same packages, or the same matcher from the same place.
+#[derive(PartialEq, Eq)]
 pub enum FiltersetLeaf {
     /// The binary's package is one of these, by their ids.
     Packages(BTreeSet<String>),
@@ -44,6 +45,35 @@ impl Drop for FiltersetLeaf {
             FiltersetLeaf::Default => {}
             FiltersetLeaf::All => {}
             FiltersetLeaf::None => {}
+        }
+    }
+}
+
+impl Clone for FiltersetLeaf {
+    ghost use Rattle.nextest_filtering_filters.specs.Copies.{IsLeafCopy};
+
+    ghost is_clone = { IsLeafCopy };
+
+    fn clone(&self) -> Result<FiltersetLeaf, AllocError> {
+        match self {
+            FiltersetLeaf::Packages(ids) => Ok(FiltersetLeaf::Packages(ids.clone()?)),
+            FiltersetLeaf::Kind(matcher, span) => Ok(FiltersetLeaf::Kind(matcher.clone()?, *span)),
+            FiltersetLeaf::Platform(platform, span) => {
+                Ok(FiltersetLeaf::Platform(*platform, *span))
+            }
+            FiltersetLeaf::Binary(matcher, span) => {
+                Ok(FiltersetLeaf::Binary(matcher.clone()?, *span))
+            }
+            FiltersetLeaf::BinaryId(matcher, span) => {
+                Ok(FiltersetLeaf::BinaryId(matcher.clone()?, *span))
+            }
+            FiltersetLeaf::Test(matcher, span) => Ok(FiltersetLeaf::Test(matcher.clone()?, *span)),
+            FiltersetLeaf::Group(matcher, span) => {
+                Ok(FiltersetLeaf::Group(matcher.clone()?, *span))
+            }
+            FiltersetLeaf::Default => Ok(FiltersetLeaf::Default),
+            FiltersetLeaf::All => Ok(FiltersetLeaf::All),
+            FiltersetLeaf::None => Ok(FiltersetLeaf::None),
         }
     }
 }

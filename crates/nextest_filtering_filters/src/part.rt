@@ -4,7 +4,7 @@ ghost use Rattle.std.specs.List.{AllZip};
 ghost use Rattle.nextest_filtering_filters.specs.Columns.{IsLong, OnEach, value_at};
 ghost use Rattle.nextest_filtering_filters.specs.Formula.{Gives, IsValue};
 ghost use Rattle.nextest_filtering_filters.specs.Values.{IsSome};
-ghost use Rattle.nextest_filtering_filters.specs.Asking.{AreOn, AreTold, IsColumn, IsFor, IsTold, values_may};
+ghost use Rattle.nextest_filtering_filters.specs.Asking.{AreOn, AreLeafValues, IsColumn, IsFor, IsLeafValue, values_may};
 ghost use Rattle.nextest_filtering_filters.specs.Filter.{filter_of};
 ghost use Rattle.nextest_filtering_filters.specs.Meaning.{Either, MayBe};
 ghost use Rattle.nextest_filtering_filters.specs.Query.{Binary, binary_of, test_of};
@@ -92,7 +92,7 @@ fn values_of_one<G: GroupLookup>(
     groups: &G,
 ) -> Result<Values, AllocError>
     ensures value { IfOk result (λ values. (binary : Binary) (leaf : FiltersetLeaf)
-        → IsFor binary leaf asked.old → AreTold binary (test_of test.now).name
+        → IsFor binary leaf asked.old → AreLeafValues binary (test_of test.now).name
         (G.member groups.now (test_of test.now)) default leaf values) }
     ensures stays { (binary : Binary) (leaf : FiltersetLeaf) → IsFor binary leaf asked.old
         → IsFor binary leaf asked.new }
@@ -113,7 +113,7 @@ fn values_on_test<G: GroupLookup>(
     values: &mut Vec<Values>,
 ) -> Result<(), AllocError>
     ensures values { IfOk result (λ _. (binary : Binary) (leaves : List FiltersetLeaf)
-        → AllZip (IsFor binary) leaves asked.old → AllZip (AreTold binary (test_of test.now).name
+        → AllZip (IsFor binary) leaves asked.old → AllZip (AreLeafValues binary (test_of test.now).name
         (G.member groups.now (test_of test.now)) default) leaves values.new.items) }
     ensures stays { (binary : Binary) (leaves : List FiltersetLeaf)
         → AllZip (IsFor binary) leaves asked.old → AllZip (IsFor binary) leaves asked.new }
@@ -193,7 +193,7 @@ impl<'f> Part<'f> {
         groups: &G,
     ) -> Result<bool, AllocError>
         ensures value { IfOk result
-            (λ value. IsValue (Gives (IsTold self.old.binary (test_of test.now).name (G.member
+            (λ value. IsValue (Gives (IsLeafValue self.old.binary (test_of test.now).name (G.member
             groups.now (test_of test.now)) default) (filter_of self.old.filter)) (Some value)) }
         ensures same { self.new ≡ self.old }
     {
@@ -222,7 +222,7 @@ impl<'f> Part<'f> {
         requires long { length default.now ≡ length names.now }
         ensures long { IfOk result (IsLong (length names.now)) }
         ensures values { IfOk result (λ column. OnEach names.now (λ place name. IsValue
-            (Gives (IsTold self.old.binary name (λ m. ⊥) (value_at default.now place))
+            (Gives (IsLeafValue self.old.binary name (λ m. ⊥) (value_at default.now place))
             (filter_of self.old.filter)) (Some (value_at column.items place)))) }
         ensures same { self.new ≡ self.old }
     {

@@ -1,3 +1,4 @@
 pub mod Places
 pub mod Rows
 pub mod Words
+pub mod Copies

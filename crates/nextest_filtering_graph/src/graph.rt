@@ -7,7 +7,7 @@ ghost use Rattle.nextest_filtering_graph.specs.Reaching.{LinksBelow};
 use crate::graph_error::GraphError;
 use crate::indexing::{index_of, owned, placed_links};
 use nextest_text::Text;
-use std::alloc::Global;
+use std::alloc::{AllocError, Global};
 use std::collections::BTreeMap;
 use std::marker::Model;
 
@@ -40,6 +40,18 @@ impl Model for PackageGraph {
     ghost invariant = { λ g. IsIndex g.index (ids g.packages.items)
         × LinksBelow (length g.packages.items) g.links.items
         × (has_repeat (ids g.packages.items) ≡ false) };
+}
+
+impl Clone for PackageGraph {
+    ghost is_clone = { λ original copy. copy ≡ original };
+
+    fn clone(&self) -> Result<PackageGraph, AllocError> {
+        Ok(PackageGraph {
+            packages: self.packages.clone()?,
+            links: self.links.clone()?,
+            index: self.index.clone()?,
+        })
+    }
 }
 
 impl PackageGraph {

@@ -41,6 +41,19 @@ impl Model for Reachability {
         × AreReached r.links.items r.width r.count r.words.items };
 }
 
+impl Clone for Reachability {
+    ghost is_clone = { λ original copy. copy ≡ original };
+
+    fn clone(&self) -> Result<Reachability, AllocError> {
+        Ok(Reachability {
+            width: self.width,
+            count: self.count,
+            words: self.words.clone()?,
+            links: self.links.clone()?,
+        })
+    }
+}
+
 impl Reachability {
     /// What each package of a graph reaches. It fails only on allocation.
     pub fn new(alloc: Global, graph: &PackageGraph) -> Result<Reachability, AllocError>

@@ -23,7 +23,7 @@ use Rattle.nextest_filtering_arguments.proofs.Spans.{here_lies, suffix_trans, su
 use Rattle.nextest_filtering_syntax.specs.declared.name.Name.{Name}
 use Rattle.nextest_filtering_syntax.specs.declared.name.Name.TheVariants as name
 use Rattle.nextest_filtering_syntax.specs.Names.{is_name_byte, goes_on, name_word, ReadsName}
-use Rattle.nextest_filtering_syntax.specs.Parsing.{Anywhere, HasName, IsArgued, IsNotArgued, FindsArgument, IsClosed, IsPart, IsNoPart, Finds, IfToldOf, ReadsPredicate}
+use Rattle.nextest_filtering_syntax.specs.Parsing.{Anywhere, HasName, IsArgued, IsNotArgued, FindsArgument, IsClosed, IsPart, IsNoPart, Finds, ReportsFault, ReadsPredicate}
 use Rattle.nextest_filtering_syntax.proofs.Names.{kind_of, kind_named, named_so, has_name, is_matching, is_built_for, is_default, is_everything, is_nothing}
 
 -- how arguments of one sort belong to predicates of one name
@@ -225,7 +225,7 @@ predicate_finds_so it text start named before opened old new (Err Memory) is rea
 
 -- without a `(` behind its name there is no predicate
 pub unopened_finds : (it : Name) (text start named before : List ℕ) (old new : ℕ) (r : Result (ParsedExpr × Bor (List ℕ)) Stop) → start ≡ after_blanks text → ReadsName it start named
-    → before ≡ after_blanks named → ((opened : List ℕ) → before ≡ 40 ∷ opened → ⊥) → IfToldOf old new r → IfOk r (λ it. it.1.now ≡ named) → Finds ReadsPredicate Anywhere text old new r
+    → before ≡ after_blanks named → ((opened : List ℕ) → before ≡ 40 ∷ opened → ⊥) → ReportsFault old new r → IfOk r (λ it. it.1.now ≡ named) → Finds ReadsPredicate Anywhere text old new r
 unopened_finds it text start named before old new (Ok found) is reads here closed told same = record {
   more = Prim.omega (arith, told);
   behind = subst (λ l. IsSuffix l text) (sym same) (name_behind it text start named is reads).0;

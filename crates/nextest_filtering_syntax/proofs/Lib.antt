@@ -19,4 +19,5 @@ pub mod Told
 pub mod Wholes
 pub mod Places
 pub mod Walking
+pub mod Copies
 pub mod Pieces

@@ -5,5 +5,6 @@ pub mod Parsing
 pub mod Places
 pub mod Reading
 pub mod Waiting
+pub mod Copies
 pub mod Walking
 pub mod Pieces

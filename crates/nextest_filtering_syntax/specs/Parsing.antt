@@ -105,7 +105,7 @@ FindsArgument name text old new (Err NoTree) = IsNotArgued name text old new
 FindsArgument name text old new (Err Memory) = Unit {0}
 
 -- a fault was added, unless there is no memory
-abbrev pub IfToldOf : ℕ → ℕ → Result (ParsedExpr × Bor (List ℕ)) Stop → Type 0
-IfToldOf old new (Ok found) = old < new
-IfToldOf old new (Err NoTree) = old < new
-IfToldOf old new (Err Memory) = Unit {0}
+abbrev pub ReportsFault : ℕ → ℕ → Result (ParsedExpr × Bor (List ℕ)) Stop → Type 0
+ReportsFault old new (Ok found) = old < new
+ReportsFault old new (Err NoTree) = old < new
+ReportsFault old new (Err Memory) = Unit {0}

@@ -7,7 +7,7 @@ ghost use Rattle.nextest_filtering_syntax.specs.declared.name.Name.TheVariants.{
 ghost use Rattle.nextest_filtering_ast.specs.Words.{subject_word};
 ghost use Rattle.nextest_filtering_syntax.specs.Names.{name_word};
 ghost use Rattle.nextest_filtering_syntax.specs.Places.{ArePlaced, IsNamed, IsSpanned, Stands, span_of};
-ghost use Rattle.nextest_filtering_syntax.specs.Parsing.{Anywhere, Finds, FindsArgument, IfToldOf, IsClosed, ReadsPredicate};
+ghost use Rattle.nextest_filtering_syntax.specs.Parsing.{Anywhere, Finds, FindsArgument, ReportsFault, IsClosed, ReadsPredicate};
 
 use crate::closing::{close, close_argument, split_close};
 use crate::name::{Name, predicate_name};
@@ -155,7 +155,7 @@ fn unopened<'i>(
     requires suffix { IsSuffix text.now start.now }
     requires named { IsNamed (name_word name) start.now text.now }
     ensures input { faults.new.input ≡ faults.old.input }
-    ensures told { IfToldOf (count faults.old) (count faults.new) result }
+    ensures reported { ReportsFault (count faults.old) (count faults.new) result }
     ensures rest { IfOk result (λ it. it.1.now ≡ text.now) }
     ensures placed { IfOk result (λ it. ArePlaced faults.old.input it.0) }
     ensures spanned { IfOk result (λ it. IsSpanned faults.old.input start.now it.1.now it.0) }

@@ -3,6 +3,7 @@
 
 mod ahead;
 mod closing;
+mod copying;
 mod deps;
 pub mod laws;
 mod leaf;

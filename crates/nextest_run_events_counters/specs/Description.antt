@@ -24,10 +24,10 @@ pub data Description (S O : Type 0) : Type 0 where
   Failure : ExecuteStatus S O → ExecuteStatus S O → List (ExecuteStatus S O) → Description S O
 
 -- what a description that lends its attempts describes
-abbrev pub told_by : {S O : Type 0} → ExecutionDescription S O → Description S O
-told_by (described.Success single) = Success single.now
-told_by (described.Flaky last prior rule) = Flaky last.now prior.now rule
-told_by (described.Failure first last retries) = Failure first.now last.now retries.now
+abbrev pub description_in : {S O : Type 0} → ExecutionDescription S O → Description S O
+description_in (described.Success single) = Success single.now
+description_in (described.Flaky last prior rule) = Flaky last.now prior.now rule
+description_in (described.Failure first last retries) = Failure first.now last.now retries.now
 
 -- a success as the last attempt, after these
 abbrev pub success_after : {S O : Type 0} → List (ExecuteStatus S O) → ExecuteStatus S O → FlakyResult → Description S O

@@ -1,6 +1,6 @@
 // What the attempts of a test come to.
 ghost use Rattle.std.specs.Prelude.{◌≡◌};
-ghost use Rattle.nextest_run_events_counters.specs.Description.{told_by, HoldsSuccess, ends_in_success, last_described, level_of, final_level_of};
+ghost use Rattle.nextest_run_events_counters.specs.Description.{description_in, HoldsSuccess, ends_in_success, last_described, level_of, final_level_of};
 
 use nextest_config_elements_choices::{
     FinalStatusLevel, FlakyResult, LeakTimeoutResult, SlowTimeoutResult, StatusLevel,
@@ -53,8 +53,8 @@ impl<S: OutputSpec> Clone for ExecutionDescription<'_, S> {
 impl<'a, S: OutputSpec> ExecutionDescription<'a, S> {
     /// The level of its line while tests run.
     pub fn status_level(&self) -> StatusLevel
-        requires { HoldsSuccess (told_by self.now) }
-        ensures { result ≡ level_of (told_by self.now) }
+        requires { HoldsSuccess (description_in self.now) }
+        ensures { result ≡ level_of (description_in self.now) }
     {
         match self {
             ExecutionDescription::Success { single_status } => match &single_status.result {
@@ -77,8 +77,8 @@ impl<'a, S: OutputSpec> ExecutionDescription<'a, S> {
 
     /// The level of its line in the summary of a run.
     pub fn final_status_level(&self) -> FinalStatusLevel
-        requires { HoldsSuccess (told_by self.now) }
-        ensures { result ≡ final_level_of (told_by self.now) }
+        requires { HoldsSuccess (description_in self.now) }
+        ensures { result ≡ final_level_of (description_in self.now) }
     {
         match self {
             ExecutionDescription::Success { single_status } => {
@@ -106,7 +106,7 @@ impl<'a, S: OutputSpec> ExecutionDescription<'a, S> {
 
     /// Whether the last attempt's output is that of a success, also where the test fails since it passed late.
     pub fn is_success_for_output(&self) -> bool
-        ensures { result ≡ ends_in_success (told_by self.now) }
+        ensures { result ≡ ends_in_success (description_in self.now) }
     {
         match self {
             ExecutionDescription::Success { .. } | ExecutionDescription::Flaky { .. } => true,
@@ -116,7 +116,7 @@ impl<'a, S: OutputSpec> ExecutionDescription<'a, S> {
 
     /// The last attempt.
     pub fn last_status(&self) -> &'a ExecuteStatus<S>
-        ensures { result.now ≡ last_described (told_by self.now) }
+        ensures { result.now ≡ last_described (description_in self.now) }
     {
         match self {
             ExecutionDescription::Success { single_status } => single_status,

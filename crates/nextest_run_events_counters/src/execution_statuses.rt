@@ -2,7 +2,7 @@
 ghost use Rattle.std.specs.Prelude.{◌≡◌, ◌≢◌, ℕ, ◌+◌, ◌<◌, ◌≤◌, ◌↔◌, [], ◌∷◌, ◌++◌, Some, length, IfOk, IsOk, IsErr, OnOk, OnErr};
 ghost use Rattle.std.specs.Slice.Iter.{iter_rest};
 ghost use Rattle.nextest_run_events_counters.specs.Attempts.{last};
-ghost use Rattle.nextest_run_events_counters.specs.Description.{description_of, told_by, HoldsSuccess};
+ghost use Rattle.nextest_run_events_counters.specs.Description.{description_of, description_in, HoldsSuccess};
 
 use super::execution_description::ExecutionDescription;
 use super::roomy_list::RoomyList;
@@ -131,9 +131,9 @@ impl<S: OutputSpec> ExecutionStatuses<S> {
 
     /// What the attempts come to. The last one decides.
     pub fn describe(&self) -> ExecutionDescription<'_, S>
-        ensures told { Some (told_by result)
+        ensures description { Some (description_in result)
             ≡ description_of self.now.statuses self.now.flaky_result }
-        ensures success { HoldsSuccess (told_by result) }
+        ensures success { HoldsSuccess (description_in result) }
     {
         let last_status = self.last_status();
         let statuses = self.as_slice();

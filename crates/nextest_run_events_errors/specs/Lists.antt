@@ -13,4 +13,4 @@ executing unit.Script = codes "executing script"
 -- no list where nothing went wrong; else all that did, in order
 abbrev pub IsListOf : UnitKind → List Described → Option DescribedErrorList → Type 0
 IsListOf kind errors None = errors ≡ []
-IsListOf kind errors (Some told) = (errors ≢ []) × (told.description.now ≡ executing kind) × (told.items ≡ errors)
+IsListOf kind errors (Some list) = (errors ≢ []) × (list.description.now ≡ executing kind) × (list.items ≡ errors)

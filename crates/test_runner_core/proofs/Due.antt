@@ -23,20 +23,20 @@ use Rattle.test_runner_core.proofs.Built.{built_is_plan}
 use Rattle.test_runner_core.proofs.OneReport.{composed_once}
 
 -- what a run reports before its end
-abbrev pub told_of : {answer : Binary → Answer} {inputs : Inputs} {log : List Item} → IsRun answer inputs log → List Part
-told_of run = opening run.plan ++ progress run.plan (Ok (initial (run_plan run.plan))) run.events
+abbrev pub record_output_of : {answer : Binary → Answer} {inputs : Inputs} {log : List Item} → IsRun answer inputs log → List Part
+record_output_of run = opening run.plan ++ progress run.plan (Ok (initial (run_plan run.plan))) run.events
 
 -- a log without a refused line has its run's report
 run_composes : (answer : Binary → Answer) (inputs : Inputs) (log : List Item) (run : IsRun answer inputs log)
-    → Composed answer inputs log (told_of run ++ final_parts run.plan run.last) (status run.last)
+    → Composed answer inputs log (record_output_of run ++ final_parts run.plan run.last) (status run.last)
 run_composes answer inputs log run =
-    let judged : Judged run.plan log (told_of run ++ final_parts run.plan run.last) (status run.last) =
+    let judged : Judged run.plan log (record_output_of run ++ final_parts run.plan run.last) (status run.last) =
     record {
       front = run.lines;
       rest = [];
       whole = run.whole ∙ sym (append-nil (map Line run.lines));
       last = run.last;
-      told = told_of run;
+      told = record_output_of run;
       so_far = record { events = run.events; leads = run.leads; told = refl };
       found = None;
       finds = refl;
@@ -47,9 +47,9 @@ run_composes answer inputs log run =
 
 -- a report of such a log is its run's
 pub ends_as_its_run : (answer : Binary → Answer) (inputs : Inputs) (log : List Item) (parts : List Part) (code : ℕ) (run : IsRun answer inputs log)
-    → Composed answer inputs log parts code → (parts ≡ told_of run ++ final_parts run.plan run.last) × (code ≡ status run.last)
+    → Composed answer inputs log parts code → (parts ≡ record_output_of run ++ final_parts run.plan run.last) × (code ≡ status run.last)
 ends_as_its_run answer inputs log parts code run composed =
-    composed_once answer inputs log parts (told_of run ++ final_parts run.plan run.last) code (status run.last) composed (run_composes answer inputs log run)
+    composed_once answer inputs log parts (record_output_of run ++ final_parts run.plan run.last) code (status run.last) composed (run_composes answer inputs log run)
 
 -- its plan is one of the laws over runs
 pub plan_of_run : (answer : Binary → Answer) (inputs : Inputs) (log : List Item) (run : IsRun answer inputs log) → IsPlan (run_plan run.plan)

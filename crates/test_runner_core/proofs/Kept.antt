@@ -12,67 +12,43 @@ use Rattle.test_runner_core_run_model.specs.Counters.{status}
 use Rattle.test_runner_core_run_model.specs.State.{State}
 use Rattle.test_runner_core_run_model.specs.Step.{step}
 use Rattle.test_runner_core_run_model.specs.declared.step_refusal.StepRefusal.{StepRefusal}
-use Rattle.test_runner_core_reporter.specs.Keeping.{hides_success, record_to_keep, state_to_keep}
+use Rattle.test_runner_core_reporter.specs.Keeping.{hides_success, record_to_keep, state_to_keep, unwritten}
 use Rattle.test_runner_core_reporter.specs.Parts.{Part}
 use Rattle.test_runner_core_reporter.specs.Steps.{step_parts}
 use Rattle.test_runner_core_reporter.specs.Writes.{WritesAll, WritesPrefix}
 use Rattle.test_runner_core_reporter.proofs.KeptReports.{SayAs, all_as, final_as, front_as, keeps_ends, self_as, status_as, step_as}
 use Rattle.test_runner_core_reporter.proofs.KeptRuns.{refused_with, taken_with}
-use Rattle.test_runner_core.specs.Inside.{RefusesKept, kept_event}
-use Rattle.test_runner_core.specs.Judging.{Refuses, event_of}
+use Rattle.test_runner_core.specs.Inside.{kept_event}
+use Rattle.test_runner_core.specs.Judging.{Refuses, RefusesBy, event_of}
 use Rattle.test_runner_core.specs.Report.{ending, exit_status, refused_line}
 use Rattle.test_runner_core.specs.declared.refused_line.LineRefusal.{LineRefusal}
 use Rattle.test_runner_core.specs.declared.refused_line.LineRefusal.TheVariants as refused
 use Rattle.test_runner_core.specs.declared.refused_line.RefusedLine.{RefusedLine}
 
 -- a line's step, as the run takes it of which this is kept
-pub record StepsAs (plan : Plan) (line : LogLine) (real now : State) (before : Option (List ℕ)) (waited : List ℕ) (after : Option (List ℕ)) (waits : List ℕ) : Type 0 where
+pub record StepsAs (plan other : Plan) (line : LogLine) (real old now : State) : Type 0 where
   pub next : State
   pub taken : step real (event_of plan line) ≡ Ok next
   pub kept : now ≡ state_to_keep plan next
-  pub told : WritesAll (step_parts plan (event_of plan line) real next) before waited after waits
+  pub says : SayAs (step_parts other (kept_event other line) old now) (step_parts plan (event_of plan line) real next)
 
-pub steps_as : (plan other : Plan) (real old new : State) (line : LogLine) (before : Option (List ℕ)) (waited : List ℕ) (after : Option (List ℕ)) (waits : List ℕ)
-    → other ≡ plan → old ≡ state_to_keep plan real → step old (kept_event other line) ≡ Ok new
-    → WritesAll (step_parts other (kept_event other line) old new) before waited after waits → StepsAs plan line real new before waited after waits
-steps_as plan other real old new line before waited after waits same kept taken told =
-    let here = taken_with (record_to_keep plan.tests) (keeps_ends plan.tests) real old new (event_of plan line) kept (subst (λ (p : Plan). step old (kept_event p line) ≡ Ok new) same taken) in
+pub steps_as : (plan other : Plan) (real old now : State) (line : LogLine) → other ≡ plan → old ≡ state_to_keep plan real → step old (kept_event other line) ≡ Ok now
+    → StepsAs plan other line real old now
+steps_as plan other real old now line same kept taken =
+    let here = taken_with (record_to_keep plan.tests) (keeps_ends plan.tests) real old now (event_of plan line) kept (subst (λ (p : Plan). step old (kept_event p line) ≡ Ok now) same taken) in
     record {
       next = here.0;
       taken = here.1;
       kept = here.2;
-      told =
-          all_as (step_parts plan (kept_event plan line) (state_to_keep plan real) (state_to_keep plan here.0)) (step_parts plan (event_of plan line) real here.0) before waited after waits
-          (step_as plan (event_of plan line) real here.0)
-          (subst (λ (s : State). WritesAll (step_parts plan (kept_event plan line) (state_to_keep plan real) s) before waited after waits) here.2
-          (subst (λ (s : State). WritesAll (step_parts plan (kept_event plan line) s new) before waited after waits) kept
-          (subst (λ (p : Plan). WritesAll (step_parts p (kept_event p line) old new) before waited after waits) same told)));
-    }
-
--- the same, where it fails to be reported
-pub record FailsAs (plan : Plan) (line : LogLine) (real : State) (before : Option (List ℕ)) (waited : List ℕ) (after : Option (List ℕ)) : Type 0 where
-  pub next : State
-  pub taken : step real (event_of plan line) ≡ Ok next
-  pub told : WritesPrefix (step_parts plan (event_of plan line) real next) before waited after
-
-pub fails_as : (plan other : Plan) (real old new : State) (line : LogLine) (before : Option (List ℕ)) (waited : List ℕ) (after : Option (List ℕ))
-    → other ≡ plan → old ≡ state_to_keep plan real → step old (kept_event other line) ≡ Ok new
-    → WritesPrefix (step_parts other (kept_event other line) old new) before waited after → FailsAs plan line real before waited after
-fails_as plan other real old new line before waited after same kept taken told =
-    let here = taken_with (record_to_keep plan.tests) (keeps_ends plan.tests) real old new (event_of plan line) kept (subst (λ (p : Plan). step old (kept_event p line) ≡ Ok new) same taken) in
-    record {
-      next = here.0;
-      taken = here.1;
-      told =
-          front_as (step_parts plan (kept_event plan line) (state_to_keep plan real) (state_to_keep plan here.0)) (step_parts plan (event_of plan line) real here.0) before waited after
-          (step_as plan (event_of plan line) real here.0)
-          (subst (λ (s : State). WritesPrefix (step_parts plan (kept_event plan line) (state_to_keep plan real) s) before waited after) here.2
-          (subst (λ (s : State). WritesPrefix (step_parts plan (kept_event plan line) s new) before waited after) kept
-          (subst (λ (p : Plan). WritesPrefix (step_parts p (kept_event p line) old new) before waited after) same told)));
+      says =
+          subst (λ (p : Plan). SayAs (step_parts p (kept_event p line) old now) (step_parts plan (event_of plan line) real here.0)) (sym same)
+          (subst (λ (s : State). SayAs (step_parts plan (kept_event plan line) s now) (step_parts plan (event_of plan line) real here.0)) (sym kept)
+          (subst (λ (s : State). SayAs (step_parts plan (kept_event plan line) (state_to_keep plan real) s) (step_parts plan (event_of plan line) real here.0)) (sym here.2)
+          (step_as plan (event_of plan line) real here.0)));
     }
 
 -- a refused line
-pub refuses_as : (plan other : Plan) (real old : State) (bytes : List ℕ) (refusal : LineRefusal) → other ≡ plan → old ≡ state_to_keep plan real → RefusesKept other old bytes refusal
+pub refuses_as : (plan other : Plan) (real old : State) (bytes : List ℕ) (refusal : LineRefusal) → other ≡ plan → old ≡ state_to_keep plan real → RefusesBy (kept_event other) old bytes refusal
     → Refuses plan real bytes refusal
 refuses_as plan other real old bytes refused.LineTooLong same kept refuses = refuses
 refuses_as plan other real old bytes refused.LogTooLong same kept refuses = refuses
@@ -112,18 +88,18 @@ unended_as plan kept last found before waited after is failed =
 pub keeps_unwritten : (tests : List PlanTest) (place : ℕ) (told it : Record) → told.output ≡ wrote.Streams None None → it ≡ told → it ≡ record_to_keep tests place told
 keeps_unwritten tests place told it none is = is ∙ sym (by_test (is_success told.result && hides_success tests place))
   where
-    by_test : (b : Bool) → (if b then record told { output = wrote.Streams None None } else told) ≡ told
+    by_test : (b : Bool) → (if b then unwritten told else told) ≡ told
     by_test true = ap (λ (output : RecordOutput). record told { output = output }) (sym none)
     by_test false = refl
 
 -- it is a failure
 pub keeps_failure : (tests : List PlanTest) (place : ℕ) (told it : Record) → is_success told.result ≡ false → it ≡ told → it ≡ record_to_keep tests place told
 keeps_failure tests place told it fails is =
-    is ∙ sym (ap (λ (b : Bool). if b && hides_success tests place then record told { output = wrote.Streams None None } else told) fails)
+    is ∙ sym (ap (λ (b : Bool). if b && hides_success tests place then unwritten told else told) fails)
 
 -- it may be shown, or a success that is never shown
 pub keeps_success : (tests : List PlanTest) (place : ℕ) (told it : Record) (hidden : Bool) → is_success told.result ≡ true → hidden ≡ hides_success tests place
-    → it ≡ (if hidden then record told { output = wrote.Streams None None } else told) → it ≡ record_to_keep tests place told
+    → it ≡ (if hidden then unwritten told else told) → it ≡ record_to_keep tests place told
 keeps_success tests place told it hidden success same is =
-    is ∙ ap (λ (b : Bool). if b then record told { output = wrote.Streams None None } else told) same
-    ∙ sym (ap (λ (b : Bool). if b && hides_success tests place then record told { output = wrote.Streams None None } else told) success)
+    is ∙ ap (λ (b : Bool). if b then unwritten told else told) same
+    ∙ sym (ap (λ (b : Bool). if b && hides_success tests place then unwritten told else told) success)

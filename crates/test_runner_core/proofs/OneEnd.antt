@@ -23,7 +23,7 @@ use Rattle.test_runner_core.specs.Laws.{HasOneReport, StopsWhereDue, SucceedsWho
 use Rattle.test_runner_core.specs.Outcome.{EndsAsDue, IsRun, IsWholeRun, due_parts}
 use Rattle.test_runner_core.specs.Report.{Composed, IsWritten, Judged, exit_status}
 use Rattle.test_runner_core.specs.declared.refused_line.RefusedLine.{RefusedLine}
-use Rattle.test_runner_core.proofs.Due.{ends_as_its_run, plan_of_run, told_of}
+use Rattle.test_runner_core.proofs.Due.{ends_as_its_run, plan_of_run, record_output_of}
 use Rattle.test_runner_core.proofs.OneReport.{parted}
 use Rattle.test_runner_core_reporter.proofs.Texts.{one_text}
 use Rattle.test_runner_core_planning.proofs.OnePlan.{one_plan}
@@ -32,12 +32,12 @@ use Rattle.test_runner_core_planning.proofs.OnePlan.{one_plan}
 
 -- its parts come last of a report
 due_parts_last : (answer : Binary → Answer) (inputs : Inputs) (log : List Item) (parts : List Part) (code : ℕ) (assigned : Assignment) (whole : IsWholeRun answer inputs log assigned)
-    → IsUnstopped (run_plan whole.run.plan) assigned → Composed answer inputs log parts code → parts ≡ told_of whole.run ++ due_parts whole.run.plan assigned
+    → IsUnstopped (run_plan whole.run.plan) assigned → Composed answer inputs log parts code → parts ≡ record_output_of whole.run ++ due_parts whole.run.plan assigned
 due_parts_last answer inputs log parts code assigned whole free composed =
     let run = whole.run in
     let end : run.last ≡ final_state (run_plan run.plan) assigned =
     runs.ends_in_one_state (run_plan run.plan) assigned run.events run.last (plan_of_run answer inputs log run) free run.leads.run whole.agrees whole.no_stop whole.complete in
-    (ends_as_its_run answer inputs log parts code run composed).0 ∙ ap (λ (s : State). told_of run ++ final_parts run.plan s) end
+    (ends_as_its_run answer inputs log parts code run composed).0 ∙ ap (λ (s : State). record_output_of run ++ final_parts run.plan s) end
 
 -- and so does its text
 pub record EndsText (plan : Plan) (assigned : Assignment) (text : List ℕ) : Type 0 where
@@ -50,7 +50,7 @@ due_text_last : (answer : Binary → Answer) (inputs : Inputs) (log : List Item)
     → IsUnstopped (run_plan whole.run.plan) assigned → Composed answer inputs log parts code → IsTextOf parts text → EndsText whole.run.plan assigned text
 due_text_last answer inputs log parts code text assigned whole free composed is =
     let last = due_parts_last answer inputs log parts code assigned whole free composed in
-    let there = parted (told_of whole.run) (due_parts whole.run.plan assigned) text (subst (λ (p : List Part). IsTextOf p text) last is) in
+    let there = parted (record_output_of whole.run) (due_parts whole.run.plan assigned) text (subst (λ (p : List Part). IsTextOf p text) last is) in
     record { told = there.told; final = there.more; is = there.also; whole = there.whole }
 
 -- whichever whole run of the assignment it is

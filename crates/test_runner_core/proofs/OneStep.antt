@@ -18,9 +18,9 @@ use Rattle.test_runner_core.specs.declared.judging_line.LineStep.TheVariants as 
 use Rattle.test_runner_core.specs.declared.refused_line.LineRefusal.{LineRefusal}
 
 -- what a step that is taken reports is reported of what it finished
-told_of : (old new : SessionState) (line : LogLine) (finished : Finished) → KeepsReasons old.run → Steps (it.Taken finished) old line new
+record_output_of : (old new : SessionState) (line : LogLine) (finished : Finished) → KeepsReasons old.run → Steps (it.Taken finished) old line new
     → all_done new.plan new.run (finished_places finished new.run) ≡ step_parts old.plan (kept_event old.plan line) old.run new.run
-told_of old new line finished reasons taken =
+record_output_of old new line finished reasons taken =
     ap (λ (plan : Plan). all_done plan new.run (finished_places finished new.run)) taken.0 ∙ ap (all_done old.plan new.run) (sym (taken.1.finishes reasons))
 
 -- what fails, by an exit of `?`
@@ -36,10 +36,10 @@ pub step_fails : (result : Result (Option LineRefusal) ReportFault) (old new las
     → StepsLine result old line last before waited after waits
 step_fails result old new last line finished before waited after waits is reasons taken front =
     line_fails result old last line before waited after waits is
-    (inr (new.run, taken.1.taken, subst (λ (parts : List Part). WritesPrefix parts before waited after) (told_of old new line finished reasons taken) front))
+    (inr (new.run, taken.1.taken, subst (λ (parts : List Part). WritesPrefix parts before waited after) (record_output_of old new line finished reasons taken) front))
 
 pub step_tells : (old new : SessionState) (line : LogLine) (finished : Finished) (before : Option (List ℕ)) (waited : List ℕ) (after : Option (List ℕ)) (waits : List ℕ)
     → KeepsReasons old.run → Steps (it.Taken finished) old line new → WritesAll (all_done new.plan new.run (finished_places finished new.run)) before waited after waits
     → StepsLine (Ok None) old line new before waited after waits
 step_tells old new line finished before waited after waits reasons taken told =
-    (taken.0, taken.1.taken, subst (λ (parts : List Part). WritesAll parts before waited after waits) (told_of old new line finished reasons taken) told)
+    (taken.0, taken.1.taken, subst (λ (parts : List Part). WritesAll parts before waited after waits) (record_output_of old new line finished reasons taken) told)

@@ -22,9 +22,10 @@ use Rattle.test_runner_core_reporter.specs.Steps.{step_parts}
 use Rattle.test_runner_core_reporter.specs.Writes.{MovesOn, WritesAll, WritesPrefix}
 use Rattle.test_runner_core_reporter.specs.declared.fault.ReportFault.{ReportFault}
 use Rattle.test_runner_core_reporter.specs.declared.fault.ReportFault.TheVariants as untold
+use Rattle.test_runner_core_reporter.proofs.KeptReports.{all_as, front_as}
 use Rattle.test_runner_core_reporter.proofs.Told.{all_then, front_then, moves_then}
 use Rattle.test_runner_core.specs.Faults.{fault_of_reporting}
-use Rattle.test_runner_core.specs.Inside.{BegunLines, GotLines, HandsNext, IsGotOf, IsLogOf, JudgesLine, JudgesLines, KeepsJudged}
+use Rattle.test_runner_core.specs.Inside.{BegunLines, GotLines, HandsNext, IsGotOf, IsLogOf, JudgesLine, JudgesLines, KeepsJudged, kept_event}
 use Rattle.test_runner_core.specs.declared.judge_fault.JudgeFault.{JudgeFault}
 use Rattle.test_runner_core.specs.declared.judge_fault.JudgeFault.TheVariants as fault
 use Rattle.test_runner_core.specs.declared.refused_line.RefusedLine.{RefusedLine}
@@ -32,7 +33,7 @@ use Rattle.test_runner_core.specs.Judging.{event_of, line_refusal_of}
 use Rattle.test_runner_core.specs.Report.{SoFar}
 use Rattle.test_runner_core.specs.declared.refused_line.LineRefusal.{LineRefusal}
 use Rattle.test_runner_core.proofs.Course.{so_far_more, so_far_none, so_far_same}
-use Rattle.test_runner_core.proofs.Kept.{fails_as, refuses_as, steps_as}
+use Rattle.test_runner_core.proofs.Kept.{refuses_as, steps_as}
 
 -- the items ahead are what these lines leave of the log, where its bytes are known
 abbrev pub LeavesAhead : Cursor → Option (List ℕ) → List (List ℕ) → Cursor → Option (List ℕ) → Type 0
@@ -162,7 +163,7 @@ line_accepted plan begin known before old new cursor next left rest middle later
       numbered = let size = length-append here.front (next.line ∷ []) in let numbered = here.numbered in omega (arith, size, numbered);
     }
 line_accepted plan begin known before old new cursor next left rest middle later after mid later_waits waits number here hands ahead still (inr (line, spells, (same, taken, told))) =
-    let it = steps_as plan old.plan here.real old.run new.run line later later_waits after waits here.planned here.kept taken told in
+    let it = steps_as plan old.plan here.real old.run new.run line here.planned here.kept taken in
     record {
       front = here.front ++ next.line ∷ [];
       parts = here.parts ++ step_parts plan (event_of plan line) here.real it.next;
@@ -171,7 +172,8 @@ line_accepted plan begin known before old new cursor next left rest middle later
       kept = it.kept;
       so_far = so_far_more plan here.front here.real it.next here.parts next.line line here.so_far spells it.taken;
       told = all_then here.parts (step_parts plan (event_of plan line) here.real it.next) before later after [] later_waits waits
-          (told_still here.parts before middle later mid later_waits here.told still) it.told;
+          (told_still here.parts before middle later mid later_waits here.told still)
+          (all_as (step_parts old.plan (kept_event old.plan line) old.run new.run) (step_parts plan (event_of plan line) here.real it.next) later later_waits after waits it.says told);
       items = log_past_line begin cursor next known left rest here.front here.items hands;
       bytes = takes_line begin cursor next known left rest here.front here.bytes ahead;
       numbered = let size = length-append here.front (next.line ∷ []) in let numbered = here.numbered in omega (arith, size, numbered);
@@ -289,7 +291,7 @@ line_failed plan begin known before old new cursor next left rest middle later a
           (front_then here.parts [] before later after [] later_waits (told_still here.parts before middle later mid later_waits here.told still) front);
     }
 line_failed plan begin known before old new cursor next left rest middle later after mid later_waits waits number fault here hands still (line, spells, inr (state, taken, front)) =
-    let it = fails_as plan old.plan here.real old.run state line later later_waits after here.planned here.kept taken front in
+    let it = steps_as plan old.plan here.real old.run state line here.planned here.kept taken in
     record {
       front = here.front ++ next.line ∷ [];
       rest = rest_behind next rest;
@@ -298,7 +300,8 @@ line_failed plan begin known before old new cursor next left rest middle later a
       parts = here.parts ++ step_parts plan (event_of plan line) here.real it.next;
       so_far = so_far_more plan here.front here.real it.next here.parts next.line line here.so_far spells it.taken;
       told = front_then here.parts (step_parts plan (event_of plan line) here.real it.next) before later after [] later_waits
-          (told_still here.parts before middle later mid later_waits here.told still) it.told;
+          (told_still here.parts before middle later mid later_waits here.told still)
+          (front_as (step_parts old.plan (kept_event old.plan line) old.run state) (step_parts plan (event_of plan line) here.real it.next) later later_waits after it.says front);
     }
 
 -- what fails, by an exit of `?`

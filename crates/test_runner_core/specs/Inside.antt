@@ -10,8 +10,6 @@ use Rattle.test_runner_core_log_reader.specs.Feeds.{IsPlain}
 use Rattle.test_runner_core_log_reader.specs.Items.{Item, Line, whole_lines}
 use Rattle.test_runner_core_log_reader.specs.Limits.{log_reads}
 use Rattle.test_runner_core_log_reader.specs.declared.next.Next.{Next}
-use Rattle.nextest_run_events_results.specs.declared.record.Record.{Record}
-use Rattle.nextest_run_events_results.specs.declared.record.RecordOutput.TheVariants as wrote
 use Rattle.test_runner_core_plan.specs.declared.plan.Plan.{Plan}
 use Rattle.test_runner_core_run_state.specs.Progress.{TakesStep}
 use Rattle.test_runner_core_run_model.specs.State.{State}
@@ -23,7 +21,7 @@ use Rattle.test_runner_core_reporter.specs.Parts.{Part}
 use Rattle.test_runner_core_reporter.specs.Steps.{step_parts}
 use Rattle.test_runner_core_reporter.specs.Writes.{MovesOn, WritesAll, WritesPrefix}
 use Rattle.test_runner_core_reporter.specs.declared.fault.ReportFault.{ReportFault}
-use Rattle.test_runner_core.specs.Judging.{Finds, event_of}
+use Rattle.test_runner_core.specs.Judging.{Finds, RefusesBy, event_of}
 use Rattle.test_runner_core.specs.Report.{IsWritten, Judged, SoFar}
 use Rattle.test_runner_core.specs.declared.judge_fault.JudgeFault.{JudgeFault}
 use Rattle.test_runner_core.specs.declared.judge_fault.JudgeFault.TheVariants as fault
@@ -32,10 +30,6 @@ use Rattle.test_runner_core.specs.declared.judging_line.LineStep.{LineStep}
 use Rattle.test_runner_core.specs.declared.refused_line.LineRefusal.{LineRefusal}
 use Rattle.test_runner_core.specs.declared.refused_line.LineRefusal.TheVariants as refused
 use Rattle.test_runner_core.specs.declared.refused_line.RefusedLine.{RefusedLine}
-
--- a record without what was written
-abbrev pub unwritten : Record → Record
-unwritten told = record told { output = wrote.Streams None None }
 
 -- the event of a line, as it is kept
 abbrev pub kept_event : Plan → LogLine → Event
@@ -58,22 +52,13 @@ StepsLine (Err fault) old line new before waited after waits =
     WritesPrefix [] before waited after
     ⊎ ((next : State) × (step old.run (kept_event old.plan line) ≡ Ok next) × WritesPrefix (step_parts old.plan (kept_event old.plan line) old.run next) before waited after)
 
--- bytes are refused, where this is kept of the run
-abbrev pub RefusesKept : Plan → State → List ℕ → LineRefusal → Type 0
-RefusesKept plan state bytes refused.LineTooLong = ⊥
-RefusesKept plan state bytes refused.LogTooLong = ⊥
-RefusesKept plan state bytes refused.NoLineEnd = ⊥
-RefusesKept plan state bytes refused.NotUtf8 = ReadsLine bytes (Err unread.NotUtf8)
-RefusesKept plan state bytes refused.BadLine = ReadsLine bytes (Err unread.BadLine)
-RefusesKept plan state bytes (refused.Step refusal) = (line : LogLine) × Spells line bytes × (step state (kept_event plan line) ≡ Err refusal)
-
 -- what the bytes of a whole line do
 abbrev pub JudgesLine : Result (Option LineRefusal) ReportFault → SessionState → List ℕ → SessionState → Option (List ℕ) → List ℕ → Option (List ℕ) → List ℕ → Type 0
 JudgesLine (Ok None) old bytes new before waited after waits =
     ((bytes ≡ []) × (new ≡ old) × WritesAll [] before waited after waits)
     ⊎ ((line : LogLine) × Spells line bytes × StepsLine (Ok None) old line new before waited after waits)
 JudgesLine (Ok (Some refusal)) old bytes new before waited after waits =
-    RefusesKept old.plan old.run bytes refusal × (new ≡ old) × WritesAll [] before waited after waits
+    RefusesBy (kept_event old.plan) old.run bytes refusal × (new ≡ old) × WritesAll [] before waited after waits
 JudgesLine (Err fault) old bytes new before waited after waits =
     (line : LogLine) × Spells line bytes × StepsLine (Err fault) old line new before waited after waits
 

@@ -22,23 +22,23 @@ use Rattle.test_runner_core.specs.declared.refused_line.RefusedLine.{RefusedLine
 
 -- the event of a line, by the places of its names
 abbrev pub event_of : Plan → LogLine → Event
-event_of plan (lines.Script id told) = events.ScriptEnded (script_place plan.scripts id) told
+event_of plan (lines.Script id ending) = events.ScriptEnded (script_place plan.scripts id) ending
 event_of plan (lines.Start binary name) = events.Started (place_in plan binary name)
-event_of plan (lines.End binary name told) = events.Ended (place_in plan binary name) told
+event_of plan (lines.End binary name ending) = events.Ended (place_in plan binary name) ending
 event_of plan (lines.Stop reason) = events.Stopped reason
 
 -- lines report events: each of them is empty, or spells the next event
 abbrev pub SpellEvents : Plan → List (List ℕ) → List Event → Type 0
 SpellEvents plan [] [] = ⊤
-SpellEvents plan [] (event ∷ told) = ⊥
-SpellEvents plan (bytes ∷ more) told =
-    ((bytes ≡ []) × SpellEvents plan more told)
-    ⊎ ((line : LogLine) × Spells line bytes × ((rest : List Event) × (told ≡ event_of plan line ∷ rest) × SpellEvents plan more rest))
+SpellEvents plan [] (event ∷ happened) = ⊥
+SpellEvents plan (bytes ∷ more) happened =
+    ((bytes ≡ []) × SpellEvents plan more happened)
+    ⊎ ((line : LogLine) × Spells line bytes × ((rest : List Event) × (happened ≡ event_of plan line ∷ rest) × SpellEvents plan more rest))
 
 -- lines lead the run of a plan by these events to a state
-pub record Leads (plan : Plan) (front : List (List ℕ)) (told : List Event) (last : State) : Type 0 where
-  pub events : SpellEvents plan front told
-  pub run : Run (initial (run_plan plan)) told last
+pub record Leads (plan : Plan) (front : List (List ℕ)) (happened : List Event) (last : State) : Type 0 where
+  pub events : SpellEvents plan front happened
+  pub run : Run (initial (run_plan plan)) happened last
 
 -- the refusal of a line or a log that is too long, or that is cut
 abbrev pub line_refusal_of : LineFault → LineRefusal
@@ -46,14 +46,18 @@ line_refusal_of faults.LineTooLong = refused.LineTooLong
 line_refusal_of faults.LogTooLong = refused.LogTooLong
 line_refusal_of faults.NoLineEnd = refused.NoLineEnd
 
--- the bytes of a whole line are refused: as no UTF-8, as a bad line, or as their event's step is
+-- the bytes of a whole line are refused: as no UTF-8, as a bad line, or as the step of its event is, where this is a line's event
+abbrev pub RefusesBy : (LogLine → Event) → State → List ℕ → LineRefusal → Type 0
+RefusesBy event state bytes refused.LineTooLong = ⊥
+RefusesBy event state bytes refused.LogTooLong = ⊥
+RefusesBy event state bytes refused.NoLineEnd = ⊥
+RefusesBy event state bytes refused.NotUtf8 = ReadsLine bytes (Err unread.NotUtf8)
+RefusesBy event state bytes refused.BadLine = ReadsLine bytes (Err unread.BadLine)
+RefusesBy event state bytes (refused.Step refusal) = (line : LogLine) × Spells line bytes × (step state (event line) ≡ Err refusal)
+
+-- they are refused in a run of a plan
 abbrev pub Refuses : Plan → State → List ℕ → LineRefusal → Type 0
-Refuses plan state bytes refused.LineTooLong = ⊥
-Refuses plan state bytes refused.LogTooLong = ⊥
-Refuses plan state bytes refused.NoLineEnd = ⊥
-Refuses plan state bytes refused.NotUtf8 = ReadsLine bytes (Err unread.NotUtf8)
-Refuses plan state bytes refused.BadLine = ReadsLine bytes (Err unread.BadLine)
-Refuses plan state bytes (refused.Step refusal) = (line : LogLine) × Spells line bytes × (step state (event_of plan line) ≡ Err refusal)
+Refuses plan = RefusesBy (event_of plan)
 
 -- the line with this number is the first of these items, and refused; nothing is, where there are none
 abbrev pub Finds : Plan → State → ℕ → List Item → Option RefusedLine → Type 0

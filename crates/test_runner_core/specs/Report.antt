@@ -1,10 +1,10 @@
 -- The report of inputs and a log, and its exit status.
-use Rattle.std.specs.Prelude.{◌≡◌, ◌⊎◌, ℕ, ◌+◌, List, [], ◌∷◌, ◌++◌, map, length, codes, decimal, Option, None, Some, Result, Ok, Err}
+use Rattle.std.specs.Prelude.{◌≡◌, ◌⊎◌, ℕ, ◌+◌, List, [], ◌∷◌, ◌++◌, map, length, codes, decimal, Option, None, Some, Result, Ok, Err, IfSome}
 use Rattle.std.specs.Io.KnownBytes.{Appends}
 use Rattle.test_runner_core_inputs.specs.declared.inputs.Inputs.{Inputs}
 use Rattle.test_runner_core_inputs.specs.declared.inputs_error.InputsRefusal.{InputsRefusal}
 use Rattle.test_runner_core_inputs.specs.declared.inputs_error.InputsRefusal.TheVariants as unread
-use Rattle.test_runner_core_log_reader.specs.Items.{Item, Line, whole_lines}
+use Rattle.test_runner_core_log_reader.specs.Items.{Item, Line, items, whole_lines}
 use Rattle.test_runner_core_planning.specs.Plan.{Builds, Plans}
 use Rattle.test_runner_core_planning.specs.Texts.{name_of, status_of}
 use Rattle.test_runner_core_plan.specs.declared.plan.Plan.{Plan}
@@ -105,3 +105,10 @@ Reports (Ok code) IsReport IsGot IsBegun before after = (parts : List Part) × I
 Reports (Err (fault.Read cause)) IsReport IsGot IsBegun before after = (parts : List Part) × IsGot parts × IsBegun parts × IsWritten parts before after
 Reports (Err (fault.Write cause)) IsReport IsGot IsBegun before after = (parts : List Part) × IsBegun parts × WritesPrefix parts before [] after
 Reports (Err fault.Memory) IsReport IsGot IsBegun before after = (parts : List Part) × IsBegun parts × WritesPrefix parts before [] after
+
+-- of inputs and a log, of whose bytes these are left to be read before the call and after it, what is written
+abbrev pub ReportsLog : (Binary → Answer) → Inputs → Result ℕ JudgeFault → Option (List ℕ) → Option (List ℕ) → Option (List ℕ) → Option (List ℕ) → Type 0
+ReportsLog answer inputs result left rest before after =
+    Reports result (λ parts code. IfSome left (λ bytes. Composed answer inputs (items 0 bytes) parts code))
+    (λ parts. IfSome left (λ bytes. IfSome rest (λ behind. GotTo answer inputs bytes behind parts)))
+    (λ parts. IfSome left (λ bytes. Begun answer inputs (items 0 bytes) parts)) before after

@@ -6,9 +6,9 @@ ghost use Rattle.test_runner_core_log_reader.specs.Feeds.{before_feed};
 ghost use Rattle.test_runner_core_log_reader.specs.Items.{items};
 ghost use Rattle.test_runner_core.specs.Faults.{CountsReadFailures, CountsWriteFailures, lacks_memory};
 ghost use Rattle.test_runner_core.specs.Headline.{Headline, StreamHeadline};
-ghost use Rattle.test_runner_core.specs.Outcome.{HasNoPlan, StreamBegun, StreamComposed, StreamGotTo, table_of};
+ghost use Rattle.test_runner_core.specs.Outcome.{HasNoPlan, ReportsStream, table_of};
 ghost use Rattle.test_runner_core.specs.Inside.{IsGotOf};
-ghost use Rattle.test_runner_core.specs.Report.{Begun, Composed, GotTo, Reports, HasSoFar};
+ghost use Rattle.test_runner_core.specs.Report.{Begun, Composed, HasSoFar, Reports, ReportsLog};
 ghost use Rattle.test_runner_core_log_reader.specs.Cursor.{items_ahead};
 ghost use Rattle.test_runner_core_planning.specs.Plan.{AsksWith, Builds, Plans};
 ghost use Rattle.test_runner_core_planning.specs.declared.plan_fault.PlanFault.{PlanFault};
@@ -44,14 +44,11 @@ pub fn judge<L: Lister, R: LogReader, W: ReportWriter>(
     requires calls_fit { R.calls log.old < 2 ^ 62 }
     requires failures_fit { R.failures log.old < 2 ^ 62 }
     requires writes_fit { W.failures report.old < 2 ^ 62 }
-    ensures reports { Reports result (λ parts code. IfSome (R.left log.old)
-        (λ bytes. Composed (L.answer lister.old) inputs.now (items 0 bytes) parts code))
-        (λ parts. IfSome (R.left log.old) (λ bytes. IfSome (R.left log.new)
-        (λ rest. GotTo (L.answer lister.old) inputs.now bytes rest parts))) (λ parts. IfSome
-        (R.left log.old) (λ bytes. Begun (L.answer lister.old) inputs.now (items 0 bytes) parts))
-        (W.taken report.old) (W.taken report.new) }
-    ensures headline { IfOk result (λ code. IfSome (R.left log.old) (λ bytes. Headline (L.answer
-        lister.old) inputs.now (items 0 bytes) code (W.taken report.old) (W.taken report.new))) }
+    ensures reports { ReportsLog (L.answer lister.old) inputs.now result (R.left log.old)
+        (R.left log.new) (W.taken report.old) (W.taken report.new) }
+    ensures headline { IfOk result (λ code. IfSome (R.left log.old) (λ bytes.
+        Headline (L.answer lister.old) inputs.now (items 0 bytes) code
+        (W.taken report.old) (W.taken report.new))) }
     ensures stays { (other : Binary) → L.answer lister.new other ≡ L.answer lister.old other }
     ensures asks { AsksWith (L.answer lister.old) inputs.now (lacks_memory result)
         (L.asked lister.old) (L.asked lister.new) }
@@ -77,12 +74,8 @@ fn reported<L: Lister, R: LogReader, W: ReportWriter>(
     requires calls_fit { R.calls log.old < 2 ^ 62 }
     requires failures_fit { R.failures log.old < 2 ^ 62 }
     requires writes_fit { W.failures report.old < 2 ^ 62 }
-    ensures reports { Reports result (λ parts code. IfSome (R.left log.old)
-        (λ bytes. Composed (L.answer lister.old) inputs.now (items 0 bytes) parts code))
-        (λ parts. IfSome (R.left log.old) (λ bytes. IfSome (R.left log.new)
-        (λ rest. GotTo (L.answer lister.old) inputs.now bytes rest parts))) (λ parts. IfSome
-        (R.left log.old) (λ bytes. Begun (L.answer lister.old) inputs.now (items 0 bytes) parts))
-        (W.taken report.old) (W.taken report.new) }
+    ensures reports { ReportsLog (L.answer lister.old) inputs.now result (R.left log.old)
+        (R.left log.new) (W.taken report.old) (W.taken report.new) }
     ensures stays { (other : Binary) → L.answer lister.new other ≡ L.answer lister.old other }
     ensures asks { AsksWith (L.answer lister.old) inputs.now (lacks_memory result)
         (L.asked lister.old) (L.asked lister.new) }
@@ -112,13 +105,10 @@ pub fn judge_stream<R: LogReader, W: ReportWriter>(
     requires calls_fit { R.calls input.old < 2 ^ 62 }
     requires failures_fit { R.failures input.old < 2 ^ 62 }
     requires writes_fit { W.failures report.old < 2 ^ 62 }
-    ensures reports { Reports result (λ parts code. IfSome (R.left input.old)
-        (λ bytes. StreamComposed bytes parts code)) (λ parts. IfSome (R.left input.old)
-        (λ bytes. IfSome (R.left input.new) (λ rest. StreamGotTo bytes rest parts)))
-        (λ parts. IfSome (R.left input.old) (λ bytes. StreamBegun bytes parts)) (W.taken report.old)
-        (W.taken report.new) }
-    ensures headline { IfOk result (λ code. IfSome (R.left input.old)
-        (λ bytes. StreamHeadline bytes code (W.taken report.old) (W.taken report.new))) }
+    ensures reports { ReportsStream result (R.left input.old) (R.left input.new)
+        (W.taken report.old) (W.taken report.new) }
+    ensures headline { IfOk result (λ code. IfSome (R.left input.old) (λ bytes.
+        StreamHeadline bytes code (W.taken report.old) (W.taken report.new))) }
     ensures unread { IfSome (R.left input.old) (λ bytes. HasNoPlan (read_inputs (before_feed bytes))
         → R.calls input.new ≤ R.calls input.old + first_line_reads) }
     ensures reads { R.calls input.new ≤ R.calls input.old + first_line_reads + log_reads }
@@ -139,11 +129,8 @@ fn stream_reported<R: LogReader, W: ReportWriter>(
     requires calls_fit { R.calls input.old < 2 ^ 62 }
     requires failures_fit { R.failures input.old < 2 ^ 62 }
     requires writes_fit { W.failures report.old < 2 ^ 62 }
-    ensures reports { Reports result (λ parts code. IfSome (R.left input.old)
-        (λ bytes. StreamComposed bytes parts code)) (λ parts. IfSome (R.left input.old)
-        (λ bytes. IfSome (R.left input.new) (λ rest. StreamGotTo bytes rest parts)))
-        (λ parts. IfSome (R.left input.old) (λ bytes. StreamBegun bytes parts)) (W.taken report.old)
-        (W.taken report.new) }
+    ensures reports { ReportsStream result (R.left input.old) (R.left input.new)
+        (W.taken report.old) (W.taken report.new) }
     ensures unread { IfSome (R.left input.old) (λ bytes. HasNoPlan (read_inputs (before_feed bytes))
         → R.calls input.new ≤ R.calls input.old + first_line_reads) }
     ensures reads { R.calls input.new ≤ R.calls input.old + first_line_reads + log_reads }
@@ -173,11 +160,13 @@ fn judge_by_table<R: LogReader, W: ReportWriter>(
     requires calls_fit { R.calls log.old + 2 ^ 32 ≤ 2 ^ 63 }
     requires failures_fit { R.failures log.old < 2 ^ 62 }
     requires writes_fit { W.failures report.old < 2 ^ 62 }
-    ensures reports { Reports result (λ parts code. IfSome (R.left log.old)
-        (λ bytes. Composed (table_of inputs) inputs (items_ahead lines.old bytes) parts code))
-        (λ parts. (front : List (List ℕ)) × IsGotOf lines.old (R.left log.old) (R.left log.new)
-        front × HasSoFar (table_of inputs) inputs front parts) (λ parts. IfSome (R.left log.old)
-        (λ bytes. Begun (table_of inputs) inputs (items_ahead lines.old bytes) parts))
+    ensures reports { Reports result
+        (λ parts code. IfSome (R.left log.old) (λ bytes.
+        Composed (table_of inputs) inputs (items_ahead lines.old bytes) parts code))
+        (λ parts. (front : List (List ℕ)) × IsGotOf lines.old (R.left log.old) (R.left log.new) front
+        × HasSoFar (table_of inputs) inputs front parts)
+        (λ parts. IfSome (R.left log.old) (λ bytes.
+        Begun (table_of inputs) inputs (items_ahead lines.old bytes) parts))
         (W.taken report.old) (W.taken report.new) }
     ensures unread { (refusal : PlanFault) → Plans (table_of inputs) inputs (Err refusal)
         → R.calls log.new ≡ R.calls log.old }

@@ -28,9 +28,9 @@ LendsLine bytes (Err error) = ReadsLine bytes (Err (as_told error))
 
 -- an event that has texts of its own
 abbrev pub HasTexts : LogLine → Type 0
-HasTexts (event.Script id told) = ⊤
+HasTexts (event.Script id ending) = ⊤
 HasTexts (event.Start binary name) = ⊤
-HasTexts (event.End binary name told) = ⊤
+HasTexts (event.End binary name ending) = ⊤
 HasTexts (event.Stop reason) = ⊥
 
 -- the line spells an event that has texts

@@ -97,10 +97,10 @@ Pairs result output = is_exec_fail result ≡ has_message output
 
 -- RESULT SLOW NANOS OUT ERR
 abbrev pub SpellsRecord : Record → List (List ℕ) → Type 0
-SpellsRecord told (result ∷ slow ∷ nanos ∷ out ∷ err ∷ []) =
-    SpellsResult told.result result × SpellsSlow told.slow slow × SpellsNanos told.nanos nanos
-    × SpellsOutput told.output out err × Pairs told.result told.output
-SpellsRecord told _ = ⊥
+SpellsRecord ending (result ∷ slow ∷ nanos ∷ out ∷ err ∷ []) =
+    SpellsResult ending.result result × SpellsSlow ending.slow slow × SpellsNanos ending.nanos nanos
+    × SpellsOutput ending.output out err × Pairs ending.result ending.output
+SpellsRecord ending _ = ⊥
 
 -- a reason in kebab case
 abbrev pub reason_word : CancelReason → List ℕ
@@ -119,9 +119,9 @@ SpellsReason reason field = (is_inner reason ≡ false) × (field ≡ reason_wor
 
 -- the fields of an event: `script` ID and its record, `start` BINARY NAME, `end` BINARY NAME and its record, `stop` REASON
 abbrev pub SpellsFields : LogLine → List (List ℕ) → Type 0
-SpellsFields (line.Script id told) (word ∷ first ∷ rest) = (word ≡ codes "script") × (first ≡ id) × SpellsRecord told rest
+SpellsFields (line.Script id ending) (word ∷ first ∷ rest) = (word ≡ codes "script") × (first ≡ id) × SpellsRecord ending rest
 SpellsFields (line.Start binary name) (word ∷ first ∷ second ∷ []) = (word ≡ codes "start") × (first ≡ binary) × (second ≡ name)
-SpellsFields (line.End binary name told) (word ∷ first ∷ second ∷ rest) = (word ≡ codes "end") × (first ≡ binary) × (second ≡ name) × SpellsRecord told rest
+SpellsFields (line.End binary name ending) (word ∷ first ∷ second ∷ rest) = (word ≡ codes "end") × (first ≡ binary) × (second ≡ name) × SpellsRecord ending rest
 SpellsFields (line.Stop reason) (word ∷ named ∷ []) = (word ≡ codes "stop") × SpellsReason reason named
 SpellsFields _ _ = ⊥
 

@@ -10,11 +10,11 @@ Appends IsSpelled old new = (text : List ℕ) × IsSpelled text × (new ≡ old 
 
 -- OUT and ERR, with a tab between them
 abbrev pub SpellsBothStreams : RecordOutput → List ℕ → Type 0
-SpellsBothStreams told text = (out : List ℕ) × (err : List ℕ) × SpellsOutput told out err × (text ≡ out ++ 9 ∷ err)
+SpellsBothStreams ending text = (out : List ℕ) × (err : List ℕ) × SpellsOutput ending out err × (text ≡ out ++ 9 ∷ err)
 
 -- the fields of a record, with a tab between each two
 abbrev pub SpellsRecordText : Record → List ℕ → Type 0
-SpellsRecordText told text = (fields : List (List ℕ)) × SpellsRecord told fields × (text ≡ line_of_fields fields)
+SpellsRecordText ending text = (fields : List (List ℕ)) × SpellsRecord ending fields × (text ≡ line_of_fields fields)
 
 -- some text is spelled so
 abbrev pub IsSpellable : (List ℕ → Type 0) → Type 0

@@ -100,7 +100,7 @@ impl LogLines {
     /// Whether the next call of `next` needs no read: the bytes that were read tell a line, or that one or the log is
     /// too long. It forgets the line before.
     pub fn is_waiting(&mut self) -> bool
-        ensures told { result ≡ tells_next self.old }
+        ensures exact { result ≡ tells_next self.old }
         ensures unmoved { Unmoved self.old self.new }
     {
         if self.find_feed().is_some() {

@@ -127,7 +127,7 @@ pub refused_listing : (answer : Binary → Answer) (inputs : Inputs) (choice : C
     → Selected (Err error) (listing answer answers (listed_in inputs answers)) (listed_in inputs answers) → Builds answer inputs (Err error)
 refused_listing answer inputs choice answers (errors.Refused refusal) of it (fault, listed, is) =
     breaks_behind answer inputs before_listing behind_listing refusal (kept_before answer inputs choice answers of it)
-    (inl (record { choice = choice; answers = answers; answered = it; fault = fault; listed = listed; told = is }))
+    (inl (record { choice = choice; answers = answers; answered = it; fault = fault; listed = listed; refused = is }))
 refused_listing answer inputs choice answers errors.OutOfMemory of it selected = tt
 
 -- tests with too many tries

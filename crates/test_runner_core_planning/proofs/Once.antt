@@ -144,7 +144,7 @@ breaks_once answer inputs check.filterset one other (choice, sets, is) (second, 
 breaks_once answer inputs check.names one other a b =
     let same : a.fault ≡ b.fault =
     (let e = listed_once answer inputs a.choice b.choice a.answers b.answers (Err a.fault) (Err b.fault) a.answered b.answered a.listed b.listed in cc) in
-    same_refusal one other (a.told ∙ ap of_listing same ∙ sym b.told)
+    same_refusal one other (a.refused ∙ ap of_listing same ∙ sym b.refused)
 breaks_once answer inputs check.tries one other (a, e) (b, f) = same_refusal one other (e ∙ sym f)
 
 -- where none is broken, none is the first that is

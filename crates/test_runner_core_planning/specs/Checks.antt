@@ -73,7 +73,7 @@ pub record IsListedBadly (answer : Binary → Answer) (inputs : Inputs) (refusal
   pub answered : AnswerFor inputs choice answers
   pub fault : ListingFault
   pub listed : listing answer answers (listed_in inputs answers) ≡ Err fault
-  pub told : refusal ≡ of_listing fault
+  pub refused : refusal ≡ of_listing fault
 
 -- a selected test has too many tries
 pub record HasTooMany (answer : Binary → Answer) (inputs : Inputs) : Type 0 where

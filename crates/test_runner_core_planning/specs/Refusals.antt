@@ -33,8 +33,8 @@ of_pass passing.VersionError = fault.VersionError
 of_pass passing.UnknownFeature = fault.UnknownFeature
 
 abbrev pub of_settings : SettingsFault → PlanFault
-of_settings (set.Load told) = fault.Load told
-of_settings (set.ProfileNotFound told) = fault.ProfileNotFound told
+of_settings (set.Load refusal) = fault.Load refusal
+of_settings (set.ProfileNotFound missing) = fault.ProfileNotFound missing
 of_settings set.RepeatedFact = fault.RepeatedFact
 
 abbrev pub of_listing : ListingFault → PlanFault

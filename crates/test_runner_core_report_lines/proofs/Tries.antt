@@ -25,18 +25,18 @@ test_grown old kind binary name fate tries first second third new one two three 
     four ∙ ap (λ (t : List ℕ). t ++ 10 ∷ []) (three ∙ ap (λ (t : List ℕ). t ++ 9 ∷ tries) (two ∙ ap (λ (t : List ℕ). t ++ 9 ∷ fate) one)) ∙ search append_assoc
 
 -- outputs behind a part
-pub added_behind : (IsTextOf : List ℕ → Type 0) (part old middle new : List ℕ) → middle ≡ old ++ part → Adds IsTextOf middle new
-    → Adds (λ text. (outputs : List ℕ) × IsTextOf outputs × (text ≡ part ++ outputs)) old new
-added_behind IsTextOf part old middle new grown added = (
+pub added_behind : (IsAdded : List ℕ → Type 0) (part old middle new : List ℕ) → middle ≡ old ++ part → Adds IsAdded middle new
+    → Adds (λ text. (outputs : List ℕ) × IsAdded outputs × (text ≡ part ++ outputs)) old new
+added_behind IsAdded part old middle new grown added = (
   part ++ added.0,
   (added.0, added.1, refl),
   added.2 ∙ ap (λ (t : List ℕ). t ++ added.0) grown ∙ append_assoc old part added.0,
 )
 
 -- outputs behind two parts
-pub added_last : (IsTextOf : List ℕ → Type 0) (part next old middle after new : List ℕ) → middle ≡ old ++ part → after ≡ middle ++ next → Adds IsTextOf after new
-    → Adds (λ text. (outputs : List ℕ) × IsTextOf outputs × (text ≡ part ++ (next ++ outputs))) old new
-added_last IsTextOf part next old middle after new first second added = (
+pub added_last : (IsAdded : List ℕ → Type 0) (part next old middle after new : List ℕ) → middle ≡ old ++ part → after ≡ middle ++ next → Adds IsAdded after new
+    → Adds (λ text. (outputs : List ℕ) × IsAdded outputs × (text ≡ part ++ (next ++ outputs))) old new
+added_last IsAdded part next old middle after new first second added = (
   part ++ (next ++ added.0),
   (added.0, added.1, refl),
   added.2 ∙ ap (λ (t : List ℕ). t ++ added.0) (second ∙ ap (λ (t : List ℕ). t ++ next) first)

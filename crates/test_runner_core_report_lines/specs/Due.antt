@@ -53,7 +53,7 @@ due_after shows reason test = visibility_of shows.levels (display_of shows test)
 
 -- the reason is the one that was kept as the test finished
 abbrev pub due_by : Shows → TestState → Mark → Option Record → Option OutputOnTestFinished
-due_by shows test (marks.Finished reason) (Some told) = Some (due_after shows reason (finished_as test told))
+due_by shows test (marks.Finished reason) (Some ending) = Some (due_after shows reason (finished_as test ending))
 due_by shows test _ _ = None
 
 -- what is due of a test: nothing where it isn't finished

@@ -21,19 +21,19 @@ ResultIsSpelled = (result : ExecutionResultDescription) (field : List ℕ) → S
 
 -- the end of an attempt is reported by the fields that a log line spells it by
 abbrev pub EndIsSpelled : Type 0
-EndIsSpelled = (told : Record) (result slow nanos out err : List ℕ) → SpellsRecord told (result ∷ slow ∷ nanos ∷ out ∷ err ∷ []) → end_text told ≡ line_of_fields (result ∷ slow ∷ nanos ∷ [])
+EndIsSpelled = (ending : Record) (result slow nanos out err : List ℕ) → SpellsRecord ending (result ∷ slow ∷ nanos ∷ out ∷ err ∷ []) → end_text ending ≡ line_of_fields (result ∷ slow ∷ nanos ∷ [])
 
 -- the levels of a finished test, and whether its last attempt is a success, by the description of its attempts
-pub record IsDescribed (attempts : Attempts Status) (final : Status) (told : Description LiveSpec ChildOutputDescription) : Type 0 where
-  pub level : level_of told ≡ level_of_test (finished_as attempts final)
-  pub final_level : final_level_of told ≡ final_level_of_test (finished_as attempts final)
-  pub success : ends_in_success told ≡ is_success final.result
+pub record IsDescribed (attempts : Attempts Status) (final : Status) (description : Description LiveSpec ChildOutputDescription) : Type 0 where
+  pub level : level_of description ≡ level_of_test (finished_as attempts final)
+  pub final_level : final_level_of description ≡ final_level_of_test (finished_as attempts final)
+  pub success : ends_in_success description ≡ is_success final.result
 
 -- the levels of a finished test are those of what its attempts come to
 abbrev pub HasLevels : Type 0
 HasLevels =
-    (attempts : Attempts Status) (final : Status) (told : Description LiveSpec ChildOutputDescription) →
-    last attempts.statuses ≡ Some final → description_of attempts.statuses attempts.flaky_result ≡ Some told → IsDescribed attempts final told
+    (attempts : Attempts Status) (final : Status) (description : Description LiveSpec ChildOutputDescription) →
+    last attempts.statuses ≡ Some final → description_of attempts.statuses attempts.flaky_result ≡ Some description → IsDescribed attempts final description
 
 -- what is written as a test finishes is one text
 abbrev pub HasOneDone : Type 0

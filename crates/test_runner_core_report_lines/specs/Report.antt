@@ -11,7 +11,7 @@ use Rattle.test_runner_core_report_lines.specs.declared.shows.Shows.{Shows}
 
 -- those of a last attempt, if there is one, where they are shown
 abbrev pub IsShownOutputs : Bool → Option Record → List ℕ → Type 0
-IsShownOutputs true (Some told) text = IsOutputs told text
+IsShownOutputs true (Some ending) text = IsOutputs ending text
 IsShownOutputs _ _ text = text ≡ []
 
 -- what is written as a test finishes, by what is due then

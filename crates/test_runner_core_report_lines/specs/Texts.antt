@@ -67,7 +67,7 @@ fate_after test =
 -- by the last record of a test, if it has one
 abbrev pub fate_by : TestState → Option Record → ReportedFate
 fate_by test None = fates.NotRun
-fate_by test (Some told) = if is_finished test then fate_after (finished_as test told) else fates.Unfinished
+fate_by test (Some ending) = if is_finished test then fate_after (finished_as test ending) else fates.Unfinished
 
 -- what became of a test
 abbrev pub fate_of : TestState → ReportedFate
@@ -115,16 +115,16 @@ abbrev pub end_by : ExecutionResultDescription → Bool → ℕ → List ℕ
 end_by result slow nanos = line_of_fields (result_text result ∷ slow_word slow ∷ decimal nanos ∷ [])
 
 abbrev pub end_text : Record → List ℕ
-end_text told = end_by told.result told.slow told.nanos
+end_text ending = end_by ending.result ending.slow ending.nanos
 
 -- the line of an attempt with this number
 abbrev pub try_line : ℕ → Record → List ℕ
-try_line number told = line (codes "try" ∷ decimal number ∷ end_text told ∷ [])
+try_line number ending = line (codes "try" ∷ decimal number ∷ end_text ending ∷ [])
 
 -- the lines of attempts that follow one another, the first of which has this number
 abbrev pub try_lines : ℕ → List Record → List ℕ
 try_lines number [] = []
-try_lines number (told ∷ records) = try_line number told ++ try_lines (number + 1) records
+try_lines number (ending ∷ records) = try_line number ending ++ try_lines (number + 1) records
 
 -- what a stream wrote, behind its word, where it was captured
 abbrev pub stream_line : List ℕ → Option (List ℕ) → List ℕ
@@ -167,22 +167,22 @@ IsShownSlice false output slice = IsSlice (bytes_of_output (out_of output)) (byt
 
 -- the outputs of an attempt
 abbrev pub IsOutputs : Record → List ℕ → Type 0
-IsOutputs told text = (slice : Option TestOutputErrorSlice) × IsShownSlice (is_success told.result) told.output slice × (text ≡ written_text told.output ++ slice_line slice)
+IsOutputs ending text = (slice : Option TestOutputErrorSlice) × IsShownSlice (is_success ending.result) ending.output slice × (text ≡ written_text ending.output ++ slice_line slice)
 
 -- how a script ended, if it did
 abbrev pub script_end : Option Record → List ℕ
 script_end None = codes "not-run"
-script_end (Some told) = end_text told
+script_end (Some ending) = end_text ending
 
 -- the line of a script with this id
 abbrev pub script_line : List ℕ → Option Record → List ℕ
-script_line id told = line (codes "script" ∷ id ∷ script_end told ∷ [])
+script_line id ending = line (codes "script" ∷ id ∷ script_end ending ∷ [])
 
 -- its outputs, where it ended and is no success
 abbrev pub script_outputs : Option Record → List ℕ
 script_outputs None = []
-script_outputs (Some told) = if is_success told.result then [] else written_text told.output
+script_outputs (Some ending) = if is_success ending.result then [] else written_text ending.output
 
 -- what the final text says of a script with this id
 abbrev pub script_text : List ℕ → Option Record → List ℕ
-script_text id told = script_line id told ++ script_outputs told
+script_text id ending = script_line id ending ++ script_outputs ending

@@ -8,7 +8,7 @@ pub record Extends (old new : List ℕ) : Type 0 where
 
 -- such a text was added to the old one
 abbrev pub Adds : (List ℕ → Type 0) → List ℕ → List ℕ → Type 0
-Adds IsTextOf old new = (text : List ℕ) × IsTextOf text × (new ≡ old ++ text)
+Adds IsAdded old new = (text : List ℕ) × IsAdded text × (new ≡ old ++ text)
 
 -- what is kept of a text to which something was added: all of it, or where that failed so many bytes
 abbrev pub kept_by : {T E : Type 0} → Result T E → ℕ → List ℕ → List ℕ

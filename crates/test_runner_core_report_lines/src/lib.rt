@@ -7,11 +7,11 @@ pub mod laws;
 mod lines;
 mod outputs;
 mod report;
+mod reported_test;
 mod shows;
-mod told_test;
 mod writing;
 
 pub use fate::ReportedFate;
 pub use report::{push_done, push_script, push_shown};
+pub use reported_test::ReportedTest;
 pub use shows::Shows;
-pub use told_test::ReportedTest;

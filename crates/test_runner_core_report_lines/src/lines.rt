@@ -1,11 +1,11 @@
 // The lines of a test, of its attempts and of a script.
 ghost use Rattle.std.specs.Prelude.{◌≡◌, ◌∷◌, ◌++◌, OnOk, decimal, map, string_bytes};
 ghost use Rattle.std.specs.Duration.{as_nanos};
-ghost use Rattle.test_runner_core_run_state.specs.Statuses.{record_of, script_told};
+ghost use Rattle.test_runner_core_run_state.specs.Statuses.{record_of, script_record_in};
 ghost use Rattle.test_runner_core_report_lines.specs.Texts.{end_by, failure_text, fate_of, fate_word, result_text, script_end, script_line, slow_word, test_line, tries_text, try_line, try_lines};
 ghost use Rattle.test_runner_core_report_lines.specs.Writing.{Extends};
 
-use crate::told_test::ReportedTest;
+use crate::reported_test::ReportedTest;
 use crate::writing::{push_feed, push_field, push_text};
 use itoa::Buffer;
 use nextest_config_elements_choices::{LeakTimeoutResult, SlowTimeoutResult};
@@ -158,7 +158,7 @@ fn push_script_end(
     status: Option<&SetupScriptExecuteStatus<LiveSpec>>,
 ) -> Result<(), AllocError>
     ensures ok { OnOk result (string_bytes text.new
-        ≡ string_bytes text.old ++ 9 ∷ script_end (script_told status.entry)) }
+        ≡ string_bytes text.old ++ 9 ∷ script_end (script_record_in status.entry)) }
     ensures grows { Extends (string_bytes text.old) (string_bytes text.new) }
 {
     match status {
@@ -174,7 +174,7 @@ pub(crate) fn push_script_line(
     status: Option<&SetupScriptExecuteStatus<LiveSpec>>,
 ) -> Result<(), AllocError>
     ensures ok { OnOk result (string_bytes text.new
-        ≡ string_bytes text.old ++ script_line id.now (script_told status.entry)) }
+        ≡ string_bytes text.old ++ script_line id.now (script_record_in status.entry)) }
     ensures grows { Extends (string_bytes text.old) (string_bytes text.new) }
 {
     push_text(text, "script")?;

@@ -2,7 +2,7 @@
 ghost use Rattle.std.specs.Prelude.{◌≡◌, ◌∷◌, ◌++◌, [], OnOk, decimal, length, option_copied, string_bytes};
 ghost use Rattle.hex.specs.Hex.{encode_lower};
 ghost use Rattle.nextest_run_events_results.specs.Result.{is_success};
-ghost use Rattle.test_runner_core_run_state.specs.Statuses.{record_of, script_told, told_of};
+ghost use Rattle.test_runner_core_run_state.specs.Statuses.{record_of, script_record_in, record_output_of};
 ghost use Rattle.test_runner_core_report_lines.specs.Texts.{IsOutputs, IsShownSlice, err_of, line, message_line, out_of, part_line, script_outputs, slice_line, stream_line, written_text};
 ghost use Rattle.test_runner_core_report_lines.specs.Writing.{Adds, Extends};
 
@@ -34,7 +34,7 @@ fn push_written(
     output: &ChildExecutionOutputDescription<LiveSpec>,
 ) -> Result<(), AllocError>
     ensures ok { OnOk result
-        (string_bytes text.new ≡ string_bytes text.old ++ written_text (told_of output.now)) }
+        (string_bytes text.new ≡ string_bytes text.old ++ written_text (record_output_of output.now)) }
     ensures grows { Extends (string_bytes text.old) (string_bytes text.new) }
 {
     push_stream(text, "out", out_of(output))?;
@@ -58,7 +58,7 @@ pub(crate) fn push_script_outputs(
     status: Option<&SetupScriptExecuteStatus<LiveSpec>>,
 ) -> Result<(), AllocError>
     ensures ok { OnOk result (string_bytes text.new
-        ≡ string_bytes text.old ++ script_outputs (script_told status.entry)) }
+        ≡ string_bytes text.old ++ script_outputs (script_record_in status.entry)) }
     ensures grows { Extends (string_bytes text.old) (string_bytes text.new) }
 {
     match status {
@@ -69,7 +69,7 @@ pub(crate) fn push_script_outputs(
 
 // What was written to standard output, where it was captured. Both streams in one count as that.
 fn out_of(output: &ChildExecutionOutputDescription<LiveSpec>) -> Option<&[u8]>
-    ensures { option_copied result ≡ out_of (told_of output.now) }
+    ensures { option_copied result ≡ out_of (record_output_of output.now) }
 {
     match output {
         ChildExecutionOutputDescription::Output { output, .. } => match output {
@@ -86,7 +86,7 @@ fn out_of(output: &ChildExecutionOutputDescription<LiveSpec>) -> Option<&[u8]>
 
 // What was written to standard error, where it was captured.
 fn err_of(output: &ChildExecutionOutputDescription<LiveSpec>) -> Option<&[u8]>
-    ensures { option_copied result ≡ err_of (told_of output.now) }
+    ensures { option_copied result ≡ err_of (record_output_of output.now) }
 {
     match output {
         ChildExecutionOutputDescription::Output { output, .. } => match output {
@@ -131,7 +131,7 @@ fn push_message(
     output: &ChildExecutionOutputDescription<LiveSpec>,
 ) -> Result<(), AllocError>
     ensures ok { OnOk result
-        (string_bytes text.new ≡ string_bytes text.old ++ message_line (told_of output.now)) }
+        (string_bytes text.new ≡ string_bytes text.old ++ message_line (record_output_of output.now)) }
     ensures grows { Extends (string_bytes text.old) (string_bytes text.new) }
 {
     match output {
@@ -151,7 +151,7 @@ fn push_message(
 
 // The part of an attempt's outputs that shows its error; none of a success.
 fn slice_of(status: &ExecuteStatus<LiveSpec>) -> Option<TestOutputErrorSlice<'_>>
-    ensures { IsShownSlice (is_success status.now.result) (told_of status.now.output) result }
+    ensures { IsShownSlice (is_success status.now.result) (record_output_of status.now.output) result }
 {
     if status.result.is_success() {
         return None;

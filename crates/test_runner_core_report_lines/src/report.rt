@@ -1,7 +1,7 @@
 // What a report says of a test, as it finishes and in the final text, and of a script.
 ghost use Rattle.std.specs.Prelude.{◌≡◌, ◌||◌, true, [], ◌++◌, OnOk, OnErr, Some, codes, if◌then◌else◌, string_bytes};
 ghost use Rattle.nextest_run_events_visibility.specs.declared.visibility.OutputStoreFinal.TheVariants.{Yes};
-ghost use Rattle.test_runner_core_run_state.specs.Statuses.{script_told};
+ghost use Rattle.test_runner_core_run_state.specs.Statuses.{script_record_in};
 ghost use Rattle.test_runner_core_run_model.specs.State.{last_record};
 ghost use Rattle.test_runner_core_report_lines.specs.Due.{due_of};
 ghost use Rattle.test_runner_core_report_lines.specs.Report.{IsDone, IsDoneBy, IsShown, IsShownBy, IsShownOutputs, kept_of};
@@ -10,8 +10,8 @@ ghost use Rattle.test_runner_core_report_lines.specs.Writing.{Adds, Extends};
 
 use crate::lines::{push_attempts, push_script_line, push_test_line};
 use crate::outputs::{push_outputs, push_script_outputs};
+use crate::reported_test::ReportedTest;
 use crate::shows::Shows;
-use crate::told_test::ReportedTest;
 use crate::writing::all_or_nothing;
 use nextest_run_events_outputs::{LiveSpec, SetupScriptExecuteStatus};
 use nextest_run_events_visibility::{OutputOnTestFinished, OutputStoreFinal};
@@ -59,7 +59,7 @@ pub fn push_script(
     status: Option<&SetupScriptExecuteStatus<LiveSpec>>,
 ) -> Result<(), AllocError>
     ensures ok { OnOk result (string_bytes text.new
-        ≡ string_bytes text.old ++ script_text id.now (script_told status.entry)) }
+        ≡ string_bytes text.old ++ script_text id.now (script_record_in status.entry)) }
     ensures err { OnErr result (string_bytes text.new ≡ string_bytes text.old) }
 {
     let length = text.len();
@@ -74,7 +74,7 @@ fn push_script_lines(
     status: Option<&SetupScriptExecuteStatus<LiveSpec>>,
 ) -> Result<(), AllocError>
     ensures ok { OnOk result (string_bytes text.new
-        ≡ string_bytes text.old ++ script_text id.now (script_told status.entry)) }
+        ≡ string_bytes text.old ++ script_text id.now (script_record_in status.entry)) }
     ensures grows { Extends (string_bytes text.old) (string_bytes text.new) }
 {
     push_script_line(text, id, status)?;

@@ -35,7 +35,7 @@ use Rattle.test_runner_core_run_model.specs.declared.event.Event.{Event}
 use Rattle.test_runner_core_run_model.specs.declared.mark.Mark.{Mark}
 use Rattle.test_runner_core_run_model.specs.declared.mark.Mark.TheVariants as marks
 use Rattle.test_runner_core_reporter.specs.Final.{done_part, final_parts, script_parts, shown_part, shown_tests, shows_of}
-use Rattle.test_runner_core_reporter.specs.Keeping.{event_with, hides_success, is_never_shown, record_to_keep, state_to_keep, state_with, tests_with, with_records}
+use Rattle.test_runner_core_reporter.specs.Keeping.{event_with, hides_success, is_never_shown, record_to_keep, state_to_keep, state_with, tests_with, unwritten, with_records}
 use Rattle.test_runner_core_reporter.specs.Parts.{Done, IsPart, IsTextOf, Part, Said, Shown}
 use Rattle.test_runner_core_reporter.specs.RunEnd.{end_text}
 use Rattle.test_runner_core_reporter.specs.Steps.{all_done, done, done_at, step_parts}
@@ -277,18 +277,18 @@ pub keeps_ends : (tests : List PlanTest) → KeepEnds (record_to_keep tests)
 keeps_ends tests place told = by_test (is_success told.result && hides_success tests place)
   where
     by_test : (b : Bool) →
-        ((if b then record told { output = wrote.Streams None None } else told).result ≡ told.result)
-        × ((if b then record told { output = wrote.Streams None None } else told).slow ≡ told.slow)
-        × ((if b then record told { output = wrote.Streams None None } else told).nanos ≡ told.nanos)
+        ((if b then unwritten told else told).result ≡ told.result)
+        × ((if b then unwritten told else told).slow ≡ told.slow)
+        × ((if b then unwritten told else told).nanos ≡ told.nanos)
     by_test true = (refl, refl, refl)
     by_test false = (refl, refl, refl)
 
 hides_to_keep : (success_output : TestOutputDisplay) →
-    Hides (λ told. if is_success told.result && is_never_shown success_output then record told { output = wrote.Streams None None } else told) success_output
+    Hides (λ told. if is_success told.result && is_never_shown success_output then unwritten told else told) success_output
 hides_to_keep success_output told = by_tests (is_success told.result) (shown_at_once success_output) (shown_at_end success_output) refl refl refl
   where
     by_tests : (success at_once at_end : Bool) → is_success told.result ≡ success → shown_at_once success_output ≡ at_once → shown_at_end success_output ≡ at_end →
-        ((if success && (not at_once && not at_end) then record told { output = wrote.Streams None None } else told) ≡ told)
+        ((if success && (not at_once && not at_end) then unwritten told else told) ≡ told)
         ⊎ ((is_success told.result ≡ true) × (shown_at_once success_output ≡ false) × (shown_at_end success_output ≡ false))
     by_tests false at_once at_end a b c = inl refl
     by_tests true true at_end a b c = inl refl

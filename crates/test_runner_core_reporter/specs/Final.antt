@@ -27,22 +27,22 @@ shown_tests plan (test ∷ tests) (state ∷ states) =
 
 -- what is reported of such a test as it finishes, and in the final text
 abbrev pub done_part : ShownTest → Part
-done_part told = Done told.shows told.test
+done_part named = Done named.shows named.test
 
 abbrev pub shown_part : ShownTest → Part
-shown_part told = Shown told.shows told.test
+shown_part named = Shown named.shows named.test
 
 -- the part of a test in the final text, where there is one
 abbrev pub part_of_shown : Option ShownTest → List Part
 part_of_shown None = []
-part_of_shown (Some told) = shown_part told ∷ []
+part_of_shown (Some named) = shown_part named ∷ []
 
 -- the texts of scripts with these ids, in their order: of those that ended with these records, and behind them of those
 -- that didn't end
 abbrev pub script_texts : List (List ℕ) → List Record → List (List ℕ)
 script_texts [] records = []
 script_texts (id ∷ ids) [] = script_text id None ∷ script_texts ids []
-script_texts (id ∷ ids) (told ∷ records) = script_text id (Some told) ∷ script_texts ids records
+script_texts (id ∷ ids) (ending ∷ records) = script_text id (Some ending) ∷ script_texts ids records
 
 -- the scripts of a plan in the final text, as far as its run is
 abbrev pub script_parts : Plan → State → List Part

@@ -20,10 +20,14 @@ is_never_shown display = not (shown_at_once display) && not (shown_at_end displa
 abbrev pub hides_success : List PlanTest → ℕ → Bool
 hides_success tests place = option_map_or (λ test. is_never_shown test.settings.success_output) (slice_get tests place) false
 
+-- a record without what was written
+abbrev pub unwritten : Record → Record
+unwritten ending = record ending { output = wrote.Streams None None }
+
 -- what is kept of a record of the test at a place
 abbrev pub record_to_keep : List PlanTest → ℕ → Record → Record
-record_to_keep tests place told =
-    if is_success told.result && hides_success tests place then record told { output = wrote.Streams None None } else told
+record_to_keep tests place ending =
+    if is_success ending.result && hides_success tests place then unwritten ending else ending
 
 -- a test with other records
 abbrev pub with_records : (Record → Record) → TestState → TestState
@@ -40,9 +44,9 @@ state_with kept state = record state { tests = tests_with kept state.tests }
 
 -- an event with another record of a test
 abbrev pub event_with : (ℕ → Record → Record) → Event → Event
-event_with kept (events.ScriptEnded script told) = events.ScriptEnded script told
+event_with kept (events.ScriptEnded script ending) = events.ScriptEnded script ending
 event_with kept (events.Started test) = events.Started test
-event_with kept (events.Ended test told) = events.Ended test (kept test told)
+event_with kept (events.Ended test ending) = events.Ended test (kept test ending)
 event_with kept (events.Stopped reason) = events.Stopped reason
 
 -- what is kept of a run of a plan, and of an event of it

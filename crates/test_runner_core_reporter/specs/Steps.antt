@@ -13,7 +13,7 @@ use Rattle.test_runner_core_reporter.specs.declared.final_text.ShownTest.{ShownT
 -- what is reported as the test at a place finishes
 abbrev pub done : Option ShownTest → List Part
 done None = []
-done (Some told) = done_part told ∷ []
+done (Some named) = done_part named ∷ []
 
 abbrev pub done_at : Plan → State → ℕ → List Part
 done_at plan state place = done (slice_get (shown_tests plan plan.tests state.tests) place)

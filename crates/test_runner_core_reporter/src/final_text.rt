@@ -36,7 +36,7 @@ fn shows_of(plan: &Plan, test: &PlanTest) -> Shows
 }
 
 // The test at a place of the plan, as far as the run is, with what is set of what is shown of it.
-pub(crate) fn told_at<'s>(session: &'s Session<'_>, place: usize) -> Option<ShownTest<'s>>
+pub(crate) fn shown_test_at<'s>(session: &'s Session<'_>, place: usize) -> Option<ShownTest<'s>>
     ensures { result ≡ slice_get
         (shown_tests session.now.plan session.now.plan.tests session.now.run.tests) place }
 {
@@ -140,7 +140,7 @@ fn report_shown_at<W: ReportWriter>(
     ensures failures { CountsWriteFailures result (W.failures report.old) (W.failures report.new)
         (W.last_failed report.new) }
 {
-    match told_at(session, place) {
+    match shown_test_at(session, place) {
         Some(told) => report_shown(text, report, &told.shows, &told.test),
         None => Ok(()),
     }

@@ -1,6 +1,6 @@
 // Reporting parts of a report. What is reported waits in a text, which is written in few calls.
 ghost use Rattle.std.specs.Prelude.{◌≡◌, ◌^◌, ◌<◌, [], ◌∷◌, OnOk, string_bytes};
-ghost use Rattle.test_runner_core_run_state.specs.Statuses.{script_told};
+ghost use Rattle.test_runner_core_run_state.specs.Statuses.{script_record_in};
 ghost use Rattle.test_runner_core_report_lines.specs.Texts.{script_text};
 ghost use Rattle.test_runner_core_reporter.specs.Parts.{Done, Said, Shown};
 ghost use Rattle.test_runner_core_reporter.specs.Writes.{WritesParts, CountsWriteFailures};
@@ -103,7 +103,7 @@ pub fn report_script<W: ReportWriter>(
     status: Option<&SetupScriptExecuteStatus<LiveSpec>>,
 ) -> Result<(), ReportFault>
     requires writes_fit { W.failures report.old < 2 ^ 63 }
-    ensures writes { WritesParts result (Said (script_text id.now (script_told status.entry)) ∷ [])
+    ensures writes { WritesParts result (Said (script_text id.now (script_record_in status.entry)) ∷ [])
         (W.taken report.old) (string_bytes text.old) (W.taken report.new) (string_bytes text.new) }
     ensures failures { CountsWriteFailures result
         (W.failures report.old) (W.failures report.new) (W.last_failed report.new) }

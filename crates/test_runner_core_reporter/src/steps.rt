@@ -6,7 +6,7 @@ ghost use Rattle.test_runner_core_reporter.specs.Steps.{all_done, done_at};
 ghost use Rattle.test_runner_core_reporter.specs.Writes.{WritesParts, CountsWriteFailures};
 
 use crate::fault::ReportFault;
-use crate::final_text::told_at;
+use crate::final_text::shown_test_at;
 use crate::reporting::report_done;
 use test_runner_core_run_model::{Finished, Mark};
 use test_runner_core_session::Session;
@@ -125,7 +125,7 @@ fn report_at<W: ReportWriter>(
     ensures failures { CountsWriteFailures result (W.failures report.old) (W.failures report.new)
         (W.last_failed report.new) }
 {
-    match told_at(session, place) {
+    match shown_test_at(session, place) {
         Some(told) => report_done(text, report, &told.shows, &told.test),
         None => Ok(()),
     }

@@ -61,15 +61,15 @@ counts_three : (p q r : Finished → Bool) (test : TestState) → (counts p test
 counts_three p q r test = by_finished (is_finished test) (last_record test.records)
   where
     by_finished : (over : Bool) (last : Option Record)
-        → ((over && option_map_or (λ told. p (finished_as test told)) last false) || (over && option_map_or (λ told. q (finished_as test told)) last false)
-        || (over && option_map_or (λ told. r (finished_as test told)) last false))
-        ≡ (over && option_map_or (λ told. p (finished_as test told) || q (finished_as test told) || r (finished_as test told)) last false)
+        → ((over && option_map_or (λ ending. p (finished_as test ending)) last false) || (over && option_map_or (λ ending. q (finished_as test ending)) last false)
+        || (over && option_map_or (λ ending. r (finished_as test ending)) last false))
+        ≡ (over && option_map_or (λ ending. p (finished_as test ending) || q (finished_as test ending) || r (finished_as test ending)) last false)
     by_finished true None = refl
-    by_finished true (Some told) = refl
+    by_finished true (Some ending) = refl
     by_finished false last = refl
 
 abbrev pub fails_told : Record → Bool
-fails_told told = fails_script told.result
+fails_told ending = fails_script ending.result
 
 -- the status by its five tests
 abbrev pub status_by : Bool → Bool → Bool → Bool → Bool → ℕ
@@ -88,7 +88,7 @@ status_is state =
     stats = counters state
 
     scripts : ltb 0 (failed_setup_script_count (counters state)) ≡ list_any fails_told state.scripts
-    scripts = three_count_some (λ told. script_failed told.result) (λ told. script_exec_failed told.result) (λ told. script_timed_out told.result) state.scripts
+    scripts = three_count_some (λ ending. script_failed ending.result) (λ ending. script_exec_failed ending.result) (λ ending. script_timed_out ending.result) state.scripts
 
     tests : ltb 0 (failed_count (counters state)) ≡ list_any (counts fails_test) state.tests
     tests =
@@ -236,7 +236,7 @@ tracked_ends plan assigned state ok tracks complete = by_reason state.reason ref
     by_reason : (reason : Option CancelReason) → state.reason ≡ reason → status state ≡ due_status plan assigned
     by_reason None e = let over = complete_going state e complete in going_ends plan assigned state ok tracks (was None e) over.0 over.1
     by_reason (Some why.SetupScriptFailure) e =
-        let some = any_implies stops fails_told state.scripts (λ told. stop_fails told.result) (was (Some why.SetupScriptFailure) e) in
+        let some = any_implies stops fails_told state.scripts (λ ending. stop_fails ending.result) (was (Some why.SetupScriptFailure) e) in
         script_status state some ∙ sym (script_due plan assigned state ok tracks.keeps some)
     by_reason (Some why.TestFailure) e = failing_ends plan assigned state ok tracks (was (Some why.TestFailure) e)
     by_reason (Some why.TestFailureImmediate) e = failing_ends plan assigned state ok tracks (was (Some why.TestFailureImmediate) e)

@@ -181,9 +181,9 @@ stop_at reason old mid place same none =
 
 -- the place of the attempt that ended, where its test is over
 abbrev pub ended_first : Event → State → List ℕ
-ended_first (events.ScriptEnded script told) new = []
+ended_first (events.ScriptEnded script ending) new = []
 ended_first (events.Started test) new = []
-ended_first (events.Ended test told) new = cond (finished_at new.tests test) (test ∷ []) []
+ended_first (events.Ended test ending) new = cond (finished_at new.tests test) (test ∷ []) []
 ended_first (events.Stopped reason) new = []
 
 -- where the step doesn't stop the run, that of the attempt that ended; else also those that are over under a reason from then on
@@ -210,15 +210,15 @@ all_stopped old reason new is keeps none =
     (λ place. subst (λ (ts : List TestState). newly_finished_at old.tests ts place ≡ is_stopped_at ts place) (sym is) (stop_at reason old.tests old.tests place refl (keeps none place)))
     (range_with_len 0 (length new.tests))
 
-splits_script : (old new : State) (script : ℕ) (told : Record) → step old (events.ScriptEnded script told) ≡ Ok new → Splits (events.ScriptEnded script told) old new
-splits_script old new script told happens =
-    let shows = script_shows old new script told happens in
-    subst (Splits (events.ScriptEnded script told) old) (sym shows.is) (by_success (is_success told.result) shows.going)
+splits_script : (old new : State) (script : ℕ) (ending : Record) → step old (events.ScriptEnded script ending) ≡ Ok new → Splits (events.ScriptEnded script ending) old new
+splits_script old new script ending happens =
+    let shows = script_shows old new script ending happens in
+    subst (Splits (events.ScriptEnded script ending) old) (sym shows.is) (by_success (is_success ending.result) shows.going)
   where
     ended : State
-    ended = record old { scripts = old.scripts ++ told ∷ [] }
+    ended = record old { scripts = old.scripts ++ ending ∷ [] }
 
-    by_success : (succeeds : Bool) → old.reason ≡ None → Splits (events.ScriptEnded script told) old (cond succeeds ended (stopped_by why.SetupScriptFailure ended))
+    by_success : (succeeds : Bool) → old.reason ≡ None → Splits (events.ScriptEnded script ending) old (cond succeeds ended (stopped_by why.SetupScriptFailure ended))
     by_success true none =
         record {
           going = λ goes. none_newly old ended refl;
@@ -303,26 +303,26 @@ both_parts : (front one back more : List ℕ) → front ≡ one → back ≡ mor
 both_parts front one back more first second = ap (λ (l : List ℕ). l ++ back) first ∙ ap (λ (l : List ℕ). one ++ l) second
 
 -- the run goes on, or was stopped before: the other tests are as they were
-end_going : (old : State) (place : ℕ) (told : Record) (test after : TestState) → slice_get old.tests place ≡ Some test → is_finished test ≡ false
-    → Splits (events.Ended place told) old (with_test old place after)
-end_going old place told test after found unfinished =
+end_going : (old : State) (place : ℕ) (ending : Record) (test after : TestState) → slice_get old.tests place ≡ Some test → is_finished test ≡ false
+    → Splits (events.Ended place ending) old (with_test old place after)
+end_going old place ending test after found unfinished =
     let new = with_test old place after in
     let inside = slice_get_within old.tests place test found in
     let within : place < length new.tests = omega (arith, inside, length-set old.tests place after) in
     record {
       going = λ goes.
-          both_parts _ (ended_first (events.Ended place told) new) _ []
+          both_parts _ (ended_first (events.Ended place ending) new) _ []
           (first_part old new place within (finished_there old.tests place test found ∙ unfinished))
           (second_part old new place (λ p. false) refl (λ p other. stays old.tests new.tests p (set_elsewhere old.tests place p after other))
           ∙ filter_none (λ p. false) (range_with_len 0 (length new.tests)) (λ p. refl))
-          ∙ append-nil (ended_first (events.Ended place told) new);
+          ∙ append-nil (ended_first (events.Ended place ending) new);
       stopping = λ keeps stops. let goes = no_stop old new refl in cc;
     }
 
 -- the limit stops the run: the test keeps no reason
-end_stopping : (old : State) (place : ℕ) (told : Record) (test after : TestState) (reason : CancelReason) → slice_get old.tests place ≡ Some test → is_finished test ≡ false
-    → old.reason ≡ None → is_stopped_mark (stopped_mark reason after.mark) ≡ false → Splits (events.Ended place told) old (stopped_by reason (with_test old place after))
-end_stopping old place told test after reason found unfinished none free =
+end_stopping : (old : State) (place : ℕ) (ending : Record) (test after : TestState) (reason : CancelReason) → slice_get old.tests place ≡ Some test → is_finished test ≡ false
+    → old.reason ≡ None → is_stopped_mark (stopped_mark reason after.mark) ≡ false → Splits (events.Ended place ending) old (stopped_by reason (with_test old place after))
+end_stopping old place ending test after reason found unfinished none free =
     let mid = with_test old place after in
     let new = stopped_by reason mid in
     let inside = slice_get_within old.tests place test found in
@@ -333,34 +333,34 @@ end_stopping old place told test after reason found unfinished none free =
     record {
       going = λ goes. let stops = stop_is old new reason none refl in cc;
       stopping = λ keeps stops.
-          both_parts _ (ended_first (events.Ended place told) new) _ (stopped_places new)
+          both_parts _ (ended_first (events.Ended place ending) new) _ (stopped_places new)
           (first_part old new place within (finished_there old.tests place test found ∙ unfinished))
           (second_part old new place (is_stopped_at new.tests) here
           (λ p other. stop_at reason old.tests mid.tests p (set_elsewhere old.tests place p after other) (keeps none p)));
     }
 
-splits_end : (old new : State) (place : ℕ) (told : Record) → step old (events.Ended place told) ≡ Ok new → Splits (events.Ended place told) old new
-splits_end old new place told happens =
-    let shows = end_shows old new place told happens in
-    subst (Splits (events.Ended place told) old) (sym shows.is)
-    (by_limit shows.test shows.found (ap is_finished_mark shows.running) (finishes old shows.test told && not (is_some old.reason)) refl (mode_at old.limit (failed_weight (slice_set old.tests place (after_attempt old shows.test told)))))
+splits_end : (old new : State) (place : ℕ) (ending : Record) → step old (events.Ended place ending) ≡ Ok new → Splits (events.Ended place ending) old new
+splits_end old new place ending happens =
+    let shows = end_shows old new place ending happens in
+    subst (Splits (events.Ended place ending) old) (sym shows.is)
+    (by_limit shows.test shows.found (ap is_finished_mark shows.running) (finishes old shows.test ending && not (is_some old.reason)) refl (mode_at old.limit (failed_weight (slice_set old.tests place (after_attempt old shows.test ending)))))
   where
-    by_limit : (test : TestState) → slice_get old.tests place ≡ Some test → is_finished test ≡ false → (b : Bool) → (finishes old test told && not (is_some old.reason)) ≡ b
+    by_limit : (test : TestState) → slice_get old.tests place ≡ Some test → is_finished test ≡ false → (b : Bool) → (finishes old test ending && not (is_some old.reason)) ≡ b
         → (reached : Option TerminateMode)
-        → Splits (events.Ended place told) old
-        (cond b (option_map_or (λ mode. stopped_by (limit_reason mode) (with_test old place (after_attempt old test told))) reached (with_test old place (after_attempt old test told))) (with_test old place (after_attempt old test told)))
-    by_limit test found unfinished false e reached = end_going old place told test (after_attempt old test told) found unfinished
-    by_limit test found unfinished true e None = end_going old place told test (after_attempt old test told) found unfinished
+        → Splits (events.Ended place ending) old
+        (cond b (option_map_or (λ mode. stopped_by (limit_reason mode) (with_test old place (after_attempt old test ending))) reached (with_test old place (after_attempt old test ending))) (with_test old place (after_attempt old test ending)))
+    by_limit test found unfinished false e reached = end_going old place ending test (after_attempt old test ending) found unfinished
+    by_limit test found unfinished true e None = end_going old place ending test (after_attempt old test ending) found unfinished
     by_limit test found unfinished true e (Some mode) =
-        let parts = both_true (finishes old test told) (is_some old.reason) e in
+        let parts = both_true (finishes old test ending) (is_some old.reason) e in
         let none = no_reason old.reason parts.1 in
-        end_stopping old place told test (after_attempt old test told) (limit_reason mode) found unfinished none
+        end_stopping old place ending test (after_attempt old test ending) (limit_reason mode) found unfinished none
         (ap (λ (b : Bool). is_stopped_mark (stopped_mark (limit_reason mode) (cond b (marks.Finished old.reason) marks.Between))) parts.0 ∙ ap is_some none)
 
 pub step_splits : (old new : State) (event : Event) → step old event ≡ Ok new → Splits event old new
-step_splits old new (events.ScriptEnded script told) happens = splits_script old new script told happens
+step_splits old new (events.ScriptEnded script ending) happens = splits_script old new script ending happens
 step_splits old new (events.Started test) happens = splits_start old new test happens
-step_splits old new (events.Ended test told) happens = splits_end old new test told happens
+step_splits old new (events.Ended test ending) happens = splits_end old new test ending happens
 step_splits old new (events.Stopped reason) happens = splits_stop old new reason happens
 
 -- a step that doesn't stop the run, or finds it stopped, finishes no test but that whose attempt ended
@@ -395,31 +395,31 @@ pub start_stops_none : (old new : State) (place : ℕ) → step old (events.Star
 start_stops_none old new place happens = no_stop old new (ap (λ (s : State). s.reason) (start_shows old new place happens).is)
 
 -- an attempt whose end stops the run finished its test
-pub stopping_finished : (old new : State) (place : ℕ) (told : Record) → step old (events.Ended place told) ≡ Ok new → stops_run old new ≡ true → finished_at new.tests place ≡ true
-stopping_finished old new place told happens =
-    let shows = end_shows old new place told happens in
+pub stopping_finished : (old new : State) (place : ℕ) (ending : Record) → step old (events.Ended place ending) ≡ Ok new → stops_run old new ≡ true → finished_at new.tests place ≡ true
+stopping_finished old new place ending happens =
+    let shows = end_shows old new place ending happens in
     subst (λ (s : State). stops_run old s ≡ true → finished_at s.tests place ≡ true) (sym shows.is)
-    (by_limit shows.test shows.found (finishes old shows.test told && not (is_some old.reason)) refl (mode_at old.limit (failed_weight (slice_set old.tests place (after_attempt old shows.test told)))))
+    (by_limit shows.test shows.found (finishes old shows.test ending && not (is_some old.reason)) refl (mode_at old.limit (failed_weight (slice_set old.tests place (after_attempt old shows.test ending)))))
   where
-    by_limit : (test : TestState) → slice_get old.tests place ≡ Some test → (b : Bool) → (finishes old test told && not (is_some old.reason)) ≡ b → (reached : Option TerminateMode)
-        → let mid = with_test old place (after_attempt old test told) in
+    by_limit : (test : TestState) → slice_get old.tests place ≡ Some test → (b : Bool) → (finishes old test ending && not (is_some old.reason)) ≡ b → (reached : Option TerminateMode)
+        → let mid = with_test old place (after_attempt old test ending) in
         let new = cond b (option_map_or (λ mode. stopped_by (limit_reason mode) mid) reached mid) mid in
         stops_run old new ≡ true → finished_at new.tests place ≡ true
     by_limit test found false e reached stops = let goes = no_stop old old refl in cc
     by_limit test found true e None stops = let goes = no_stop old old refl in cc
     by_limit test found true e (Some mode) stops =
-        let mid = with_test old place (after_attempt old test told) in
-        let finished = (both_true (finishes old test told) (is_some old.reason) e).0 in
+        let mid = with_test old place (after_attempt old test ending) in
+        let finished = (both_true (finishes old test ending) (is_some old.reason) e).0 in
         at_map is_finished (finished_by (limit_reason mode)) mid.tests place
-        ∙ ap (λ (o : Option TestState). option_map_or (λ t. is_finished (finished_by (limit_reason mode) t)) o false) (set_here old.tests place test (after_attempt old test told) found)
+        ∙ ap (λ (o : Option TestState). option_map_or (λ t. is_finished (finished_by (limit_reason mode) t)) o false) (set_here old.tests place test (after_attempt old test ending) found)
         ∙ ap (λ (b : Bool). is_finished_mark (stopped_mark (limit_reason mode) (cond b (marks.Finished old.reason) marks.Between))) finished
 
 -- so it comes first, and then those that the stop finished
-pub finishes_end_stopping : (old new : State) (place : ℕ) (told : Record) → KeepsReasons old → step old (events.Ended place told) ≡ Ok new → stops_run old new ≡ true
-    → finishing (events.Ended place told) old new ≡ place ∷ stopped_places new
-finishes_end_stopping old new place told keeps happens stopping =
-    finishes_stopping old new (events.Ended place told) keeps happens stopping
-    ∙ ap (λ (b : Bool). cond b (place ∷ []) [] ++ stopped_places new) (stopping_finished old new place told happens stopping)
+pub finishes_end_stopping : (old new : State) (place : ℕ) (ending : Record) → KeepsReasons old → step old (events.Ended place ending) ≡ Ok new → stops_run old new ≡ true
+    → finishing (events.Ended place ending) old new ≡ place ∷ stopped_places new
+finishes_end_stopping old new place ending keeps happens stopping =
+    finishes_stopping old new (events.Ended place ending) keeps happens stopping
+    ∙ ap (λ (b : Bool). cond b (place ∷ []) [] ++ stopped_places new) (stopping_finished old new place ending happens stopping)
 
 -- ---- no reason before there is one
 
@@ -450,20 +450,20 @@ ended_mark true reason none = ap is_some none
 ended_mark false reason none = refl
 
 pub step_keeps_reasons : (old new : State) (event : Event) → KeepsReasons old → step old event ≡ Ok new → KeepsReasons new
-step_keeps_reasons old new (events.ScriptEnded script told) keeps happens =
-    subst KeepsReasons (sym (script_shows old new script told happens).is) (by_success (is_success told.result))
+step_keeps_reasons old new (events.ScriptEnded script ending) keeps happens =
+    subst KeepsReasons (sym (script_shows old new script ending happens).is) (by_success (is_success ending.result))
   where
     by_success : (succeeds : Bool)
-        → KeepsReasons (cond succeeds (record old { scripts = old.scripts ++ told ∷ [] }) (stopped_by why.SetupScriptFailure (record old { scripts = old.scripts ++ told ∷ [] })))
+        → KeepsReasons (cond succeeds (record old { scripts = old.scripts ++ ending ∷ [] }) (stopped_by why.SetupScriptFailure (record old { scripts = old.scripts ++ ending ∷ [] })))
     by_success true = keeps
-    by_success false = keeps_stopped why.SetupScriptFailure (record old { scripts = old.scripts ++ told ∷ [] })
+    by_success false = keeps_stopped why.SetupScriptFailure (record old { scripts = old.scripts ++ ending ∷ [] })
 step_keeps_reasons old new (events.Started place) keeps happens =
     let shows = start_shows old new place happens in
     subst KeepsReasons (sym shows.is) (keeps_set old place shows.test (record shows.test { mark = marks.Running }) shows.found keeps (λ none. refl))
-step_keeps_reasons old new (events.Ended place told) keeps happens =
-    let shows = end_shows old new place told happens in
-    let after = after_attempt old shows.test told in
-    let finished = finishes old shows.test told in
+step_keeps_reasons old new (events.Ended place ending) keeps happens =
+    let shows = end_shows old new place ending happens in
+    let after = after_attempt old shows.test ending in
+    let finished = finishes old shows.test ending in
     subst KeepsReasons (sym shows.is) (keeps_limited finished (with_test old place after) (keeps_set old place shows.test after shows.found keeps (ended_mark finished old.reason)))
 step_keeps_reasons old new (events.Stopped reason) keeps happens =
     let free = guard_ok (is_inner reason) refused.InnerReason _ new happens in

@@ -94,11 +94,11 @@ pub record Fits (attempt : ℕ → Record) (test : TestState) : Type 0 where
 last_counts : (attempt : ℕ → Record) (plan : RunTest) (records : List Record) (kept : Mark) (tries : ℕ) → 0 < plan.tries
     → records ≡ records_of_tries attempt tries → length records ≡ tries
     → ((first_success attempt tries ≡ Some tries) × (tries ≤ plan.tries)) ⊎ ((first_success attempt tries ≡ None) × (tries ≡ plan.tries))
-    → option_map_or (λ told. fails_test (finished_as (record { plan = plan; records = records; mark = kept }) told)) (last_record records) false ≡ fails plan attempt
+    → option_map_or (λ ending. fails_test (finished_as (record { plan = plan; records = records; mark = kept }) ending)) (last_record records) false ≡ fails plan attempt
 last_counts attempt plan records kept zero some e n first = elim first [ inl won ↦ cc | inr lost ↦ absurd (omega arith) ]
 last_counts attempt plan records kept (suc tries) some e n first =
     let last : last_record records ≡ Some (attempt (suc tries)) = ap last_record e ∙ last_record-push (records_of_tries attempt tries) (attempt (suc tries)) in
-    ap (λ (o : Option Record). option_map_or (λ told. fails_test (finished_as (record { plan = plan; records = records; mark = kept }) told)) o false) last
+    ap (λ (o : Option Record). option_map_or (λ ending. fails_test (finished_as (record { plan = plan; records = records; mark = kept }) ending)) o false) last
     ∙ by_success (first_success attempt tries) (is_success (attempt (suc tries)).result) refl refl first
   where
     by_success : (before : Option ℕ) (succeeds : Bool) → first_success attempt tries ≡ before → is_success (attempt (suc tries)).result ≡ succeeds
@@ -139,10 +139,10 @@ finished_counts attempt test fits over = by_mark test.mark refl
     by_mark marks.Running e = let no = ap is_finished_mark e in cc
     by_mark marks.Between e = let no = ap is_finished_mark e in cc
     by_mark (marks.Finished reason) e =
-        ap (λ (b : Bool). b && option_map_or (λ told. fails_test (finished_as test told)) (last_record test.records) false) over
+        ap (λ (b : Bool). b && option_map_or (λ ending. fails_test (finished_as test ending)) (last_record test.records) false) over
         ∙ last_counts attempt test.plan test.records test.mark (length test.records) fits.tries fits.records refl
         (subst (FitsMark attempt test.plan.tries (length test.records)) e fits.marked)
 
 -- a test that isn't finished doesn't count
 pub unfinished_counts : (row : Finished → Bool) (test : TestState) → is_finished test ≡ false → counts row test ≡ false
-unfinished_counts row test open_still = ap (λ (b : Bool). b && option_map_or (λ told. row (finished_as test told)) (last_record test.records) false) open_still
+unfinished_counts row test open_still = ap (λ (b : Bool). b && option_map_or (λ ending. row (finished_as test ending)) (last_record test.records) false) open_still

@@ -32,9 +32,9 @@ record Next (assigned : Assignment) (state : State) : Type 0 where
   pub taken : step state event ≡ Ok next
   pub agrees : EventAgrees assigned state event
 
-agrees_itself : (reason : Option CancelReason) (told : Record) → AgreesWith reason told told
-agrees_itself None told = refl
-agrees_itself (Some reason) told = inl refl
+agrees_itself : (reason : Option CancelReason) (ending : Record) → AgreesWith reason ending ending
+agrees_itself None ending = refl
+agrees_itself (Some reason) ending = inl refl
 
 -- a test that doesn't pass stands at a place
 place_of : (p : TestState → Bool) (tests : List TestState) → list_all p tests ≡ false → (place : ℕ) × (test : TestState) × (slice_get tests place ≡ Some test) × (p test ≡ false)
@@ -50,16 +50,16 @@ place_of p (test ∷ tests) h = by_first (p test) refl h (place_of p tests)
 -- an attempt that runs may end as it was assigned
 running_ends : (assigned : Assignment) (state : State) (place : ℕ) (test : TestState) → slice_get state.tests place ≡ Some test → test.mark ≡ marks.Running → Next assigned state
 running_ends assigned state place test found running =
-    let told = assigned.attempt place (try_at state.tests place) in
-    let taken = end_taken state place told (record { test = test; found = found; marked = running }) in
-    record { event = events.Ended place told; next = taken.0; plain = tt; taken = taken.1; agrees = agrees_itself state.reason told }
+    let ending = assigned.attempt place (try_at state.tests place) in
+    let taken = end_taken state place ending (record { test = test; found = found; marked = running }) in
+    record { event = events.Ended place ending; next = taken.0; plain = tt; taken = taken.1; agrees = agrees_itself state.reason ending }
 
 script_ends : (assigned : Assignment) (state : State) → state.reason ≡ None → length state.scripts < state.planned_scripts → Next assigned state
 script_ends assigned state going less =
-    let told = assigned.script (length state.scripts) in
-    let taken = script_taken state told (length state.scripts) state.planned_scripts (length state.scripts) false
+    let ending = assigned.script (length state.scripts) in
+    let taken = script_taken state ending (length state.scripts) state.planned_scripts (length state.scripts) false
     (record { planned_scripts = refl; ended_scripts = refl; reason = ap is_some going }) less refl refl in
-    record { event = events.ScriptEnded (length state.scripts) told; next = taken.0; plain = tt; taken = taken.1; agrees = agrees_itself state.reason told }
+    record { event = events.ScriptEnded (length state.scripts) ending; next = taken.0; plain = tt; taken = taken.1; agrees = agrees_itself state.reason ending }
 
 test_starts : (assigned : Assignment) (state : State) (place : ℕ) (test : TestState) (mark : Mark) → state.reason ≡ None → state.planned_scripts ≤ length state.scripts
     → slice_get state.tests place ≡ Some test → test.mark ≡ mark → MayStart mark → Next assigned state
@@ -147,9 +147,9 @@ has_next plan assigned run last happens agrees open_still =
 -- ---- to an end
 
 counts_plain : (event : Event) → IsNoStop event → is_no_stop event ≡ true
-counts_plain (events.ScriptEnded script told) plain = refl
+counts_plain (events.ScriptEnded script ending) plain = refl
 counts_plain (events.Started test) plain = refl
-counts_plain (events.Ended test told) plain = refl
+counts_plain (events.Ended test ending) plain = refl
 counts_plain (events.Stopped reason) plain = absurd plain
 
 count_then : (run : List Event) (event : Event) → IsNoStop event → count_by is_no_stop (run ++ event ∷ []) ≡ count_by is_no_stop run + 1

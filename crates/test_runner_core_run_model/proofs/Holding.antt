@@ -34,11 +34,11 @@ abbrev with_mark : TestState → Mark → TestState
 with_mark test mark = record test { mark = mark }
 
 -- a finished test whose last record is no success counts as failing
-failed_counts : (test : TestState) (told : Record) → is_finished test ≡ true → last_record test.records ≡ Some told → is_success told.result ≡ false → counts fails_test test ≡ true
-failed_counts test told over last lost =
+failed_counts : (test : TestState) (ending : Record) → is_finished test ≡ true → last_record test.records ≡ Some ending → is_success ending.result ≡ false → counts fails_test test ≡ true
+failed_counts test ending over last lost =
     ap (λ (b : Bool). b && option_map_or (λ r. fails_test (finished_as test r)) (last_record test.records) false) over
     ∙ ap (λ (o : Option Record). option_map_or (λ r. fails_test (finished_as test r)) o false) last
-    ∙ failure_fails told.result told.slow (ltb 1 (length test.records)) test.plan.flaky lost
+    ∙ failure_fails ending.result ending.slow (ltb 1 (length test.records)) test.plan.flaky lost
 
 -- where tries had no success, the last of them had none
 last_lost : (attempt : ℕ → Record) (number : ℕ) → first_success attempt (suc number) ≡ None → is_success (attempt (suc number)).result ≡ false
@@ -83,10 +83,10 @@ open_fits attempt test (inl fits) open_still = fits
 open_fits attempt test (inr failed) open_still = let none = unfinished_counts fails_test test open_still in cc
 
 -- an attempt that ran and ended without a success under a reason leaves its test failing
-lost_fails : (state : State) (test : TestState) (told : Record) → is_some state.reason ≡ true → is_success told.result ≡ false → counts fails_test (after_attempt state test told) ≡ true
-lost_fails state test told stands lost =
-    failed_counts (after_attempt state test told) told (by_tests (is_success told.result) (leb test.plan.tries (length test.records + 1)) (is_some state.reason) stands)
-    (last_record-push test.records told) lost
+lost_fails : (state : State) (test : TestState) (ending : Record) → is_some state.reason ≡ true → is_success ending.result ≡ false → counts fails_test (after_attempt state test ending) ≡ true
+lost_fails state test ending stands lost =
+    failed_counts (after_attempt state test ending) ending (by_tests (is_success ending.result) (leb test.plan.tries (length test.records + 1)) (is_some state.reason) stands)
+    (last_record-push test.records ending) lost
   where
     by_tests : (succeeds last some : Bool) → some ≡ true → is_finished_mark (cond (succeeds || last || some) (marks.Finished state.reason) marks.Between) ≡ true
     by_tests true last some h = refl
@@ -95,18 +95,18 @@ lost_fails state test told stands lost =
     by_tests false false false h = cc
 
 -- an attempt that ran and agrees
-fares_after : (attempt : ℕ → Record) (state : State) (test : TestState) (told : Record)
-    → Fits attempt test → test.mark ≡ marks.Running → AgreesWith state.reason (attempt (length test.records + 1)) told → Fares attempt (after_attempt state test told)
-fares_after attempt state test told fits running agrees = by_reason state.reason refl agrees
+fares_after : (attempt : ℕ → Record) (state : State) (test : TestState) (ending : Record)
+    → Fits attempt test → test.mark ≡ marks.Running → AgreesWith state.reason (attempt (length test.records + 1)) ending → Fares attempt (after_attempt state test ending)
+fares_after attempt state test ending fits running agrees = by_reason state.reason refl agrees
   where
-    by_reason : (reason : Option CancelReason) → state.reason ≡ reason → AgreesWith reason (attempt (length test.records + 1)) told → Fares attempt (after_attempt state test told)
-    by_reason None e same = inl (fits_after attempt state test told fits running (inl e) same)
-    by_reason (Some reason) e (inr lost) = inr (lost_fails state test told (ap is_some e) lost)
-    by_reason (Some reason) e (inl same) = by_success (is_success told.result) refl
+    by_reason : (reason : Option CancelReason) → state.reason ≡ reason → AgreesWith reason (attempt (length test.records + 1)) ending → Fares attempt (after_attempt state test ending)
+    by_reason None e same = inl (fits_after attempt state test ending fits running (inl e) same)
+    by_reason (Some reason) e (inr lost) = inr (lost_fails state test ending (ap is_some e) lost)
+    by_reason (Some reason) e (inl same) = by_success (is_success ending.result) refl
       where
-        by_success : (succeeds : Bool) → is_success told.result ≡ succeeds → Fares attempt (after_attempt state test told)
-        by_success true s = inl (fits_after attempt state test told fits running (inr s) same)
-        by_success false s = inr (lost_fails state test told (ap is_some e) s)
+        by_success : (succeeds : Bool) → is_success ending.result ≡ succeeds → Fares attempt (after_attempt state test ending)
+        by_success true s = inl (fits_after attempt state test ending fits running (inr s) same)
+        by_success false s = inr (lost_fails state test ending (ap is_some e) s)
 
 -- what holds after each event of a run that agrees: its scripts, its plan, and each test beside its assignment
 pub record Holds (plan : RunPlan) (assigned : Assignment) (state : State) : Type 0 where
@@ -136,18 +136,18 @@ holds_limited plan assigned state finished holds = by_test (finished && not (is_
 
 step_holds : (plan : RunPlan) (assigned : Assignment) (old new : State) (event : Event) → Holds plan assigned old
     → step old event ≡ Ok new → EventAgrees assigned old event → Holds plan assigned new
-step_holds plan assigned old new (events.ScriptEnded script told) holds happens agrees =
-    let shows = script_shows old new script told happens in
-    let same : told ≡ assigned.script (length old.scripts) =
-    subst (λ (r : Option CancelReason). AgreesWith r (assigned.script script) told) shows.going agrees ∙ ap assigned.script shows.next in
+step_holds plan assigned old new (events.ScriptEnded script ending) holds happens agrees =
+    let shows = script_shows old new script ending happens in
+    let same : ending ≡ assigned.script (length old.scripts) =
+    subst (λ (r : Option CancelReason). AgreesWith r (assigned.script script) ending) shows.going agrees ∙ ap assigned.script shows.next in
     subst (Holds plan assigned) (sym shows.is)
-    (record { keeps = keeps_script plan assigned old told holds.keeps shows.less same; fare = by_success (is_success told.result) })
+    (record { keeps = keeps_script plan assigned old ending holds.keeps shows.less same; fare = by_success (is_success ending.result) })
   where
     fares : State → Type 0
     fares state = AllBeside Fares state.tests assigned.attempt
 
     by_success : (succeeds : Bool)
-        → fares (cond succeeds (record old { scripts = old.scripts ++ told ∷ [] }) (stopped_by why.SetupScriptFailure (record old { scripts = old.scripts ++ told ∷ [] })))
+        → fares (cond succeeds (record old { scripts = old.scripts ++ ending ∷ [] }) (stopped_by why.SetupScriptFailure (record old { scripts = old.scripts ++ ending ∷ [] })))
     by_success true = holds.fare
     by_success false = all_stopped why.SetupScriptFailure old.tests assigned.attempt holds.fare
 step_holds plan assigned old new (events.Started place) holds happens agrees =
@@ -160,17 +160,17 @@ step_holds plan assigned old new (events.Started place) holds happens agrees =
       keeps = keeps_set plan assigned old place test running holds.keeps shows.found refl;
       fare = beside_set Fares old.tests assigned.attempt place running holds.fare (inl (fits_started (assigned.attempt place) test fits shows.unfinished));
     })
-step_holds plan assigned old new (events.Ended place told) holds happens agrees =
-    let shows = end_shows old new place told happens in
+step_holds plan assigned old new (events.Ended place ending) holds happens agrees =
+    let shows = end_shows old new place ending happens in
     let test = shows.test in
-    let after = after_attempt old test told in
-    let here = subst (λ (o : Option TestState). AgreesWith old.reason (assigned.attempt place (option_map_or (λ t. length t.records + 1) o 1)) told) shows.found agrees in
+    let after = after_attempt old test ending in
+    let here = subst (λ (o : Option TestState). AgreesWith old.reason (assigned.attempt place (option_map_or (λ t. length t.records + 1) o 1)) ending) shows.found agrees in
     let fits = open_fits (assigned.attempt place) test (beside_at Fares old.tests assigned.attempt place test holds.fare shows.found) (ap is_finished_mark shows.running) in
     subst (Holds plan assigned) (sym shows.is)
-    (holds_limited plan assigned (with_test old place after) (finishes old test told)
+    (holds_limited plan assigned (with_test old place after) (finishes old test ending)
     (record {
       keeps = keeps_set plan assigned old place test after holds.keeps shows.found refl;
-      fare = beside_set Fares old.tests assigned.attempt place after holds.fare (fares_after (assigned.attempt place) old test told fits shows.running here);
+      fare = beside_set Fares old.tests assigned.attempt place after holds.fare (fares_after (assigned.attempt place) old test ending fits shows.running here);
     }))
 step_holds plan assigned old new (events.Stopped reason) holds happens agrees =
     let free = guard_ok (is_inner reason) refused.InnerReason _ new happens in

@@ -26,20 +26,20 @@ not_true true h = refl
 not_true false h = cc
 
 -- a script that ended: no reason stood, and it was the next one
-pub record ScriptShows (old new : State) (script : ℕ) (told : Record) : Type 0 where
+pub record ScriptShows (old new : State) (script : ℕ) (ending : Record) : Type 0 where
   pub going : old.reason ≡ None
   pub next : script ≡ length old.scripts
   pub less : length old.scripts < old.planned_scripts
-  pub is : new ≡ after_script old told
+  pub is : new ≡ after_script old ending
 
-pub script_shows : (old new : State) (script : ℕ) (told : Record) → script_ended old script told ≡ Ok new → ScriptShows old new script told
-script_shows old new script told happens =
+pub script_shows : (old new : State) (script : ℕ) (ending : Record) → script_ended old script ending ≡ Ok new → ScriptShows old new script ending
+script_shows old new script ending happens =
     let known = guard_ok (leb old.planned_scripts script) _ _ new happens in
     let free = guard_ok (is_some old.reason) _ _ new known.1 in
     let in_order = guard_ok (not (eqb script (length old.scripts))) _ _ new free.1 in
     let place : script ≡ length old.scripts = (let e = not_true (eqb script (length old.scripts)) in_order.0 in grind (arith, nat_tests)) in
     let e = known.0 in
-    record { going = none_of old.reason free.0; next = place; less = grind (arith, nat_tests); is = ok_is (after_script old told) new in_order.1 }
+    record { going = none_of old.reason free.0; next = place; less = grind (arith, nat_tests); is = ok_is (after_script old ending) new in_order.1 }
 
 -- a test that started: no reason stood, all scripts had ended, and it neither ran nor was finished
 pub record StartShows (old new : State) (place : ℕ) : Type 0 where
@@ -68,18 +68,18 @@ start_shows old new place happens =
     by_mark test at none ended (marks.Finished kept) m happens' = cc
 
 -- an attempt that ended: its test ran
-pub record EndShows (old new : State) (place : ℕ) (told : Record) : Type 0 where
+pub record EndShows (old new : State) (place : ℕ) (ending : Record) : Type 0 where
   pub test : TestState
   pub found : slice_get old.tests place ≡ Some test
   pub running : test.mark ≡ marks.Running
-  pub is : new ≡ after_limit (finishes old test told) (with_test old place (after_attempt old test told))
+  pub is : new ≡ after_limit (finishes old test ending) (with_test old place (after_attempt old test ending))
 
-pub end_shows : (old new : State) (place : ℕ) (told : Record) → attempt_ended old place told ≡ Ok new → EndShows old new place told
-end_shows old new place told happens =
-    let known = found_ok (λ (t : TestState). end_from old place told t t.mark) (slice_get old.tests place) refused.UnknownTest new happens in
+pub end_shows : (old new : State) (place : ℕ) (ending : Record) → attempt_ended old place ending ≡ Ok new → EndShows old new place ending
+end_shows old new place ending happens =
+    let known = found_ok (λ (t : TestState). end_from old place ending t t.mark) (slice_get old.tests place) refused.UnknownTest new happens in
     by_mark known.0 known.1 (known.0).mark refl known.2
   where
-    by_mark : (test : TestState) → slice_get old.tests place ≡ Some test → (mark : Mark) → test.mark ≡ mark → end_from old place told test mark ≡ Ok new → EndShows old new place told
+    by_mark : (test : TestState) → slice_get old.tests place ≡ Some test → (mark : Mark) → test.mark ≡ mark → end_from old place ending test mark ≡ Ok new → EndShows old new place ending
     by_mark test at marks.Waiting m happens' = cc
     by_mark test at marks.Running m happens' = record { test = test; found = at; running = m; is = ok_is _ new happens' }
     by_mark test at marks.Between m happens' = cc
@@ -100,29 +100,29 @@ pub keeps_stopped : (plan : RunPlan) (assigned : Assignment) (state : State) (re
 keeps_stopped plan assigned state reason keeps =
     record { plans = plans_stopped reason state.tests ∙ keeps.plans; planned = keeps.planned; limit = keeps.limit; scripts = keeps.scripts; within = keeps.within }
 
-pub keeps_script : (plan : RunPlan) (assigned : Assignment) (old : State) (told : Record) → Keeps plan assigned old
-    → length old.scripts < old.planned_scripts → told ≡ assigned.script (length old.scripts) → Keeps plan assigned (after_script old told)
-keeps_script plan assigned old told keeps less same = by_success (is_success told.result)
+pub keeps_script : (plan : RunPlan) (assigned : Assignment) (old : State) (ending : Record) → Keeps plan assigned old
+    → length old.scripts < old.planned_scripts → ending ≡ assigned.script (length old.scripts) → Keeps plan assigned (after_script old ending)
+keeps_script plan assigned old ending keeps less same = by_success (is_success ending.result)
   where
-    count : length (old.scripts ++ told ∷ []) ≡ suc (length old.scripts)
-    count = omega (arith, length-append old.scripts (told ∷ []))
+    count : length (old.scripts ++ ending ∷ []) ≡ suc (length old.scripts)
+    count = omega (arith, length-append old.scripts (ending ∷ []))
 
-    ended : Keeps plan assigned (record old { scripts = old.scripts ++ told ∷ [] })
+    ended : Keeps plan assigned (record old { scripts = old.scripts ++ ending ∷ [] })
     ended =
         record {
           plans = keeps.plans;
           planned = keeps.planned;
           limit = keeps.limit;
-          scripts = ap (λ (xs : List Record). xs ++ told ∷ []) keeps.scripts
+          scripts = ap (λ (xs : List Record). xs ++ ending ∷ []) keeps.scripts
               ∙ ap (λ (r : Record). first_scripts assigned.script (length old.scripts) ++ r ∷ []) same
               ∙ sym (ap (first_scripts assigned.script) count);
           within = omega (arith, count);
         }
 
     by_success : (succeeds : Bool)
-        → Keeps plan assigned (cond succeeds (record old { scripts = old.scripts ++ told ∷ [] }) (stopped_by why.SetupScriptFailure (record old { scripts = old.scripts ++ told ∷ [] })))
+        → Keeps plan assigned (cond succeeds (record old { scripts = old.scripts ++ ending ∷ [] }) (stopped_by why.SetupScriptFailure (record old { scripts = old.scripts ++ ending ∷ [] })))
     by_success true = ended
-    by_success false = keeps_stopped plan assigned (record old { scripts = old.scripts ++ told ∷ [] }) why.SetupScriptFailure ended
+    by_success false = keeps_stopped plan assigned (record old { scripts = old.scripts ++ ending ∷ [] }) why.SetupScriptFailure ended
 
 pub keeps_set : (plan : RunPlan) (assigned : Assignment) (state : State) (place : ℕ) (old new : TestState) → Keeps plan assigned state
     → slice_get state.tests place ≡ Some old → new.plan ≡ old.plan → Keeps plan assigned (with_test state place new)

@@ -121,8 +121,8 @@ same_weight_below : (old : State) (place : ℕ) (test new : TestState) → Below
 same_weight_below old place test new below found same none = ap (mode_at old.limit) (set_weighs old.tests place test new found same) ∙ below none
 
 -- an attempt that ends and doesn't finish its test lets it weigh nothing
-unfinished_after : (state : State) (test : TestState) (told : Record) → finishes state test told ≡ false → is_finished (after_attempt state test told) ≡ false
-unfinished_after state test told e = ap (λ (b : Bool). is_finished_mark (cond b (marks.Finished state.reason) marks.Between)) e
+unfinished_after : (state : State) (test : TestState) (ending : Record) → finishes state test ending ≡ false → is_finished (after_attempt state test ending) ≡ false
+unfinished_after state test ending e = ap (λ (b : Bool). is_finished_mark (cond b (marks.Finished state.reason) marks.Between)) e
 
 below_limited : (state : State) (finished : Bool) → (finished ≡ false → Below state) → Below (after_limit finished state)
 below_limited state finished unfinished = by_tests finished (is_some state.reason) (mode_at state.limit (failed_weight state.tests)) refl refl refl
@@ -135,11 +135,11 @@ below_limited state finished unfinished = by_tests finished (is_some state.reaso
     by_tests true false (Some mode) e s r = λ none. cc
 
 step_below : (old new : State) (event : Event) → Below old → step old event ≡ Ok new → Below new
-step_below old new (events.ScriptEnded script told) below happens =
-    let shows = script_shows old new script told happens in
-    subst Below (sym shows.is) (by_success (is_success told.result))
+step_below old new (events.ScriptEnded script ending) below happens =
+    let shows = script_shows old new script ending happens in
+    subst Below (sym shows.is) (by_success (is_success ending.result))
   where
-    by_success : (succeeds : Bool) → Below (cond succeeds (record old { scripts = old.scripts ++ told ∷ [] }) (stopped_by why.SetupScriptFailure (record old { scripts = old.scripts ++ told ∷ [] })))
+    by_success : (succeeds : Bool) → Below (cond succeeds (record old { scripts = old.scripts ++ ending ∷ [] }) (stopped_by why.SetupScriptFailure (record old { scripts = old.scripts ++ ending ∷ [] })))
     by_success true = below
     by_success false = λ none. cc
 step_below old new (events.Started place) below happens =
@@ -147,14 +147,14 @@ step_below old new (events.Started place) below happens =
     let running = record shows.test { mark = marks.Running } in
     subst Below (sym shows.is)
     (same_weight_below old place shows.test running below shows.found (unfinished_weighs running refl ∙ sym (unfinished_weighs shows.test shows.unfinished)))
-step_below old new (events.Ended place told) below happens =
-    let shows = end_shows old new place told happens in
-    let after = after_attempt old shows.test told in
+step_below old new (events.Ended place ending) below happens =
+    let shows = end_shows old new place ending happens in
+    let after = after_attempt old shows.test ending in
     subst Below (sym shows.is)
-    (below_limited (with_test old place after) (finishes old shows.test told)
+    (below_limited (with_test old place after) (finishes old shows.test ending)
     (λ unfinished.
     same_weight_below old place shows.test after below shows.found
-    (unfinished_weighs after (unfinished_after old shows.test told unfinished) ∙ sym (unfinished_weighs shows.test (ap is_finished_mark shows.running)))))
+    (unfinished_weighs after (unfinished_after old shows.test ending unfinished) ∙ sym (unfinished_weighs shows.test (ap is_finished_mark shows.running)))))
 step_below old new (events.Stopped reason) below happens =
     let free = guard_ok (is_inner reason) refused.InnerReason _ new happens in
     subst Below (sym (ok_is _ new free.1)) (by_reason old.reason)
@@ -186,19 +186,19 @@ each_script test script (suc scripts) place none less =
     or_parts true b h = cc
     or_parts false b h = (refl, h)
 
-script_goes_on : (plan : RunPlan) (assigned : Assignment) (old : State) (told : Record) → IsUnstopped plan assigned → Tracks plan assigned old → old.reason ≡ None
-    → length old.scripts < old.planned_scripts → told ≡ assigned.script (length old.scripts) → (after_script old told).reason ≡ None
-script_goes_on plan assigned old told free tracks going less same =
+script_goes_on : (plan : RunPlan) (assigned : Assignment) (old : State) (ending : Record) → IsUnstopped plan assigned → Tracks plan assigned old → old.reason ≡ None
+    → length old.scripts < old.planned_scripts → ending ≡ assigned.script (length old.scripts) → (after_script old ending).reason ≡ None
+script_goes_on plan assigned old ending free tracks going less same =
     let planned = tracks.keeps.planned in
     let within : length old.scripts < plan.scripts = omega (arith, less, planned) in
-    by_success (is_success told.result)
+    by_success (is_success ending.result)
     (ap (λ (r : Record). not (is_success r.result)) same ∙ each_script stops assigned.script plan.scripts (length old.scripts) free.scripts within)
   where
     reason_of : State → Option CancelReason
     reason_of state = state.reason
 
     by_success : (succeeds : Bool) → not succeeds ≡ false
-        → reason_of (cond succeeds (record old { scripts = old.scripts ++ told ∷ [] }) (stopped_by why.SetupScriptFailure (record old { scripts = old.scripts ++ told ∷ [] }))) ≡ None
+        → reason_of (cond succeeds (record old { scripts = old.scripts ++ ending ∷ [] }) (stopped_by why.SetupScriptFailure (record old { scripts = old.scripts ++ ending ∷ [] }))) ≡ None
     by_success true e = going
     by_success false e = cc
 
@@ -215,39 +215,39 @@ limited_goes_on state finished going below = by_tests (finished && not (is_some 
     by_tests true None e = going
     by_tests true (Some mode) e = cc
 
-end_goes_on : (plan : RunPlan) (assigned : Assignment) (old : State) (place : ℕ) (told : Record) (test : TestState) → IsUnstopped plan assigned → Tracks plan assigned old
-    → Keeps plan assigned (with_test old place (after_attempt old test told)) → old.reason ≡ None
-    → slice_get old.tests place ≡ Some test → test.mark ≡ marks.Running → told ≡ assigned.attempt place (length test.records + 1)
-    → (after_limit (finishes old test told) (with_test old place (after_attempt old test told))).reason ≡ None
-end_goes_on plan assigned old place told test free tracks keeps going found running same =
+end_goes_on : (plan : RunPlan) (assigned : Assignment) (old : State) (place : ℕ) (ending : Record) (test : TestState) → IsUnstopped plan assigned → Tracks plan assigned old
+    → Keeps plan assigned (with_test old place (after_attempt old test ending)) → old.reason ≡ None
+    → slice_get old.tests place ≡ Some test → test.mark ≡ marks.Running → ending ≡ assigned.attempt place (length test.records + 1)
+    → (after_limit (finishes old test ending) (with_test old place (after_attempt old test ending))).reason ≡ None
+end_goes_on plan assigned old place ending test free tracks keeps going found running same =
     let now = subst (Standing plan assigned old) going tracks.standing in
-    let after = after_attempt old test told in
+    let after = after_attempt old test ending in
     let new = with_test old place after in
     let fit : AllBeside Fits new.tests assigned.attempt =
     beside_set Fits old.tests assigned.attempt place after now.fit
-    (fits_after (assigned.attempt place) old test told (beside_at Fits old.tests assigned.attempt place test now.fit found) running (inl going) same) in
+    (fits_after (assigned.attempt place) old test ending (beside_at Fits old.tests assigned.attempt place test now.fit found) running (inl going) same) in
     let within : failed_weight new.tests ≤ failing_weight plan.tests assigned.attempt =
     subst (λ (ps : List RunTest). failed_weight new.tests ≤ failing_weight ps assigned.attempt) keeps.plans (failed-le new.tests assigned.attempt fit) in
-    limited_goes_on new (finishes old test told) going
+    limited_goes_on new (finishes old test ending) going
     (ap (λ (limit : MaxFail). mode_at limit (failed_weight new.tests)) keeps.limit
     ∙ less_below plan.limit (failed_weight new.tests) (failing_weight plan.tests assigned.attempt) within free.limit)
 
 step_goes_on : (plan : RunPlan) (assigned : Assignment) (old new : State) (event : Event) → IsUnstopped plan assigned → Tracks plan assigned old → old.reason ≡ None
     → step old event ≡ Ok new → EventAgrees assigned old event → IsNoStop event → new.reason ≡ None
-step_goes_on plan assigned old new (events.ScriptEnded script told) free tracks going happens agrees plain =
-    let shows = script_shows old new script told happens in
-    let same : told ≡ assigned.script (length old.scripts) =
-    subst (λ (r : Option CancelReason). AgreesWith r (assigned.script script) told) going agrees ∙ ap assigned.script shows.next in
-    ap (λ (s : State). s.reason) shows.is ∙ script_goes_on plan assigned old told free tracks going shows.less same
+step_goes_on plan assigned old new (events.ScriptEnded script ending) free tracks going happens agrees plain =
+    let shows = script_shows old new script ending happens in
+    let same : ending ≡ assigned.script (length old.scripts) =
+    subst (λ (r : Option CancelReason). AgreesWith r (assigned.script script) ending) going agrees ∙ ap assigned.script shows.next in
+    ap (λ (s : State). s.reason) shows.is ∙ script_goes_on plan assigned old ending free tracks going shows.less same
 step_goes_on plan assigned old new (events.Started place) free tracks going happens agrees plain =
     let shows = start_shows old new place happens in
     ap (λ (s : State). s.reason) shows.is ∙ going
-step_goes_on plan assigned old new (events.Ended place told) free tracks going happens agrees plain =
-    let shows = end_shows old new place told happens in
-    let here = subst (λ (o : Option TestState). AgreesWith old.reason (assigned.attempt place (option_map_or (λ t. length t.records + 1) o 1)) told) shows.found agrees in
-    let same = subst (λ (r : Option CancelReason). AgreesWith r (assigned.attempt place (length (shows.test).records + 1)) told) going here in
-    let keeps = keeps_set plan assigned old place shows.test (after_attempt old shows.test told) tracks.keeps shows.found refl in
-    ap (λ (s : State). s.reason) shows.is ∙ end_goes_on plan assigned old place told shows.test free tracks keeps going shows.found shows.running same
+step_goes_on plan assigned old new (events.Ended place ending) free tracks going happens agrees plain =
+    let shows = end_shows old new place ending happens in
+    let here = subst (λ (o : Option TestState). AgreesWith old.reason (assigned.attempt place (option_map_or (λ t. length t.records + 1) o 1)) ending) shows.found agrees in
+    let same = subst (λ (r : Option CancelReason). AgreesWith r (assigned.attempt place (length (shows.test).records + 1)) ending) going here in
+    let keeps = keeps_set plan assigned old place shows.test (after_attempt old shows.test ending) tracks.keeps shows.found refl in
+    ap (λ (s : State). s.reason) shows.is ∙ end_goes_on plan assigned old place ending shows.test free tracks keeps going shows.found shows.running same
 step_goes_on plan assigned old new (events.Stopped reason) free tracks going happens agrees plain = absurd plain
 
 run_goes_on : (plan : RunPlan) (assigned : Assignment) (old : State) (run : List Event) (new : State) → IsPlan plan → IsUnstopped plan assigned → Tracks plan assigned old → old.reason ≡ None

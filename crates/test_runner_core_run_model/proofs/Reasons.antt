@@ -25,7 +25,7 @@ second_guard false true refusal other more h = refl
 second_guard false false refusal other more h = cc
 
 pub refuses_scripts : RefusesScripts
-refuses_scripts state script told stands = second_guard (leb state.planned_scripts script) (is_some state.reason) refused.UnknownScript refused.Stopped _ stands
+refuses_scripts state script ending stands = second_guard (leb state.planned_scripts script) (is_some state.reason) refused.UnknownScript refused.Stopped _ stands
 
 -- a look-up that refuses in front of a guard that refuses
 found_guard : {X Y : Type 0} (tests : List X) (place : ℕ) (f : X → Result Y StepRefusal) (refusal other : StepRefusal) → ((test : X) → f test ≡ Err other)
@@ -72,24 +72,24 @@ limited_is finished state reason stands = by_test finished (is_some state.reason
     by_test true false h = cc
 
 step_keeps : (old new : State) (event : Event) (reason : CancelReason) → Stands reason old → step old event ≡ Ok new → Stands reason new
-step_keeps old new (events.ScriptEnded script told) reason stands happens = let shows = script_shows old new script told happens in let none = shows.going in let some = stands.1 in cc
+step_keeps old new (events.ScriptEnded script ending) reason stands happens = let shows = script_shows old new script ending happens in let none = shows.going in let some = stands.1 in cc
 step_keeps old new (events.Started place) reason stands happens = let shows = start_shows old new place happens in let none = shows.going in let some = stands.1 in cc
-step_keeps old new (events.Ended place told) reason stands happens =
-    let shows = end_shows old new place told happens in
-    let same = shows.is ∙ limited_is (finishes old shows.test told) (with_test old place (after_attempt old shows.test told)) stands.0 stands.1 in
+step_keeps old new (events.Ended place ending) reason stands happens =
+    let shows = end_shows old new place ending happens in
+    let same = shows.is ∙ limited_is (finishes old shows.test ending) (with_test old place (after_attempt old shows.test ending)) stands.0 stands.1 in
     subst (Stands reason) (sym same) stands
-step_keeps old new (events.Stopped told) reason stands happens =
-    let free = guard_ok (is_inner told) refused.InnerReason _ new happens in
+step_keeps old new (events.Stopped ending) reason stands happens =
+    let free = guard_ok (is_inner ending) refused.InnerReason _ new happens in
     subst (Stands reason) (sym (ok_is _ new free.1)) (by_reason old.reason stands.1)
   where
-    by_reason : (given : Option CancelReason) → given ≡ Some stands.0 → Stands reason (option_map_or (λ kept. record old { reason = Some (graver_reason kept told) }) given (stopped_by told old))
+    by_reason : (given : Option CancelReason) → given ≡ Some stands.0 → Stands reason (option_map_or (λ kept. record old { reason = Some (graver_reason kept ending) }) given (stopped_by ending old))
     by_reason None e = cc
     by_reason (Some kept) e =
         let same : kept ≡ stands.0 = cc in
-        let more = graver_is kept told in
+        let more = graver_is kept ending in
         let less = stands.2 in
         let grave : gravity kept ≡ gravity stands.0 = ap gravity same in
-        (graver_reason kept told, refl, omega arith)
+        (graver_reason kept ending, refl, omega arith)
 
 run_keeps : (old : State) (run : List Event) (new : State) (reason : CancelReason) → Stands reason old → Run old run new → Stands reason new
 run_keeps old [] new reason stands happens = subst (Stands reason) (sym happens) stands

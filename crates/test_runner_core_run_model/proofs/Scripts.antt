@@ -8,8 +8,8 @@ use Rattle.nextest_run_events_results.specs.declared.record.Record.{Record}
 use Rattle.test_runner_core_run_model.specs.Assignment.{some_script}
 use Rattle.test_runner_core_run_model.specs.Ends.{first_scripts}
 
-pub any_push : (test : Record → Bool) (told : List Record) (last : Record) → list_any test (told ++ last ∷ []) ≡ (list_any test told || test last)
-any_push test told last = list_any-append test told (last ∷ []) ∙ ap (λ (b : Bool). list_any test told || b) (or_false (test last))
+pub any_push : (test : Record → Bool) (ending : List Record) (last : Record) → list_any test (ending ++ last ∷ []) ≡ (list_any test ending || test last)
+any_push test ending last = list_any-append test ending (last ∷ []) ∙ ap (λ (b : Bool). list_any test ending || b) (or_false (test last))
   where
     or_false : (b : Bool) → (b || false) ≡ b
     or_false true = refl

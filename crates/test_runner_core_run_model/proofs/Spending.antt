@@ -80,20 +80,20 @@ abbrev ShowsMore : State → State → ℕ → Type 0
 ShowsMore old new more = shown new ≡ shown old + more
 
 step_shows : (old new : State) (event : Event) → step old event ≡ Ok new → ShowsMore old new (cond (is_no_stop event) 1 0)
-step_shows old new (events.ScriptEnded script told) happens =
-    let shows = script_shows old new script told happens in
-    ap shown shows.is ∙ by_success (is_success told.result)
+step_shows old new (events.ScriptEnded script ending) happens =
+    let shows = script_shows old new script ending happens in
+    ap shown shows.is ∙ by_success (is_success ending.result)
   where
-    count : length (old.scripts ++ told ∷ []) ≡ suc (length old.scripts)
-    count = omega (arith, length-append old.scripts (told ∷ []))
+    count : length (old.scripts ++ ending ∷ []) ≡ suc (length old.scripts)
+    count = omega (arith, length-append old.scripts (ending ∷ []))
 
-    one_more : shown (record old { scripts = old.scripts ++ told ∷ [] }) ≡ shown old + 1
+    one_more : shown (record old { scripts = old.scripts ++ ending ∷ [] }) ≡ shown old + 1
     one_more = let c = count in omega (arith, c)
 
     by_success : (succeeds : Bool)
-        → shown (cond succeeds (record old { scripts = old.scripts ++ told ∷ [] }) (stopped_by why.SetupScriptFailure (record old { scripts = old.scripts ++ told ∷ [] }))) ≡ shown old + 1
+        → shown (cond succeeds (record old { scripts = old.scripts ++ ending ∷ [] }) (stopped_by why.SetupScriptFailure (record old { scripts = old.scripts ++ ending ∷ [] }))) ≡ shown old + 1
     by_success true = one_more
-    by_success false = shown_stopped why.SetupScriptFailure (record old { scripts = old.scripts ++ told ∷ [] }) ∙ one_more
+    by_success false = shown_stopped why.SetupScriptFailure (record old { scripts = old.scripts ++ ending ∷ [] }) ∙ one_more
 step_shows old new (events.Started place) happens =
     let shows = start_shows old new place happens in
     let test = shows.test in
@@ -102,17 +102,17 @@ step_shows old new (events.Started place) happens =
     let one_more : seen running ≡ seen test + 1 = omega (arith, was) in
     let all = seen_set old.tests place test running shows.found one_more in
     ap shown shows.is ∙ omega (arith, all)
-step_shows old new (events.Ended place told) happens =
-    let shows = end_shows old new place told happens in
+step_shows old new (events.Ended place ending) happens =
+    let shows = end_shows old new place ending happens in
     let test = shows.test in
-    let after = after_attempt old test told in
+    let after = after_attempt old test ending in
     let was : seen test ≡ 2 * length test.records + 1 = ap (λ (b : Bool). 2 * length test.records + cond b 1 0) (ap is_running_mark shows.running) in
-    let still : is_running after ≡ false = by_finished (finishes old test told) in
-    let count : length after.records ≡ length test.records + 1 = length-append test.records (told ∷ []) in
+    let still : is_running after ≡ false = by_finished (finishes old test ending) in
+    let count : length after.records ≡ length test.records + 1 = length-append test.records (ending ∷ []) in
     let now : seen after ≡ 2 * length after.records + 0 = ap (λ (b : Bool). 2 * length after.records + cond b 1 0) still in
     let one_more : seen after ≡ seen test + 1 = omega (arith, was, now, count) in
     let all = seen_set old.tests place test after shows.found one_more in
-    ap shown shows.is ∙ shown_limited (finishes old test told) (with_test old place after) ∙ omega (arith, all)
+    ap shown shows.is ∙ shown_limited (finishes old test ending) (with_test old place after) ∙ omega (arith, all)
   where
     by_finished : (b : Bool) → is_running_mark (cond b (marks.Finished old.reason) marks.Between) ≡ false
     by_finished true = refl
@@ -172,29 +172,29 @@ room_limited finished state all = by_test (finished && not (is_some state.reason
     by_test true (Some mode) = room_stopped (limit_reason mode) state.tests all
 
 -- an attempt that ended took the try that was left, and where it doesn't finish its test there is another
-room_after : (state : State) (test : TestState) (told : Record) → HasRoom test → is_finished test ≡ false → HasRoom (after_attempt state test told)
-room_after state test told room unfinished =
-    by_tests (is_success told.result) (leb test.plan.tries (length test.records + 1)) (is_some state.reason) refl
+room_after : (state : State) (test : TestState) (ending : Record) → HasRoom test → is_finished test ≡ false → HasRoom (after_attempt state test ending)
+room_after state test ending room unfinished =
+    by_tests (is_success ending.result) (leb test.plan.tries (length test.records + 1)) (is_some state.reason) refl
   where
-    count : length (test.records ++ told ∷ []) ≡ length test.records + 1
-    count = length-append test.records (told ∷ [])
+    count : length (test.records ++ ending ∷ []) ≡ length test.records + 1
+    count = length-append test.records (ending ∷ [])
 
     left : length test.records + 1 ≤ test.plan.tries
     left = subst (λ (b : Bool). length test.records + cond b 0 1 ≤ test.plan.tries) unfinished room
 
     by_tests : (succeeds last some : Bool) → leb test.plan.tries (length test.records + 1) ≡ last
-        → length (test.records ++ told ∷ []) + cond (is_finished_mark (cond (succeeds || last || some) (marks.Finished state.reason) marks.Between)) 0 1 ≤ test.plan.tries
+        → length (test.records ++ ending ∷ []) + cond (is_finished_mark (cond (succeeds || last || some) (marks.Finished state.reason) marks.Between)) 0 1 ≤ test.plan.tries
     by_tests true last some e = let c = count in let l = left in omega (arith, c, l)
     by_tests false true some e = let c = count in let l = left in omega (arith, c, l)
     by_tests false false true e = let c = count in let l = left in omega (arith, c, l)
     by_tests false false false e = let c = count in let l = left in grind (arith, nat_tests)
 
 step_room : (old new : State) (event : Event) → AllRoom old → step old event ≡ Ok new → AllRoom new
-step_room old new (events.ScriptEnded script told) all happens =
-    let shows = script_shows old new script told happens in
-    subst AllRoom (sym shows.is) (by_success (is_success told.result))
+step_room old new (events.ScriptEnded script ending) all happens =
+    let shows = script_shows old new script ending happens in
+    subst AllRoom (sym shows.is) (by_success (is_success ending.result))
   where
-    by_success : (succeeds : Bool) → AllRoom (cond succeeds (record old { scripts = old.scripts ++ told ∷ [] }) (stopped_by why.SetupScriptFailure (record old { scripts = old.scripts ++ told ∷ [] })))
+    by_success : (succeeds : Bool) → AllRoom (cond succeeds (record old { scripts = old.scripts ++ ending ∷ [] }) (stopped_by why.SetupScriptFailure (record old { scripts = old.scripts ++ ending ∷ [] })))
     by_success true = all
     by_success false = room_stopped why.SetupScriptFailure old.tests all
 step_room old new (events.Started place) all happens =
@@ -202,12 +202,12 @@ step_room old new (events.Started place) all happens =
     let test = shows.test in
     let room = subst (λ (b : Bool). length test.records + cond b 0 1 ≤ test.plan.tries) shows.unfinished (room_at old.tests place test all shows.found) in
     subst AllRoom (sym shows.is) (room_set old.tests place (record test { mark = marks.Running }) all room)
-step_room old new (events.Ended place told) all happens =
-    let shows = end_shows old new place told happens in
+step_room old new (events.Ended place ending) all happens =
+    let shows = end_shows old new place ending happens in
     let test = shows.test in
-    let room = room_after old test told (room_at old.tests place test all shows.found) (ap is_finished_mark shows.running) in
+    let room = room_after old test ending (room_at old.tests place test all shows.found) (ap is_finished_mark shows.running) in
     subst AllRoom (sym shows.is)
-    (room_limited (finishes old test told) (with_test old place (after_attempt old test told)) (room_set old.tests place (after_attempt old test told) all room))
+    (room_limited (finishes old test ending) (with_test old place (after_attempt old test ending)) (room_set old.tests place (after_attempt old test ending) all room))
 step_room old new (events.Stopped reason) all happens =
     let free = guard_ok (is_inner reason) refused.InnerReason _ new happens in
     subst AllRoom (sym (ok_is _ new free.1)) (by_reason old.reason)

@@ -22,15 +22,15 @@ passes false refusal more h = refl
 pub stop_taken : (state : State) (reason : CancelReason) → is_inner reason ≡ false → Decides state (events.Stopped reason) None
 stop_taken state reason h = (_, passes (is_inner reason) refused.InnerReason _ h)
 
-pub script_taken : (state : State) (told : Record) (script planned ended : ℕ) (is_stopped : Bool) → ShowsScripts state planned ended is_stopped
-    → script < planned → is_stopped ≡ false → script ≡ ended → Decides state (events.ScriptEnded script told) None
-script_taken state told script planned ended is_stopped shows known free next =
+pub script_taken : (state : State) (ending : Record) (script planned ended : ℕ) (is_stopped : Bool) → ShowsScripts state planned ended is_stopped
+    → script < planned → is_stopped ≡ false → script ≡ ended → Decides state (events.ScriptEnded script ending) None
+script_taken state ending script planned ended is_stopped shows known free next =
     let p = shows.planned_scripts in
     let e = shows.ended_scripts in
     let known_test : leb state.planned_scripts script ≡ false = grind (arith, nat_tests) in
     let next_test : not (eqb script (length state.scripts)) ≡ false =
     (let same : eqb script (length state.scripts) ≡ true = grind (arith, nat_tests) in ap not same) in (
-      after_script state told,
+      after_script state ending,
       passes (leb state.planned_scripts script) refused.UnknownScript _ known_test
           ∙ passes (is_some state.reason) refused.Stopped _ (shows.reason ∙ free)
           ∙ passes (not (eqb script (length state.scripts))) refused.OutOfOrder _ next_test,
@@ -62,9 +62,9 @@ start_taken state place mark planned ended is_stopped shows shown free over may 
           ∙ ap (start_from state place shown.test) shown.marked ∙ from.1,
     )
 
-pub end_taken : (state : State) (place : ℕ) (told : Record) → ShowsTest state place marks.Running → Decides state (events.Ended place told) None
-end_taken state place told shown = (
+pub end_taken : (state : State) (place : ℕ) (ending : Record) → ShowsTest state place marks.Running → Decides state (events.Ended place ending) None
+end_taken state place ending shown = (
   _,
-  ap (λ (o : Option TestState). option_map_or (λ test. end_from state place told test test.mark) o (Err refused.UnknownTest)) shown.found
-      ∙ ap (end_from state place told shown.test) shown.marked,
+  ap (λ (o : Option TestState). option_map_or (λ test. end_from state place ending test test.mark) o (Err refused.UnknownTest)) shown.found
+      ∙ ap (end_from state place ending shown.test) shown.marked,
 )

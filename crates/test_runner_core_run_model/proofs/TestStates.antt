@@ -140,11 +140,11 @@ finished_is_due (test ∷ tests) attempt fits all =
     by_first false e more h go = cc
 
 -- how far a test is after one more try that was a success, or that ended while no reason stood
-mark_after : (attempt : ℕ → Record) (tries number : ℕ) (told : Record) (reason : Option CancelReason)
-    → told ≡ attempt (suc number) → (reason ≡ None) ⊎ (is_success told.result ≡ true) → number < tries → first_success attempt number ≡ None
-    → FitsMark attempt tries (suc number) (cond (is_success told.result || leb tries (number + 1) || is_some reason) (marks.Finished reason) marks.Between)
-mark_after attempt tries number told reason same regular less none =
-    by_tests reason (is_success told.result) (leb tries (number + 1)) (ap (λ (r : Record). is_success r.result) (sym same)) refl regular
+mark_after : (attempt : ℕ → Record) (tries number : ℕ) (ending : Record) (reason : Option CancelReason)
+    → ending ≡ attempt (suc number) → (reason ≡ None) ⊎ (is_success ending.result ≡ true) → number < tries → first_success attempt number ≡ None
+    → FitsMark attempt tries (suc number) (cond (is_success ending.result || leb tries (number + 1) || is_some reason) (marks.Finished reason) marks.Between)
+mark_after attempt tries number ending reason same regular less none =
+    by_tests reason (is_success ending.result) (leb tries (number + 1)) (ap (λ (r : Record). is_success r.result) (sym same)) refl regular
   where
     by_tests : (reason : Option CancelReason) (succeeds last : Bool) → is_success (attempt (suc number)).result ≡ succeeds → leb tries (number + 1) ≡ last
         → (reason ≡ None) ⊎ (succeeds ≡ true) → FitsMark attempt tries (suc number) (cond (succeeds || last || is_some reason) (marks.Finished reason) marks.Between)
@@ -157,20 +157,20 @@ mark_after attempt tries number told reason same regular less none =
     by_tests (Some given) false last s l regular = elim regular [ inl e ↦ cc | inr e ↦ cc ]
 
 -- an attempt that ran as it was assigned leaves the test fitting, where it is a success or no reason stands
-pub fits_after : (attempt : ℕ → Record) (state : State) (test : TestState) (told : Record)
-    → Fits attempt test → test.mark ≡ marks.Running → (state.reason ≡ None) ⊎ (is_success told.result ≡ true) → told ≡ attempt (length test.records + 1)
-    → Fits attempt (after_attempt state test told)
-fits_after attempt state test told fits running regular same =
+pub fits_after : (attempt : ℕ → Record) (state : State) (test : TestState) (ending : Record)
+    → Fits attempt test → test.mark ≡ marks.Running → (state.reason ≡ None) ⊎ (is_success ending.result ≡ true) → ending ≡ attempt (length test.records + 1)
+    → Fits attempt (after_attempt state test ending)
+fits_after attempt state test ending fits running regular same =
     let number = length test.records in
     let open_still = subst (FitsMark attempt test.plan.tries number) running fits.marked in
     let next : number + 1 ≡ suc number = omega arith in
-    let count : length (test.records ++ told ∷ []) ≡ suc number = omega (arith, length-append test.records (told ∷ [])) in
-    let same_next : told ≡ attempt (suc number) = same ∙ ap attempt next in
+    let count : length (test.records ++ ending ∷ []) ≡ suc number = omega (arith, length-append test.records (ending ∷ [])) in
+    let same_next : ending ≡ attempt (suc number) = same ∙ ap attempt next in
     record {
       tries = fits.tries;
-      records = ap (λ (xs : List Record). xs ++ told ∷ []) fits.records ∙ ap (λ (r : Record). records_of_tries attempt number ++ r ∷ []) same_next ∙ sym (ap (records_of_tries attempt) count);
-      marked = subst (λ (m : ℕ). FitsMark attempt test.plan.tries m (cond (finishes state test told) (marks.Finished state.reason) marks.Between)) (sym count)
-          (mark_after attempt test.plan.tries number told state.reason same_next regular open_still.0 open_still.1);
+      records = ap (λ (xs : List Record). xs ++ ending ∷ []) fits.records ∙ ap (λ (r : Record). records_of_tries attempt number ++ r ∷ []) same_next ∙ sym (ap (records_of_tries attempt) count);
+      marked = subst (λ (m : ℕ). FitsMark attempt test.plan.tries m (cond (finishes state test ending) (marks.Finished state.reason) marks.Between)) (sym count)
+          (mark_after attempt test.plan.tries number ending state.reason same_next regular open_still.0 open_still.1);
     }
 
 -- a test that starts fits as before

@@ -31,7 +31,7 @@ use Rattle.test_runner_core_run_model.proofs.Scripts.{any_push}
 use Rattle.test_runner_core_run_model.proofs.Keeping.{Keeps, keeps_initial, keeps_stopped, keeps_script, keeps_set, script_shows, start_shows, end_shows}
 
 abbrev pub stops : Record → Bool
-stops told = not (is_success told.result)
+stops ending = not (is_success ending.result)
 
 abbrev pub is_waiting_mark : Mark → Bool
 is_waiting_mark marks.Waiting = true
@@ -82,11 +82,11 @@ tracks_initial plan assigned ok =
 
 -- a script ends
 
-tracks_script : (plan : RunPlan) (assigned : Assignment) (old : State) (told : Record) → Tracks plan assigned old
-    → length old.scripts < old.planned_scripts → old.reason ≡ None → told ≡ assigned.script (length old.scripts)
-    → Tracks plan assigned (after_script old told)
-tracks_script plan assigned old told tracks less going same =
-    record { keeps = keeps_script plan assigned old told tracks.keeps less same; standing = by_success (is_success told.result) refl }
+tracks_script : (plan : RunPlan) (assigned : Assignment) (old : State) (ending : Record) → Tracks plan assigned old
+    → length old.scripts < old.planned_scripts → old.reason ≡ None → ending ≡ assigned.script (length old.scripts)
+    → Tracks plan assigned (after_script old ending)
+tracks_script plan assigned old ending tracks less going same =
+    record { keeps = keeps_script plan assigned old ending tracks.keeps less same; standing = by_success (is_success ending.result) refl }
   where
     now : Going assigned old
     now = subst (Standing plan assigned old) going tracks.standing
@@ -98,24 +98,24 @@ tracks_script plan assigned old told tracks less going same =
     stands : State → Type 0
     stands state = Standing plan assigned state state.reason
 
-    by_success : (succeeds : Bool) → is_success told.result ≡ succeeds
-        → stands (cond succeeds (record old { scripts = old.scripts ++ told ∷ [] }) (stopped_by why.SetupScriptFailure (record old { scripts = old.scripts ++ told ∷ [] })))
+    by_success : (succeeds : Bool) → is_success ending.result ≡ succeeds
+        → stands (cond succeeds (record old { scripts = old.scripts ++ ending ∷ [] }) (stopped_by why.SetupScriptFailure (record old { scripts = old.scripts ++ ending ∷ [] })))
     by_success true s =
-        subst (Standing plan assigned (record old { scripts = old.scripts ++ told ∷ [] })) (sym going)
+        subst (Standing plan assigned (record old { scripts = old.scripts ++ ending ∷ [] })) (sym going)
         (record {
           fit = now.fit;
-          succeeded = any_push stops old.scripts told ∙ ap (λ (b : Bool). b || stops told) now.succeeded ∙ ap not s;
+          succeeded = any_push stops old.scripts ending ∙ ap (λ (b : Bool). b || stops ending) now.succeeded ∙ ap not s;
           order = inl (waits now.order);
         })
-    by_success false s = any_push stops old.scripts told ∙ ap (λ (b : Bool). b || stops told) now.succeeded ∙ ap not s
+    by_success false s = any_push stops old.scripts ending ∙ ap (λ (b : Bool). b || stops ending) now.succeeded ∙ ap not s
 
-step_script : (plan : RunPlan) (assigned : Assignment) (old new : State) (script : ℕ) (told : Record) → Tracks plan assigned old
-    → script_ended old script told ≡ Ok new → AgreesWith old.reason (assigned.script script) told → Tracks plan assigned new
-step_script plan assigned old new script told tracks happens agrees =
-    let shows = script_shows old new script told happens in
-    let same : told ≡ assigned.script (length old.scripts) =
-    subst (λ (r : Option CancelReason). AgreesWith r (assigned.script script) told) shows.going agrees ∙ ap assigned.script shows.next in
-    subst (Tracks plan assigned) (sym shows.is) (tracks_script plan assigned old told tracks shows.less shows.going same)
+step_script : (plan : RunPlan) (assigned : Assignment) (old new : State) (script : ℕ) (ending : Record) → Tracks plan assigned old
+    → script_ended old script ending ≡ Ok new → AgreesWith old.reason (assigned.script script) ending → Tracks plan assigned new
+step_script plan assigned old new script ending tracks happens agrees =
+    let shows = script_shows old new script ending happens in
+    let same : ending ≡ assigned.script (length old.scripts) =
+    subst (λ (r : Option CancelReason). AgreesWith r (assigned.script script) ending) shows.going agrees ∙ ap assigned.script shows.next in
+    subst (Tracks plan assigned) (sym shows.is) (tracks_script plan assigned old ending tracks shows.less shows.going same)
 
 -- an attempt starts
 
@@ -189,24 +189,24 @@ tracks_limited plan assigned state finished ok tracks going ended =
     by_test true None e = tracks
     by_test true (Some mode) e = stop mode e
 
-tracks_end : (plan : RunPlan) (assigned : Assignment) (old : State) (place : ℕ) (told : Record) (test : TestState) → IsPositiveLimit plan.limit → Tracks plan assigned old
-    → slice_get old.tests place ≡ Some test → test.mark ≡ marks.Running → AgreesWith old.reason (assigned.attempt place (length test.records + 1)) told
-    → Tracks plan assigned (after_limit (finishes old test told) (with_test old place (after_attempt old test told)))
-tracks_end plan assigned old place told test ok tracks at running agrees = by_reason old.reason refl
+tracks_end : (plan : RunPlan) (assigned : Assignment) (old : State) (place : ℕ) (ending : Record) (test : TestState) → IsPositiveLimit plan.limit → Tracks plan assigned old
+    → slice_get old.tests place ≡ Some test → test.mark ≡ marks.Running → AgreesWith old.reason (assigned.attempt place (length test.records + 1)) ending
+    → Tracks plan assigned (after_limit (finishes old test ending) (with_test old place (after_attempt old test ending)))
+tracks_end plan assigned old place ending test ok tracks at running agrees = by_reason old.reason refl
   where
     new : State
-    new = with_test old place (after_attempt old test told)
+    new = with_test old place (after_attempt old test ending)
 
     keeps_after : Keeps plan assigned new
-    keeps_after = keeps_set plan assigned old place test (after_attempt old test told) tracks.keeps at refl
+    keeps_after = keeps_set plan assigned old place test (after_attempt old test ending) tracks.keeps at refl
 
     uncounted : counts fails_test test ≡ false
     uncounted = unfinished_counts fails_test test (ap is_finished_mark running)
 
-    stays : (reason : CancelReason) → old.reason ≡ Some reason → Standing plan assigned new (Some reason) → Tracks plan assigned (after_limit (finishes old test told) new)
+    stays : (reason : CancelReason) → old.reason ≡ Some reason → Standing plan assigned new (Some reason) → Tracks plan assigned (after_limit (finishes old test ending) new)
     stays reason e standing =
         subst (Tracks plan assigned) (sym (ap (λ (b : Bool). cond b (option_map_or (λ mode. stopped_by (limit_reason mode) new) (mode_at new.limit (failed_weight new.tests)) new) new)
-        (ap (λ (r : Option CancelReason). finishes old test told && not (is_some r)) e ∙ and_false (finishes old test told))))
+        (ap (λ (r : Option CancelReason). finishes old test ending && not (is_some r)) e ∙ and_false (finishes old test ending))))
         (record {
           keeps = keeps_after;
           standing = subst (Standing plan assigned new) (sym e) standing;
@@ -217,27 +217,27 @@ tracks_end plan assigned old place told test ok tracks at running agrees = by_re
         and_false false = refl
 
     fails_still : Failing plan assigned old → Failing plan assigned new
-    fails_still h = record { ended = h.ended; failed = any_set (counts fails_test) old.tests place test (after_attempt old test told) at uncounted h.failed; due = h.due }
+    fails_still h = record { ended = h.ended; failed = any_set (counts fails_test) old.tests place test (after_attempt old test ending) at uncounted h.failed; due = h.due }
 
     was : (reason : Option CancelReason) → old.reason ≡ reason → Standing plan assigned old reason
     was reason e = subst (Standing plan assigned old) e tracks.standing
 
-    by_reason : (reason : Option CancelReason) → old.reason ≡ reason → Tracks plan assigned (after_limit (finishes old test told) new)
+    by_reason : (reason : Option CancelReason) → old.reason ≡ reason → Tracks plan assigned (after_limit (finishes old test ending) new)
     by_reason None e =
         let now = was None e in
-        let same = subst (λ (r : Option CancelReason). AgreesWith r (assigned.attempt place (length test.records + 1)) told) e agrees in
+        let same = subst (λ (r : Option CancelReason). AgreesWith r (assigned.attempt place (length test.records + 1)) ending) e agrees in
         let ended : length old.scripts ≡ old.planned_scripts =
         elim now.order [
           | inl all ↦ let no = any_waiting old.tests place test at (ap is_waiting_mark running) in cc
           | inr over ↦ over
         ] in
-        tracks_limited plan assigned new (finishes old test told) ok
+        tracks_limited plan assigned new (finishes old test ending) ok
         (record {
           keeps = keeps_after;
           standing = subst (Standing plan assigned new) (sym e)
               (record {
-                fit = beside_set Fits old.tests assigned.attempt place (after_attempt old test told) now.fit
-                    (fits_after (assigned.attempt place) old test told (beside_at Fits old.tests assigned.attempt place test now.fit at) running (inl e) same);
+                fit = beside_set Fits old.tests assigned.attempt place (after_attempt old test ending) now.fit
+                    (fits_after (assigned.attempt place) old test ending (beside_at Fits old.tests assigned.attempt place test now.fit at) running (inl e) same);
                 succeeded = now.succeeded;
                 order = inr ended;
               });
@@ -252,20 +252,20 @@ tracks_end plan assigned old place told test ok tracks at running agrees = by_re
     by_reason (Some why.Interrupt) e = absurd (was (Some why.Interrupt) e)
     by_reason (Some why.SecondSignal) e = absurd (was (Some why.SecondSignal) e)
 
-step_end : (plan : RunPlan) (assigned : Assignment) (old new : State) (place : ℕ) (told : Record) → IsPositiveLimit plan.limit → Tracks plan assigned old
-    → attempt_ended old place told ≡ Ok new → AgreesWith old.reason (assigned.attempt place (try_at old.tests place)) told → Tracks plan assigned new
-step_end plan assigned old new place told ok tracks happens agrees =
-    let shows = end_shows old new place told happens in
-    let agrees_here = subst (λ (o : Option TestState). AgreesWith old.reason (assigned.attempt place (option_map_or (λ t. length t.records + 1) o 1)) told) shows.found agrees in
-    subst (Tracks plan assigned) (sym shows.is) (tracks_end plan assigned old place told shows.test ok tracks shows.found shows.running agrees_here)
+step_end : (plan : RunPlan) (assigned : Assignment) (old new : State) (place : ℕ) (ending : Record) → IsPositiveLimit plan.limit → Tracks plan assigned old
+    → attempt_ended old place ending ≡ Ok new → AgreesWith old.reason (assigned.attempt place (try_at old.tests place)) ending → Tracks plan assigned new
+step_end plan assigned old new place ending ok tracks happens agrees =
+    let shows = end_shows old new place ending happens in
+    let agrees_here = subst (λ (o : Option TestState). AgreesWith old.reason (assigned.attempt place (option_map_or (λ t. length t.records + 1) o 1)) ending) shows.found agrees in
+    subst (Tracks plan assigned) (sym shows.is) (tracks_end plan assigned old place ending shows.test ok tracks shows.found shows.running agrees_here)
 
 -- each step of such a run, and so the whole run
 
 pub step_tracks : (plan : RunPlan) (assigned : Assignment) (old new : State) (event : Event) → IsPositiveLimit plan.limit → Tracks plan assigned old
     → step old event ≡ Ok new → EventAgrees assigned old event → IsNoStop event → Tracks plan assigned new
-step_tracks plan assigned old new (events.ScriptEnded script told) ok tracks happens agrees plain = step_script plan assigned old new script told tracks happens agrees
+step_tracks plan assigned old new (events.ScriptEnded script ending) ok tracks happens agrees plain = step_script plan assigned old new script ending tracks happens agrees
 step_tracks plan assigned old new (events.Started test) ok tracks happens agrees plain = step_start plan assigned old new test tracks happens
-step_tracks plan assigned old new (events.Ended test told) ok tracks happens agrees plain = step_end plan assigned old new test told ok tracks happens agrees
+step_tracks plan assigned old new (events.Ended test ending) ok tracks happens agrees plain = step_end plan assigned old new test ending ok tracks happens agrees
 step_tracks plan assigned old new (events.Stopped reason) ok tracks happens agrees plain = absurd plain
 
 pub run_tracks : (plan : RunPlan) (assigned : Assignment) (old : State) (run : List Event) (new : State) → IsPositiveLimit plan.limit → Tracks plan assigned old

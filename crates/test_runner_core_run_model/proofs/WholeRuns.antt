@@ -55,27 +55,27 @@ planned_set plan state place new h same =
     record { plans = same ∙ h.plans; planned = h.planned; limit = h.limit; skipped = h.skipped; within = h.within }
 
 pub step_planned : (plan : RunPlan) (old new : State) (event : Event) → Planned plan old → step old event ≡ Ok new → Planned plan new
-step_planned plan old new (events.ScriptEnded script told) h happens =
-    let shows = script_shows old new script told happens in
+step_planned plan old new (events.ScriptEnded script ending) h happens =
+    let shows = script_shows old new script ending happens in
     let less = shows.less in
-    let count : length (old.scripts ++ told ∷ []) ≡ suc (length old.scripts) = omega (arith, length-append old.scripts (told ∷ [])) in
-    let ended : Planned plan (record old { scripts = old.scripts ++ told ∷ [] }) =
+    let count : length (old.scripts ++ ending ∷ []) ≡ suc (length old.scripts) = omega (arith, length-append old.scripts (ending ∷ [])) in
+    let ended : Planned plan (record old { scripts = old.scripts ++ ending ∷ [] }) =
     record { plans = h.plans; planned = h.planned; limit = h.limit; skipped = h.skipped; within = omega (arith, count) } in
-    subst (Planned plan) (sym shows.is) (by_success ended (is_success told.result))
+    subst (Planned plan) (sym shows.is) (by_success ended (is_success ending.result))
   where
-    by_success : Planned plan (record old { scripts = old.scripts ++ told ∷ [] }) → (succeeds : Bool)
-        → Planned plan (cond succeeds (record old { scripts = old.scripts ++ told ∷ [] }) (stopped_by why.SetupScriptFailure (record old { scripts = old.scripts ++ told ∷ [] })))
+    by_success : Planned plan (record old { scripts = old.scripts ++ ending ∷ [] }) → (succeeds : Bool)
+        → Planned plan (cond succeeds (record old { scripts = old.scripts ++ ending ∷ [] }) (stopped_by why.SetupScriptFailure (record old { scripts = old.scripts ++ ending ∷ [] })))
     by_success ended true = ended
-    by_success ended false = planned_stopped plan (record old { scripts = old.scripts ++ told ∷ [] }) why.SetupScriptFailure ended
+    by_success ended false = planned_stopped plan (record old { scripts = old.scripts ++ ending ∷ [] }) why.SetupScriptFailure ended
 step_planned plan old new (events.Started place) h happens =
     let shows = start_shows old new place happens in
     let running = record shows.test { mark = marks.Running } in
     subst (Planned plan) (sym shows.is) (planned_set plan old place running h (plans_set old.tests place shows.test running shows.found refl))
-step_planned plan old new (events.Ended place told) h happens =
-    let shows = end_shows old new place told happens in
-    let after = after_attempt old shows.test told in
+step_planned plan old new (events.Ended place ending) h happens =
+    let shows = end_shows old new place ending happens in
+    let after = after_attempt old shows.test ending in
     subst (Planned plan) (sym shows.is)
-    (planned_limited plan (with_test old place after) (finishes old shows.test told)
+    (planned_limited plan (with_test old place after) (finishes old shows.test ending)
     (planned_set plan old place after h (plans_set old.tests place shows.test after shows.found refl)))
 step_planned plan old new (events.Stopped reason) h happens =
     let free = guard_ok (is_inner reason) refused.InnerReason _ new happens in

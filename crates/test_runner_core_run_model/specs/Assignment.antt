@@ -52,11 +52,11 @@ some_script test script (suc scripts) = some_script test script scripts || test 
 abbrev pub due_status : RunPlan → Assignment → ℕ
 due_status plan assigned =
     if length plan.tests == 0 then 4
-    else if some_script (λ told. fails_script told.result) assigned.script plan.scripts then 105
+    else if some_script (λ ending. fails_script ending.result) assigned.script plan.scripts then 105
     else if some_test_fails plan.tests assigned.attempt then 100
     else 0
 
 -- no script's record stops the run, and what fails doesn't reach the limit
 pub record IsUnstopped (plan : RunPlan) (assigned : Assignment) : Type 0 where
-  pub scripts : some_script (λ told. not (is_success told.result)) assigned.script plan.scripts ≡ false
+  pub scripts : some_script (λ ending. not (is_success ending.result)) assigned.script plan.scripts ≡ false
   pub limit : mode_at plan.limit (failing_weight plan.tests assigned.attempt) ≡ None

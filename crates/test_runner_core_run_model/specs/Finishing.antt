@@ -27,9 +27,9 @@ newly_finished old new = places_among (newly_finished_at old.tests new.tests) (l
 
 -- the same, that of the attempt that ended first
 abbrev pub finishing : Event → State → State → List ℕ
-finishing (events.ScriptEnded script told) old new = newly_finished old new
+finishing (events.ScriptEnded script ending) old new = newly_finished old new
 finishing (events.Started test) old new = newly_finished old new
-finishing (events.Ended test told) old new =
+finishing (events.Ended test ending) old new =
     filter (λ place. place == test) (newly_finished old new) ++ filter (λ place. not (place == test)) (newly_finished old new)
 finishing (events.Stopped reason) old new = newly_finished old new
 

@@ -42,9 +42,9 @@ HasFourExactlyWhereDue =
 -- in a stopped run no script ends any more: one that the plan has is refused since the run is stopped, another as unknown
 abbrev pub RefusesScripts : Type 0
 RefusesScripts =
-    (state : State) (script : ℕ) (told : Record)
+    (state : State) (script : ℕ) (ending : Record)
     → is_some state.reason ≡ true
-    → step state (ScriptEnded script told) ≡ Err (if nat_le state.planned_scripts script then refused.UnknownScript else refused.Stopped)
+    → step state (ScriptEnded script ending) ≡ Err (if nat_le state.planned_scripts script then refused.UnknownScript else refused.Stopped)
 
 -- nor does an attempt start, of a test that the plan has or of another
 abbrev pub RefusesStarts : Type 0

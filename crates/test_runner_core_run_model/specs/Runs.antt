@@ -25,8 +25,8 @@ is_complete state =
 
 -- a record is the assigned one; where a reason stands it may also be any that isn't a success
 abbrev pub AgreesWith : Option CancelReason → Record → Record → Type 0
-AgreesWith None assigned told = told ≡ assigned
-AgreesWith (Some reason) assigned told = (told ≡ assigned) ⊎ (is_success told.result ≡ false)
+AgreesWith None assigned ending = ending ≡ assigned
+AgreesWith (Some reason) assigned ending = (ending ≡ assigned) ⊎ (is_success ending.result ≡ false)
 
 -- the number of the try that a test at a place is at, from 1
 abbrev pub try_at : List TestState → ℕ → ℕ
@@ -34,9 +34,9 @@ try_at tests place = option_map_or (λ test. length test.records + 1) (slice_get
 
 -- an event agrees with the assignment in the state in which it comes
 abbrev pub EventAgrees : Assignment → State → Event → Type 0
-EventAgrees assigned state (events.ScriptEnded script told) = AgreesWith state.reason (assigned.script script) told
+EventAgrees assigned state (events.ScriptEnded script ending) = AgreesWith state.reason (assigned.script script) ending
 EventAgrees assigned state (events.Started test) = ⊤
-EventAgrees assigned state (events.Ended test told) = AgreesWith state.reason (assigned.attempt test (try_at state.tests test)) told
+EventAgrees assigned state (events.Ended test ending) = AgreesWith state.reason (assigned.attempt test (try_at state.tests test)) ending
 EventAgrees assigned state (events.Stopped reason) = ⊤
 
 -- each event of a run from a state agrees with the assignment
@@ -46,16 +46,16 @@ Agrees assigned state (event ∷ more) = EventAgrees assigned state event × ((m
 
 -- nobody tells the run to stop
 abbrev pub IsNoStop : Event → Type 0
-IsNoStop (events.ScriptEnded script told) = ⊤
+IsNoStop (events.ScriptEnded script ending) = ⊤
 IsNoStop (events.Started test) = ⊤
-IsNoStop (events.Ended test told) = ⊤
+IsNoStop (events.Ended test ending) = ⊤
 IsNoStop (events.Stopped reason) = ⊥
 
 -- an event is no stop
 abbrev pub is_no_stop : Event → Bool
-is_no_stop (events.ScriptEnded script told) = true
+is_no_stop (events.ScriptEnded script ending) = true
 is_no_stop (events.Started test) = true
-is_no_stop (events.Ended test told) = true
+is_no_stop (events.Ended test ending) = true
 is_no_stop (events.Stopped reason) = false
 
 -- so many events other than stops a run has at most: one for each script, and two for each try of a test

@@ -57,11 +57,11 @@ last_record records = slice_get records (length records - 1)
 
 -- a finished test counts by its last record, and is late where it has more than one
 abbrev pub finished_as : TestState → Record → Finished
-finished_as test told = record { result = told.result; slow = told.slow; late = nat_lt 1 (length test.records); flaky = test.plan.flaky }
+finished_as test ending = record { result = ending.result; slow = ending.slow; late = nat_lt 1 (length test.records); flaky = test.plan.flaky }
 
 -- whether a test is finished and counts in a row
 abbrev pub counts : (Finished → Bool) → TestState → Bool
-counts row test = is_finished test && option_map_or (λ told. row (finished_as test told)) (last_record test.records) false
+counts row test = is_finished test && option_map_or (λ ending. row (finished_as test ending)) (last_record test.records) false
 
 -- what the finished tests that count as failing weigh together
 abbrev pub failed_weight : List TestState → ℕ

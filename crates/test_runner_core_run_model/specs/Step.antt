@@ -33,16 +33,16 @@ stopped_by reason state = record state { tests = map (finished_by reason) state.
 
 -- the next script ended: if not with a success, that stops the run
 abbrev pub after_script : State → Record → State
-after_script state told =
-    let ended = record state { scripts = state.scripts ++ told ∷ [] } in
-    if is_success told.result then ended else stopped_by why.SetupScriptFailure ended
+after_script state ending =
+    let ended = record state { scripts = state.scripts ++ ending ∷ [] } in
+    if is_success ending.result then ended else stopped_by why.SetupScriptFailure ended
 
 abbrev pub script_ended : State → ℕ → Record → Result State StepRefusal
-script_ended state script told =
+script_ended state script ending =
     if nat_le state.planned_scripts script then Err refused.UnknownScript
     else if is_some state.reason then Err refused.Stopped
     else if not (script == length state.scripts) then Err refused.OutOfOrder
-    else Ok (after_script state told)
+    else Ok (after_script state ending)
 
 -- the state with another test at a place
 abbrev pub with_test : State → ℕ → TestState → State
@@ -66,12 +66,12 @@ state_after_start state place = option_map_or (start_of state place) (slice_get 
 
 -- an attempt finishes its test if it is a success or the last try, or where the run is stopped
 abbrev pub finishes : State → TestState → Record → Bool
-finishes state test told = is_success told.result || nat_le test.plan.tries (length test.records + 1) || is_some state.reason
+finishes state test ending = is_success ending.result || nat_le test.plan.tries (length test.records + 1) || is_some state.reason
 
 -- the test after its attempt: finished under the reason that stood before, if it is finished
 abbrev pub after_attempt : State → TestState → Record → TestState
-after_attempt state test told =
-    record test { records = test.records ++ told ∷ []; mark = if finishes state test told then marks.Finished state.reason else marks.Between }
+after_attempt state test ending =
+    record test { records = test.records ++ ending ∷ []; mark = if finishes state test ending then marks.Finished state.reason else marks.Between }
 
 -- the reason of a run that its failing tests stop
 abbrev pub limit_reason : TerminateMode → CancelReason
@@ -87,13 +87,13 @@ after_limit finished state =
 
 -- the attempt of a test that ran ended
 abbrev pub end_from : State → ℕ → Record → TestState → Mark → Result State StepRefusal
-end_from state place told test marks.Waiting = Err refused.NotRunning
-end_from state place told test marks.Running = Ok (after_limit (finishes state test told) (with_test state place (after_attempt state test told)))
-end_from state place told test marks.Between = Err refused.NotRunning
-end_from state place told test (marks.Finished kept) = Err refused.NotRunning
+end_from state place ending test marks.Waiting = Err refused.NotRunning
+end_from state place ending test marks.Running = Ok (after_limit (finishes state test ending) (with_test state place (after_attempt state test ending)))
+end_from state place ending test marks.Between = Err refused.NotRunning
+end_from state place ending test (marks.Finished kept) = Err refused.NotRunning
 
 abbrev pub attempt_ended : State → ℕ → Record → Result State StepRefusal
-attempt_ended state place told = option_map_or (λ test. end_from state place told test test.mark) (slice_get state.tests place) (Err refused.UnknownTest)
+attempt_ended state place ending = option_map_or (λ test. end_from state place ending test test.mark) (slice_get state.tests place) (Err refused.UnknownTest)
 
 -- the run was told to stop: that stops it, and of two reasons the graver stands
 abbrev pub state_after_stop : State → CancelReason → Result State StepRefusal
@@ -103,7 +103,7 @@ state_after_stop state new =
 
 -- the state after an event, or the first reason why it can't happen
 abbrev pub step : State → Event → Result State StepRefusal
-step state (events.ScriptEnded script told) = script_ended state script told
+step state (events.ScriptEnded script ending) = script_ended state script ending
 step state (events.Started test) = state_after_start state test
-step state (events.Ended test told) = attempt_ended state test told
+step state (events.Ended test ending) = attempt_ended state test ending
 step state (events.Stopped reason) = state_after_stop state reason

@@ -36,8 +36,8 @@ pub fn start_refusal(
 
 /// Why an attempt of a test with this mark can't end now; `None` where it can, stopped or not.
 pub fn end_refusal(mark: Mark) -> Option<StepRefusal>
-    ensures { (state : State) (place : ℕ) (told : Record) → ShowsTest state place mark
-        → Decides state (events.Ended place told) result }
+    ensures { (state : State) (place : ℕ) (ending : Record) → ShowsTest state place mark
+        → Decides state (events.Ended place ending) result }
 {
     match mark {
         Mark::Running => None,

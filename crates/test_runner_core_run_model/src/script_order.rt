@@ -13,8 +13,8 @@ pub fn script_refusal(
     ended: usize,
     is_stopped: bool,
 ) -> Option<StepRefusal>
-    ensures { (state : State) (told : Record) → ShowsScripts state planned ended is_stopped
-        → Decides state (events.ScriptEnded script told) result }
+    ensures { (state : State) (ending : Record) → ShowsScripts state planned ended is_stopped
+        → Decides state (events.ScriptEnded script ending) result }
 {
     if planned <= script {
         return Some(StepRefusal::UnknownScript);

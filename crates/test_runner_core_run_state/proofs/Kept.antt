@@ -28,9 +28,9 @@ use Rattle.nextest_run_events_results.specs.declared.result.ExecutionResultDescr
 use Rattle.nextest_run_events_results.specs.declared.record.Record.{Record}
 use Rattle.nextest_run_events_results.specs.declared.record.RecordOutput.{RecordOutput}
 use Rattle.nextest_run_events_results.specs.declared.record.RecordOutput.TheVariants as wrote
-use Rattle.test_runner_core_run_state.specs.Statuses.{Output, Status, ScriptStatus, IsStatusOf, IsScriptStatus, IsScriptStatusOf, AreStatusesFrom, AreScriptStatuses, output_of, told_of, record_of, script_record_of, script_told}
+use Rattle.test_runner_core_run_state.specs.Statuses.{Output, Status, ScriptStatus, IsStatusOf, IsScriptStatus, IsScriptStatusOf, AreStatusesFrom, AreScriptStatuses, output_of, record_output_of, record_of, script_record_of, script_record_in}
 
-told_back : (told : RecordOutput) → told_of (output_of told) ≡ told
+told_back : (ending : RecordOutput) → record_output_of (output_of ending) ≡ ending
 told_back (wrote.Streams out err) = refl
 told_back (wrote.Message message) = refl
 
@@ -38,48 +38,48 @@ abbrev made_of : ExecutionResultDescription → Bool → ℕ → RecordOutput �
 made_of result slow nanos output = record { result = result; slow = slow; nanos = nanos; output = output }
 
 -- what is kept of a record makes it up again
-made_again : (told : Record) (result : ExecutionResultDescription) (slow : Bool) (nanos : ℕ) (output : Output)
-    → result ≡ told.result → slow ≡ told.slow → nanos ≡ told.nanos → output ≡ output_of told.output → made_of result slow nanos (told_of output) ≡ told
-made_again told result slow nanos output same_result same_slow same_nanos same_output =
-    ap (λ (r : ExecutionResultDescription). made_of r slow nanos (told_of output)) same_result
-    ∙ ap (λ (s : Bool). made_of told.result s nanos (told_of output)) same_slow
-    ∙ ap (λ (n : ℕ). made_of told.result told.slow n (told_of output)) same_nanos
-    ∙ ap (λ (o : RecordOutput). made_of told.result told.slow told.nanos o) (ap told_of same_output ∙ told_back told.output)
+made_again : (ending : Record) (result : ExecutionResultDescription) (slow : Bool) (nanos : ℕ) (output : Output)
+    → result ≡ ending.result → slow ≡ ending.slow → nanos ≡ ending.nanos → output ≡ output_of ending.output → made_of result slow nanos (record_output_of output) ≡ ending
+made_again ending result slow nanos output same_result same_slow same_nanos same_output =
+    ap (λ (r : ExecutionResultDescription). made_of r slow nanos (record_output_of output)) same_result
+    ∙ ap (λ (s : Bool). made_of ending.result s nanos (record_output_of output)) same_slow
+    ∙ ap (λ (n : ℕ). made_of ending.result ending.slow n (record_output_of output)) same_nanos
+    ∙ ap (λ (o : RecordOutput). made_of ending.result ending.slow ending.nanos o) (ap record_output_of same_output ∙ told_back ending.output)
 
 -- a status tells the record that it was made of
-pub record_back : (attempt total : ℕ) (told : Record) (status : Status) → IsStatusOf attempt total told status → record_of status ≡ told
-record_back attempt total told status made =
-    made_again told status.result status.is_slow (as_nanos status.time_taken) status.output made.result made.is_slow made.time_taken made.output
+pub record_back : (attempt total : ℕ) (ending : Record) (status : Status) → IsStatusOf attempt total ending status → record_of status ≡ ending
+record_back attempt total ending status made =
+    made_again ending status.result status.is_slow (as_nanos status.time_taken) status.output made.result made.is_slow made.time_taken made.output
 
 -- and so does a script's
-pub script_record_back : (told : Record) (status : ScriptStatus) → IsScriptStatusOf told status → script_record_of status ≡ told
-script_record_back told status made =
-    made_again told status.result status.is_slow (as_nanos status.time_taken) status.output made.result made.is_slow made.time_taken made.output
+pub script_record_back : (ending : Record) (status : ScriptStatus) → IsScriptStatusOf ending status → script_record_of status ≡ ending
+script_record_back ending status made =
+    made_again ending status.result status.is_slow (as_nanos status.time_taken) status.output made.result made.is_slow made.time_taken made.output
 
 -- the record that the status of a script tells is the script's
-pub script_told_back : (told : Option Record) (status : Option (Bor ScriptStatus)) → IsScriptStatus told status → script_told status ≡ told
+pub script_told_back : (ending : Option Record) (status : Option (Bor ScriptStatus)) → IsScriptStatus ending status → script_record_in status ≡ ending
 script_told_back None None is = refl
 script_told_back None (Some status) is = absurd is
-script_told_back (Some told) None is = absurd is
-script_told_back (Some told) (Some status) is = ap (λ (t : Record). Some t) (script_record_back told status.now is)
+script_told_back (Some ending) None is = absurd is
+script_told_back (Some ending) (Some status) is = ap (λ (t : Record). Some t) (script_record_back ending status.now is)
 
 pub length_map : {X Y : Type 0} (f : X → Y) (xs : List X) → length (map f xs) ≡ length xs
 length_map f [] = refl
 length_map f (x ∷ xs) = ap suc (length_map f xs)
 
 -- one more attempt
-pub status_more : (attempt total : ℕ) (statuses : List Status) (told : Record) (status : Status)
-    → AreStatusesFrom attempt total (map record_of statuses) statuses → IsStatusOf (attempt + length statuses) total told status
+pub status_more : (attempt total : ℕ) (statuses : List Status) (ending : Record) (status : Status)
+    → AreStatusesFrom attempt total (map record_of statuses) statuses → IsStatusOf (attempt + length statuses) total ending status
     → AreStatusesFrom attempt total (map record_of (statuses ++ status ∷ [])) (statuses ++ status ∷ [])
-status_more attempt total [] told status made now =
+status_more attempt total [] ending status made now =
     let number : attempt + 0 ≡ attempt = omega arith in (
       subst (λ (n : ℕ). IsStatusOf n total (record_of status) status) number
-          (subst (λ (t : Record). IsStatusOf (attempt + 0) total t status) (sym (record_back (attempt + 0) total told status now)) now),
+          (subst (λ (t : Record). IsStatusOf (attempt + 0) total t status) (sym (record_back (attempt + 0) total ending status now)) now),
       tt,
     )
-status_more attempt total (first ∷ statuses) told status made now =
+status_more attempt total (first ∷ statuses) ending status made now =
     let number : attempt + suc (length statuses) ≡ attempt + 1 + length statuses = omega arith in
-    (made.0, status_more (attempt + 1) total statuses told status made.1 (subst (λ (n : ℕ). IsStatusOf n total told status) number now))
+    (made.0, status_more (attempt + 1) total statuses ending status made.1 (subst (λ (n : ℕ). IsStatusOf n total ending status) number now))
 
 pub script_status_more : (statuses : List ScriptStatus) (status : ScriptStatus)
     → AreScriptStatuses (map script_record_of statuses) statuses → IsScriptStatusOf (script_record_of status) status
@@ -115,18 +115,18 @@ counted_once plan mark attempts stats rule some over =
     ∙ sym (finished_adds (record { plan = plan; records = map record_of attempts.statuses; mark = mark }) (record_of final.0) stats over (last_told attempts.statuses final.0 final.1))
 
 -- what a test keeps after one more attempt
-pub test_more : (plan : RunTest) (old new : SlotState) (before after : Mark) (told : Record) (status : Status) (reason : Option CancelReason) (finished : Bool) (many : ℕ)
-    → KeepsTest plan old before → many ≡ length old.statuses → IsStatusOf (many + 1) plan.tries told status
+pub test_more : (plan : RunTest) (old new : SlotState) (before after : Mark) (ending : Record) (status : Status) (reason : Option CancelReason) (finished : Bool) (many : ℕ)
+    → KeepsTest plan old before → many ≡ length old.statuses → IsStatusOf (many + 1) plan.tries ending status
     → new.statuses ≡ old.statuses ++ status ∷ [] → new.rule ≡ Some plan.flaky
-    → finished ≡ (is_success told.result || nat_le plan.tries (many + 1) || is_some reason)
+    → finished ≡ (is_success ending.result || nat_le plan.tries (many + 1) || is_some reason)
     → after ≡ cond finished (marks.Finished reason) marks.Between
     → KeepsTest plan new after
-test_more plan old new before after told status reason finished many kept count made statuses rule finishes marked =
+test_more plan old new before after ending status reason finished many kept count made statuses rule finishes marked =
     let number : many + 1 ≡ 1 + length old.statuses = omega (arith, count) in
     let size : length new.statuses ≡ length old.statuses + 1 = ap length statuses ∙ length-append old.statuses (status ∷ []) in
     record {
       made = subst (λ (s : List Status). AreStatusesFrom 1 plan.tries (map record_of s) s) (sym statuses)
-          (status_more 1 plan.tries old.statuses told status kept.made (subst (λ (n : ℕ). IsStatusOf n plan.tries told status) number made));
+          (status_more 1 plan.tries old.statuses ending status kept.made (subst (λ (n : ℕ). IsStatusOf n plan.tries ending status) number made));
       rule = subst (KeepsRule plan.flaky) (sym rule) refl;
       room = λ runs. absurd (none_runs finished (sym (ap is_running_mark marked) ∙ runs));
       ended = λ over. ap is_some rule;
@@ -148,7 +148,7 @@ test_more plan old new before after told status reason finished many kept count 
 
     tries_left : length new.statuses ≡ length old.statuses + 1 → finished ≡ false → length new.statuses ≤ plan.tries - 1
     tries_left size open_still =
-        let more = middle (is_success told.result) (nat_le plan.tries (many + 1)) (is_some reason) (sym finishes ∙ open_still) in
+        let more = middle (is_success ending.result) (nat_le plan.tries (many + 1)) (is_some reason) (sym finishes ∙ open_still) in
         grind (arith, nat_tests, more, size, count)
 
 -- the status at a place tells the record there, and past the end there is none
@@ -156,7 +156,7 @@ pub script_status_at : (statuses : List ScriptStatus) (place : ℕ) (found : Opt
     → AreScriptStatuses (map script_record_of statuses) statuses → IsItemAt statuses place found
     → IsScriptStatus (slice_get (map script_record_of statuses) place) found
 script_status_at statuses place None made is =
-    subst (λ (told : Option Record). IsScriptStatus told None) (sym (past statuses place is.3)) tt
+    subst (λ (ending : Option Record). IsScriptStatus ending None) (sym (past statuses place is.3)) tt
   where
     past : (statuses : List ScriptStatus) (place : ℕ) → length statuses ≤ place → slice_get (map script_record_of statuses) place ≡ None
     past [] place over = refl

@@ -53,9 +53,9 @@ takes_start old new place happens =
     takes_step old new (events.Started place) (record { ended = None; stops = false }) happens refl (sym (start_stops_none old new place happens))
 
 -- the place of the attempt that ended, where its test is over
-pub ended_is : (state : State) (place : ℕ) (told : Record) (ended : Option ℕ) → ended ≡ cond (finished_at state.tests place) (Some place) None
-    → option_map_or (λ p. p ∷ []) ended [] ≡ ended_first (events.Ended place told) state
-ended_is state place told ended is = ap (λ (o : Option ℕ). option_map_or (λ p. p ∷ []) o []) is ∙ by_test (finished_at state.tests place)
+pub ended_is : (state : State) (place : ℕ) (ending : Record) (ended : Option ℕ) → ended ≡ cond (finished_at state.tests place) (Some place) None
+    → option_map_or (λ p. p ∷ []) ended [] ≡ ended_first (events.Ended place ending) state
+ended_is state place ending ended is = ap (λ (o : Option ℕ). option_map_or (λ p. p ∷ []) o []) is ∙ by_test (finished_at state.tests place)
   where
     by_test : (b : Bool) → option_map_or (λ p. p ∷ []) (cond b (Some place) None) [] ≡ cond b (place ∷ []) []
     by_test true = refl
@@ -113,25 +113,25 @@ start_leads state place tests taken new =
     it.leads ∙ ap (λ (ts : List TestState). Ok (record state { tests = ts })) (sym (new it.test it.found))
 
 -- an attempt that may end
-pub running_at : (state : State) (place : ℕ) (told : Record) → Decides state (events.Ended place told) None → IsRunningAt state.tests place
-running_at state place told taken =
-    let found = found_ok (λ (t : TestState). end_from state place told t t.mark) (slice_get state.tests place) refused.UnknownTest taken.0 taken.1 in
+pub running_at : (state : State) (place : ℕ) (ending : Record) → Decides state (events.Ended place ending) None → IsRunningAt state.tests place
+running_at state place ending taken =
+    let found = found_ok (λ (t : TestState). end_from state place ending t t.mark) (slice_get state.tests place) refused.UnknownTest taken.0 taken.1 in
     by_mark found.0 found.1 (found.0).mark refl found.2
   where
-    by_mark : (test : TestState) → slice_get state.tests place ≡ Some test → (mark : Mark) → test.mark ≡ mark → end_from state place told test mark ≡ Ok taken.0 → IsRunningAt state.tests place
+    by_mark : (test : TestState) → slice_get state.tests place ≡ Some test → (mark : Mark) → test.mark ≡ mark → end_from state place ending test mark ≡ Ok taken.0 → IsRunningAt state.tests place
     by_mark test at marks.Waiting m h = cc
     by_mark test at marks.Running m h = record { test = test; found = at; runs = m }
     by_mark test at marks.Between m h = cc
     by_mark test at (marks.Finished kept) m h = cc
 
-pub end_leads : (state : State) (place : ℕ) (told : Record) (tests : List TestState) (finished : Bool) → IsRunningAt state.tests place
-    → ChangesAt place (λ test. after_attempt state test told) state.tests tests
-    → ((test : TestState) → slice_get state.tests place ≡ Some test → finished ≡ finishes state test told)
-    → attempt_ended state place told ≡ Ok (after_limit finished (record state { tests = tests }))
-end_leads state place told tests finished it new is_finished =
-    ap (λ (o : Option TestState). option_map_or (λ test. end_from state place told test test.mark) o (Err refused.UnknownTest)) it.found
-    ∙ ap (end_from state place told it.test) it.runs
-    ∙ ap (λ (b : Bool). Ok (after_limit b (with_test state place (after_attempt state it.test told)))) (sym (is_finished it.test it.found))
+pub end_leads : (state : State) (place : ℕ) (ending : Record) (tests : List TestState) (finished : Bool) → IsRunningAt state.tests place
+    → ChangesAt place (λ test. after_attempt state test ending) state.tests tests
+    → ((test : TestState) → slice_get state.tests place ≡ Some test → finished ≡ finishes state test ending)
+    → attempt_ended state place ending ≡ Ok (after_limit finished (record state { tests = tests }))
+end_leads state place ending tests finished it new is_finished =
+    ap (λ (o : Option TestState). option_map_or (λ test. end_from state place ending test test.mark) o (Err refused.UnknownTest)) it.found
+    ∙ ap (end_from state place ending it.test) it.runs
+    ∙ ap (λ (b : Bool). Ok (after_limit b (with_test state place (after_attempt state it.test ending)))) (sym (is_finished it.test it.found))
     ∙ ap (λ (ts : List TestState). Ok (after_limit finished (record state { tests = ts }))) (sym (new it.test it.found))
 
 no_reason : {X : Type 0} (o : Option X) → is_some o ≡ false → o ≡ None
@@ -139,24 +139,24 @@ no_reason None h = refl
 no_reason (Some x) h = cc
 
 -- a script that may end
-pub script_within : (state : State) (script : ℕ) (told : Record) → Decides state (events.ScriptEnded script told) None
-    → (length state.scripts < state.planned_scripts) × (state.reason ≡ None) × (script_ended state script told ≡ Ok (after_script state told))
-script_within state script told taken =
+pub script_within : (state : State) (script : ℕ) (ending : Record) → Decides state (events.ScriptEnded script ending) None
+    → (length state.scripts < state.planned_scripts) × (state.reason ≡ None) × (script_ended state script ending ≡ Ok (after_script state ending))
+script_within state script ending taken =
     let known = guard_ok (leb state.planned_scripts script) refused.UnknownScript _ taken.0 taken.1 in
     let free = guard_ok (is_some state.reason) refused.Stopped _ taken.0 known.1 in
     let next = guard_ok (not (eqb script (length state.scripts))) refused.OutOfOrder _ taken.0 free.1 in
     (grind (arith, nat_tests, known.0, next.0), no_reason state.reason free.0, taken.1 ∙ sym next.1)
 
 -- the state after a script, by why it stops the run
-pub script_leads : (state : State) (told : Record) (failed : Option CancelReason) → failed ≡ cond (is_success told.result) None (Some why.SetupScriptFailure)
-    → after_script state told ≡ option_map_or (λ new. stopped_by new (record state { scripts = state.scripts ++ told ∷ [] })) failed (record state { scripts = state.scripts ++ told ∷ [] })
-script_leads state told failed e = by_test (is_success told.result) ∙ ap (λ (o : Option CancelReason). option_map_or (λ new. stopped_by new ended) o ended) (sym e)
+pub script_leads : (state : State) (ending : Record) (failed : Option CancelReason) → failed ≡ cond (is_success ending.result) None (Some why.SetupScriptFailure)
+    → after_script state ending ≡ option_map_or (λ new. stopped_by new (record state { scripts = state.scripts ++ ending ∷ [] })) failed (record state { scripts = state.scripts ++ ending ∷ [] })
+script_leads state ending failed e = by_test (is_success ending.result) ∙ ap (λ (o : Option CancelReason). option_map_or (λ new. stopped_by new ended) o ended) (sym e)
   where
     ended : State
-    ended = record state { scripts = state.scripts ++ told ∷ [] }
+    ended = record state { scripts = state.scripts ++ ending ∷ [] }
 
-    by_test : (b : Bool) → cond b (record state { scripts = state.scripts ++ told ∷ [] }) (stopped_by why.SetupScriptFailure (record state { scripts = state.scripts ++ told ∷ [] }))
-        ≡ option_map_or (λ new. stopped_by new (record state { scripts = state.scripts ++ told ∷ [] })) (cond b None (Some why.SetupScriptFailure)) (record state { scripts = state.scripts ++ told ∷ [] })
+    by_test : (b : Bool) → cond b (record state { scripts = state.scripts ++ ending ∷ [] }) (stopped_by why.SetupScriptFailure (record state { scripts = state.scripts ++ ending ∷ [] }))
+        ≡ option_map_or (λ new. stopped_by new (record state { scripts = state.scripts ++ ending ∷ [] })) (cond b None (Some why.SetupScriptFailure)) (record state { scripts = state.scripts ++ ending ∷ [] })
     by_test true = refl
     by_test false = refl
 

@@ -44,7 +44,7 @@ none_waits p unmet (plan ∷ plans) =
 
 -- what isn't finished doesn't count
 pub unfinished_counts : (row : Finished → Bool) (test : TestState) → is_finished test ≡ false → counts row test ≡ false
-unfinished_counts row test e = ap (λ (b : Bool). b && option_map_or (λ told. row (finished_as test told)) (last_record test.records) false) e
+unfinished_counts row test e = ap (λ (b : Bool). b && option_map_or (λ ending. row (finished_as test ending)) (last_record test.records) false) e
 
 -- one row after a write over a test that wasn't finished
 row_set : (p : TestState → Bool) (tests : List TestState) (place : ℕ) (old new : TestState) → slice_get tests place ≡ Some old → p old ≡ false
@@ -92,9 +92,9 @@ unfinished_adds test stats open_still =
     adds_none b n e = let zero_more : from_bool b ≡ 0 = ap from_bool e in omega (arith, zero_more)
 
 -- a finished test with a last record adds what it counts as
-pub finished_adds : (test : TestState) (told : Record) (stats : RunStats) → is_finished test ≡ true → last_record test.records ≡ Some told
-    → with_finished test stats ≡ with_test (finished_as test told) stats
-finished_adds test told stats over last =
+pub finished_adds : (test : TestState) (ending : Record) (stats : RunStats) → is_finished test ≡ true → last_record test.records ≡ Some ending
+    → with_finished test stats ≡ with_test (finished_as test ending) stats
+finished_adds test ending stats over last =
     let e0 : from_bool (is_finished test) ≡ 1 = ap from_bool over in
     let e1 = row_of rows.is_passed in
     let e2 = row_of rows.passed_slow in
@@ -108,10 +108,10 @@ finished_adds test told stats over last =
     let e10 = row_of rows.exec_failed in
     cc
   where
-    row_of : (row : Finished → Bool) → from_bool (counts row test) ≡ from_bool (row (finished_as test told))
+    row_of : (row : Finished → Bool) → from_bool (counts row test) ≡ from_bool (row (finished_as test ending))
     row_of row =
-        ap (λ (b : Bool). from_bool (b && option_map_or (λ told. row (finished_as test told)) (last_record test.records) false)) over
-        ∙ ap (λ (o : Option Record). from_bool (option_map_or (λ told. row (finished_as test told)) o false)) last
+        ap (λ (b : Bool). from_bool (b && option_map_or (λ ending. row (finished_as test ending)) (last_record test.records) false)) over
+        ∙ ap (λ (o : Option Record). from_bool (option_map_or (λ ending. row (finished_as test ending)) o false)) last
 
 -- no counter of fewer tests, and of fewer scripts, than numbers of the type is the greatest
 pub can_count_test : (state : State) → length state.tests + 1 < 2 ^ 64 → CanCountTest (counters state)
@@ -134,8 +134,8 @@ can_count_test state few =
     bound p = let most = count_by-le-length p state.tests in omega (arith, most, few)
 
 -- how far a test is after an attempt
-pub after_idle : (state : State) (test : TestState) (told : Record) → is_running (after_attempt state test told) ≡ false
-after_idle state test told = by_test (finishes state test told)
+pub after_idle : (state : State) (test : TestState) (ending : Record) → is_running (after_attempt state test ending) ≡ false
+after_idle state test ending = by_test (finishes state test ending)
   where
     by_test : (b : Bool) → is_running_mark (cond b (marks.Finished state.reason) marks.Between) ≡ false
     by_test true = refl

@@ -105,21 +105,21 @@ counted_as : (test : TestState) → from_bool (counts rows.is_failed test) + fro
 counted_as test = by_finished (is_finished test) (last_record test.records)
   where
     by_finished : (over : Bool) (final : Option Record)
-        → from_bool (over && option_map_or (λ told. rows.is_failed (finished_as test told)) final false) + from_bool (over && option_map_or (λ told. rows.exec_failed (finished_as test told)) final false)
-        + from_bool (over && option_map_or (λ told. rows.failed_timed_out (finished_as test told)) final false)
-        ≡ from_bool (over && option_map_or (λ told. fails_test (finished_as test told)) final false)
+        → from_bool (over && option_map_or (λ ending. rows.is_failed (finished_as test ending)) final false) + from_bool (over && option_map_or (λ ending. rows.exec_failed (finished_as test ending)) final false)
+        + from_bool (over && option_map_or (λ ending. rows.failed_timed_out (finished_as test ending)) final false)
+        ≡ from_bool (over && option_map_or (λ ending. fails_test (finished_as test ending)) final false)
     by_finished true None = refl
-    by_finished true (Some told) = test_once (finished_as test told)
+    by_finished true (Some ending) = test_once (finished_as test ending)
     by_finished false final = refl
 
 -- what fails weighs what it counts
 pub failed_is : (state : State) → failed_count (counters state) ≡ failed_weight state.tests
 failed_is state = sum_three (counts rows.is_failed) (counts rows.exec_failed) (counts rows.failed_timed_out) (counts fails_test) state.tests counted_as
 
-pub failed_scripts_is : (state : State) → failed_setup_script_count (counters state) ≡ count_by (λ told. fails_script told.result) state.scripts
+pub failed_scripts_is : (state : State) → failed_setup_script_count (counters state) ≡ count_by (λ ending. fails_script ending.result) state.scripts
 failed_scripts_is state =
-    sum_three (λ told. rows.script_failed told.result) (λ told. rows.script_exec_failed told.result) (λ told. rows.script_timed_out told.result) (λ told. fails_script told.result) state.scripts
-    (λ told. script_once told.result)
+    sum_three (λ ending. rows.script_failed ending.result) (λ ending. rows.script_exec_failed ending.result) (λ ending. rows.script_timed_out ending.result) (λ ending. fails_script ending.result) state.scripts
+    (λ ending. script_once ending.result)
 
 -- no more fail than are to run, and than ended
 pub failed_fits : (scripts : ScriptState) (tests : List TestState) (stats : RunStats) (limit : MaxFail) → Counts scripts tests stats limit → failed_count stats ≤ stats.initial_run_count
@@ -133,8 +133,8 @@ failed_fits scripts tests stats limit own =
 pub failed_scripts_fit : (scripts : ScriptState) (tests : List TestState) (stats : RunStats) (limit : MaxFail) → Counts scripts tests stats limit → failed_setup_script_count stats ≤ stats.setup_scripts_finished_count
 failed_scripts_fit scripts tests stats limit own =
     let state = state_of scripts tests stats limit in
-    let number : failed_setup_script_count stats ≡ count_by (λ (told : Record). fails_script told.result) scripts.ended = ap failed_setup_script_count own ∙ failed_scripts_is state in
-    let most = count_by-le-length (λ (told : Record). fails_script told.result) scripts.ended in
+    let number : failed_setup_script_count stats ≡ count_by (λ (ending : Record). fails_script ending.result) scripts.ended = ap failed_setup_script_count own ∙ failed_scripts_is state in
+    let most = count_by-le-length (λ (ending : Record). fails_script ending.result) scripts.ended in
     let all : stats.setup_scripts_finished_count ≡ length scripts.ended = ap (λ (s : RunStats). s.setup_scripts_finished_count) own in
     omega (arith, number, most, all)
 

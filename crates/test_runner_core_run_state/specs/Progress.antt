@@ -31,7 +31,7 @@ Starts old test (Err (fault.Refused refusal)) new = (step old (events.Started te
 Starts old test (Err fault.OutOfMemory) new = ((next : State) × (step old (events.Started test) ≡ Ok next)) × (new ≡ old)
 
 -- the attempt of the test at a place ended, which finishes the test or not; the limit isn't looked at yet
-pub record EndsAttempt (old : State) (place : ℕ) (told : Record) (finished : Bool) (new : State) : Type 0 where
+pub record EndsAttempt (old : State) (place : ℕ) (ending : Record) (finished : Bool) (new : State) : Type 0 where
   pub rest : new ≡ record old { tests = new.tests }
-  pub test : ChangesAt place (λ test. after_attempt old test told) old.tests new.tests
-  pub is_finished : (test : TestState) → slice_get old.tests place ≡ Some test → finished ≡ finishes old test told
+  pub test : ChangesAt place (λ test. after_attempt old test ending) old.tests new.tests
+  pub is_finished : (test : TestState) → slice_get old.tests place ≡ Some test → finished ≡ finishes old test ending

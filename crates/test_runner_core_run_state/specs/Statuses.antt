@@ -32,12 +32,12 @@ output_of (wrote.Streams out err) = came.Output None (written.Split out err) Non
 output_of (wrote.Message message) = came.StartError (start.Spawn (record { message = message; causes = [] }))
 
 -- the status of an attempt keeps what is told of its end, and nothing else
-pub record IsStatusOf (attempt total : ℕ) (told : Record) (status : Status) : Type 0 where
+pub record IsStatusOf (attempt total : ℕ) (ending : Record) (status : Status) : Type 0 where
   pub retry_data : status.retry_data ≡ record { attempt = attempt; total_attempts = total }
-  pub output : status.output ≡ output_of told.output
-  pub result : status.result ≡ told.result
-  pub is_slow : status.is_slow ≡ told.slow
-  pub time_taken : as_nanos status.time_taken ≡ told.nanos
+  pub output : status.output ≡ output_of ending.output
+  pub result : status.result ≡ ending.result
+  pub is_slow : status.is_slow ≡ ending.slow
+  pub time_taken : as_nanos status.time_taken ≡ ending.nanos
   pub start_time : status.start_time ≡ None
   pub delay_before_start : as_nanos status.delay_before_start ≡ 0
   pub error_summary : status.error_summary ≡ None
@@ -47,8 +47,8 @@ pub record IsStatusOf (attempt total : ℕ) (told : Record) (status : Status) : 
 abbrev pub AreStatusesFrom : ℕ → ℕ → List Record → List Status → Type 0
 AreStatusesFrom attempt total [] [] = ⊤
 AreStatusesFrom attempt total [] (status ∷ statuses) = ⊥
-AreStatusesFrom attempt total (told ∷ records) [] = ⊥
-AreStatusesFrom attempt total (told ∷ records) (status ∷ statuses) = IsStatusOf attempt total told status × AreStatusesFrom (attempt + 1) total records statuses
+AreStatusesFrom attempt total (ending ∷ records) [] = ⊥
+AreStatusesFrom attempt total (ending ∷ records) (status ∷ statuses) = IsStatusOf attempt total ending status × AreStatusesFrom (attempt + 1) total records statuses
 
 -- the attempts of a test with these records, so many tries at most and this flaky rule
 pub record AreAttempts (total : ℕ) (flaky : FlakyResult) (records : List Record) (attempts : Attempts Status) : Type 0 where
@@ -63,11 +63,11 @@ IsAttempts (Some test) None = test.records ≡ []
 IsAttempts (Some test) (Some attempts) = AreAttempts test.plan.tries test.plan.flaky test.records attempts.now
 
 -- the status of a script
-pub record IsScriptStatusOf (told : Record) (status : ScriptStatus) : Type 0 where
-  pub output : status.output ≡ output_of told.output
-  pub result : status.result ≡ told.result
-  pub is_slow : status.is_slow ≡ told.slow
-  pub time_taken : as_nanos status.time_taken ≡ told.nanos
+pub record IsScriptStatusOf (ending : Record) (status : ScriptStatus) : Type 0 where
+  pub output : status.output ≡ output_of ending.output
+  pub result : status.result ≡ ending.result
+  pub is_slow : status.is_slow ≡ ending.slow
+  pub time_taken : as_nanos status.time_taken ≡ ending.nanos
   pub start_time : status.start_time ≡ None
   pub env_map : status.env_map ≡ None
   pub error_summary : status.error_summary ≡ None
@@ -76,30 +76,30 @@ pub record IsScriptStatusOf (told : Record) (status : ScriptStatus) : Type 0 whe
 abbrev pub IsScriptStatus : Option Record → Option (Bor ScriptStatus) → Type 0
 IsScriptStatus None None = ⊤
 IsScriptStatus None (Some status) = ⊥
-IsScriptStatus (Some told) None = ⊥
-IsScriptStatus (Some told) (Some status) = IsScriptStatusOf told status.now
+IsScriptStatus (Some ending) None = ⊥
+IsScriptStatus (Some ending) (Some status) = IsScriptStatusOf ending status.now
 
 abbrev pub AreScriptStatuses : List Record → List ScriptStatus → Type 0
 AreScriptStatuses [] [] = ⊤
 AreScriptStatuses [] (status ∷ statuses) = ⊥
-AreScriptStatuses (told ∷ records) [] = ⊥
-AreScriptStatuses (told ∷ records) (status ∷ statuses) = IsScriptStatusOf told status × AreScriptStatuses records statuses
+AreScriptStatuses (ending ∷ records) [] = ⊥
+AreScriptStatuses (ending ∷ records) (status ∷ statuses) = IsScriptStatusOf ending status × AreScriptStatuses records statuses
 
 -- what a status tells of an end: of each that was made of a record, that record
-abbrev pub told_of : Output → RecordOutput
-told_of (came.Output result (written.Split out err) errors) = wrote.Streams out err
-told_of (came.Output result (written.Combined output) errors) = wrote.Streams (Some output) None
-told_of (came.Output result written.NotLoaded errors) = wrote.Streams None None
-told_of (came.StartError (start.TempPath source)) = wrote.Message source.message
-told_of (came.StartError (start.Spawn source)) = wrote.Message source.message
+abbrev pub record_output_of : Output → RecordOutput
+record_output_of (came.Output result (written.Split out err) errors) = wrote.Streams out err
+record_output_of (came.Output result (written.Combined output) errors) = wrote.Streams (Some output) None
+record_output_of (came.Output result written.NotLoaded errors) = wrote.Streams None None
+record_output_of (came.StartError (start.TempPath source)) = wrote.Message source.message
+record_output_of (came.StartError (start.Spawn source)) = wrote.Message source.message
 
 abbrev pub record_of : Status → Record
-record_of status = record { result = status.result; slow = status.is_slow; nanos = as_nanos status.time_taken; output = told_of status.output }
+record_of status = record { result = status.result; slow = status.is_slow; nanos = as_nanos status.time_taken; output = record_output_of status.output }
 
 abbrev pub script_record_of : ScriptStatus → Record
-script_record_of status = record { result = status.result; slow = status.is_slow; nanos = as_nanos status.time_taken; output = told_of status.output }
+script_record_of status = record { result = status.result; slow = status.is_slow; nanos = as_nanos status.time_taken; output = record_output_of status.output }
 
 -- the record that a script's status tells, where it has one
-abbrev pub script_told : Option (Bor ScriptStatus) → Option Record
-script_told None = None
-script_told (Some status) = Some (script_record_of status.now)
+abbrev pub script_record_in : Option (Bor ScriptStatus) → Option Record
+script_record_in None = None
+script_record_in (Some status) = Some (script_record_of status.now)

@@ -49,10 +49,13 @@ pub(crate) fn script_status(alloc: Global, record: Record) -> SetupScriptExecute
 }
 
 // What was written, or why nothing could be started.
-fn execution_output(alloc: Global, told: RecordOutput) -> ChildExecutionOutputDescription<LiveSpec>
-    ensures { result ≡ output_of told }
+fn execution_output(
+    alloc: Global,
+    ending: RecordOutput,
+) -> ChildExecutionOutputDescription<LiveSpec>
+    ensures { result ≡ output_of ending }
 {
-    match told {
+    match ending {
         RecordOutput::Streams { out, err } => ChildExecutionOutputDescription::Output {
             result: None,
             output: ChildOutputDescription::Split {

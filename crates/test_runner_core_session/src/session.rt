@@ -99,8 +99,9 @@ impl<'a> Session<'a> {
         record: Record,
     ) -> Result<Finished, StepRefusal>
         ensures plan { self.new.plan ≡ self.old.plan }
-        ensures step { Takes self.old.run (events.Ended (place_in self.old.plan
-            test.entry.binary_id.now test.entry.test_name.now) «record») result self.new.run }
+        ensures step { Takes self.old.run (events.Ended
+            (place_in self.old.plan test.entry.binary_id.now test.entry.test_name.now) «record»)
+            result self.new.run }
     {
         let place = self.places.find(test);
         self.progress.attempt_finished(place, record)

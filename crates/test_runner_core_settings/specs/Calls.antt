@@ -33,11 +33,11 @@ use Rattle.test_runner_core_settings.specs.declared.settings_fault.SettingsFault
 
 -- the errors of parts, as those of the whole
 abbrev pub error_of_load : LoadError → SettingsError
-error_of_load (load.Refused told) = error.Refused (fault.Load told)
+error_of_load (load.Refused refusal) = error.Refused (fault.Load refusal)
 error_of_load load.OutOfMemory = error.OutOfMemory
 
 abbrev pub error_of_profile : ProfileError → SettingsError
-error_of_profile (profile.NotFound told) = error.Refused (fault.ProfileNotFound told)
+error_of_profile (profile.NotFound missing) = error.Refused (fault.ProfileNotFound missing)
 error_of_profile profile.OutOfMemory = error.OutOfMemory
 
 abbrev pub error_of_facts : PlatformFactsError → SettingsError

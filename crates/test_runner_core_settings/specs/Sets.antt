@@ -58,12 +58,12 @@ Loads cx inputs = IsConfig (IsFilter cx) IsPlatformSpec IsTooDeep (features_of i
 abbrev pub Reads : Context → Inputs → Whole Filterset PlatformSpec → Type 0
 Reads cx inputs config = Loads cx inputs (Ok config)
 
--- no profile has the chosen name; told are that name and those of all profiles
-pub record HasNoProfile (cx : Context) (inputs : Inputs) (told : ProfileNotFound) : Type 0 where
+-- no profile has the chosen name; the fault has that name and those of all profiles
+pub record HasNoProfile (cx : Context) (inputs : Inputs) (missing : ProfileNotFound) : Type 0 where
   pub config : Whole Filterset PlatformSpec
   pub reads : Reads cx inputs config
-  pub name : told.name ≡ inputs.profile
-  pub known : told.known ≡ names_of config
+  pub name : missing.name ≡ inputs.profile
+  pub known : missing.known ≡ names_of config
   pub none : ¬ Contains (names_of config) inputs.profile
 
 -- ---- the chosen profile
@@ -107,8 +107,8 @@ pub record HasRepeatedFact (cx : Context) (inputs : Inputs) : Type 0 where
 -- what inputs set for their run, or the first reason in their configuration and platforms why they set nothing
 abbrev pub Sets : Context → Inputs → Result RunSettings SettingsFault → Type 0
 Sets cx inputs (Ok it) = SetsBy cx inputs it
-Sets cx inputs (Err (fault.Load told)) = Loads cx inputs (Err (load.Refused told))
-Sets cx inputs (Err (fault.ProfileNotFound told)) = HasNoProfile cx inputs told
+Sets cx inputs (Err (fault.Load refusal)) = Loads cx inputs (Err (load.Refused refusal))
+Sets cx inputs (Err (fault.ProfileNotFound missing)) = HasNoProfile cx inputs missing
 Sets cx inputs (Err fault.RepeatedFact) = HasRepeatedFact cx inputs
 
 -- ---- tests

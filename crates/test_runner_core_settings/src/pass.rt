@@ -1,11 +1,11 @@
 // The version pass.
 ghost use Rattle.std.specs.Prelude.{◌≡◌, IfOk};
 ghost use Rattle.test_runner_core_settings.specs.Pass.{GivesPass, pass_of_config, pass_of};
-ghost use Rattle.test_runner_core_settings.specs.Told.{is_error};
+ghost use Rattle.test_runner_core_settings.specs.Evaluation.{is_error};
 
 use crate::pass_error::{VersionPassError, VersionPassFault};
 use crate::sources::lent_sources;
-use crate::warning::warnings_told;
+use crate::warning::version_warnings;
 use nextest_config_elements_versions::{
     FeatureSet, NextestVersionEval, VersionOnlyConfig, VersionOnlyError,
 };
@@ -59,7 +59,7 @@ fn judge(
         return Err(VersionPassError::Refused(VersionPassFault::UnknownFeature));
     }
     Ok(VersionPass {
-        warnings: warnings_told(alloc, &eval)?,
+        warnings: version_warnings(alloc, &eval)?,
         experimental: config.experimental().known(),
     })
 }

@@ -1,7 +1,7 @@
 // The texts of warnings.
 ghost use Rattle.std.specs.Prelude.{◌≡◌, [], ◌∷◌, IfOk};
 ghost use Rattle.semver.specs.Identifiers.{parts_of};
-ghost use Rattle.test_runner_core_settings.specs.Told.{warnings_told};
+ghost use Rattle.test_runner_core_settings.specs.Evaluation.{version_warnings};
 ghost use Rattle.test_runner_core_settings.specs.Warnings.{version_text};
 
 use crate::shown_path::ShownPath;
@@ -14,11 +14,11 @@ use std::alloc::{AllocError, Global};
 const OVERRIDDEN: &str = " (overridden)";
 
 // What is told of an evaluation.
-pub(crate) fn warnings_told(
+pub(crate) fn version_warnings(
     alloc: Global,
     eval: &NextestVersionEval<'_>,
 ) -> Result<Listing<Text>, AllocError>
-    ensures { IfOk result (λ told. told ≡ warnings_told eval.now) }
+    ensures { IfOk result (λ told. told ≡ version_warnings eval.now) }
 {
     match eval {
         NextestVersionEval::Satisfied | NextestVersionEval::Error { .. } => Ok(Listing::new(alloc)),

@@ -49,8 +49,7 @@ impl MemoryWriter {
         ensures made { IfOk result (λ w. w ≡ record {
           written = [];
           room = room;
-          piece = max piece
-              1;
+          piece = max piece 1;
           fails_after = None;
           failures = 0;
           last_failed = false;

@@ -10,4 +10,4 @@ returns-then-is_empty-2-clause-meant c =
 
 pub returns-clause-meant : goal.returns-clause-meant
 returns-clause-meant c =
-    bad_meant _ _ _ _ _ _ _ c.is_empty-2.ensures c.if-is_empty-2.false c.requires.front.2 c.requires.trimmed c.in_ok-read.ensures.bad c.in_ok-report_escapes.ensures.told
+    bad_meant _ _ _ _ _ _ _ c.is_empty-2.ensures c.if-is_empty-2.false c.requires.front.2 c.requires.trimmed c.in_ok-read.ensures.bad c.in_ok-report_escapes.ensures.reported

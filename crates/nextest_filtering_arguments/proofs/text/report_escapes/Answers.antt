@@ -9,6 +9,6 @@ pub report_spans-requires-clause-spans : goal.report_spans-requires-clause-spans
 report_spans-requires-clause-spans c =
     subst (AllByRecursion (IsSpanOf c.args.ahead.now)) (sym c.as_slice.ensures) (spans_ahead _ _ _ _ c.requires.front c.in_ok-read.ensures.read)
 
-pub returns-clause-told : goal.returns-clause-told
-returns-clause-told c =
-    on_ok_weaker c.report_spans.result (looked_at _ _ _ _ _ _ c.as_slice.ensures c.in_ok-read.ensures.text) c.report_spans.ensures.told
+pub returns-clause-reported : goal.returns-clause-reported
+returns-clause-reported c =
+    on_ok_weaker c.report_spans.result (looked_at _ _ _ _ _ _ c.as_slice.ensures c.in_ok-read.ensures.text) c.report_spans.ensures.reported

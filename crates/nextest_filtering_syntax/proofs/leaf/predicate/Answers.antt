@@ -30,7 +30,7 @@ returns-in-Some-behind-clause-finds c =
 
 pub returns-in-None-clause-finds : goal.returns-in-None-clause-finds
 returns-in-None-clause-finds c =
-    unopened_finds _ _ _ _ _ _ _ _ c.skip_blanks-start.ensures c.in-Some.ensures.some c.skip_blanks.ensures c.in-None.ensures.none c.unopened.ensures.told c.unopened.ensures.rest
+    unopened_finds _ _ _ _ _ _ _ _ c.skip_blanks-start.ensures c.in-Some.ensures.some c.skip_blanks.ensures c.in-None.ensures.none c.unopened.ensures.reported c.unopened.ensures.rest
 
 pub argument-requires-clause-named : goal.argument-requires-clause-named
 argument-requires-clause-named c =

@@ -1,7 +1,7 @@
 use Rattle.std.proofs.Common.{◌≤◌, ◌∙◌, ℕ, List, length, map, string_bytes, ap, subst, arith}
 use Rattle.std.proofs.lemmas.List.{take_all}
 use Rattle.test_runner_core_plan.specs.declared.plan.Plan.{Plan}
-use Rattle.test_runner_core_run_state.specs.Statuses.{script_told}
+use Rattle.test_runner_core_run_state.specs.Statuses.{script_record_in}
 use Rattle.test_runner_core_report_lines.specs.Texts.{script_text}
 use Rattle.test_runner_core_reporter.specs.Final.{script_texts}
 use Rattle.test_runner_core_reporter.specs.Parts.{Said}
@@ -19,7 +19,7 @@ returns-in_err-report_script-clause-writes g c =
     let here = told_text_at session.plan.scripts c.as_slice-scripts.result.now session.run.scripts c.loop-place.place c.index-scripts-place.result c.as_str.result.now c.ended_script.result
     same c.loop-place-test.true c.index-scripts-place.is c.as_str.ensures c.ended_script.ensures in
     fails c.from_residual.result _ _ _ _ _ c.from_residual.ensures.0
-    (next_fails (λ text. Said text) (script_texts session.plan.scripts session.run.scripts) c.loop-place.place (script_text c.as_str.result.now (script_told c.ended_script.result))
+    (next_fails (λ text. Said text) (script_texts session.plan.scripts session.run.scripts) c.loop-place.place (script_text c.as_str.result.now (script_record_in c.ended_script.result))
     (taken c.args.report.now) (taken c.loop-place.report) (taken c.report_script.new.report) (string_bytes c.args.text.now) (string_bytes c.loop-place.text)
     here c.loop-place.invariant.told c.in_err-report_script.ensures.writes)
 
@@ -31,7 +31,7 @@ loop-place-preserved g c =
     let here = told_text_at session.plan.scripts c.as_slice-scripts.result.now session.run.scripts c.loop-place.place c.index-scripts-place.result c.as_str.result.now c.ended_script.result
     same c.loop-place-test.true c.index-scripts-place.is c.as_str.ensures c.ended_script.ensures in
     record {
-      told = next_told (λ text. Said text) (script_texts session.plan.scripts session.run.scripts) c.loop-place.place (script_text c.as_str.result.now (script_told c.ended_script.result))
+      told = next_told (λ text. Said text) (script_texts session.plan.scripts session.run.scripts) c.loop-place.place (script_text c.as_str.result.now (script_record_in c.ended_script.result))
           (taken c.args.report.now) (taken c.loop-place.report) (taken c.report_script.new.report) (string_bytes c.args.text.now) (string_bytes c.loop-place.text) (string_bytes c.report_script.new.text)
           here c.loop-place.invariant.told c.in_ok-report_script.ensures.writes;
       unfailed = c.in_ok-report_script.ensures.failures ∙ c.loop-place.invariant.unfailed;

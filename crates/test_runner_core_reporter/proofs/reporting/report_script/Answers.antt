@@ -1,5 +1,5 @@
 use Rattle.std.proofs.Common.{[], ◌∷◌, refl, string_bytes}
-use Rattle.test_runner_core_run_state.specs.Statuses.{script_told}
+use Rattle.test_runner_core_run_state.specs.Statuses.{script_record_in}
 use Rattle.test_runner_core_report_lines.specs.Texts.{script_text}
 use Rattle.test_runner_core_reporter.specs.Parts.{Said}
 use Rattle.test_runner_core_reporter.proofs.Told.{fails, front_none, one_text, pushed, then_nothing}
@@ -11,7 +11,7 @@ returns-in_err-push_script-clause-writes g c = fails c.from_residual.result _ _ 
 pub returns-clause-writes : goal.returns-clause-writes
 returns-clause-writes g c =
     let taken = g.W.ReportWriter.taken in
-    let words = script_text c.args.id.now (script_told c.args.status) in
+    let words = script_text c.args.id.now (script_record_in c.args.status) in
     then_nothing c.write_if_long.result _ _ _ _ _ _ _
     (pushed (Said words ∷ []) (taken c.args.report.now) (string_bytes c.args.text.now) words (string_bytes c.push_script.new.text)
     (one_text (Said words) words refl) c.in_ok-push_script.ensures.ok)

@@ -5,7 +5,7 @@ use Rattle.nextest_config_resolution_profiles.specs.ChainRules.{seen_rules}
 use Rattle.nextest_config_resolution_profiles.specs.Enabled.{FindsAsked, HoldsAsked}
 use Rattle.nextest_config_resolution_profiles.specs.Evaluatable.{Evaluatable}
 use Rattle.nextest_config_resolution_profiles.specs.Held.{placed_of}
-use Rattle.nextest_config_resolution_profiles.specs.HeldRules.{AreToldBy, rules_at}
+use Rattle.nextest_config_resolution_profiles.specs.HeldRules.{IsRowBy, rules_at}
 use Rattle.nextest_config_resolution_profiles.specs.declared.chain_rule.ChainRule.{ChainRule}
 use Rattle.nextest_config_resolution_profiles.proofs.evaluatable_profile.EvaluatableProfile.script_rules_on.Goals as goal
 use Rattle.nextest_config_resolution_scripts.specs.declared.script_rule.PlacedScriptRule.{PlacedScriptRule}
@@ -21,7 +21,7 @@ returns g c =
     subst (λ (it : Evaluatable g.row.F.Denot g.row.S.Denot). IfOk c.picked_by.result (λ found. FindsAsked OnTest OnBinary it c.args.asked (lent_layers found.items))) c.self.view_is
     (IfOk-weaker c.picked_by.result _ _ (λ found is. record {
       row = row;
-      told = subst (λ (rules : List (ChainRule PlacedScriptRule g.row.F.Denot g.row.S.Denot)). AreToldBy (HoldsAsked OnTest OnBinary default c.args.asked) (seen_rules rules) row) same
+      told = subst (λ (rules : List (ChainRule PlacedScriptRule g.row.F.Denot g.row.S.Denot)). IsRowBy (HoldsAsked OnTest OnBinary default c.args.asked) (seen_rules rules) row) same
           c.in_ok-row.ensures;
       same = is ∙ ap (λ (values : List Bool). map placed_of (rules_at values (seen_rules c.as_slice-rules.result.now))) c.as_slice.ensures.value
           ∙ ap (λ (rules : List (ChainRule PlacedScriptRule g.row.F.Denot g.row.S.Denot)). map placed_of (rules_at row (seen_rules rules))) same;

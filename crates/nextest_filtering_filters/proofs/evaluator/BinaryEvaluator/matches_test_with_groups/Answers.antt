@@ -3,7 +3,7 @@ use Rattle.std.proofs.lemmas.Result.{IfOk-weaker}
 use Rattle.nextest_filtering_filters.specs.Formula.{Gives, IsValue}
 use Rattle.nextest_filtering_ast.specs.Meaning.{MatchesName}
 use Rattle.nextest_filtering_ast.specs.Tree.{Matcher}
-use Rattle.nextest_filtering_filters.specs.Asking.{Asking, IsTold}
+use Rattle.nextest_filtering_filters.specs.Asking.{Asking, IsLeafValue}
 use Rattle.nextest_filtering_filters.specs.Filter.{Compiled, filter_of}
 use Rattle.nextest_filtering_filters.specs.Meaning.{IsOn, MayBe, Never, Tells}
 use Rattle.nextest_filtering_filters.specs.Query.{Binary, Test, binary_of}
@@ -32,5 +32,5 @@ returns-clause-value g c =
     c.self.view_is
     (is_on main.filter default test Member one
     (kept_of main.filter default test.binary c.self.inside.default (λ (f : Compiled) (b : Binary). IsValue (Gives (MayBe b Name Group Never) (filter_of f)) (Some one)) known.2 c.in_ok-default.ensures.value)
-    (Some value) (subst (λ (b : Binary). IsValue (Gives (IsTold b name Member one) (filter_of main.filter)) (Some value)) known.0 is)))
+    (Some value) (subst (λ (b : Binary). IsValue (Gives (IsLeafValue b name Member one) (filter_of main.filter)) (Some value)) known.0 is)))
     c.on_test.ensures.value

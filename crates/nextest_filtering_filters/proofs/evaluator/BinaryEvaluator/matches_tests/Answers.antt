@@ -1,7 +1,7 @@
 use Rattle.std.proofs.Common.{Bool, Bor, List, ℕ, Some, subst, sym}
 use Rattle.std.specs.List.{AllZip}
 use Rattle.nextest_filtering_ast.specs.Meaning.{MatchesName}
-use Rattle.nextest_filtering_filters.specs.Asking.{Asking, IsTold}
+use Rattle.nextest_filtering_filters.specs.Asking.{Asking, IsLeafValue}
 use Rattle.nextest_filtering_filters.specs.Columns.{OnEach, value_at}
 use Rattle.nextest_filtering_filters.specs.Filter.{Compiled, filter_of}
 use Rattle.nextest_filtering_filters.specs.Formula.{Gives, IsValue}
@@ -33,5 +33,5 @@ returns-clause-values c =
     (kept_of main.filter default binary c.self.inside.default
     (λ (f : Compiled) (b : Binary). OnEach names (λ place name. IsValue (Gives (MayBe b (λ m. Tells (MatchesName m name)) (λ m. Tells ⊥) Never) (filter_of f)) (Some (value_at c.in_ok-default.default.items place)))) known.2
     c.in_ok-default.ensures.values asked))
-    (subst (λ (b : Binary). OnEach names (λ place name. IsValue (Gives (IsTold b name (λ m. ⊥) (value_at others place)) (filter_of main.filter)) (Some (value_at column.items place)))) known.0 told)))
+    (subst (λ (b : Binary). OnEach names (λ place name. IsValue (Gives (IsLeafValue b name (λ m. ⊥) (value_at others place)) (filter_of main.filter)) (Some (value_at column.items place)))) known.0 told)))
     c.on_tests.result c.on_tests.ensures.long c.on_tests.ensures.values

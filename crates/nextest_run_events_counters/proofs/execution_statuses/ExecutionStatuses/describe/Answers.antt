@@ -33,20 +33,20 @@ passed_late (one ∷ two ∷ retries) rule final at_last success many =
     let e : suc (suc (length retries)) - 1 ≡ suc (length retries) = omega arith in
     rw (at_last, success, e) refl
 
-pub returns-then-not-is_success-clause-told : goal.returns-then-not-is_success-clause-told
-returns-then-not-is_success-clause-told g c =
+pub returns-then-not-is_success-clause-description : goal.returns-then-not-is_success-clause-description
+returns-then-not-is_success-clause-description g c =
     rw (← c.as_slice-statuses.ensures.statuses)
     (failed c.as_slice-statuses.result.now c.args.self.now.flaky_result _ _
     c.as_slice-statuses.ensures.not_empty c.index-statuses-0.is (cc) (cc))
 
-pub returns-then-retry_count-eq0-clause-told : goal.returns-then-retry_count-eq0-clause-told
-returns-then-retry_count-eq0-clause-told g c =
+pub returns-then-retry_count-eq0-clause-description : goal.returns-then-retry_count-eq0-clause-description
+returns-then-retry_count-eq0-clause-description g c =
     rw (← c.as_slice-statuses.ensures.statuses)
     (passed c.as_slice-statuses.result.now c.args.self.now.flaky_result _
     c.as_slice-statuses.ensures.not_empty (cc) (cc) c.if-retry_count-eq0.true)
 
-pub returns-else-retry_count-eq0-clause-told : goal.returns-else-retry_count-eq0-clause-told
-returns-else-retry_count-eq0-clause-told g c =
+pub returns-else-retry_count-eq0-clause-description : goal.returns-else-retry_count-eq0-clause-description
+returns-else-retry_count-eq0-clause-description g c =
     let rule : c.self.inside.flaky_result ≡ c.args.self.now.flaky_result = ap (λ it. it.flaky_result) c.self.view_is in
     rw (← c.as_slice-statuses.ensures.statuses, ← rule)
     (passed_late c.as_slice-statuses.result.now c.self.inside.flaky_result _ (cc) (cc) (omega arith))

@@ -5,11 +5,11 @@ use Rattle.test_runner_core_log_reader.proofs.Ranges.{length-range}
 use Rattle.test_runner_core_log_reader.proofs.Telling.{tells_feed, tells_limit}
 use Rattle.test_runner_core_log_reader.proofs.log_lines.LogLines.is_waiting.Goals as goal
 
-pub returns-then-is_some-clause-told : goal.returns-then-is_some-clause-told
-returns-then-is_some-clause-told c = sym (tells_feed c.args.self.now c.find_feed.result c.find_feed.ensures.feed (sym c.is_some.ensures ∙ c.if-is_some.true))
+pub returns-then-is_some-clause-exact : goal.returns-then-is_some-clause-exact
+returns-then-is_some-clause-exact c = sym (tells_feed c.args.self.now c.find_feed.result c.find_feed.ensures.feed (sym c.is_some.ensures ∙ c.if-is_some.true))
 
-pub returns-clause-told : goal.returns-clause-told
-returns-clause-told c =
+pub returns-clause-exact : goal.returns-clause-exact
+returns-clause-exact c =
     let x = c.self.inside in
     let old = c.args.self.now in
     let same = c.find_feed.ensures.unmoved in

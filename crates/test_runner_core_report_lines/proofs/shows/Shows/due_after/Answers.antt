@@ -5,7 +5,7 @@ use Rattle.test_runner_core_report_lines.proofs.shows.Shows.due_after.Goals as g
 pub returns : goal.returns
 returns c found =
     let attempts = c.args.attempts.now in
-    let told = describes attempts.statuses attempts.flaky_result c.args.final_status.now _ c.describe-told.ensures.told found in
+    let told = describes attempts.statuses attempts.flaky_result c.args.final_status.now _ c.describe-told.ensures.description found in
     let success = c.is_success_for_output.ensures ∙ told.success in
     let level = c.status_level.ensures ∙ told.level in
     let final_level = c.final_status_level.ensures ∙ told.final_level in

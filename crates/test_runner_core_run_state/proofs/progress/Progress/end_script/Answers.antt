@@ -18,9 +18,9 @@ use Rattle.test_runner_core_run_state.proofs.Totals.{Counts}
 use Rattle.test_runner_core_run_state.proofs.progress.Progress.end_script.Goals as goal
 
 -- one more script is counted
-one_more : (state : State) (told : Record) → with_script told.result (counters state) ≡ counters (record state { scripts = state.scripts ++ told ∷ [] })
-one_more state told =
-    let e0 = sym (length_push state.scripts told) in
+one_more : (state : State) (ending : Record) → with_script ending.result (counters state) ≡ counters (record state { scripts = state.scripts ++ ending ∷ [] })
+one_more state ending =
+    let e0 = sym (length_push state.scripts ending) in
     let e1 = row (λ t. rows.script_passed t.result) in
     let e2 = row (λ t. rows.script_failed t.result) in
     let e3 = row (λ t. rows.script_exec_failed t.result) in
@@ -31,22 +31,22 @@ one_more state told =
     as_number true = refl
     as_number false = refl
 
-    row : (p : Record → Bool) → count_by p state.scripts + from_bool (p told) ≡ count_by p (state.scripts ++ told ∷ [])
+    row : (p : Record → Bool) → count_by p state.scripts + from_bool (p ending) ≡ count_by p (state.scripts ++ ending ∷ [])
     row p =
-        let more = sum_by-append (λ (t : Record). cond (p t) 1 0) state.scripts (told ∷ []) in
-        let last = sum_by-cons (λ (t : Record). cond (p t) 1 0) told [] in
-        let one = as_number (p told) in
+        let more = sum_by-append (λ (t : Record). cond (p t) 1 0) state.scripts (ending ∷ []) in
+        let last = sum_by-cons (λ (t : Record). cond (p t) 1 0) ending [] in
+        let one = as_number (p ending) in
         omega (arith, more, last, one)
 
-script_counted : (scripts : ScriptState) (tests : List TestState) (told : Record) (stats next : RunStats) (limit : MaxFail) → Counts scripts tests stats limit → next ≡ with_script told.result stats
-    → Counts (record { planned = scripts.planned; ended = scripts.ended ++ told ∷ [] }) tests next limit
-script_counted scripts tests told stats next limit own made =
-    made ∙ ap (with_script told.result) own ∙ one_more (state_of scripts tests stats limit) told
+script_counted : (scripts : ScriptState) (tests : List TestState) (ending : Record) (stats next : RunStats) (limit : MaxFail) → Counts scripts tests stats limit → next ≡ with_script ending.result stats
+    → Counts (record { planned = scripts.planned; ended = scripts.ended ++ ending ∷ [] }) tests next limit
+script_counted scripts tests ending stats next limit own made =
+    made ∙ ap (with_script ending.result) own ∙ one_more (state_of scripts tests stats limit) ending
     ∙ ap (λ (n : ℕ). shown n stats.cancel_reason) (sym (ap (λ (s : RunStats). s.skipped) made))
     ∙ ap (λ (r : Option CancelReason). shown next.skipped r) (sym (ap (λ (s : RunStats). s.cancel_reason) made))
   where
     shown : ℕ → Option CancelReason → RunStats
-    shown n why = counters (record { planned_scripts = scripts.planned; scripts = scripts.ended ++ told ∷ []; tests = tests; limit = limit; skipped = n; reason = why })
+    shown n why = counters (record { planned_scripts = scripts.planned; scripts = scripts.ended ++ ending ∷ []; tests = tests; limit = limit; skipped = n; reason = why })
 
 pub end-requires : goal.end-requires
 end-requires c =
@@ -54,7 +54,7 @@ end-requires c =
     let made = c.script_status-status.ensures in
     record {
       planned = subst (λ (s : State). length s.scripts < s.planned_scripts) (sym c.self.view_is) c.requires;
-      made = subst (λ (told : Record). IsScriptStatusOf told status) (sym (script_record_back c.args.record status made)) made;
+      made = subst (λ (ending : Record). IsScriptStatusOf ending status) (sym (script_record_back c.args.record status made)) made;
     }
 
 pub invariant_of-self : goal.invariant_of-self
@@ -73,6 +73,6 @@ returns c =
     let now = state_of c.end.new.self c.self.inside.tests stats c.self.inside.limit in
     subst (λ (s : State). now ≡ record s { scripts = s.scripts ++ c.args.record ∷ [] }) c.self.view_is
     (ap (λ (scripts : ScriptState). state_of scripts c.self.inside.tests stats c.self.inside.limit) c.end.ensures
-    ∙ ap (λ (told : Record). state_of (record { planned = state.planned_scripts; ended = state.scripts ++ told ∷ [] }) c.self.inside.tests stats c.self.inside.limit) back
+    ∙ ap (λ (ending : Record). state_of (record { planned = state.planned_scripts; ended = state.scripts ++ ending ∷ [] }) c.self.inside.tests stats c.self.inside.limit) back
     ∙ ap (λ (n : ℕ). shown n stats.cancel_reason) (ap (λ (s : RunStats). s.skipped) kept)
     ∙ ap (λ (r : Option CancelReason). shown state.skipped r) (ap (λ (s : RunStats). s.cancel_reason) kept))

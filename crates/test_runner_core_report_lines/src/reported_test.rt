@@ -53,7 +53,7 @@ impl<'a> ReportedTest<'a> {
         ensures name { result.name.test_name ≡ name.entry.test_name.now }
         ensures state { result.state
             ≡ record { plan = plan; records = records_in attempts.entry; mark = mark } }
-        ensures told { (test : TestState) → test.plan ≡ plan → test.mark ≡ mark
+        ensures attempts { (test : TestState) → test.plan ≡ plan → test.mark ≡ mark
             → IsAttempts (Some test) attempts.entry → result.state ≡ test }
     {
         ReportedTest {

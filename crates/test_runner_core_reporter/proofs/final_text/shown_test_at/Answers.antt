@@ -5,7 +5,7 @@ use Rattle.test_runner_core_plan.specs.declared.plan.Plan.{Plan}
 use Rattle.test_runner_core_plan.specs.declared.plan.PlanTest.{PlanTest}
 use Rattle.test_runner_core_reporter.specs.Final.{shows_of}
 use Rattle.test_runner_core_reporter.proofs.Named.{fate_none, fate_some, no_test}
-use Rattle.test_runner_core_reporter.proofs.final_text.told_at.Goals as goal
+use Rattle.test_runner_core_reporter.proofs.final_text.shown_test_at.Goals as goal
 
 pub returns-in_err-test : goal.returns-in_err-test
 returns-in_err-test c =
@@ -30,4 +30,4 @@ returns c =
     subst (λ (xs : List PlanTest). slice_get xs c.args.place ≡ Some test) same (slice_get_read c.as_slice-tests.result.now (length c.as_slice-tests.result.now) c.args.place test refl lookup.3.0 lookup.1) in
     fate_some session.plan session.plan.tests session.run.tests c.args.place test c.in_ok-fate.fate c.shows_of.result c.new.result here c.in_ok-fate.ensures
     (c.shows_of.ensures ∙ ap (λ (p : Plan). shows_of p test) c.plan-plan.ensures)
-    (c.new.ensures.binary ∙ c.as_ref.ensures.binary_id) (c.new.ensures.name ∙ c.as_ref.ensures.test_name) c.new.ensures.told
+    (c.new.ensures.binary ∙ c.as_ref.ensures.binary_id) (c.new.ensures.name ∙ c.as_ref.ensures.test_name) c.new.ensures.attempts

@@ -3,7 +3,7 @@ use Rattle.test_runner_core_run_model.specs.declared.mark.Mark.{Mark}
 use Rattle.test_runner_core_report_lines.specs.Due.{due_of}
 use Rattle.test_runner_core_report_lines.specs.Texts.{test_with}
 use Rattle.test_runner_core_report_lines.proofs.Attempts.{due_told}
-use Rattle.test_runner_core_report_lines.proofs.told_test.due_by.Goals as goal
+use Rattle.test_runner_core_report_lines.proofs.reported_test.due_by.Goals as goal
 
 pub returns-in-Finished : goal.returns-in-Finished
 returns-in-Finished c plan rule =

@@ -12,9 +12,9 @@ is_error (eval.Warn recommended current source) = false
 is_error (eval.ErrorOverride required current source) = false
 is_error (eval.WarnOverride recommended current source) = false
 
-abbrev pub warnings_told : NextestVersionEval → List (List ℕ)
-warnings_told eval.Satisfied = []
-warnings_told (eval.Error required current source) = []
-warnings_told (eval.Warn recommended current source) = version_text (codes "recommended") recommended.now (parts_of current.now) source.now.path plain ∷ []
-warnings_told (eval.ErrorOverride required current source) = version_text (codes "required") required.now (parts_of current.now) source.now.path overridden ∷ []
-warnings_told (eval.WarnOverride recommended current source) = version_text (codes "recommended") recommended.now (parts_of current.now) source.now.path overridden ∷ []
+abbrev pub version_warnings : NextestVersionEval → List (List ℕ)
+version_warnings eval.Satisfied = []
+version_warnings (eval.Error required current source) = []
+version_warnings (eval.Warn recommended current source) = version_text (codes "recommended") recommended.now (parts_of current.now) source.now.path plain ∷ []
+version_warnings (eval.ErrorOverride required current source) = version_text (codes "required") required.now (parts_of current.now) source.now.path overridden ∷ []
+version_warnings (eval.WarnOverride recommended current source) = version_text (codes "recommended") recommended.now (parts_of current.now) source.now.path overridden ∷ []

@@ -3,7 +3,7 @@ use Rattle.nextest_run_events_counters.specs.Attempts.{Attempts}
 use Rattle.test_runner_core_run_state.specs.Statuses.{Status}
 use Rattle.test_runner_core_report_lines.specs.Texts.{GoesBy, NamedTest, fate_of, records_in}
 use Rattle.test_runner_core_report_lines.proofs.Attempts.{fate_told}
-use Rattle.test_runner_core_report_lines.proofs.told_test.ReportedTest.fate.Goals as goal
+use Rattle.test_runner_core_report_lines.proofs.reported_test.ReportedTest.fate.Goals as goal
 
 pub returns-in-Some : goal.returns-in-Some
 returns-in-Some c =
