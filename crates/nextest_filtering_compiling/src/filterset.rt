@@ -24,7 +24,7 @@ use nextest_text::Text;
 use std::alloc::{AllocError, Global};
 
 /// A filterset: its text, its tree as it was written, and the filter that it is in a workspace.
-#[derive(Drop)]
+#[derive(Clone, Drop)]
 pub struct Filterset {
     /// The text.
     pub input: Text,

@@ -1,5 +1,5 @@
 -- A copy of an index leads to the same places.
-use Rattle.std.proofs.Common.{◌≡◌, ℕ, Option, List, [], ◌∷◌, refl}
+use Rattle.std.proofs.Common.{◌≡◌, ℕ, List, [], ◌∷◌, refl}
 use Rattle.std.specs.Prelude.{String, string_bytes}
 use Rattle.std.specs.BTreeMap.{BTreeMap, IsClone, get_by_text, is_at}
 use Rattle.std.specs.Cmp.Lexicographic.{slice_cmp}
