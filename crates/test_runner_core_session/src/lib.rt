@@ -1,6 +1,7 @@
 //! A run of a plan, by the names of its tests and scripts.
 #![tactic(auto)]
 
+mod guesses;
 mod places;
 mod session;
 

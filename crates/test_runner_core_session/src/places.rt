@@ -6,6 +6,7 @@ ghost use Rattle.std.specs.Ordering.{is_lt};
 ghost use Rattle.test_runner_core_plan.specs.Order.{instance_cmp};
 ghost use Rattle.test_runner_core_session.specs.Names.{AreByName, AreNamed, RiseByName, is_named, name_of, named_cmp, names, place_among_tests, place_of};
 
+use crate::guesses::Guesses;
 use nextest_run_events_results::{OwnedTestInstanceId, TestInstanceId};
 use std::alloc::{AllocError, Global};
 use std::cmp::Ordering;
@@ -20,6 +21,8 @@ pub(crate) struct Places<'a> {
     by_name: Option<Vec<Named<'a>>>,
     // Whether it is known that no two tests have one name.
     are_distinct: bool,
+    // Where they may stand.
+    guesses: Guesses,
     // The place that was found last, where the next look-up begins.
     last: usize,
 }
@@ -48,11 +51,13 @@ impl<'a> Places<'a> {
     pub(crate) fn new(alloc: Global, tests: &'a [PlanTest]) -> Result<Places<'a>, AllocError>
         ensures { IfOk result (λ places. places ≡ map (λ test. test.instance) tests.now) }
     {
+        let guesses = Guesses::new(alloc, tests)?;
         if rise(tests) {
             return Ok(Places {
                 tests,
                 by_name: None,
                 are_distinct: true,
+                guesses,
                 last: 0,
             });
         }
@@ -61,12 +66,13 @@ impl<'a> Places<'a> {
             tests,
             are_distinct: differ(by_name.as_slice()),
             by_name: Some(by_name),
+            guesses,
             last: 0,
         })
     }
 
     // The place of the first test of this name, or one past the end where there is none: mostly it is that of the look-up
-    // before, or the next.
+    // before, or the next, or where the table of hashes has it.
     pub(crate) fn place(&self, test: TestInstanceId<'_>) -> usize
         ensures { result ≡ place_of self.now test.entry.binary_id.now test.entry.test_name.now }
     {
@@ -77,6 +83,9 @@ impl<'a> Places<'a> {
             let next = self.last.saturating_add(1);
             if is_at(self.tests, next, test) {
                 return next;
+            }
+            if let Some(place) = self.guesses.find(self.tests, test) {
+                return place;
             }
         }
         match &self.by_name {
@@ -126,7 +135,7 @@ fn place_among(tests: &[PlanTest], test: TestInstanceId<'_>) -> usize
 }
 
 // Whether the test of this name stands at a place.
-fn is_at(tests: &[PlanTest], place: usize, test: TestInstanceId<'_>) -> bool
+pub(crate) fn is_at(tests: &[PlanTest], place: usize, test: TestInstanceId<'_>) -> bool
     ensures { result ≡ option_map_or (λ planned. is_named test.entry.binary_id.now
         test.entry.test_name.now planned.instance) (slice_get tests.now place) false }
 {

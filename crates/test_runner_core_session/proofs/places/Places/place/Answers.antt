@@ -27,4 +27,12 @@ pub place_by_name-requires : goal.place_by_name-requires
 place_by_name-requires c =
     let tests = names c.self.inside.tests.now in
     subst (λ (named : List Named). AreByName named tests) (sym c.as_slice.ensures.value)
-    (subst (λ (by_name : Option (Vec Named)). IsFoundBy by_name tests) c.in-Some.is c.self.invariant.0)
+    (subst (λ (by_name : Option (Vec Named)). IsFoundBy by_name tests) c.in-Some-by_name.is c.self.invariant.0)
+
+pub returns-in-Some : goal.returns-in-Some
+returns-in-Some c =
+    let it = c.self.inside in
+    let id = c.args.test.binary_id.now in
+    let name = c.args.test.test_name.now in
+    c.self.invariant.1 c.if-self.true id name c.in-Some.place (sym (at_name id name it.tests.now c.in-Some.place) ∙ c.in-Some.ensures)
+    ∙ ap (λ (tests : List OwnedTestInstanceId). place_of tests id name) c.self.view_is
