@@ -272,11 +272,11 @@ fact_at given = meets_as (shape.IsFact given) (fact_with (items given)) there ba
     there it (inl s) = inl (record { first = s.0; second = s.1.0; whole = s.1.1.0; name = s.1.1.1; no_value = s.1.1.2; holds = s.1.1.3 })
     there it (inr s) =
         let t = s.1.1.1.1 in
-        inr (record { first = s.0; second = s.1.0; third = s.1.1.0; whole = t.0; name = t.1; about = s.1.1.1.0; value = t.2; has_value = t.3; holds = t.4 })
+        inr (record { first = s.0; second = s.1.0; third = s.1.1.0; whole = t.0; name = t.1; about = s.1.1.1.0; is_text = t.2; has_value = t.3; holds = t.4 })
 
     back : (it : FactRecord) → shape.IsFact given it → FactOn (items given) it
     back it (inl s) = inl (s.first, (s.second, (s.whole, s.name, s.no_value, s.holds)))
-    back it (inr s) = inr (s.first, (s.second, (s.third, (s.about, (s.whole, s.name, s.value, s.has_value, s.holds)))))
+    back it (inr s) = inr (s.first, (s.second, (s.third, (s.about, (s.whole, s.name, s.is_text, s.has_value, s.holds)))))
 
 facts : MeetsAll read.fact_of wrong.fact_faults shape.IsFact
 facts = record { at = fact_at }

@@ -120,7 +120,7 @@ pub record IsValuedFact (given : Data) (it : FactRecord) : Type 0 where
   pub whole : items given ≡ Some (first ∷ second ∷ third ∷ [])
   pub name : Is value.text first it.name
   pub about : List ℕ
-  pub value : Is value.text second about
+  pub is_text : Is value.text second about
   pub has_value : it.value ≡ Some about
   pub holds : Is value.truth third it.holds
 
