@@ -5,6 +5,7 @@ ghost use Rattle.std.specs.Ordering.{is_le};
 ghost use Rattle.test_runner_core_plan.specs.Order.{plan_cmp};
 
 use crate::plan::PlanTest;
+use nextest_config_elements_values::TestPriority;
 use nextest_text::Listing;
 use std::cmp::Ordering;
 
@@ -17,7 +18,7 @@ pub fn in_order(mut tests: Vec<PlanTest>) -> Listing<PlanTest>
     if stand_in_order(tests.as_slice()) {
         return Listing::from(tests);
     }
-    sort_by_priority(&mut tests);
+    sort_by_keys(&mut tests);
     if stand_in_order(tests.as_slice()) {
         return Listing::from(tests);
     }
@@ -29,12 +30,65 @@ pub fn in_order(mut tests: Vec<PlanTest>) -> Listing<PlanTest>
     Listing::from(tests)
 }
 
-// Puts tests of greater priority first, and leaves those of one priority in their order. So tests whose names rose are in the order
-// of a plan, without comparing names. Where there is no memory, all stay as they were.
-fn sort_by_priority(tests: &mut Vec<PlanTest>)
+// Puts tests in the order of their keys, and leaves those of one key in their order. So mostly they are in the order of a plan then,
+// and few names were compared, which lie far apart. Where there is no memory, all stay as they were.
+fn sort_by_keys(tests: &mut Vec<PlanTest>)
     ensures { IsPermutation tests.old.items tests.new.items }
 {
-    let _ = tests.sort_by_key(|test: &PlanTest| test.settings.priority);
+    let skip = shared_by_all(tests.as_slice());
+    let _ = tests.sort_by_cached_key(|test: &PlanTest| key_of(test, skip));
+}
+
+// How many bytes the binary ids of tests begin with in common, and how many their names.
+fn shared_by_all(tests: &[PlanTest]) -> (usize, usize) {
+    let Some(first) = tests.first() else {
+        return (0, 0);
+    };
+    let mut id = first.instance.binary_id.len();
+    let mut name = first.instance.test_name.len();
+    for test in tests {
+        id = id.min(shared(
+            first.instance.binary_id.as_str(),
+            test.instance.binary_id.as_str(),
+        ));
+        name = name.min(shared(
+            first.instance.test_name.as_str(),
+            test.instance.test_name.as_str(),
+        ));
+    }
+    (id, name)
+}
+
+// How many bytes two texts begin with in common.
+fn shared(one: &str, other: &str) -> usize {
+    one.as_bytes()
+        .iter()
+        .zip(other.as_bytes())
+        .take_while(|(a, b)| a == b)
+        .count()
+}
+
+// What a test is sorted by first: its priority, and of its binary id and name as many bytes as a number has, behind those that all
+// tests begin with.
+fn key_of(test: &PlanTest, skip: (usize, usize)) -> (TestPriority, u128, u128) {
+    (
+        test.settings.priority,
+        number_at(test.instance.binary_id.as_str(), skip.0),
+        number_at(test.instance.test_name.as_str(), skip.1),
+    )
+}
+
+// Sixteen bytes of a text as a number, the first one the highest; behind its end there are zeros.
+fn number_at(text: &str, skip: usize) -> u128 {
+    let mut number = 0;
+    for place in skip..skip.saturating_add(16) {
+        let byte = match text.as_bytes().get(place) {
+            Some(byte) => *byte,
+            None => 0,
+        };
+        number = (number << 8) | u128::from(byte);
+    }
+    number
 }
 
 // Whether no test is greater than the next. Mostly they stand so already, and none is moved.
