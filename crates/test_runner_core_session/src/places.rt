@@ -21,10 +21,15 @@ pub(crate) struct Places<'a> {
     by_name: Option<Vec<Named<'a>>>,
     // Whether it is known that no two tests have one name.
     are_distinct: bool,
-    // Where they may stand.
-    guesses: Guesses,
+    // Where they may stand, once one wasn't found where the look-up before leads.
+    guesses: Option<Guesses>,
+    // Whether the guesses are still to be made, for which memory may be wanting.
+    may_guess: bool,
     // The place that was found last, where the next look-up begins.
     last: usize,
+    // Whether it was that of the look-up before or the next.
+    in_turn: bool,
+    alloc: Global,
 }
 
 // The name of a test, and its place.
@@ -51,28 +56,34 @@ impl<'a> Places<'a> {
     pub(crate) fn new(alloc: Global, tests: &'a [PlanTest]) -> Result<Places<'a>, AllocError>
         ensures { IfOk result (λ places. places ≡ map (λ test. test.instance) tests.now) }
     {
-        let guesses = Guesses::new(alloc, tests)?;
         if rise(tests) {
             return Ok(Places {
                 tests,
                 by_name: None,
                 are_distinct: true,
-                guesses,
+                guesses: None,
+                may_guess: true,
                 last: 0,
+                in_turn: true,
+                alloc,
             });
         }
         let by_name = sorted_by_name(alloc, tests)?;
+        let are_distinct = differ(by_name.as_slice());
         Ok(Places {
             tests,
-            are_distinct: differ(by_name.as_slice()),
             by_name: Some(by_name),
-            guesses,
+            are_distinct,
+            guesses: None,
+            may_guess: are_distinct,
             last: 0,
+            in_turn: true,
+            alloc,
         })
     }
 
     // The place of the first test of this name, or one past the end where there is none: mostly it is that of the look-up
-    // before, or the next, or where the table of hashes has it.
+    // before, or the next while tests come in turn, or where the guesses have it.
     pub(crate) fn place(&self, test: TestInstanceId<'_>) -> usize
         ensures { result ≡ place_of self.now test.entry.binary_id.now test.entry.test_name.now }
     {
@@ -80,12 +91,16 @@ impl<'a> Places<'a> {
             if is_at(self.tests, self.last, test) {
                 return self.last;
             }
-            let next = self.last.saturating_add(1);
-            if is_at(self.tests, next, test) {
-                return next;
+            if self.in_turn {
+                let next = self.last.saturating_add(1);
+                if is_at(self.tests, next, test) {
+                    return next;
+                }
             }
-            if let Some(place) = self.guesses.find(self.tests, test) {
-                return place;
+            if let Some(guesses) = &self.guesses {
+                if let Some(place) = guesses.find(self.tests, test) {
+                    return place;
+                }
             }
         }
         match &self.by_name {
@@ -101,7 +116,14 @@ impl<'a> Places<'a> {
         ensures same { self.new ≡ self.old }
     {
         let place = self.place(test);
-        self.last = place;
+        if place != self.last {
+            self.in_turn = place == self.last.saturating_add(1);
+            self.last = place;
+        }
+        if !self.in_turn && self.may_guess {
+            self.may_guess = false;
+            self.guesses = Guesses::new(self.alloc, self.tests).ok();
+        }
         place
     }
 }

@@ -17,5 +17,5 @@ invariant_of-result-2 c =
     let are = c.in_ok-by_name.ensures in (
       are,
       λ yes_distinct. distinct_by_name by_name tests are.0
-          (subst (λ (named : List Named). RiseByName named) c.as_slice.ensures.value (c.differ.ensures yes_distinct)),
+          (subst (λ (named : List Named). RiseByName named) c.as_slice.ensures.value (c.differ-are_distinct.ensures yes_distinct)),
     )

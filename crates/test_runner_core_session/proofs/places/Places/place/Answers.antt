@@ -20,7 +20,7 @@ returns-then-is_at-2 c =
     let id = c.args.test.binary_id.now in
     let name = c.args.test.test_name.now in
     let next = c.saturating_add-next.result in
-    c.self.invariant.1 c.if-self.true id name next (sym (at_name id name it.tests.now next) ∙ sym c.is_at-then-self.ensures ∙ c.if-is_at-2.true)
+    c.self.invariant.1 c.if-self.true id name next (sym (at_name id name it.tests.now next) ∙ sym c.is_at-then-self-2.ensures ∙ c.if-is_at-2.true)
     ∙ ap (λ (tests : List OwnedTestInstanceId). place_of tests id name) c.self.view_is
 
 pub place_by_name-requires : goal.place_by_name-requires
@@ -29,10 +29,10 @@ place_by_name-requires c =
     subst (λ (named : List Named). AreByName named tests) (sym c.as_slice.ensures.value)
     (subst (λ (by_name : Option (Vec Named)). IsFoundBy by_name tests) c.in-Some-by_name.is c.self.invariant.0)
 
-pub returns-in-Some : goal.returns-in-Some
-returns-in-Some c =
+pub returns-in-Some-find : goal.returns-in-Some-find
+returns-in-Some-find c =
     let it = c.self.inside in
     let id = c.args.test.binary_id.now in
     let name = c.args.test.test_name.now in
-    c.self.invariant.1 c.if-self.true id name c.in-Some.place (sym (at_name id name it.tests.now c.in-Some.place) ∙ c.in-Some.ensures)
+    c.self.invariant.1 c.if-self.true id name c.in-Some-find.place (sym (at_name id name it.tests.now c.in-Some-find.place) ∙ c.in-Some-find.ensures)
     ∙ ap (λ (tests : List OwnedTestInstanceId). place_of tests id name) c.self.view_is
