@@ -60,7 +60,7 @@ LOADS = {
     "any": ("the same, in the log in no order", lambda: of_binaries(200_000, True)),
     "short": ("20,000 tests that pass, 4 KiB of output each", lambda: with_outputs(20_000, 4096)),
     "long": ("2,000 tests that pass, 64 KiB of output each", lambda: with_outputs(2_000, 65_536)),
-    "gibibyte": ("8,192 tests that pass, 64 KiB of output each", lambda: with_outputs(8_192, 65_536)),
+    "gibibyte": ("8,000 tests that pass, 64 KiB of output each", lambda: with_outputs(8_000, 65_536)),
     "failing": ("1,000 tests that fail, 64 KiB of output each, all written", lambda: loads.failing(65_536)),
     "planned": ("300,000 tests of 300 binaries, planned, no log", lambda: (of_binaries(300_000, False)[0], "")),
 }
