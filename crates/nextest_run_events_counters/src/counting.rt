@@ -1,6 +1,6 @@
 // Counting scripts and tests as they finish.
 ghost use Rattle.std.specs.Prelude.{◌≡◌, ◌+◌, ◌^◌, ◌<◌};
-ghost use Rattle.nextest_run_events_counters.specs.Counting.{CanCountScript, CanCountTest, with_script, with_attempts, with_success, with_passing_timeout, with_failure};
+ghost use Rattle.nextest_run_events_counters.specs.Counting.{CanCountScript, CanCountTest, with_script, with_attempts, with_test, with_success, with_passing_timeout, with_failure};
 
 use super::execution_statuses::ExecutionStatuses;
 use super::run_stats::RunStats;
@@ -35,11 +35,35 @@ impl RunStats {
         ensures { self.new ≡ with_attempts run_statuses.now self.old }
     {
         let last = run_statuses.last_status();
-        let slow = last.is_slow;
         let late = run_statuses.len() > 1;
-        let late_fails = late && run_statuses.flaky_result() == FlakyResult::Fail;
+        self.count_test(
+            &last.result,
+            last.is_slow,
+            late,
+            run_statuses.flaky_result(),
+        );
+    }
+
+    /// Counts a test that finished, under this flaky rule, whose last attempt ended with this result, slow or not, and was
+    /// late where others came before it.
+    pub fn count_test(
+        &mut self,
+        last_result: &ExecutionResultDescription,
+        slow: bool,
+        late: bool,
+        flaky_result: FlakyResult,
+    )
+        requires below_maximum { CanCountTest self.old }
+        ensures { self.new ≡ with_test (record {
+          result = last_result.now;
+          slow = slow;
+          late = late;
+          flaky = flaky_result;
+        }) self.old }
+    {
+        let late_fails = late && flaky_result == FlakyResult::Fail;
         self.finished_count += 1;
-        match &last.result {
+        match last_result {
             ExecutionResultDescription::Pass => {
                 self.count_success(slow, late, late_fails);
             }

@@ -6,10 +6,10 @@ use Rattle.std.specs.Duration.{as_nanos}
 use Rattle.std.specs.Slice.{IsItemAt}
 use Rattle.nextest_config_elements_choices.specs.declared.timeouts.FlakyResult.{FlakyResult}
 use Rattle.nextest_run_events_counters.specs.Attempts.{Attempts, last}
-use Rattle.nextest_run_events_counters.specs.Counting.{with_test, with_attempts, finished_as}
+use Rattle.nextest_run_events_counters.specs.Counting.{with_test, with_attempts}
 use Rattle.nextest_run_events_counters.specs.declared.run_stats.RunStats.{RunStats}
 use Rattle.test_runner_core_run_model.specs.declared.run_test.RunTest.{RunTest}
-use Rattle.test_runner_core_run_model.specs.State.{is_finished, last_record}
+use Rattle.test_runner_core_run_model.specs.State.{TestState, finished_as, is_finished, last_record}
 use Rattle.test_runner_core_run_model.specs.declared.mark.Mark.{Mark}
 use Rattle.std.specs.Prelude.{cond, ◌||◌, nat_le}
 use Rattle.std.proofs.lemmas.List.{length-append}
@@ -20,9 +20,7 @@ use Rattle.nextest_run_events_results.specs.declared.cancel_reason.CancelReason.
 use Rattle.test_runner_core_run_model.specs.State.{is_finished_mark, is_running_mark}
 use Rattle.test_runner_core_run_model.specs.declared.mark.Mark.TheVariants as marks
 use Rattle.test_runner_core_run_state.specs.Parts.{KeepsTest}
-use Rattle.test_runner_core_run_state.specs.Slots.{SlotState, KeepsRule}
-use Rattle.test_runner_core_run_model.specs.declared.run_test.RunTest.{RunTest}
-use Rattle.test_runner_core_run_state.specs.Counted.{with_finished}
+use Rattle.test_runner_core_run_state.specs.Counted.{with_finished, with_last}
 use Rattle.test_runner_core_run_state.proofs.Tallies.{finished_adds}
 use Rattle.nextest_run_events_results.specs.declared.result.ExecutionResultDescription.{ExecutionResultDescription}
 use Rattle.nextest_run_events_results.specs.declared.record.Record.{Record}
@@ -98,38 +96,50 @@ get_map f (x ∷ xs) zero = refl
 get_map f (x ∷ xs) (suc i) = get_map f xs i
 
 -- the last record is that of the last status
-last_told : (statuses : List Status) (final : Status) → last statuses ≡ Some final → last_record (map record_of statuses) ≡ Some (record_of final)
-last_told statuses final found =
+last_told : (statuses : List Status) → last_record (map record_of statuses) ≡ option_map record_of (last statuses)
+last_told statuses =
     ap (λ (n : ℕ). slice_get (map record_of statuses) (n - 1)) (length_map record_of statuses)
-    ∙ get_map record_of statuses (length statuses - 1) ∙ ap (option_map record_of) found
+    ∙ get_map record_of statuses (length statuses - 1)
 
--- a finished test counts by its attempts
-pub counted_once : (plan : RunTest) (mark : Mark) (attempts : Attempts Status) (stats : RunStats)
-    → attempts.flaky_result ≡ plan.flaky → 0 < length attempts.statuses → is_finished (record { plan = plan; records = map record_of attempts.statuses; mark = mark }) ≡ true
-    → with_attempts attempts stats ≡ with_finished (record { plan = plan; records = map record_of attempts.statuses; mark = mark }) stats
-counted_once plan mark attempts stats rule some over =
-    let final = get_within attempts.statuses (length attempts.statuses - 1) (omega (arith, some)) in
-    ap (λ (o : Option Status). option_map_or (λ f. with_test (finished_as attempts f) stats) o stats) final.1
-    ∙ ap (λ (n : ℕ). with_test (record { result = (final.0).result; slow = (final.0).is_slow; late = nat_lt 1 n; flaky = attempts.flaky_result }) stats) (sym (length_map record_of attempts.statuses))
-    ∙ ap (λ (f : FlakyResult). with_test (record { result = (final.0).result; slow = (final.0).is_slow; late = nat_lt 1 (length (map record_of attempts.statuses)); flaky = f }) stats) rule
-    ∙ sym (finished_adds (record { plan = plan; records = map record_of attempts.statuses; mark = mark }) (record_of final.0) stats over (last_told attempts.statuses final.0 final.1))
+-- a finished test counts by its attempts as by their records
+pub counted_last : (plan : RunTest) (attempts : Attempts Status) (stats : RunStats) → attempts.flaky_result ≡ plan.flaky
+    → with_attempts attempts stats ≡ with_last plan (map record_of attempts.statuses) stats
+counted_last plan attempts stats rule =
+    ap (λ (f : FlakyResult). option_map_or (λ (final : Status). with_test (record { result = final.result; slow = final.is_slow; late = nat_lt 1 (length attempts.statuses); flaky = f }) stats) (last attempts.statuses) stats) rule
+    ∙ ap (λ (n : ℕ). option_map_or (λ (final : Status). with_test (record { result = final.result; slow = final.is_slow; late = nat_lt 1 n; flaky = plan.flaky }) stats) (last attempts.statuses) stats) (sym (length_map record_of attempts.statuses))
+    ∙ by_last (last attempts.statuses)
+    ∙ ap (λ (o : Option Record). option_map_or by_record o stats) (sym (last_told attempts.statuses))
+  where
+    by_record : Record → RunStats
+    by_record ending = with_test (record { result = ending.result; slow = ending.slow; late = nat_lt 1 (length (map record_of attempts.statuses)); flaky = plan.flaky }) stats
+
+    by_last : (o : Option Status)
+        → option_map_or (λ (final : Status). with_test (record { result = final.result; slow = final.is_slow; late = nat_lt 1 (length (map record_of attempts.statuses)); flaky = plan.flaky }) stats) o stats
+        ≡ option_map_or by_record (option_map record_of o) stats
+    by_last None = refl
+    by_last (Some final) = refl
+
+-- a finished test with a record counts by its last one
+pub counted_once : (test : TestState) (stats : RunStats) → is_finished test ≡ true → 0 < length test.records → with_last test.plan test.records stats ≡ with_finished test stats
+counted_once test stats over some =
+    let final = get_within test.records (length test.records - 1) (omega (arith, some)) in
+    ap (λ (o : Option Record). option_map_or (λ (ending : Record). with_test (finished_as test ending) stats) o stats) final.1
+    ∙ sym (finished_adds test final.0 stats over final.1)
 
 -- what a test keeps after one more attempt
-pub test_more : (plan : RunTest) (old new : SlotState) (before after : Mark) (ending : Record) (status : Status) (reason : Option CancelReason) (finished : Bool) (many : ℕ)
-    → KeepsTest plan old before → many ≡ length old.statuses → IsStatusOf (many + 1) plan.tries ending status
-    → new.statuses ≡ old.statuses ++ status ∷ [] → new.rule ≡ Some plan.flaky
+pub test_more : {Kept : Type 0} (are_of : RunTest → Kept → Type 0) (records : Kept → List Record) (room : Kept → ℕ) (plan : RunTest) (old new : Kept) (before after : Mark) (ending : Record)
+    (reason : Option CancelReason) (finished : Bool) (many : ℕ)
+    → KeepsTest are_of records room plan old before → many ≡ length (records old)
+    → are_of plan new → records new ≡ records old ++ ending ∷ []
     → finished ≡ (is_success ending.result || nat_le plan.tries (many + 1) || is_some reason)
     → after ≡ cond finished (marks.Finished reason) marks.Between
-    → KeepsTest plan new after
-test_more plan old new before after ending status reason finished many kept count made statuses rule finishes marked =
-    let number : many + 1 ≡ 1 + length old.statuses = omega (arith, count) in
-    let size : length new.statuses ≡ length old.statuses + 1 = ap length statuses ∙ length-append old.statuses (status ∷ []) in
+    → KeepsTest are_of records room plan new after
+test_more are_of records room plan old new before after ending reason finished many kept count of more finishes marked =
+    let size : length (records new) ≡ length (records old) + 1 = ap length more ∙ length-append (records old) (ending ∷ []) in
     record {
-      made = subst (λ (s : List Status). AreStatusesFrom 1 plan.tries (map record_of s) s) (sym statuses)
-          (status_more 1 plan.tries old.statuses ending status kept.made (subst (λ (n : ℕ). IsStatusOf n plan.tries ending status) number made));
-      rule = subst (KeepsRule plan.flaky) (sym rule) refl;
-      room = λ runs. absurd (none_runs finished (sym (ap is_running_mark marked) ∙ runs));
-      ended = λ over. ap is_some rule;
+      of = of;
+      room_left = λ runs. absurd (none_runs finished (sym (ap is_running_mark marked) ∙ runs));
+      ended = λ over. omega (arith, size);
       tries_left = λ open_still. tries_left size (none_finished finished (sym (ap is_finished_mark marked) ∙ open_still));
     }
   where
@@ -146,7 +156,7 @@ test_more plan old new before after ending status reason finished many kept coun
     middle false true c h = cc
     middle false false c h = refl
 
-    tries_left : length new.statuses ≡ length old.statuses + 1 → finished ≡ false → length new.statuses ≤ plan.tries - 1
+    tries_left : length (records new) ≡ length (records old) + 1 → finished ≡ false → length (records new) ≤ plan.tries - 1
     tries_left size open_still =
         let more = middle (is_success ending.result) (nat_le plan.tries (many + 1)) (is_some reason) (sym finishes ∙ open_still) in
         grind (arith, nat_tests, more, size, count)

@@ -1,9 +1,13 @@
 -- The counters, as tests finish one after another.
-use Rattle.std.specs.Prelude.{◌≡◌, ℕ, ◌+◌, Bool, List, count_by}
+use Rattle.std.specs.Prelude.{◌≡◌, ℕ, ◌+◌, Bool, List, count_by, length, nat_lt}
 use Rattle.std.specs.Int.{from_bool}
+use Rattle.std.specs.Option.{option_map_or}
+use Rattle.nextest_run_events_counters.specs.Counting.{with_test}
 use Rattle.nextest_run_events_counters.specs.Rows as rows
+use Rattle.nextest_run_events_results.specs.declared.record.Record.{Record}
 use Rattle.nextest_run_events_counters.specs.declared.run_stats.RunStats.{RunStats}
-use Rattle.test_runner_core_run_model.specs.State.{TestState, counts, is_finished}
+use Rattle.test_runner_core_run_model.specs.State.{TestState, counts, is_finished, last_record}
+use Rattle.test_runner_core_run_model.specs.declared.run_test.RunTest.{RunTest}
 
 -- the counters of tests, each grown by a number that its row tells
 abbrev pub with_numbers : ((TestState → Bool) → ℕ) → RunStats → RunStats
@@ -60,3 +64,8 @@ with_tests_counted tests stats =
       leaky_failed = count_by (counts rows.leaky_failed) tests;
       exec_failed = count_by (counts rows.exec_failed) tests;
     }
+
+-- a finished test with this plan, counted by the last of its records, where it has one
+abbrev pub with_last : RunTest → List Record → RunStats → RunStats
+with_last plan records stats =
+    option_map_or (λ ending. with_test (record { result = ending.result; slow = ending.slow; late = nat_lt 1 (length records); flaky = plan.flaky }) stats) (last_record records) stats

@@ -1,5 +1,5 @@
 pub mod Statuses
-pub mod Slots
+pub mod Kept
 pub mod Parts
 pub mod Counted
 pub mod Progress

@@ -1,14 +1,14 @@
 -- The parts of a run's progress, and what each keeps.
-use Rattle.std.specs.Prelude.{◌≡◌, ℕ, ◌-◌, ◌≤◌, ◌<◌, Bool, true, false, List, Some, is_some, length, map}
+use Rattle.std.specs.Prelude.{◌≡◌, ℕ, ◌-◌, ◌≤◌, ◌<◌, Bool, true, false, List, Option, None, Some, ⊤, is_some, length, map}
 use Rattle.std.specs.Prelude.{slice_get, slice_set}
+use denote.Ref.{Bor}
 use Rattle.nextest_config_elements_choices.specs.declared.max_fail.MaxFail.{MaxFail}
 use Rattle.nextest_run_events_counters.specs.declared.run_stats.RunStats.{RunStats}
 use Rattle.nextest_run_events_results.specs.declared.record.Record.{Record}
 use Rattle.test_runner_core_run_model.specs.State.{TestState, State, is_finished, is_running, is_running_mark, is_finished_mark}
 use Rattle.test_runner_core_run_model.specs.declared.mark.Mark.{Mark}
 use Rattle.test_runner_core_run_model.specs.declared.mark.Mark.TheVariants as marks
-use Rattle.test_runner_core_run_state.specs.Statuses.{ScriptStatus, AreStatusesFrom, AreScriptStatuses, record_of}
-use Rattle.test_runner_core_run_state.specs.Slots.{SlotState, KeepsRule}
+use Rattle.test_runner_core_run_state.specs.Statuses.{ScriptStatus, AreScriptStatuses}
 use Rattle.test_runner_core_run_model.specs.declared.run_test.RunTest.{RunTest}
 
 -- how many scripts are to run, and the records of those that ended
@@ -29,14 +29,20 @@ is_over_once marks.Running = false
 is_over_once marks.Between = true
 is_over_once (marks.Finished reason) = true
 
--- a test keeps the statuses of its records, at most as many as it has tries; where an attempt runs there is room for its
--- end, and where one ended and none runs there is one
-pub record KeepsTest (plan : RunTest) (slot : SlotState) (mark : Mark) : Type 0 where
-  pub made : AreStatusesFrom 1 plan.tries (map record_of slot.statuses) slot.statuses
-  pub rule : KeepsRule plan.flaky slot.rule
-  pub room : is_running_mark mark ≡ true → 0 < slot.room
-  pub ended : is_over_once mark ≡ true → is_some slot.rule ≡ true
-  pub tries_left : is_finished_mark mark ≡ false → length slot.statuses ≤ plan.tries - 1
+-- a test keeps its attempts as those of its plan, at most as many as it has tries; where one runs there is room for its end, and
+-- where one ended and none runs there is one
+pub record KeepsTest {Kept : Type 0} (are_of : RunTest → Kept → Type 0) (records : Kept → List Record) (room : Kept → ℕ) (plan : RunTest) (kept : Kept) (mark : Mark) : Type 0 where
+  pub of : are_of plan kept
+  pub room_left : is_running_mark mark ≡ true → 0 < room kept
+  pub ended : is_over_once mark ≡ true → 0 < length (records kept)
+  pub tries_left : is_finished_mark mark ≡ false → length (records kept) ≤ plan.tries - 1
+
+-- what is kept of the attempts of a test, if there is one
+abbrev pub IsKept : {Kept : Type 0} → (RunTest → Kept → Type 0) → (Kept → List Record) → Option TestState → Option (Bor Kept) → Type 0
+IsKept are_of records None None = ⊤
+IsKept are_of records None (Some kept) = ⊥
+IsKept are_of records (Some test) None = ⊥
+IsKept are_of records (Some test) (Some kept) = are_of test.plan kept.now × (records kept.now ≡ test.records)
 
 -- the state of a run that is kept in these parts; why it is stopped and how many tests were skipped is kept with the counters
 abbrev pub state_of : ScriptState → List TestState → RunStats → MaxFail → State

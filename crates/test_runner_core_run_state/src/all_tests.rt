@@ -8,25 +8,33 @@ ghost use Rattle.test_runner_core_run_model.specs.State.{TestState, State, waiti
 ghost use Rattle.test_runner_core_run_model.specs.Step.{after_attempt, finished_by, finishes};
 ghost use Rattle.test_runner_core_run_model.specs.declared.mark.Mark.TheVariants as marks;
 ghost use Rattle.test_runner_core_run_state.specs.Counted.{with_finished, with_tests, CountsNoTest};
-ghost use Rattle.test_runner_core_run_state.specs.Parts.{IsStartable, IsRunningAt, ChangesAt};
-ghost use Rattle.test_runner_core_run_state.specs.Statuses.{IsAttempts};
+ghost use Rattle.test_runner_core_run_state.specs.Parts.{IsKept, IsStartable, IsRunningAt, ChangesAt};
 
+use crate::keep_attempts::KeepAttempts;
 use crate::test_progress::TestProgress;
-use nextest_run_events_counters::{ExecutionStatuses, RunStats};
-use nextest_run_events_outputs::LiveSpec;
+use nextest_run_events_counters::RunStats;
 use nextest_run_events_results::{CancelReason, Record};
 use std::alloc::{AllocError, Global};
 use std::marker::Model;
 use test_runner_core_run_model::{Mark, RunTest};
 
 // How far the tests of a run are, and how many run. In a clause they are the states of the tests, by their places.
-#[derive(Drop)]
-pub(crate) struct AllTests {
-    tests: Vec<TestProgress>,
+pub(crate) struct AllTests<A: KeepAttempts> {
+    tests: Vec<TestProgress<A>>,
     running: usize,
 }
 
-impl Model for AllTests {
+// One call drops it, whoever holds it.
+impl<A: KeepAttempts> Drop for AllTests<A> {
+    fn drop(self) {
+        let Self {
+            tests: _,
+            running: _,
+        } = self;
+    }
+}
+
+impl<A: KeepAttempts> Model for AllTests<A> {
     ghost use Rattle.std.specs.Prelude.{◌≡◌, List, count_by};
     ghost use Rattle.test_runner_core_run_model.specs.State.{TestState, is_running};
 
@@ -37,9 +45,9 @@ impl Model for AllTests {
     ghost invariant = { λ a. a.running ≡ count_by is_running a.tests.items };
 }
 
-impl AllTests {
+impl<A: KeepAttempts> AllTests<A> {
     // The tests of which no attempt started.
-    pub(crate) fn new(alloc: Global, planned: &[RunTest]) -> Result<AllTests, AllocError>
+    pub(crate) fn new(alloc: Global, planned: &[RunTest]) -> Result<AllTests<A>, AllocError>
         ensures { IfOk result (λ tests. tests ≡ map waiting (planned.now)) }
     {
         Ok(AllTests {
@@ -79,12 +87,12 @@ impl AllTests {
         Some(test.mark())
     }
 
-    // The ended attempts of the test at a place; `None` where there is no test, or none ended.
-    pub(crate) fn attempts(&self, place: usize) -> Option<&ExecutionStatuses<LiveSpec>>
-        ensures { IsAttempts (slice_get self.now place) result }
+    // What is kept of the ended attempts of the test at a place; `None` where there is no test.
+    pub(crate) fn attempts(&self, place: usize) -> Option<&A>
+        ensures { IsKept A.are_of A.records (slice_get self.now place) result }
     {
         let test = self.tests.as_slice().get(place)?;
-        test.attempts()
+        Some(test.attempts())
     }
 
     // An attempt of the test at a place starts. An `Err` changes nothing.
@@ -146,7 +154,10 @@ impl AllTests {
 }
 
 // The tests of which no attempt started.
-fn waiting_tests(alloc: Global, planned: &[RunTest]) -> Result<Vec<TestProgress>, AllocError>
+fn waiting_tests<A: KeepAttempts>(
+    alloc: Global,
+    planned: &[RunTest],
+) -> Result<Vec<TestProgress<A>>, AllocError>
     ensures { IfOk result (λ tests. tests.items ≡ map waiting (planned.now)) }
 {
     let mut tests = Vec::with_capacity(alloc, planned.len())?;
@@ -157,7 +168,11 @@ fn waiting_tests(alloc: Global, planned: &[RunTest]) -> Result<Vec<TestProgress>
 }
 
 // An attempt of the test at a place starts. An `Err` changes nothing.
-fn start_at(tests: &mut Vec<TestProgress>, alloc: Global, place: usize) -> Result<(), AllocError>
+fn start_at<A: KeepAttempts>(
+    tests: &mut Vec<TestProgress<A>>,
+    alloc: Global,
+    place: usize,
+) -> Result<(), AllocError>
     requires { IsStartable tests.old.items place }
     ensures ok { OnOk result (ChangesAt place
         (λ test. record test { mark = marks.Running }) tests.old.items tests.new.items) }
@@ -168,8 +183,8 @@ fn start_at(tests: &mut Vec<TestProgress>, alloc: Global, place: usize) -> Resul
 }
 
 // The attempt of the test at a place that runs ends: whether that finishes the test.
-fn end_at(
-    tests: &mut Vec<TestProgress>,
+fn end_at<A: KeepAttempts>(
+    tests: &mut Vec<TestProgress<A>>,
     alloc: Global,
     place: usize,
     record: Record,
@@ -186,14 +201,14 @@ fn end_at(
 }
 
 // The tests between two attempts are finished.
-fn finish_between(tests: &mut Vec<TestProgress>, reason: CancelReason)
+fn finish_between<A: KeepAttempts>(tests: &mut Vec<TestProgress<A>>, reason: CancelReason)
     ensures { tests.new.items ≡ map (finished_by reason) tests.old.items }
 {
     finish_each(tests.as_mut_slice(), reason);
 }
 
 // Each of the tests that is between two attempts is finished.
-fn finish_each(tests: &mut [TestProgress], reason: CancelReason)
+fn finish_each<A: KeepAttempts>(tests: &mut [TestProgress<A>], reason: CancelReason)
     ensures { tests.new ≡ map (finished_by reason) tests.old }
 {
     for test in tests.iter_mut() {
@@ -202,7 +217,7 @@ fn finish_each(tests: &mut [TestProgress], reason: CancelReason)
 }
 
 // Counts each of the tests that is finished.
-fn count_each(tests: &[TestProgress], stats: &mut RunStats)
+fn count_each<A: KeepAttempts>(tests: &[TestProgress<A>], stats: &mut RunStats)
     requires uncounted { CountsNoTest stats.old }
     requires bound { length tests.now < 2 ^ 63 }
     ensures { stats.new ≡ with_tests tests.now stats.old }

@@ -3,12 +3,17 @@
 #![tactic(auto)]
 
 mod all_tests;
+mod keep_attempts;
+mod kept_records;
+mod kept_statuses;
 mod progress;
 mod recorded;
 mod scripts;
-mod slot;
 mod start_fault;
 mod test_progress;
 
+pub use keep_attempts::KeepAttempts;
+pub use kept_records::KeptRecords;
+pub use kept_statuses::KeptStatuses;
 pub use progress::Progress;
 pub use start_fault::StartFault;

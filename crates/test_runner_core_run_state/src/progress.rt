@@ -12,16 +12,17 @@ ghost use Rattle.test_runner_core_run_model.specs.State.{TestState, initial, is_
 ghost use Rattle.test_runner_core_run_model.specs.Step.{after_limit, stopped_by};
 ghost use Rattle.test_runner_core_run_model.specs.declared.event.Event.TheVariants as events;
 ghost use Rattle.test_runner_core_run_state.specs.Counted.{CountsNoTest, with_tests_counted, with_tests};
-ghost use Rattle.test_runner_core_run_state.specs.Parts.{IsRunningAt};
+ghost use Rattle.test_runner_core_run_state.specs.Parts.{IsKept, IsRunningAt};
 ghost use Rattle.test_runner_core_run_state.specs.Progress.{Takes, Starts, EndsAttempt};
-ghost use Rattle.test_runner_core_run_state.specs.Statuses.{IsAttempts, IsScriptStatus};
+ghost use Rattle.test_runner_core_run_state.specs.Statuses.{IsScriptStatus};
 
 use crate::all_tests::AllTests;
+use crate::keep_attempts::KeepAttempts;
 use crate::recorded::script_status;
 use crate::scripts::Scripts;
 use crate::start_fault::StartFault;
 use nextest_config_elements_choices::{MaxFail, TerminateMode};
-use nextest_run_events_counters::{ExecutionStatuses, FinalRunStats, RunStats};
+use nextest_run_events_counters::{FinalRunStats, RunStats};
 use nextest_run_events_outputs::{LiveSpec, SetupScriptExecuteStatus};
 use nextest_run_events_results::{CancelReason, Record};
 use std::alloc::{AllocError, Global};
@@ -31,20 +32,20 @@ use test_runner_core_run_model::{
     stop_refusal,
 };
 
-/// How far a run is. In a clause it is the state of the run.
+/// How far a run is, of whose tests the ended attempts are kept so. In a clause it is the state of the run.
 ///
 /// Each event takes constant time, but the one that stops the run goes over all tests.
-pub struct Progress {
+pub struct Progress<A: KeepAttempts> {
     alloc: Global,
     scripts: Scripts,
-    tests: AllTests,
+    tests: AllTests<A>,
     // The counters, with the reason why the run is stopped.
     stats: RunStats,
     limit: MaxFail,
 }
 
 // One call drops it, whoever holds it.
-impl Drop for Progress {
+impl<A: KeepAttempts> Drop for Progress<A> {
     fn drop(self) {
         let Self {
             alloc: _,
@@ -56,7 +57,7 @@ impl Drop for Progress {
     }
 }
 
-impl Model for Progress {
+impl<A: KeepAttempts> Model for Progress<A> {
     ghost use Rattle.std.specs.Prelude.{◌≡◌};
     ghost use Rattle.test_runner_core_run_model.specs.Counters.{counters};
     ghost use Rattle.test_runner_core_run_model.specs.State.{State};
@@ -69,7 +70,7 @@ impl Model for Progress {
     ghost invariant = { λ p. p.stats ≡ counters (state_of p.scripts p.tests p.stats p.limit) };
 }
 
-impl Progress {
+impl<A: KeepAttempts> Progress<A> {
     /// The run in which nothing ended, of so many scripts and of these tests, where `skipped` others were skipped.
     /// Makes the room for each script's status and each test's state, and only want of memory refuses it.
     pub fn new(
@@ -78,7 +79,7 @@ impl Progress {
         tests: &[RunTest],
         limit: MaxFail,
         skipped: usize,
-    ) -> Result<Progress, AllocError>
+    ) -> Result<Progress<A>, AllocError>
         ensures { IfOk result (λ progress. progress ≡ initial
             (record { scripts = scripts; tests = tests.now; limit = limit; skipped = skipped })) }
     {
@@ -305,9 +306,9 @@ impl Progress {
         self.tests.mark(test)
     }
 
-    /// The ended attempts of the test at a place; `None` where the plan has no such place, or none ended.
-    pub fn attempts(&self, test: usize) -> Option<&ExecutionStatuses<LiveSpec>>
-        ensures { IsAttempts (slice_get self.now.tests test) result }
+    /// What is kept of the ended attempts of the test at a place; `None` where the plan has no such place.
+    pub fn attempts(&self, test: usize) -> Option<&A>
+        ensures { IsKept A.are_of A.records (slice_get self.now.tests test) result }
     {
         self.tests.attempts(test)
     }

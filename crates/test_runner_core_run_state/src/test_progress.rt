@@ -1,51 +1,57 @@
 // How far one test is.
-ghost use Rattle.std.specs.Prelude.{◌≡◌, ◌||◌, false, nat_le, is_some, [], MatchOption, OnOk, OnErr, if◌then◌else◌};
+ghost use Rattle.std.specs.Prelude.{◌≡◌, ◌||◌, false, nat_le, is_some, Some, OnOk, OnErr, if◌then◌else◌};
 ghost use Rattle.nextest_run_events_results.specs.Result as results;
 ghost use Rattle.nextest_run_events_counters.specs.Counting.{CanCountTest};
 ghost use Rattle.test_runner_core_run_model.specs.State.{State, waiting, is_finished};
 ghost use Rattle.test_runner_core_run_model.specs.Step.{after_attempt, finished_by, finishes};
 ghost use Rattle.test_runner_core_run_model.specs.declared.mark.Mark.TheVariants as marks;
 ghost use Rattle.test_runner_core_run_state.specs.Counted.{with_finished};
-ghost use Rattle.test_runner_core_run_state.specs.Statuses.{AreAttempts};
+ghost use Rattle.test_runner_core_run_state.specs.Parts.{IsKept};
 
-use crate::recorded::execute_status;
-use crate::slot::Slot;
-use nextest_run_events_counters::{ExecutionStatuses, RunStats};
-use nextest_run_events_outputs::{LiveSpec, RetryData};
+use crate::keep_attempts::KeepAttempts;
+use nextest_run_events_counters::RunStats;
 use nextest_run_events_results::{CancelReason, Record};
 use std::alloc::{AllocError, Global};
 use std::marker::Model;
 use test_runner_core_run_model::{Mark, RunTest};
 
 // How far a test is. In a clause it is the state of the test.
-#[derive(Drop)]
-pub(crate) struct TestProgress {
+pub(crate) struct TestProgress<A: KeepAttempts> {
     plan: RunTest,
-    slot: Slot,
+    attempts: A,
     mark: Mark,
 }
 
-impl Model for TestProgress {
-    ghost use Rattle.std.specs.Prelude.{map};
+// One call drops it, whoever holds it.
+impl<A: KeepAttempts> Drop for TestProgress<A> {
+    fn drop(self) {
+        let Self {
+            plan: _,
+            attempts: _,
+            mark: _,
+        } = self;
+    }
+}
+
+impl<A: KeepAttempts> Model for TestProgress<A> {
     ghost use Rattle.test_runner_core_run_model.specs.State.{TestState};
     ghost use Rattle.test_runner_core_run_state.specs.Parts.{KeepsTest};
-    ghost use Rattle.test_runner_core_run_state.specs.Statuses.{record_of};
 
     ghost Value = { TestState };
 
-    ghost view = { λ t. record { plan = t.plan; records = map record_of t.slot.statuses; mark = t.mark } };
+    ghost view = { λ t. record { plan = t.plan; records = A.records t.attempts; mark = t.mark } };
 
-    ghost invariant = { λ t. KeepsTest t.plan t.slot t.mark };
+    ghost invariant = { λ t. KeepsTest A.are_of A.records A.room t.plan t.attempts t.mark };
 }
 
-impl TestProgress {
+impl<A: KeepAttempts> TestProgress<A> {
     // A test of which no attempt started. Takes no memory.
-    pub(crate) fn new(plan: RunTest) -> TestProgress
+    pub(crate) fn new(plan: RunTest) -> TestProgress<A>
         ensures { result ≡ waiting plan }
     {
         TestProgress {
             plan,
-            slot: Slot::new(),
+            attempts: A::new(),
             mark: Mark::Waiting,
         }
     }
@@ -64,21 +70,20 @@ impl TestProgress {
         self.mark
     }
 
-    // Its ended attempts; `None` where none ended.
-    pub(crate) fn attempts(&self) -> Option<&ExecutionStatuses<LiveSpec>>
-        ensures { MatchOption result (self.now.records ≡ []) (λ found.
-            AreAttempts self.now.plan.tries self.now.plan.flaky self.now.records found.now) }
+    // What is kept of its ended attempts.
+    pub(crate) fn attempts(&self) -> &A
+        ensures { IsKept A.are_of A.records (Some self.now) (Some result) }
     {
-        self.slot.attempts()
+        &self.attempts
     }
 
-    // An attempt starts: makes the room of its status. An `Err` changes nothing.
+    // An attempt starts: makes the room of its end. An `Err` changes nothing.
     pub(crate) fn start(&mut self, alloc: Global) -> Result<(), AllocError>
         requires { is_finished self.old ≡ false }
         ensures ok { OnOk result (self.new ≡ record self.old { mark = marks.Running }) }
         ensures err { OnErr result (self.new ≡ self.old) }
     {
-        self.slot.reserve(alloc)?;
+        self.attempts.reserve(alloc)?;
         self.mark = Mark::Running;
         Ok(())
     }
@@ -96,14 +101,9 @@ impl TestProgress {
         ensures finished { (state : State) → state.reason ≡ reason
             → result ≡ finishes state self.old «record» }
     {
-        let attempt = self.slot.len() as u32 + 1;
+        let attempt = self.attempts.len() as u32 + 1;
         let finished = is_finishing(&record, self.plan.tries, attempt, reason);
-        let retry_data = RetryData {
-            attempt,
-            total_attempts: self.plan.tries,
-        };
-        let status = execute_status(alloc, record, retry_data);
-        self.slot.push(status, self.plan.flaky);
+        self.attempts.push(alloc, self.plan, attempt, record);
         self.mark = mark_after(finished, reason);
         finished
     }
@@ -122,11 +122,8 @@ impl TestProgress {
         requires below_maximum { CanCountTest stats.old }
         ensures { stats.new ≡ with_finished self.now stats.old }
     {
-        let Mark::Finished(_) = self.mark else {
-            return;
-        };
-        if let Some(attempts) = self.slot.attempts() {
-            stats.on_test_finished(attempts);
+        if let Mark::Finished(_) = self.mark {
+            self.attempts.count_in(self.plan, stats);
         }
     }
 }

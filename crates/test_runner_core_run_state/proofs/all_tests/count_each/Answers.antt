@@ -77,10 +77,10 @@ one_more tests i test stats within is =
         omega (arith, more, same, one)
 
 pub loop-test-init : goal.loop-test-init
-loop-test-init c = sym (none_yet c.args.stats.now)
+loop-test-init g c = sym (none_yet c.args.stats.now)
 
 pub count_in-requires : goal.count_in-requires
-count_in-requires c =
+count_in-requires g c =
     let many = length-take-le c.loop-test.test-index c.args.tests.now c.loop-test.auto.test-index-end in
     let within = c.loop-test-test.true in
     let few = c.requires.bound in
@@ -90,10 +90,10 @@ count_in-requires c =
     }
 
 pub loop-test-preserved : goal.loop-test-preserved
-loop-test-preserved c =
+loop-test-preserved g c =
     c.count_in.ensures ∙ ap (with_finished c.test-item.result) c.loop-test.invariant
     ∙ one_more c.args.tests.now c.loop-test.test-index c.test-item.result c.args.stats.now c.loop-test-test.true c.test-item.is
 
 pub returns : goal.returns
-returns c =
+returns g c =
     c.loop-test.invariant ∙ ap (λ (tests : List TestState). with_tests tests c.args.stats.now) (take_all c.loop-test.test-index c.args.tests.now c.loop-test-test.false)

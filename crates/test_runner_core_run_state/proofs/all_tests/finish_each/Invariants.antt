@@ -3,4 +3,4 @@ use Rattle.test_runner_core_run_model.specs.Step.{finished_by}
 use Rattle.test_runner_core_run_state.proofs.all_tests.finish_each.Given as goal
 
 abbrev pub invariant-loop-test : goal.invariant-loop-test
-invariant-loop-test l = l.tests ≡ map (finished_by l.reason) (take l.test-index l.initial.tests) ++ drop l.test-index l.initial.tests
+invariant-loop-test g l = l.tests ≡ map (finished_by l.reason) (take l.test-index l.initial.tests) ++ drop l.test-index l.initial.tests

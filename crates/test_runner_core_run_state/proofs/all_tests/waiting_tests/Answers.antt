@@ -6,21 +6,21 @@ use Rattle.test_runner_core_run_model.specs.declared.run_test.RunTest.{RunTest}
 use Rattle.test_runner_core_run_state.proofs.all_tests.waiting_tests.Goals as goal
 
 pub returns-in_err-tests : goal.returns-in_err-tests
-returns-in_err-tests c = IfOk-from_err c.from_residual.result _ c.from_residual.ensures.0
+returns-in_err-tests g c = IfOk-from_err c.from_residual.result _ c.from_residual.ensures.0
 
 pub loop-plan-init : goal.loop-plan-init
-loop-plan-init c = c.in_ok-tests.ensures.items
+loop-plan-init g c = c.in_ok-tests.ensures.items
 
 pub returns-in_err-push : goal.returns-in_err-push
-returns-in_err-push c = IfOk-from_err c.from_residual-in_err-push.result _ c.from_residual-in_err-push.ensures.0
+returns-in_err-push g c = IfOk-from_err c.from_residual-in_err-push.result _ c.from_residual-in_err-push.ensures.0
 
 pub loop-plan-preserved : goal.loop-plan-preserved
-loop-plan-preserved c =
+loop-plan-preserved g c =
     c.in_ok-push.ensures.items
     ∙ ap (λ (tests : List TestState). tests ++ c.new.result ∷ []) c.loop-plan.invariant
     ∙ ap (λ (test : TestState). map waiting (take c.loop-plan.plan-index c.args.planned.now) ++ test ∷ []) c.new.ensures
     ∙ sym (map_more waiting c.args.planned.now c.loop-plan.plan-index _ c.loop-plan-test.true)
 
 pub returns : goal.returns
-returns c =
+returns g c =
     c.loop-plan.invariant ∙ ap (λ (plans : List RunTest). map waiting plans) (take_all c.loop-plan.plan-index c.args.planned.now c.loop-plan-test.false)

@@ -3,4 +3,4 @@ use Rattle.test_runner_core_run_model.specs.State.{waiting}
 use Rattle.test_runner_core_run_state.proofs.all_tests.waiting_tests.Given as goal
 
 abbrev pub invariant-loop-plan : goal.invariant-loop-plan
-invariant-loop-plan l = l.tests.items ≡ map waiting ((take l.plan-index l.planned))
+invariant-loop-plan g l = l.tests.items ≡ map waiting ((take l.plan-index l.planned))

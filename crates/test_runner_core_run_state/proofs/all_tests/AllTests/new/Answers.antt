@@ -4,5 +4,5 @@ use Rattle.test_runner_core_run_state.proofs.Tallies.{none_waits}
 use Rattle.test_runner_core_run_state.proofs.all_tests.AllTests.new.Goals as goal
 
 pub invariant_of-result : goal.invariant_of-result
-invariant_of-result c =
+invariant_of-result g c =
     sym (ap (count_by is_running) c.in_ok-waiting_tests.ensures ∙ none_waits is_running (λ plan. refl) c.args.planned.now)

@@ -6,7 +6,7 @@ use Rattle.test_runner_core_run_state.proofs.Tallies.{started_running}
 use Rattle.test_runner_core_run_state.proofs.all_tests.AllTests.start.Goals as goal
 
 pub invariant_of-self-2 : goal.invariant_of-self-2
-invariant_of-self-2 c =
+invariant_of-self-2 g c =
     let it : IsStartable c.self.inside.tests.items c.args.place = subst (λ (tests : List TestState). IsStartable tests c.args.place) (sym c.self.view_is) c.requires in
     subst (λ (tests : List TestState). c.self.inside.running + 1 ≡ count_by is_running tests)
     (sym (c.in_ok-start_at.ensures.ok it.test it.found))

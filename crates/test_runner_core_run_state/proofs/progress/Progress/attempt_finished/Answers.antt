@@ -10,15 +10,15 @@ use Rattle.test_runner_core_run_state.proofs.Taken.{ended_is, running_at, end_le
 use Rattle.test_runner_core_run_state.proofs.progress.Progress.attempt_finished.Goals as goal
 
 pub end-finished-requires : goal.end-finished-requires
-end-finished-requires c =
-    let state = the_view c.self.inside in
+end-finished-requires g c =
+    let state = the_view g.row.A g.A.KeepAttempts c.self.inside in
     subst (λ (s : State). IsRunningAt s.tests c.args.test) c.self.view_is
     (running_at state c.args.test c.args.record
     (c.in_default-end_refusal.ensures state c.args.test c.args.record (shown_test state c.args.test c.in-Some.mark c.in-Some.ensures)))
 
 pub returns : goal.returns
-returns c =
-    let state = the_view c.self.inside in
+returns g c =
+    let state = the_view g.row.A g.A.KeepAttempts c.self.inside in
     let it : IsRunningAt state.tests c.args.test =
     running_at state c.args.test c.args.record
     (c.in_default-end_refusal.ensures state c.args.test c.args.record (shown_test state c.args.test c.in-Some.mark c.in-Some.ensures)) in

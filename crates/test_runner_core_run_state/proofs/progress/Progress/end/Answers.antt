@@ -16,8 +16,8 @@ use Rattle.test_runner_core_run_state.proofs.Totals.{Counts, test_changed}
 use Rattle.test_runner_core_run_state.proofs.progress.Progress.end.Goals as goal
 
 pub count_at-requires-clause-place : goal.count_at-requires-clause-place
-count_at-requires-clause-place c =
-    let state = the_view c.self.inside in
+count_at-requires-clause-place g c =
+    let state = the_view g.row.A g.A.KeepAttempts c.self.inside in
     let it : IsRunningAt state.tests c.args.test = subst (λ (s : State). IsRunningAt s.tests c.args.test) (sym c.self.view_is) c.requires in
     let is_new = c.end-finished.ensures.after state refl it.test it.found in
     let within = slice_get_within state.tests c.args.test it.test it.found in
@@ -25,14 +25,14 @@ count_at-requires-clause-place c =
     omega (arith, within, same)
 
 pub count_at-requires-clause-below_maximum : goal.count_at-requires-clause-below_maximum
-count_at-requires-clause-below_maximum c =
-    let state = the_view c.self.inside in
+count_at-requires-clause-below_maximum g c =
+    let state = the_view g.row.A g.A.KeepAttempts c.self.inside in
     let bound = c.end-finished.ensures.bound in
     subst CanCountTest (sym c.self.invariant) (can_count_test state (omega (arith, bound)))
 
 pub invariant_of-self : goal.invariant_of-self
-invariant_of-self c =
-    let state = the_view c.self.inside in
+invariant_of-self g c =
+    let state = the_view g.row.A g.A.KeepAttempts c.self.inside in
     let it : IsRunningAt state.tests c.args.test = subst (λ (s : State). IsRunningAt s.tests c.args.test) (sym c.self.view_is) c.requires in
     let made = after_attempt state it.test c.args.record in
     let is_new = c.end-finished.ensures.after state refl it.test it.found in
@@ -41,8 +41,8 @@ invariant_of-self c =
     (test_changed c.self.inside.scripts state.tests c.args.test it.test made c.self.inside.stats c.count_at.new.stats c.self.inside.limit c.self.invariant it.found (ap is_finished_mark it.runs) (c.count_at.ensures made there))
 
 pub returns : goal.returns
-returns c =
-    let state = the_view c.self.inside in
+returns g c =
+    let state = the_view g.row.A g.A.KeepAttempts c.self.inside in
     let it : IsRunningAt state.tests c.args.test = subst (λ (s : State). IsRunningAt s.tests c.args.test) (sym c.self.view_is) c.requires in
     let made = after_attempt state it.test c.args.record in
     let is_new = c.end-finished.ensures.after state refl it.test it.found in

@@ -49,7 +49,7 @@ script_counted scripts tests ending stats next limit own made =
     shown n why = counters (record { planned_scripts = scripts.planned; scripts = scripts.ended ++ ending ∷ []; tests = tests; limit = limit; skipped = n; reason = why })
 
 pub end-requires : goal.end-requires
-end-requires c =
+end-requires g c =
     let status = c.script_status-status.result in
     let made = c.script_status-status.ensures in
     record {
@@ -58,14 +58,14 @@ end-requires c =
     }
 
 pub invariant_of-self : goal.invariant_of-self
-invariant_of-self c =
+invariant_of-self g c =
     let stats = c.on_setup_script_finished.new.self in
     subst (λ (scripts : ScriptState). Counts scripts c.self.inside.tests stats c.self.inside.limit) (sym c.end.ensures)
     (script_counted c.self.inside.scripts c.self.inside.tests (script_record_of c.script_status-status.result) c.self.inside.stats stats c.self.inside.limit c.self.invariant c.on_setup_script_finished.ensures)
 
 pub returns : goal.returns
-returns c =
-    let state = the_view c.self.inside in
+returns g c =
+    let state = the_view g.row.A g.A.KeepAttempts c.self.inside in
     let stats = c.on_setup_script_finished.new.self in
     let kept = c.on_setup_script_finished.ensures in
     let back = script_record_back c.args.record c.script_status-status.result c.script_status-status.ensures in

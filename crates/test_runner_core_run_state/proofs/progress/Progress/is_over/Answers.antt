@@ -8,8 +8,8 @@ use Rattle.test_runner_core_run_state.proofs.Counts.{all_counted}
 use Rattle.test_runner_core_run_state.proofs.progress.Progress.is_over.Goals as goal
 
 pub returns-then-all_scripts : goal.returns-then-all_scripts
-returns-then-all_scripts c =
-    let state = the_view c.self.inside in
+returns-then-all_scripts g c =
+    let state = the_view g.row.A g.A.KeepAttempts c.self.inside in
     let stats = c.self.inside.stats in
     let own = c.self.invariant in
     let first : eqb (length state.scripts) state.planned_scripts ≡ true =

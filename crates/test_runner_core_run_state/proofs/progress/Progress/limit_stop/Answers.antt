@@ -12,7 +12,7 @@ use Rattle.test_runner_core_run_state.proofs.Totals.{failed_fits, failed_is}
 use Rattle.test_runner_core_run_state.proofs.progress.Progress.limit_stop.Goals as goal
 
 pub failed_count-requires : goal.failed_count-requires
-failed_count-requires c =
+failed_count-requires g c =
     let fits = failed_fits c.self.inside.scripts c.self.inside.tests c.self.inside.stats c.self.inside.limit c.self.invariant in
     let all : c.self.inside.stats.initial_run_count ≡ length c.self.inside.tests = ap (λ (s : RunStats). s.initial_run_count) c.self.invariant in
     let count = c.len-count.ensures.count in
@@ -20,22 +20,22 @@ failed_count-requires c =
     record { tests_fit = omega (arith, fits, all, count, bound) }
 
 pub returns-in-Some-Wait : goal.returns-in-Some-Wait
-returns-in-Some-Wait c =
-    let state = the_view c.self.inside in
+returns-in-Some-Wait g c =
+    let state = the_view g.row.A g.A.KeepAttempts c.self.inside in
     subst (λ (s : State). after_limit c.args.finished s ≡ stopped_by why.TestFailure s) c.self.view_is
     (limited_when state c.args.finished _ c.if-not-finished.false (sym c.is_some.ensures ∙ c.if-is_some.false)
     (ap (mode_at state.limit) (sym (failed_is state) ∙ sym (ap failed_count c.self.invariant) ∙ sym c.failed_count.ensures) ∙ sym c.is_exceeded.ensures ∙ c.in-Some-Wait.is ∙ ap (λ (m : TerminateMode). Some m) c.in-Some-Wait.field-0-is))
 
 pub returns-in-Some-Immediate : goal.returns-in-Some-Immediate
-returns-in-Some-Immediate c =
-    let state = the_view c.self.inside in
+returns-in-Some-Immediate g c =
+    let state = the_view g.row.A g.A.KeepAttempts c.self.inside in
     subst (λ (s : State). after_limit c.args.finished s ≡ stopped_by why.TestFailureImmediate s) c.self.view_is
     (limited_when state c.args.finished _ c.if-not-finished.false (sym c.is_some.ensures ∙ c.if-is_some.false)
     (ap (mode_at state.limit) (sym (failed_is state) ∙ sym (ap failed_count c.self.invariant) ∙ sym c.failed_count.ensures) ∙ sym c.is_exceeded.ensures ∙ c.in-Some-Immediate.is ∙ ap (λ (m : TerminateMode). Some m) c.in-Some-Immediate.field-0-is))
 
 pub returns-in-None : goal.returns-in-None
-returns-in-None c =
-    let state = the_view c.self.inside in
+returns-in-None g c =
+    let state = the_view g.row.A g.A.KeepAttempts c.self.inside in
     subst (λ (s : State). after_limit c.args.finished s ≡ s) c.self.view_is
     (limited_when state c.args.finished None c.if-not-finished.false (sym c.is_some.ensures ∙ c.if-is_some.false)
     (ap (mode_at state.limit) (sym (failed_is state) ∙ sym (ap failed_count c.self.invariant) ∙ sym c.failed_count.ensures) ∙ sym c.is_exceeded.ensures ∙ c.in-None.is))

@@ -9,16 +9,16 @@ use Rattle.test_runner_core_run_state.proofs.Taken.{script_leads, script_within,
 use Rattle.test_runner_core_run_state.proofs.progress.Progress.script_finished.Goals as goal
 
 pub end_script-requires : goal.end_script-requires
-end_script-requires c =
-    let state = the_view c.self.inside in
+end_script-requires g c =
+    let state = the_view g.row.A g.A.KeepAttempts c.self.inside in
     subst (λ (s : State). length s.scripts < s.planned_scripts) c.self.view_is
     (script_within state c.args.script c.args.record
     (c.in_default.ensures state c.args.record
     (record { planned_scripts = sym c.planned-planned.ensures; ended_scripts = sym c.ended-ended.ensures.count; reason = sym c.is_some-is_stopped.ensures }))).0
 
 pub returns : goal.returns
-returns c =
-    let state = the_view c.self.inside in
+returns g c =
+    let state = the_view g.row.A g.A.KeepAttempts c.self.inside in
     let taken = script_within state c.args.script c.args.record
     (c.in_default.ensures state c.args.record
     (record { planned_scripts = sym c.planned-planned.ensures; ended_scripts = sym c.ended-ended.ensures.count; reason = sym c.is_some-is_stopped.ensures })) in

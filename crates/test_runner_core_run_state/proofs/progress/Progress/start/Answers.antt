@@ -12,16 +12,16 @@ use Rattle.test_runner_core_run_state.proofs.Totals.{Counts, test_changed}
 use Rattle.test_runner_core_run_state.proofs.progress.Progress.start.Goals as goal
 
 pub start-requires : goal.start-requires
-start-requires c =
-    let state = the_view c.self.inside in
+start-requires g c =
+    let state = the_view g.row.A g.A.KeepAttempts c.self.inside in
     startable state c.args.test
     (c.in_default-start_refusal.ensures state c.args.test
     (record { planned_scripts = sym c.planned-planned.ensures; ended_scripts = sym c.ended-ended.ensures.count; reason = sym c.is_some-is_stopped.ensures })
     (shown_test state c.args.test c.in-Some.mark c.in-Some.ensures))
 
 pub invariant_of-self-2 : goal.invariant_of-self-2
-invariant_of-self-2 c =
-    let state = the_view c.self.inside in
+invariant_of-self-2 g c =
+    let state = the_view g.row.A g.A.KeepAttempts c.self.inside in
     let it : IsStartable state.tests c.args.test =
     startable state c.args.test
     (c.in_default-start_refusal.ensures state c.args.test
@@ -33,8 +33,8 @@ invariant_of-self-2 c =
     (sym (unfinished_adds made c.self.inside.stats refl)))
 
 pub returns : goal.returns
-returns c =
-    let state = the_view c.self.inside in
+returns g c =
+    let state = the_view g.row.A g.A.KeepAttempts c.self.inside in
     let taken : Decides state (events.Started c.args.test) None =
     c.in_default-start_refusal.ensures state c.args.test
     (record { planned_scripts = sym c.planned-planned.ensures; ended_scripts = sym c.ended-ended.ensures.count; reason = sym c.is_some-is_stopped.ensures })

@@ -10,8 +10,8 @@ use Rattle.test_runner_core_run_state.proofs.Taken.{stop_leads, stops_unless, ta
 use Rattle.test_runner_core_run_state.proofs.progress.Progress.stop.Goals as goal
 
 pub returns-in-Some-cancel_reason : goal.returns-in-Some-cancel_reason
-returns-in-Some-cancel_reason c =
-    let state = the_view c.self.inside in
+returns-in-Some-cancel_reason g c =
+    let state = the_view g.row.A g.A.KeepAttempts c.self.inside in
     let old = c.args.self.now in
     let new = record state { reason = Some c.graver.result } in
     let happens =
@@ -23,7 +23,7 @@ returns-in-Some-cancel_reason c =
     (ap not c.is_stopped-stops.ensures ∙ stops_unless old new c.graver.result refl)
 
 pub returns-in-None : goal.returns-in-None
-returns-in-None c =
+returns-in-None g c =
     let state = c.args.self.now in
     let new = c.stop_for.new.self in
     let happens =

@@ -1,19 +1,25 @@
-// The ended attempts of a test, and the room of the one that runs.
+// Ended attempts, kept as statuses.
 ghost use Rattle.std.specs.Prelude.{◌≡◌, ◌<◌, ◌≤◌, [], ◌∷◌, ◌++◌, None, Some, MatchOption, OnOk, length};
-ghost use Rattle.test_runner_core_run_state.specs.Slots.{statuses_in, room_in, rule_in, KeepsAttempts, KeepsRule};
+ghost use Rattle.test_runner_core_run_model.specs.declared.run_test.RunTest.{RunTest as Plan};
+ghost use Rattle.test_runner_core_run_state.specs.Kept.{statuses_in, room_in, rule_in, records_in, AreKept, KeepsAttempts, KeepsRule};
+ghost use Rattle.test_runner_core_run_state.specs.Statuses.{AreAttempts};
 
+use crate::keep_attempts::KeepAttempts;
+use crate::recorded::execute_status;
 use nextest_config_elements_choices::FlakyResult;
-use nextest_run_events_counters::ExecutionStatuses;
-use nextest_run_events_outputs::{ExecuteStatus, LiveSpec};
+use nextest_run_events_counters::{ExecutionStatuses, RunStats};
+use nextest_run_events_outputs::{ExecuteStatus, LiveSpec, RetryData};
+use nextest_run_events_results::Record;
 use nextest_text::Listing;
 use std::alloc::{AllocError, Global};
 use std::marker::Model;
 use std::mem;
+use test_runner_core_run_model::RunTest;
 
-// The ended attempts of a test, and the room of the one that runs. In a clause it is those, for how many there is room,
-// and the flaky rule once an attempt ended.
+/// Ended attempts, kept as statuses, and the room of the one that runs. In a clause it is those, for how many there is room,
+/// and the flaky rule once an attempt ended.
 #[derive(Drop)]
-pub(crate) struct Slot {
+pub struct KeptStatuses {
     attempts: SlotAttempts,
 }
 
@@ -28,39 +34,28 @@ pub(crate) enum SlotAttempts {
     Ended(ExecutionStatuses<LiveSpec>),
 }
 
-impl Model for Slot {
-    ghost use Rattle.test_runner_core_run_state.specs.Slots.{SlotState, statuses_in, room_in, rule_in, KeepsAttempts};
+impl Model for KeptStatuses {
+    ghost use Rattle.test_runner_core_run_state.specs.Kept.{StatusesState, statuses_in, room_in, rule_in, KeepsAttempts};
 
-    ghost Value = { SlotState };
+    ghost Value = { StatusesState };
 
     ghost view = { λ s. record { statuses = statuses_in s.attempts; room = room_in s.attempts; rule = rule_in s.attempts } };
 
     ghost invariant = { λ s. KeepsAttempts s.attempts };
 }
 
-impl Slot {
-    // No attempts, and no room.
-    pub(crate) fn new() -> Slot
-        ensures { result ≡ record { statuses = []; room = 0; rule = None } }
+impl KeptStatuses {
+    /// The attempts; `None` where none ended.
+    pub fn statuses(&self) -> Option<&ExecutionStatuses<LiveSpec>>
+        ensures { (plan : Plan) → AreKept plan self.now
+            → MatchOption result (records_in self.now ≡ [])
+            (λ found. AreAttempts plan.tries plan.flaky (records_in self.now) found.now) }
     {
-        Slot {
-            attempts: SlotAttempts::Empty,
-        }
+        self.attempts()
     }
 
-    // How many attempts ended.
-    pub(crate) fn len(&self) -> usize
-        ensures { result ≡ length self.now.statuses }
-    {
-        match &self.attempts {
-            SlotAttempts::Empty => 0,
-            SlotAttempts::Reserved(_) => 0,
-            SlotAttempts::Ended(attempts) => attempts.len(),
-        }
-    }
-
-    // The attempts that ended; `None` where none did.
-    pub(crate) fn attempts(&self) -> Option<&ExecutionStatuses<LiveSpec>>
+    // The attempts; `None` where none ended.
+    fn attempts(&self) -> Option<&ExecutionStatuses<LiveSpec>>
         ensures { MatchOption result ((self.now.statuses ≡ []) × (self.now.rule ≡ None))
             (λ found. (found.now.statuses ≡ self.now.statuses)
             × (self.now.rule ≡ Some found.now.flaky_result) × (0 < length self.now.statuses)) }
@@ -71,25 +66,48 @@ impl Slot {
             SlotAttempts::Ended(attempts) => Some(attempts),
         }
     }
+}
 
-    // Makes room for an attempt. An `Err` changes nothing but the room, which is no less.
-    pub(crate) fn reserve(&mut self, alloc: Global) -> Result<(), AllocError>
-        ensures room { OnOk result (0 < self.new.room) }
-        ensures grows { self.old.room ≤ self.new.room }
-        ensures statuses { self.new.statuses ≡ self.old.statuses }
-        ensures rule { self.new.rule ≡ self.old.rule }
-    {
+impl KeepAttempts for KeptStatuses {
+    ghost use Rattle.test_runner_core_run_state.specs.Kept.{records_in, AreKept};
+
+    ghost records = { λ kept. records_in kept };
+
+    ghost room = { λ kept. kept.room };
+
+    ghost are_of = { λ plan kept. AreKept plan kept };
+
+    fn new() -> KeptStatuses {
+        KeptStatuses {
+            attempts: SlotAttempts::Empty,
+        }
+    }
+
+    fn len(&self) -> usize {
+        match &self.attempts {
+            SlotAttempts::Empty => 0,
+            SlotAttempts::Reserved(_) => 0,
+            SlotAttempts::Ended(attempts) => attempts.len(),
+        }
+    }
+
+    fn reserve(&mut self, alloc: Global) -> Result<(), AllocError> {
         reserve_in(&mut self.attempts, alloc)
     }
 
-    // An attempt ended, of a test with this flaky rule. Takes no memory.
-    pub(crate) fn push(&mut self, status: ExecuteStatus<LiveSpec>, flaky: FlakyResult)
-        requires room { 0 < self.old.room }
-        requires rule { KeepsRule flaky self.old.rule }
-        ensures statuses { self.new.statuses ≡ self.old.statuses ++ status ∷ [] }
-        ensures rule { self.new.rule ≡ Some flaky }
-    {
-        push_in(&mut self.attempts, status, flaky);
+    fn push(&mut self, alloc: Global, plan: RunTest, attempt: u32, record: Record) {
+        let retry_data = RetryData {
+            attempt,
+            total_attempts: plan.tries,
+        };
+        let status = execute_status(alloc, record, retry_data);
+        push_in(&mut self.attempts, status, plan.flaky);
+    }
+
+    fn count_in(&self, _plan: RunTest, stats: &mut RunStats) {
+        if let Some(attempts) = self.attempts() {
+            stats.on_test_finished(attempts);
+        }
     }
 }
 

@@ -1,0 +1,54 @@
+// How the ended attempts of a test are kept.
+use nextest_run_events_counters::RunStats;
+use nextest_run_events_results::Record;
+use std::alloc::{AllocError, Global};
+use test_runner_core_run_model::RunTest;
+
+/// How the ended attempts of a test are kept: as statuses for who looks at them (`KeptStatuses`), or as records, in less
+/// memory (`KeptRecords`).
+pub trait KeepAttempts: Drop {
+    ghost use Rattle.std.specs.Prelude.{◌≡◌, ℕ, ◌+◌, ◌<◌, ◌≤◌, List, [], ◌∷◌, ◌++◌, OnOk, length};
+    ghost use Rattle.nextest_run_events_counters.specs.Counting.{CanCountTest};
+    ghost use Rattle.nextest_run_events_results.specs.declared.record.Record.{Record};
+    ghost use Rattle.test_runner_core_run_model.specs.declared.run_test.RunTest.{RunTest};
+    ghost use Rattle.test_runner_core_run_state.specs.Counted.{with_last};
+
+    // Their records, in their order.
+    ghost records: { Self → List Record };
+
+    // For how many more attempts there is room.
+    ghost room: { Self → ℕ };
+
+    // They are kept as those of a test with this plan.
+    ghost are_of: { RunTest → Self → Type 0 };
+
+    /// No attempts. Takes no memory.
+    fn new() -> Self
+        ensures none { records result ≡ [] }
+        ensures of { (plan : RunTest) → are_of plan result };
+
+    /// How many there are.
+    fn len(&self) -> usize
+        ensures { result ≡ length (records self.now) };
+
+    /// Makes room for an attempt. An `Err` changes nothing but the room, which is no less.
+    fn reserve(&mut self, alloc: Global) -> Result<(), AllocError>
+        ensures room { OnOk result (0 < room self.new) }
+        ensures grows { room self.old ≤ room self.new }
+        ensures records { records self.new ≡ records self.old }
+        ensures of { (plan : RunTest) → are_of plan self.old → are_of plan self.new };
+
+    /// The attempt of this number, which is the next one, of a test with this plan ended. Takes no memory.
+    fn push(&mut self, alloc: Global, plan: RunTest, attempt: u32, record: Record)
+        requires room { 0 < room self.old }
+        requires of { are_of plan self.old }
+        requires next { attempt ≡ length (records self.old) + 1 }
+        ensures records { records self.new ≡ records self.old ++ «record» ∷ [] }
+        ensures of { are_of plan self.new };
+
+    /// Counts a finished test with this plan by these attempts, if there is one.
+    fn count_in(&self, plan: RunTest, stats: &mut RunStats)
+        requires of { are_of plan self.now }
+        requires below_maximum { CanCountTest stats.old }
+        ensures { stats.new ≡ with_last plan (records self.now) stats.old };
+}
