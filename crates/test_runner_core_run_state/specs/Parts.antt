@@ -1,5 +1,5 @@
 -- The parts of a run's progress, and what each keeps.
-use Rattle.std.specs.Prelude.{◌≡◌, ℕ, ◌-◌, ◌≤◌, ◌<◌, Bool, true, false, List, Option, None, Some, ⊤, is_some, length, map}
+use Rattle.std.specs.Prelude.{◌≡◌, ℕ, ◌-◌, ◌≤◌, ◌<◌, Bool, true, false, List, Option, None, Some, ⊤, length}
 use Rattle.std.specs.Prelude.{slice_get, slice_set}
 use denote.Ref.{Bor}
 use Rattle.nextest_config_elements_choices.specs.declared.max_fail.MaxFail.{MaxFail}

@@ -1,13 +1,16 @@
 -- A run of a plan, by names.
 use Rattle.std.specs.Prelude.{◌≡◌, ℕ, List, map, length, Option, None, Some, slice_get, ⊤}
 use Rattle.nextest_run_events_results.specs.declared.instance.OwnedTestInstanceId.{OwnedTestInstanceId}
+use Rattle.nextest_run_events_results.specs.declared.record.Record.{Record}
 use Rattle.test_runner_core_plan.specs.declared.plan.Plan.{Plan}
 use Rattle.test_runner_core_plan.specs.declared.plan.PlanTest.{PlanTest}
 use Rattle.test_runner_core_run_model.specs.RunPlan.{RunPlan}
 use Rattle.test_runner_core_run_model.specs.State.{State, TestState, initial}
 use Rattle.test_runner_core_run_model.specs.declared.run_test.RunTest.{RunTest}
+use Rattle.test_runner_core_run_state.specs.Parts.{IsKept}
 use Rattle.test_runner_core_run_state.specs.Statuses.{IsAttempts}
 use Rattle.test_runner_core_session.specs.Names.{place_of}
+use Rattle.test_runner_core_session.specs.declared.plan_run.KeptTest.{KeptTest}
 use Rattle.test_runner_core_session.specs.declared.session.Fate.{Fate}
 
 -- a plan, and the state of its run
@@ -37,6 +40,13 @@ session_of plan = record { plan = plan; run = initial (run_plan plan) }
 -- the test of a name, where the plan has it
 abbrev pub test_of : SessionState → List ℕ → List ℕ → Option TestState
 test_of session id name = slice_get session.run.tests (place_in session.plan id name)
+
+-- what is kept of a test is how far it is, what is planned of it, and its ended attempts; nothing where there is no such test
+abbrev pub IsKeptTest : {Kept : Type 0} → (RunTest → Kept → Type 0) → (Kept → List Record) → Option TestState → Option (KeptTest Kept) → Type 0
+IsKeptTest are_of records None None = ⊤
+IsKeptTest are_of records None (Some kept) = ⊥
+IsKeptTest are_of records (Some test) None = ⊥
+IsKeptTest are_of records (Some test) (Some kept) = (kept.mark ≡ test.mark) × (kept.plan ≡ test.plan) × IsKept are_of records (Some test) (Some kept.attempts)
 
 -- what is told of a test is how far it is, what is planned of it, and its ended attempts; nothing where there is no such
 -- test

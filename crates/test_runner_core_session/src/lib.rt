@@ -3,6 +3,8 @@
 
 mod guesses;
 mod places;
+mod plan_run;
 mod session;
 
-pub use session::{Fate, Session};
+pub use plan_run::{KeptTest, PlanRun};
+pub use session::{Fate, RecordSession, Session};

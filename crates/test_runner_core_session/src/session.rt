@@ -1,23 +1,13 @@
-// A run of a plan.
-ghost use Rattle.std.specs.Prelude.{◌≡◌, IfOk, is_some, map, slice_get};
-ghost use Rattle.test_runner_core_run_state.specs.Progress.{Takes, Starts};
-ghost use Rattle.test_runner_core_run_state.specs.Statuses.{IsScriptStatus};
-ghost use Rattle.test_runner_core_run_model.specs.Counters as counters;
-ghost use Rattle.test_runner_core_run_model.specs.Runs as runs;
-ghost use Rattle.test_runner_core_run_model.specs.declared.event.Event.TheVariants as events;
-ghost use Rattle.test_runner_core_session.specs.Names.{script_place};
-ghost use Rattle.test_runner_core_session.specs.Session.{place_in, session_of, run_test, test_of, IsFate};
+// Runs of a plan by what they keep: statuses, or records.
+ghost use Rattle.std.specs.Prelude.{slice_get};
+ghost use Rattle.test_runner_core_session.specs.Session.{test_of, IsFate};
 
-use crate::places::Places;
-use nextest_run_events_counters::{ExecutionStatuses, FinalRunStats, RunStats};
-use nextest_run_events_outputs::{LiveSpec, SetupScriptExecuteStatus};
-use nextest_run_events_results::{CancelReason, Record, TestInstanceId};
-use nextest_text::Text;
-use std::alloc::{AllocError, Global};
-use std::marker::Model;
-use test_runner_core_plan::{Plan, PlanTest};
-use test_runner_core_run_model::{Finished, Mark, RunTest, StepRefusal};
-use test_runner_core_run_state::{Progress, StartFault};
+use crate::plan_run::PlanRun;
+use nextest_run_events_counters::ExecutionStatuses;
+use nextest_run_events_outputs::LiveSpec;
+use nextest_run_events_results::TestInstanceId;
+use test_runner_core_run_model::{Mark, RunTest};
+use test_runner_core_run_state::{KeptRecords, KeptStatuses};
 
 /// How far a test is, and what is planned of it.
 #[derive(Clone, Copy)]
@@ -30,154 +20,14 @@ pub struct Fate<'s> {
     pub attempts: Option<&'s ExecutionStatuses<LiveSpec>>,
 }
 
-/// A run of a plan, which is lent. In a clause it is the plan, and the state of the run.
-pub struct Session<'a> {
-    plan: &'a Plan,
-    places: Places<'a>,
-    progress: Progress,
-}
+/// A run of a plan, which is lent, that keeps the ended attempts of its tests as statuses. In a clause it is the plan, and the
+/// state of the run.
+pub type Session<'a> = PlanRun<'a, KeptStatuses>;
 
-// One call drops it, whoever holds it.
-impl Drop for Session<'_> {
-    fn drop(self) {
-        let Self {
-            plan: _,
-            places: _,
-            progress: _,
-        } = self;
-    }
-}
-
-impl<'a> Model for Session<'a> {
-    ghost use Rattle.std.specs.Prelude.{◌≡◌};
-    ghost use Rattle.test_runner_core_session.specs.Session.{SessionState, names_of};
-
-    ghost Value = { SessionState };
-
-    ghost view = { λ s. record { plan = s.plan.now; run = s.progress } };
-
-    ghost invariant = { λ s. s.places ≡ names_of s.plan.now };
-}
+/// The same, but attempts are kept as records, in less memory: what `judge` does.
+pub type RecordSession<'a> = PlanRun<'a, KeptRecords>;
 
 impl<'a> Session<'a> {
-    /// The run in which nothing ended. Makes the room for each script's record and each test's state, and only want of
-    /// memory refuses it.
-    pub fn new(alloc: Global, plan: &'a Plan) -> Result<Session<'a>, AllocError>
-        ensures { IfOk result (λ session. session ≡ session_of plan.now) }
-    {
-        let tests = plan.tests.as_slice();
-        let planned = planned_tests(alloc, tests)?;
-        Ok(Session {
-            plan,
-            places: Places::new(alloc, tests)?,
-            progress: Progress::new(
-                alloc,
-                plan.scripts.len(),
-                planned.as_slice(),
-                plan.limit,
-                plan.skipped.len(),
-            )?,
-        })
-    }
-
-    /// An attempt of a test starts: reserves the room of its record. An `Err` says why it can't start now, or that there
-    /// was no memory, and leaves everything as it was.
-    pub fn start(&mut self, test: TestInstanceId<'_>) -> Result<(), StartFault>
-        ensures plan { self.new.plan ≡ self.old.plan }
-        ensures step { Starts self.old.run (place_in self.old.plan test.entry.binary_id.now
-            test.entry.test_name.now) result self.new.run }
-    {
-        let place = self.places.find(test);
-        self.progress.start(place)
-    }
-
-    /// What the step finished: the attempt of a test that runs ended. Takes no memory. An `Err` says why that can't be,
-    /// and leaves everything as it was.
-    pub fn attempt_finished(
-        &mut self,
-        test: TestInstanceId<'_>,
-        record: Record,
-    ) -> Result<Finished, StepRefusal>
-        ensures plan { self.new.plan ≡ self.old.plan }
-        ensures step { Takes self.old.run (events.Ended
-            (place_in self.old.plan test.entry.binary_id.now test.entry.test_name.now) «record»)
-            result self.new.run }
-    {
-        let place = self.places.find(test);
-        self.progress.attempt_finished(place, record)
-    }
-
-    /// What the step finished: a script ended. Takes no memory. An `Err` says why that can't be, and leaves everything as
-    /// it was.
-    pub fn script_finished(&mut self, id: &str, record: Record) -> Result<Finished, StepRefusal>
-        ensures plan { self.new.plan ≡ self.old.plan }
-        ensures step { Takes self.old.run (events.ScriptEnded
-            (script_place self.old.plan.scripts id.now) «record») result self.new.run }
-    {
-        let place = place_of_script(self.plan.scripts.as_slice(), id);
-        self.progress.script_finished(place, record)
-    }
-
-    /// What the step finished: the run was told to stop. Takes no memory. An `Err` says why that can't be, and leaves
-    /// everything as it was.
-    pub fn stop(&mut self, reason: CancelReason) -> Result<Finished, StepRefusal>
-        ensures plan { self.new.plan ≡ self.old.plan }
-        ensures step { Takes self.old.run (events.Stopped reason) result self.new.run }
-    {
-        self.progress.stop(reason)
-    }
-
-    /// The plan.
-    pub fn plan(&self) -> &'a Plan
-        ensures { result.now ≡ self.now.plan }
-    {
-        self.plan
-    }
-
-    /// Whether the run is stopped.
-    pub fn is_stopped(&self) -> bool
-        ensures { result ≡ is_some self.now.run.reason }
-    {
-        self.progress.is_stopped()
-    }
-
-    /// Whether the run is complete: all scripts and tests finished, or it is stopped and nothing runs.
-    pub fn is_complete(&self) -> bool
-        ensures { result ≡ runs.is_complete self.now.run }
-    {
-        self.progress.is_complete()
-    }
-
-    /// The counters so far.
-    pub fn stats(&self) -> RunStats
-        ensures { result ≡ counters.counters self.now.run }
-    {
-        self.progress.stats()
-    }
-
-    /// What the counters come to so far.
-    pub fn summary(&self) -> FinalRunStats
-        ensures { result ≡ counters.summary self.now.run }
-    {
-        self.progress.summary()
-    }
-
-    /// The exit status so far.
-    pub fn status(&self) -> u8
-        ensures { result ≡ counters.status self.now.run }
-    {
-        self.progress.status()
-    }
-
-    /// The place of a test in the plan, or the number of its tests where the plan doesn't have it. The test of the last
-    /// event, or the one behind it, is found at once.
-    pub fn place(&self, test: TestInstanceId<'_>) -> usize
-        ensures { result
-            ≡ place_in self.now.plan test.entry.binary_id.now test.entry.test_name.now }
-    {
-        self.places.place(test)
-    }
-
     /// How far a test is; `None` where the plan doesn't have it.
     pub fn fate(&self, test: TestInstanceId<'_>) -> Option<Fate<'_>>
         ensures { IsFate
@@ -190,45 +40,11 @@ impl<'a> Session<'a> {
     pub fn fate_at(&self, place: usize) -> Option<Fate<'_>>
         ensures { IsFate (slice_get self.now.run.tests place) result }
     {
-        let mark = self.progress.mark(place)?;
-        let plan = self.progress.planned(place)?;
+        let kept = self.kept_at(place)?;
         Some(Fate {
-            mark,
-            plan,
-            attempts: self.progress.attempts(place),
+            mark: kept.mark,
+            plan: kept.plan,
+            attempts: kept.attempts.statuses(),
         })
     }
-
-    /// The status of the script at a place; `None` where the plan has no such place, or it didn't end.
-    pub fn ended_script(&self, place: usize) -> Option<&SetupScriptExecuteStatus<LiveSpec>>
-        ensures { IsScriptStatus (slice_get self.now.run.scripts place) result }
-    {
-        self.progress.ended_script(place)
-    }
-}
-
-// The tests as a run sees them.
-fn planned_tests(alloc: Global, tests: &[PlanTest]) -> Result<Vec<RunTest>, AllocError>
-    ensures { IfOk result (λ planned. planned.items ≡ map run_test tests.now) }
-{
-    let mut planned = Vec::with_capacity(alloc, tests.len())?;
-    for test in tests {
-        planned.push(RunTest {
-            tries: test.tries,
-            flaky: test.settings.flaky_result,
-        })?;
-    }
-    Ok(planned)
-}
-
-// The place of the first script of an id, or one past the end.
-fn place_of_script(scripts: &[Text], id: &str) -> usize
-    ensures { result ≡ script_place scripts.now id.now }
-{
-    for (place, script) in scripts.iter().enumerate() {
-        if script.as_str() == id {
-            return place;
-        }
-    }
-    scripts.len()
 }

@@ -2,7 +2,7 @@ use Rattle.std.proofs.Common.{◌≡◌, ℕ, List, length, Option, true, false,
 use Rattle.std.specs.Option.{unwrap_or}
 use Rattle.std.specs.Str.{bytes_eq}
 use Rattle.test_runner_core_session.proofs.InOrder.{at_place}
-use Rattle.test_runner_core_session.proofs.session.place_of_script.Goals as goal
+use Rattle.test_runner_core_session.proofs.plan_run.place_of_script.Goals as goal
 
 pub returns-then-eq : goal.returns-then-eq
 returns-then-eq c =

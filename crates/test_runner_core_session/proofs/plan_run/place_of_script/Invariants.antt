@@ -1,7 +1,7 @@
 use Rattle.std.proofs.Common.{◌≡◌, drop}
 use Rattle.std.specs.List.{position_from}
 use Rattle.std.specs.Str.{bytes_eq}
-use Rattle.test_runner_core_session.proofs.session.place_of_script.Given as goal
+use Rattle.test_runner_core_session.proofs.plan_run.place_of_script.Given as goal
 
 -- no script so far has the id
 abbrev pub invariant-loop-place : goal.invariant-loop-place
