@@ -1,6 +1,6 @@
 // What the attempts of a test come to.
 ghost use Rattle.std.specs.Prelude.{◌≡◌};
-ghost use Rattle.nextest_run_events_counters.specs.Description.{description_in, HoldsSuccess, ends_in_success, last_described, level_of, final_level_of};
+ghost use Rattle.nextest_run_events_counters.specs.Description.{description_in, ends_in_success, last_described, level_of, level_of_result, final_level_of, final_level_of_result};
 
 use nextest_config_elements_choices::{
     FinalStatusLevel, FlakyResult, LeakTimeoutResult, SlowTimeoutResult, StatusLevel,
@@ -53,20 +53,12 @@ impl<S: OutputSpec> Clone for ExecutionDescription<'_, S> {
 impl<'a, S: OutputSpec> ExecutionDescription<'a, S> {
     /// The level of its line while tests run.
     pub fn status_level(&self) -> StatusLevel
-        requires { HoldsSuccess (description_in self.now) }
         ensures { result ≡ level_of (description_in self.now) }
     {
         match self {
-            ExecutionDescription::Success { single_status } => match &single_status.result {
-                ExecutionResultDescription::Pass => StatusLevel::Pass,
-                ExecutionResultDescription::Leak {
-                    result: LeakTimeoutResult::Pass,
-                } => StatusLevel::Leak,
-                ExecutionResultDescription::Timeout {
-                    result: SlowTimeoutResult::Pass,
-                } => StatusLevel::Slow,
-                _ => unreachable!(),
-            },
+            ExecutionDescription::Success { single_status } => {
+                level_of_result(&single_status.result)
+            }
             ExecutionDescription::Flaky { result, .. } => match result {
                 FlakyResult::Pass => StatusLevel::Retry,
                 FlakyResult::Fail => StatusLevel::Fail,
@@ -77,7 +69,6 @@ impl<'a, S: OutputSpec> ExecutionDescription<'a, S> {
 
     /// The level of its line in the summary of a run.
     pub fn final_status_level(&self) -> FinalStatusLevel
-        requires { HoldsSuccess (description_in self.now) }
         ensures { result ≡ final_level_of (description_in self.now) }
     {
         match self {
@@ -85,16 +76,7 @@ impl<'a, S: OutputSpec> ExecutionDescription<'a, S> {
                 if single_status.is_slow {
                     return FinalStatusLevel::Slow;
                 }
-                match &single_status.result {
-                    ExecutionResultDescription::Pass => FinalStatusLevel::Pass,
-                    ExecutionResultDescription::Leak {
-                        result: LeakTimeoutResult::Pass,
-                    } => FinalStatusLevel::Leak,
-                    ExecutionResultDescription::Timeout {
-                        result: SlowTimeoutResult::Pass,
-                    } => FinalStatusLevel::Slow,
-                    _ => unreachable!(),
-                }
+                final_level_of_result(&single_status.result)
             }
             ExecutionDescription::Flaky { result, .. } => match result {
                 FlakyResult::Pass => FinalStatusLevel::Flaky,
@@ -123,5 +105,51 @@ impl<'a, S: OutputSpec> ExecutionDescription<'a, S> {
             ExecutionDescription::Flaky { last_status, .. } => last_status,
             ExecutionDescription::Failure { last_status, .. } => last_status,
         }
+    }
+}
+
+/// The level of the line of a lone attempt with this result, while tests run.
+pub fn level_of_result(ended: &ExecutionResultDescription) -> StatusLevel
+    ensures { result ≡ level_of_result ended.now }
+{
+    match ended {
+        ExecutionResultDescription::Pass => StatusLevel::Pass,
+        ExecutionResultDescription::Leak {
+            result: LeakTimeoutResult::Pass,
+        } => StatusLevel::Leak,
+        ExecutionResultDescription::Timeout {
+            result: SlowTimeoutResult::Pass,
+        } => StatusLevel::Slow,
+        ExecutionResultDescription::Leak {
+            result: LeakTimeoutResult::Fail,
+        }
+        | ExecutionResultDescription::Fail { .. }
+        | ExecutionResultDescription::ExecFail
+        | ExecutionResultDescription::Timeout {
+            result: SlowTimeoutResult::Fail,
+        } => StatusLevel::Fail,
+    }
+}
+
+/// The level of that line in the summary of a run, where the attempt wasn't slow.
+pub fn final_level_of_result(ended: &ExecutionResultDescription) -> FinalStatusLevel
+    ensures { result ≡ final_level_of_result ended.now }
+{
+    match ended {
+        ExecutionResultDescription::Pass => FinalStatusLevel::Pass,
+        ExecutionResultDescription::Leak {
+            result: LeakTimeoutResult::Pass,
+        } => FinalStatusLevel::Leak,
+        ExecutionResultDescription::Timeout {
+            result: SlowTimeoutResult::Pass,
+        } => FinalStatusLevel::Slow,
+        ExecutionResultDescription::Leak {
+            result: LeakTimeoutResult::Fail,
+        }
+        | ExecutionResultDescription::Fail { .. }
+        | ExecutionResultDescription::ExecFail
+        | ExecutionResultDescription::Timeout {
+            result: SlowTimeoutResult::Fail,
+        } => FinalStatusLevel::Fail,
     }
 }

@@ -11,7 +11,7 @@ mod roomy_list;
 mod run_stats;
 mod summary;
 
-pub use execution_description::ExecutionDescription;
+pub use execution_description::{ExecutionDescription, final_level_of_result, level_of_result};
 pub use execution_statuses::{EmptyStatuses, ExecutionStatuses};
 pub use run_stats::RunStats;
 pub use summary::{FinalRunStats, RunFailureStep, RunStatsFailureKind};
