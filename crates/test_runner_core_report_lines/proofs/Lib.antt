@@ -1,5 +1,4 @@
 pub mod Fronts
-pub mod Attempts
 pub mod Tries
 pub mod Levels
 pub mod Spelled

@@ -1,20 +1,20 @@
 -- Lines that follow one another.
-use Rattle.std.proofs.Common.{refl, ◌≡◌, ℕ, ◌+◌, ◌<◌, List, [], ◌∷◌, ◌++◌, drop, length, map, sym, ap, ◌∙◌, append_assoc, get_or}
+use Rattle.std.proofs.Common.{refl, ◌≡◌, ℕ, ◌+◌, ◌<◌, List, [], ◌∷◌, ◌++◌, drop, length, sym, ap, ◌∙◌, append_assoc, get_or}
 use Rattle.std.proofs.lemmas.List.{drop_more}
-use Rattle.test_runner_core_run_state.specs.Statuses.{Status, record_of}
+use Rattle.nextest_run_events_results.specs.declared.record.Record.{Record}
 use Rattle.test_runner_core_report_lines.specs.Writing.{Adds}
 use Rattle.test_runner_core_report_lines.specs.Texts.{line, try_line, try_lines}
 
 -- one more attempt
-pub tries_more : (statuses : List Status) (place : ℕ) (status : Status) (whole old new : List ℕ) → place < length statuses → status ≡ get_or statuses place status
-    → new ≡ old ++ try_line (place + 1) (record_of status)
-    → old ++ try_lines (place + 1) (map record_of (drop place statuses)) ≡ whole
-    → new ++ try_lines (place + 1 + 1) (map record_of (drop (place + 1) statuses)) ≡ whole
-tries_more statuses place status whole old new within is grown so_far =
-    let more : drop place statuses ≡ status ∷ drop (place + 1) statuses = drop_more statuses place status within ∙ ap (λ (s : Status). s ∷ drop (place + 1) statuses) (sym is) in
-    ap (λ (t : List ℕ). t ++ try_lines (place + 1 + 1) (map record_of (drop (place + 1) statuses))) grown
-    ∙ append_assoc old (try_line (place + 1) (record_of status)) (try_lines (place + 1 + 1) (map record_of (drop (place + 1) statuses)))
-    ∙ sym (ap (λ (s : List Status). old ++ try_lines (place + 1) (map record_of s)) more)
+pub tries_more : (records : List Record) (place : ℕ) (ended : Record) (whole old new : List ℕ) → place < length records → ended ≡ get_or records place ended
+    → new ≡ old ++ try_line (place + 1) ended
+    → old ++ try_lines (place + 1) (drop place records) ≡ whole
+    → new ++ try_lines (place + 1 + 1) (drop (place + 1) records) ≡ whole
+tries_more records place ended whole old new within is grown so_far =
+    let more : drop place records ≡ ended ∷ drop (place + 1) records = drop_more records place ended within ∙ ap (λ (e : Record). e ∷ drop (place + 1) records) (sym is) in
+    ap (λ (t : List ℕ). t ++ try_lines (place + 1 + 1) (drop (place + 1) records)) grown
+    ∙ append_assoc old (try_line (place + 1) ended) (try_lines (place + 1 + 1) (drop (place + 1) records))
+    ∙ sym (ap (λ (s : List Record). old ++ try_lines (place + 1) s) more)
     ∙ so_far
 
 -- the parts of a test's line

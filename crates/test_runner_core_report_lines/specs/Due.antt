@@ -17,7 +17,12 @@ use Rattle.nextest_run_events_visibility.specs.declared.visibility.OutputOnTestF
 use Rattle.test_runner_core_run_model.specs.State.{TestState, finished_as, last_record}
 use Rattle.test_runner_core_run_model.specs.declared.mark.Mark.{Mark}
 use Rattle.test_runner_core_run_model.specs.declared.mark.Mark.TheVariants as marks
+use Rattle.test_runner_core_report_lines.specs.declared.finished_test.FinishedTest.{FinishedTest}
 use Rattle.test_runner_core_report_lines.specs.declared.shows.Shows.{Shows}
+
+-- the finished test that is meant
+abbrev pub finished_in : FinishedTest → Finished
+finished_in test = record { result = test.result.now; slow = test.slow; late = test.late; flaky = test.flaky }
 
 -- the level of a success that came late
 abbrev pub late_level : FlakyResult → StatusLevel

@@ -1,5 +1,6 @@
 pub mod Writing
 pub mod Due
 pub mod Texts
+pub mod Written
 pub mod Report
 pub mod Laws

@@ -1,11 +1,9 @@
 -- The lines that a report can have of a test, and of a script.
-use Rattle.std.specs.Prelude.{◌≡◌, ℕ, ◌+◌, Bool, true, false, not, List, [], ◌∷◌, ◌++◌, Option, Some, None, length, codes, decimal, map, if◌then◌else◌}
+use Rattle.std.specs.Prelude.{◌≡◌, ℕ, ◌+◌, Bool, true, false, not, List, [], ◌∷◌, ◌++◌, Option, Some, None, length, codes, decimal, if◌then◌else◌}
 use Rattle.std.specs.Fmt.{signed_decimal}
-use denote.Ref.{Bor}
 use Rattle.hex.specs.Hex.{encode_lower}
 use Rattle.nextest_config_elements_choices.specs.declared.timeouts.FlakyResult.TheVariants as flaky_rule
 use Rattle.nextest_config_elements_choices.specs.declared.timeouts.FlakyResult.{FlakyResult}
-use Rattle.nextest_run_events_counters.specs.Attempts.{Attempts}
 use Rattle.nextest_run_events_counters.specs.Rows.{Finished}
 use Rattle.nextest_run_events_results.specs.Result.{is_success}
 use Rattle.nextest_run_events_results.specs.declared.instance.OwnedTestInstanceId.{OwnedTestInstanceId}
@@ -22,10 +20,7 @@ use Rattle.nextest_run_events_slices.specs.declared.slices.ByteSubslice.{ByteSub
 use Rattle.nextest_run_events_slices.specs.declared.slices.TestOutputErrorSlice.TheVariants.{PanicMessage, ErrorStr, ShouldPanic}
 use Rattle.nextest_run_events_slices.specs.declared.slices.TestOutputErrorSlice.{TestOutputErrorSlice}
 use Rattle.test_runner_core_line_syntax.specs.Spelling.{line_of_fields, leak_word, timeout_word, leaked_suffix}
-use Rattle.test_runner_core_run_state.specs.Statuses.{Status, record_of}
 use Rattle.test_runner_core_run_model.specs.State.{TestState, finished_as, is_finished, last_record}
-use Rattle.test_runner_core_run_model.specs.declared.mark.Mark.{Mark}
-use Rattle.test_runner_core_run_model.specs.declared.run_test.RunTest.{RunTest}
 use Rattle.test_runner_core_report_lines.specs.declared.fate.ReportedFate.TheVariants as fates
 use Rattle.test_runner_core_report_lines.specs.declared.fate.ReportedFate.{ReportedFate}
 
@@ -33,20 +28,6 @@ use Rattle.test_runner_core_report_lines.specs.declared.fate.ReportedFate.{Repor
 pub record NamedTest : Type 0 where
   pub name : OwnedTestInstanceId
   pub state : TestState
-
--- the records that attempts report
-abbrev pub records_in : Option (Bor (Attempts Status)) → List Record
-records_in None = []
-records_in (Some attempts) = map record_of attempts.now.statuses
-
--- a test with these attempts
-abbrev pub test_with : RunTest → Mark → Attempts Status → TestState
-test_with plan mark attempts = record { plan = plan; records = map record_of attempts.statuses; mark = mark }
-
--- the attempts go by this flaky rule
-abbrev pub GoesBy : FlakyResult → Option (Bor (Attempts Status)) → Type 0
-GoesBy flaky None = Unit {0}
-GoesBy flaky (Some attempts) = attempts.now.flaky_result ≡ flaky
 
 -- a line has its fields with a tab between each two, and a line feed behind them
 abbrev pub line : List (List ℕ) → List ℕ

@@ -3,6 +3,7 @@
 #![tactic(auto)]
 
 mod fate;
+mod finished_test;
 pub mod laws;
 mod lines;
 mod outputs;
@@ -10,6 +11,7 @@ mod report;
 mod reported_test;
 mod shows;
 mod writing;
+mod written;
 
 pub use fate::ReportedFate;
 pub use report::{push_done, push_script, push_shown};

@@ -1,7 +1,6 @@
 // The lines of a test, of its attempts and of a script.
-ghost use Rattle.std.specs.Prelude.{◌≡◌, ◌∷◌, ◌++◌, OnOk, decimal, map, string_bytes};
-ghost use Rattle.std.specs.Duration.{as_nanos};
-ghost use Rattle.test_runner_core_run_state.specs.Statuses.{record_of, script_record_in};
+ghost use Rattle.std.specs.Prelude.{◌≡◌, ◌∷◌, ◌++◌, OnOk, decimal, string_bytes};
+ghost use Rattle.test_runner_core_run_state.specs.Statuses.{script_record_in};
 ghost use Rattle.test_runner_core_report_lines.specs.Texts.{end_by, failure_text, fate_of, fate_word, result_text, script_end, script_line, slow_word, test_line, tries_text, try_line, try_lines};
 ghost use Rattle.test_runner_core_report_lines.specs.Writing.{Extends};
 
@@ -9,12 +8,11 @@ use crate::reported_test::ReportedTest;
 use crate::writing::{push_feed, push_field, push_text};
 use itoa::Buffer;
 use nextest_config_elements_choices::{LeakTimeoutResult, SlowTimeoutResult};
-use nextest_run_events_outputs::{ExecuteStatus, LiveSpec, SetupScriptExecuteStatus};
+use nextest_run_events_outputs::{LiveSpec, SetupScriptExecuteStatus};
 use nextest_run_events_results::{
-    AbortDescription, ExecutionResultDescription, FailureDescription,
+    AbortDescription, ExecutionResultDescription, FailureDescription, Record,
 };
 use std::alloc::AllocError;
-use std::time::Duration;
 
 // Adds a line of this kind on the test.
 pub(crate) fn push_test_line(
@@ -119,37 +117,33 @@ fn slow_word(slow: bool) -> &'static str
     if slow { "slow" } else { "-" }
 }
 
-// Adds the line of an attempt with this number.
-fn push_try(
-    text: &mut String,
-    number: usize,
-    status: &ExecuteStatus<LiveSpec>,
-) -> Result<(), AllocError>
+// Adds the line of an attempt with this number, which ended so.
+fn push_try(text: &mut String, number: usize, ended: &Record) -> Result<(), AllocError>
     ensures ok { OnOk result
-        (string_bytes text.new ≡ string_bytes text.old ++ try_line number (record_of status.now)) }
+        (string_bytes text.new ≡ string_bytes text.old ++ try_line number ended.now) }
     ensures grows { Extends (string_bytes text.old) (string_bytes text.new) }
 {
     push_text(text, "try")?;
     push_field(text, Buffer::new().format(number))?;
-    push_end(text, &status.result, status.is_slow, status.time_taken)?;
+    push_end(text, &ended.result, ended.slow, u128::from(ended.nanos))?;
     push_feed(text)
 }
 
-// Adds a tab, and how an attempt or a script ended: with this result, slow or not, after this time.
+// Adds a tab, and how an attempt or a script ended: with this result, slow or not, after so many nanoseconds.
 fn push_end(
     text: &mut String,
     told: &ExecutionResultDescription,
     slow: bool,
-    time: Duration,
+    nanos: u128,
 ) -> Result<(), AllocError>
     ensures ok { OnOk result (string_bytes text.new
-        ≡ string_bytes text.old ++ 9 ∷ end_by told.now slow (as_nanos time)) }
+        ≡ string_bytes text.old ++ 9 ∷ end_by told.now slow nanos) }
     ensures grows { Extends (string_bytes text.old) (string_bytes text.new) }
 {
     push_text(text, "\t")?;
     push_result(text, told)?;
     push_field(text, slow_word(slow))?;
-    push_field(text, Buffer::new().format(time.as_nanos()))
+    push_field(text, Buffer::new().format(nanos))
 }
 
 // Adds a tab, and how a script ended, if it did.
@@ -162,7 +156,10 @@ fn push_script_end(
     ensures grows { Extends (string_bytes text.old) (string_bytes text.new) }
 {
     match status {
-        Some(status) => push_end(text, &status.result, status.is_slow, status.time_taken),
+        Some(status) => {
+            let nanos = status.time_taken.as_nanos();
+            push_end(text, &status.result, status.is_slow, nanos)
+        }
         None => push_field(text, "not-run"),
     }
 }
@@ -184,18 +181,15 @@ pub(crate) fn push_script_line(
 }
 
 // Adds the lines of all attempts.
-pub(crate) fn push_attempts(
-    text: &mut String,
-    statuses: &[ExecuteStatus<LiveSpec>],
-) -> Result<(), AllocError>
-    ensures ok { OnOk result (string_bytes text.new
-        ≡ string_bytes text.old ++ try_lines 1 (map record_of statuses.now)) }
+pub(crate) fn push_attempts(text: &mut String, records: &[Record]) -> Result<(), AllocError>
+    ensures ok { OnOk result
+        (string_bytes text.new ≡ string_bytes text.old ++ try_lines 1 records.now) }
     ensures grows { Extends (string_bytes text.old) (string_bytes text.new) }
 {
     let mut number = 0;
-    for status in statuses {
+    for ended in records {
         number += 1;
-        push_try(text, number, status)?;
+        push_try(text, number, ended)?;
     }
     Ok(())
 }

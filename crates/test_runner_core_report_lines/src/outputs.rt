@@ -2,54 +2,38 @@
 ghost use Rattle.std.specs.Prelude.{◌≡◌, ◌∷◌, ◌++◌, [], OnOk, decimal, length, option_copied, string_bytes};
 ghost use Rattle.hex.specs.Hex.{encode_lower};
 ghost use Rattle.nextest_run_events_results.specs.Result.{is_success};
-ghost use Rattle.test_runner_core_run_state.specs.Statuses.{record_of, script_record_in, record_output_of};
-ghost use Rattle.test_runner_core_report_lines.specs.Texts.{IsOutputs, IsShownSlice, err_of, line, message_line, out_of, part_line, script_outputs, slice_line, stream_line, written_text};
+ghost use Rattle.test_runner_core_run_state.specs.Statuses.{script_record_in};
+ghost use Rattle.test_runner_core_report_lines.specs.Texts.{IsOutputs, IsShownSlice, line, message_line, part_line, script_outputs, slice_line, stream_line, written_text};
 ghost use Rattle.test_runner_core_report_lines.specs.Writing.{Adds, Extends};
+ghost use Rattle.test_runner_core_report_lines.specs.Written.{written_meant};
 
 use crate::writing::{push_feed, push_field, push_hex, push_text};
+use crate::written::Written;
 use itoa::Buffer;
-use nextest_run_events_outputs::{
-    ChildExecutionOutputDescription, ChildOutputDescription, ChildSingleOutput,
-    ChildStartErrorDescription, ExecuteStatus, LiveSpec, SetupScriptExecuteStatus,
-};
+use nextest_run_events_outputs::{LiveSpec, SetupScriptExecuteStatus};
+use nextest_run_events_results::Record;
 use nextest_run_events_slices::{ByteSubslice, TestOutputErrorSlice};
 use std::alloc::AllocError;
 
-// Adds the outputs of an attempt.
-pub(crate) fn push_outputs(
-    text: &mut String,
-    status: &ExecuteStatus<LiveSpec>,
-) -> Result<(), AllocError>
+// Adds the outputs of an attempt that ended so.
+pub(crate) fn push_outputs(text: &mut String, ended: &Record) -> Result<(), AllocError>
     ensures ok { OnOk result
-        (Adds (IsOutputs (record_of status.now)) (string_bytes text.old) (string_bytes text.new)) }
+        (Adds (IsOutputs ended.now) (string_bytes text.old) (string_bytes text.new)) }
     ensures grows { Extends (string_bytes text.old) (string_bytes text.new) }
 {
-    push_written(text, &status.output)?;
-    push_slice(text, slice_of(status))
+    push_written(text, Written::in_record(&ended.output))?;
+    push_slice(text, slice_of(ended))
 }
 
 // Adds what an attempt or a script wrote, or why it could not be started.
-fn push_written(
-    text: &mut String,
-    output: &ChildExecutionOutputDescription<LiveSpec>,
-) -> Result<(), AllocError>
+fn push_written(text: &mut String, written: Written<'_>) -> Result<(), AllocError>
     ensures ok { OnOk result
-        (string_bytes text.new ≡ string_bytes text.old ++ written_text (record_output_of output.now)) }
+        (string_bytes text.new ≡ string_bytes text.old ++ written_text (written_meant written.entry)) }
     ensures grows { Extends (string_bytes text.old) (string_bytes text.new) }
 {
-    push_stream(text, "out", out_of(output))?;
-    push_stream(text, "err", err_of(output))?;
-    push_message(text, output)
-}
-
-// The bytes of a stream, lent.
-fn lent(stream: &Option<ChildSingleOutput>) -> Option<&[u8]>
-    ensures { option_copied result ≡ stream.now }
-{
-    match stream {
-        Some(output) => Some(output.buf()),
-        None => None,
-    }
+    push_stream(text, "out", written.out())?;
+    push_stream(text, "err", written.err())?;
+    push_message(text, written)
 }
 
 // Adds what a script wrote, or why it could not be started; nothing of a success, or of one that didn't end.
@@ -62,42 +46,10 @@ pub(crate) fn push_script_outputs(
     ensures grows { Extends (string_bytes text.old) (string_bytes text.new) }
 {
     match status {
-        Some(status) if !status.result.is_success() => push_written(text, &status.output),
+        Some(status) if !status.result.is_success() => {
+            push_written(text, Written::in_status(&status.output))
+        }
         _ => Ok(()),
-    }
-}
-
-// What was written to standard output, where it was captured. Both streams in one count as that.
-fn out_of(output: &ChildExecutionOutputDescription<LiveSpec>) -> Option<&[u8]>
-    ensures { option_copied result ≡ out_of (record_output_of output.now) }
-{
-    match output {
-        ChildExecutionOutputDescription::Output { output, .. } => match output {
-            ChildOutputDescription::Split { stdout, .. } => lent(stdout),
-            ChildOutputDescription::Combined { output } => Some(output.buf()),
-            ChildOutputDescription::NotLoaded => None,
-        },
-        ChildExecutionOutputDescription::StartError(error) => match error {
-            ChildStartErrorDescription::TempPath { .. } => None,
-            ChildStartErrorDescription::Spawn { .. } => None,
-        },
-    }
-}
-
-// What was written to standard error, where it was captured.
-fn err_of(output: &ChildExecutionOutputDescription<LiveSpec>) -> Option<&[u8]>
-    ensures { option_copied result ≡ err_of (record_output_of output.now) }
-{
-    match output {
-        ChildExecutionOutputDescription::Output { output, .. } => match output {
-            ChildOutputDescription::Split { stderr, .. } => lent(stderr),
-            ChildOutputDescription::Combined { .. } => None,
-            ChildOutputDescription::NotLoaded => None,
-        },
-        ChildExecutionOutputDescription::StartError(error) => match error {
-            ChildStartErrorDescription::TempPath { .. } => None,
-            ChildStartErrorDescription::Spawn { .. } => None,
-        },
     }
 }
 
@@ -126,37 +78,26 @@ fn push_hex_line(text: &mut String, word: &str, bytes: &[u8]) -> Result<(), Allo
 }
 
 // Adds the line that says why an attempt or a script could not be started.
-fn push_message(
-    text: &mut String,
-    output: &ChildExecutionOutputDescription<LiveSpec>,
-) -> Result<(), AllocError>
+fn push_message(text: &mut String, written: Written<'_>) -> Result<(), AllocError>
     ensures ok { OnOk result
-        (string_bytes text.new ≡ string_bytes text.old ++ message_line (record_output_of output.now)) }
+        (string_bytes text.new ≡ string_bytes text.old ++ message_line (written_meant written.entry)) }
     ensures grows { Extends (string_bytes text.old) (string_bytes text.new) }
 {
-    match output {
-        ChildExecutionOutputDescription::Output { output, .. } => match output {
-            ChildOutputDescription::Split { .. } => Ok(()),
-            ChildOutputDescription::Combined { .. } => Ok(()),
-            ChildOutputDescription::NotLoaded => Ok(()),
-        },
-        ChildExecutionOutputDescription::StartError(error) => match error {
-            ChildStartErrorDescription::TempPath { source }
-            | ChildStartErrorDescription::Spawn { source } => {
-                push_hex_line(text, "error", source.message().as_bytes())
-            }
-        },
+    match written {
+        Written::Streams { .. } => Ok(()),
+        Written::Message(message) => push_hex_line(text, "error", message.as_bytes()),
     }
 }
 
 // The part of an attempt's outputs that shows its error; none of a success.
-fn slice_of(status: &ExecuteStatus<LiveSpec>) -> Option<TestOutputErrorSlice<'_>>
-    ensures { IsShownSlice (is_success status.now.result) (record_output_of status.now.output) result }
+fn slice_of(ended: &Record) -> Option<TestOutputErrorSlice<'_>>
+    ensures { IsShownSlice (is_success ended.now.result) ended.now.output result }
 {
-    if status.result.is_success() {
+    if ended.result.is_success() {
         return None;
     }
-    TestOutputErrorSlice::heuristic_extract(out_of(&status.output), err_of(&status.output))
+    let written = Written::in_record(&ended.output);
+    TestOutputErrorSlice::heuristic_extract(written.out(), written.err())
 }
 
 // Adds the line of a part of an output, if there is one.

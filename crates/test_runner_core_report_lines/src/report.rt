@@ -166,10 +166,7 @@ fn push_each_attempt(text: &mut String, test: &ReportedTest<'_>) -> Result<(), A
         (string_bytes text.new ≡ string_bytes text.old ++ try_lines 1 test.now.state.records) }
     ensures grows { Extends (string_bytes text.old) (string_bytes text.new) }
 {
-    match test.attempts() {
-        Some(attempts) => push_attempts(text, attempts.as_slice()),
-        None => Ok(()),
-    }
+    push_attempts(text, test.records())
 }
 
 // Adds the outputs of a test's last attempt, if they are shown.
@@ -194,8 +191,8 @@ fn push_last_outputs(text: &mut String, test: &ReportedTest<'_>) -> Result<(), A
         (string_bytes text.old) (string_bytes text.new)) }
     ensures grows { Extends (string_bytes text.old) (string_bytes text.new) }
 {
-    match test.attempts() {
-        Some(attempts) => push_outputs(text, attempts.last_status()),
+    match test.records().last() {
+        Some(last) => push_outputs(text, last),
         None => Ok(()),
     }
 }

@@ -1,19 +1,13 @@
 // A test as a report shows it.
-ghost use Rattle.std.specs.Prelude.{◌≡◌, Some, length, if◌then◌else◌};
-ghost use Rattle.nextest_run_events_counters.specs.Counting.{finished_as};
-ghost use Rattle.test_runner_core_run_state.specs.Statuses.{IsAttempts};
-ghost use Rattle.test_runner_core_run_model.specs.State.{TestState, is_finished_mark};
-ghost use Rattle.test_runner_core_run_model.specs.declared.run_test.RunTest.{RunTest as Plan};
-ghost use Rattle.test_runner_core_report_lines.specs.Due.{due_of};
-ghost use Rattle.test_runner_core_report_lines.specs.Texts.{test_with, GoesBy, fate_after, fate_of, records_in};
-ghost use Rattle.test_runner_core_report_lines.specs.declared.fate.ReportedFate.TheVariants as fates;
+ghost use Rattle.std.specs.Prelude.{◌≡◌, length};
+ghost use Rattle.test_runner_core_run_model.specs.State.{finished_as, is_finished_mark};
+ghost use Rattle.test_runner_core_report_lines.specs.Due.{due_of, finished_in};
+ghost use Rattle.test_runner_core_report_lines.specs.Texts.{fate_of};
 
 use crate::fate::ReportedFate;
+use crate::finished_test::FinishedTest;
 use crate::shows::Shows;
-use nextest_config_elements_choices::FlakyResult;
-use nextest_run_events_counters::ExecutionStatuses;
-use nextest_run_events_outputs::{ExecuteStatus, LiveSpec};
-use nextest_run_events_results::TestInstanceId;
+use nextest_run_events_results::{Record, TestInstanceId};
 use nextest_run_events_visibility::OutputOnTestFinished;
 use std::marker::Model;
 use test_runner_core_run_model::{Mark, RunTest};
@@ -24,43 +18,38 @@ pub struct ReportedTest<'a> {
     name: TestInstanceId<'a>,
     plan: RunTest,
     mark: Mark,
-    attempts: Option<&'a ExecutionStatuses<LiveSpec>>,
+    records: &'a [Record],
 }
 
 impl<'a> Model for ReportedTest<'a> {
-    ghost use Rattle.test_runner_core_report_lines.specs.Texts.{GoesBy, NamedTest, records_in};
+    ghost use Rattle.test_runner_core_report_lines.specs.Texts.{NamedTest};
 
     ghost Value = { NamedTest };
 
     ghost view = { λ t. record {
       name = record { binary_id = t.name.binary_id.now; test_name = t.name.test_name.now };
-      state = record { plan = t.plan; records = records_in t.attempts; mark = t.mark };
+      state = record { plan = t.plan; records = t.records.now; mark = t.mark };
     } };
-
-    ghost invariant = { λ t. GoesBy t.plan.flaky t.attempts };
 }
 
 impl<'a> ReportedTest<'a> {
-    /// The test of this name with these ended attempts, which go by its flaky rule: `None` where none ended.
+    /// The test of this name, how far it is, and the records of its ended attempts.
     pub fn new(
         name: TestInstanceId<'a>,
         plan: RunTest,
         mark: Mark,
-        attempts: Option<&'a ExecutionStatuses<LiveSpec>>,
+        records: &'a [Record],
     ) -> ReportedTest<'a>
-        requires { GoesBy plan.flaky attempts }
         ensures binary { result.name.binary_id ≡ name.entry.binary_id.now }
         ensures name { result.name.test_name ≡ name.entry.test_name.now }
         ensures state { result.state
-            ≡ record { plan = plan; records = records_in attempts.entry; mark = mark } }
-        ensures attempts { (test : TestState) → test.plan ≡ plan → test.mark ≡ mark
-            → IsAttempts (Some test) attempts.entry → result.state ≡ test }
+            ≡ record { plan = plan; records = records.now; mark = mark } }
     {
         ReportedTest {
             name,
             plan,
             mark,
-            attempts,
+            records,
         }
     }
 
@@ -89,55 +78,48 @@ impl<'a> ReportedTest<'a> {
     pub fn ended(&self) -> usize
         ensures { result ≡ length self.now.state.records }
     {
-        match self.attempts {
-            Some(attempts) => attempts.len(),
-            None => 0,
-        }
+        self.records.len()
     }
 
-    /// Its ended attempts; `None` where none ended.
-    pub fn attempts(&self) -> Option<&'a ExecutionStatuses<LiveSpec>>
-        ensures records { records_in result ≡ self.now.state.records }
-        ensures rule { GoesBy self.now.state.plan.flaky result }
+    /// The records of its ended attempts, in their order.
+    pub fn records(&self) -> &'a [Record]
+        ensures { result.now ≡ self.now.state.records }
     {
-        self.attempts
+        self.records
     }
 
     /// What is due of it, where it is finished: by the reason under which it finished, whatever reason stands now.
     pub fn due(&self, shows: &Shows) -> Option<OutputOnTestFinished>
         ensures { result ≡ due_of shows.now self.now.state }
     {
-        let attempts = self.attempts?;
-        due_by(shows, self.mark, attempts)
+        let last = self.records.last()?;
+        match self.mark {
+            Mark::Finished(reason) => Some(shows.due_after(reason, self.finished_by(last))),
+            Mark::Waiting | Mark::Running | Mark::Between => None,
+        }
     }
 
     /// What became of it.
     pub fn fate(&self) -> ReportedFate
         ensures { result ≡ fate_of self.now.state }
     {
-        match self.attempts {
-            Some(attempts) => fate_by(self.mark, attempts, attempts.last_status()),
+        match self.records.last() {
+            Some(last) if is_finished(self.mark) => self.finished_by(last).fate(),
+            Some(_) => ReportedFate::Unfinished,
             None => ReportedFate::NotRun,
         }
     }
-}
 
-// What is due of a test with these ended attempts.
-fn due_by(
-    shows: &Shows,
-    mark: Mark,
-    attempts: &ExecutionStatuses<LiveSpec>,
-) -> Option<OutputOnTestFinished>
-    ensures { (plan : Plan) → attempts.now.flaky_result ≡ plan.flaky
-        → result ≡ due_of shows.now (test_with plan mark attempts.now) }
-{
-    match mark {
-        Mark::Finished(reason) => {
-            Some(shows.due_after(reason, attempts, attempts.last_status()))
+    // The finished test whose last attempt this is.
+    fn finished_by(&self, last: &'a Record) -> FinishedTest<'a>
+        ensures { finished_in result ≡ finished_as self.now.state last.now }
+    {
+        FinishedTest {
+            result: &last.result,
+            slow: last.slow,
+            late: self.records.len() > 1,
+            flaky: self.plan.flaky,
         }
-        Mark::Waiting => None,
-        Mark::Running => None,
-        Mark::Between => None,
     }
 }
 
@@ -147,44 +129,6 @@ fn is_finished(mark: Mark) -> bool
 {
     match mark {
         Mark::Finished(_) => true,
-        Mark::Waiting => false,
-        Mark::Running => false,
-        Mark::Between => false,
-    }
-}
-
-// What became of a test with these ended attempts.
-fn fate_by(
-    mark: Mark,
-    attempts: &ExecutionStatuses<LiveSpec>,
-    last: &ExecuteStatus<LiveSpec>,
-) -> ReportedFate
-    ensures { result ≡ (if is_finished_mark mark then fate_after (finished_as attempts.now last.now)
-        else fates.Unfinished) }
-{
-    if is_finished(mark) {
-        fate_after(attempts, last)
-    } else {
-        ReportedFate::Unfinished
-    }
-}
-
-// What a test that finished with these attempts came to.
-fn fate_after(
-    attempts: &ExecutionStatuses<LiveSpec>,
-    last: &ExecuteStatus<LiveSpec>,
-) -> ReportedFate
-    ensures { result ≡ fate_after (finished_as attempts.now last.now) }
-{
-    if !last.result.is_success() {
-        return ReportedFate::Fail;
-    }
-    let late = attempts.len() > 1;
-    if !late {
-        return ReportedFate::Pass;
-    }
-    match attempts.flaky_result() {
-        FlakyResult::Pass => ReportedFate::Flaky,
-        FlakyResult::Fail => ReportedFate::FlakyFail,
+        Mark::Waiting | Mark::Running | Mark::Between => false,
     }
 }

@@ -1,12 +1,9 @@
 // What a profile sets of what is shown of tests.
-ghost use Rattle.std.specs.Prelude.{◌≡◌, Some, if◌then◌else◌};
-ghost use Rattle.nextest_run_events_counters.specs.Attempts.{last};
-ghost use Rattle.nextest_run_events_counters.specs.Counting.{finished_as};
-ghost use Rattle.test_runner_core_report_lines.specs.Due.{due_after};
+ghost use Rattle.std.specs.Prelude.{◌≡◌, if◌then◌else◌};
+ghost use Rattle.test_runner_core_report_lines.specs.Due.{due_after, finished_in};
 
+use crate::finished_test::FinishedTest;
 use nextest_config_elements_choices::TestOutputDisplay;
-use nextest_run_events_counters::ExecutionStatuses;
-use nextest_run_events_outputs::{ExecuteStatus, LiveSpec};
 use nextest_run_events_results::CancelReason;
 use nextest_run_events_visibility::{OutputOnTestFinished, StatusLevels};
 
@@ -33,23 +30,20 @@ impl Shows {
         }
     }
 
-    // What is due of a test that finished with these attempts under this reason, by the last of them.
+    // What is due of a test that finished so under this reason.
     pub(crate) fn due_after(
         &self,
         reason: Option<CancelReason>,
-        attempts: &ExecutionStatuses<LiveSpec>,
-        final_status: &ExecuteStatus<LiveSpec>,
+        test: FinishedTest<'_>,
     ) -> OutputOnTestFinished
-        ensures { last attempts.now.statuses ≡ Some final_status.now
-            → result ≡ due_after self.now reason (finished_as attempts.now final_status.now) }
+        ensures { result ≡ due_after self.now reason (finished_in test.entry) }
     {
-        let told = attempts.describe();
         self.levels.compute_output_on_test_finished(
-            self.display(told.is_success_for_output()),
+            self.display(test.result.is_success()),
             reason,
-            told.status_level(),
-            told.final_status_level(),
-            &final_status.result,
+            test.status_level(),
+            test.final_status_level(),
+            test.result,
         )
     }
 }

@@ -2,9 +2,9 @@ use Rattle.std.proofs.Common.{◌≡◌, ℕ, List, Option, ◌++◌, ap, ◌∙
 use Rattle.std.specs.Prelude.{codes, option_copied}
 use Rattle.std.proofs.lemmas.Result.{IfOk-from_err, on_ok_weaker}
 use Rattle.nextest_run_events_results.specs.declared.record.RecordOutput.{RecordOutput}
-use Rattle.test_runner_core_run_state.specs.Statuses.{record_output_of}
 use Rattle.test_runner_core_report_lines.proofs.Fronts.{extends_then}
 use Rattle.test_runner_core_report_lines.specs.Texts.{err_of, message_line, out_of, stream_line, written_text}
+use Rattle.test_runner_core_report_lines.specs.Written.{written_meant}
 use Rattle.test_runner_core_report_lines.proofs.outputs.push_written.Goals as goal
 
 parts_grown : (old out err message first second new : List ℕ) → first ≡ old ++ out → second ≡ first ++ err → new ≡ second ++ message
@@ -37,7 +37,7 @@ returns-in_err-push_stream-2-clause-grows c = extends_then _ _ _ c.push_stream.e
 pub returns-clause-ok : goal.returns-clause-ok
 returns-clause-ok c =
     on_ok_weaker c.push_message.result
-    (written_grown (record_output_of c.args.output.now) (option_copied c.out_of.result) (option_copied c.err_of.result) (string_bytes c.args.text.now) _ _ (string_bytes c.push_message.new.text) c.out_of.ensures c.err_of.ensures c.in_ok-push_stream.ensures.ok c.in_ok-push_stream-2.ensures.ok)
+    (written_grown (written_meant c.args.written) (option_copied c.out.result) (option_copied c.err.result) (string_bytes c.args.text.now) _ _ (string_bytes c.push_message.new.text) c.out.ensures c.err.ensures c.in_ok-push_stream.ensures.ok c.in_ok-push_stream-2.ensures.ok)
     c.push_message.ensures.ok
 
 pub returns-clause-grows : goal.returns-clause-grows
