@@ -13,7 +13,7 @@ use crate::refused_line::{RefusedLine, refusal_for, refused_at};
 use std::alloc::Global;
 use test_runner_core_log_reader::{LogLines, Next};
 use test_runner_core_reporter::{ReportFault, report_opening, write_waiting};
-use test_runner_core_session::Session;
+use test_runner_core_session::RecordSession;
 use test_runner_core_streams::{LogReader, ReportWriter};
 
 // Takes the run of a plan from its beginning by the lines of a log, as `lines` cuts them from the reader, up to the first
@@ -21,7 +21,7 @@ use test_runner_core_streams::{LogReader, ReportWriter};
 // then what the steps finish; all that is reported is written before the reader is asked for more.
 pub(crate) fn judge_lines<R: LogReader, W: ReportWriter>(
     alloc: Global,
-    session: &mut Session<'_>,
+    session: &mut RecordSession<'_>,
     lines: &mut LogLines,
     log: &mut R,
     text: &mut String,

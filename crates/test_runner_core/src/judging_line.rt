@@ -15,7 +15,7 @@ use test_runner_core_line_syntax::{LentLine, LentRecord, SpellingError};
 use test_runner_core_reporter::{ReportFault, report_step};
 use test_runner_core_run_model::{Finished, StepRefusal};
 use test_runner_core_run_state::StartFault;
-use test_runner_core_session::Session;
+use test_runner_core_session::RecordSession;
 use test_runner_core_streams::ReportWriter;
 
 // What became of a line's event.
@@ -30,7 +30,7 @@ pub(crate) enum LineStep {
 // Judges the bytes of one line, and reports what its step finishes: why they are refused, if they are.
 pub(crate) fn judge_line<W: ReportWriter>(
     alloc: Global,
-    session: &mut Session<'_>,
+    session: &mut RecordSession<'_>,
     bytes: &[u8],
     text: &mut String,
     report: &mut W,
@@ -53,7 +53,7 @@ pub(crate) fn judge_line<W: ReportWriter>(
 // Takes the step of a line's event, and reports what it finishes: why it is refused, if it is.
 fn report_line<W: ReportWriter>(
     alloc: Global,
-    session: &mut Session<'_>,
+    session: &mut RecordSession<'_>,
     line: LentLine<'_>,
     text: &mut String,
     report: &mut W,
@@ -77,7 +77,7 @@ fn report_line<W: ReportWriter>(
 // Takes the step of a line's event.
 fn take_step(
     alloc: Global,
-    session: &mut Session<'_>,
+    session: &mut RecordSession<'_>,
     line: LentLine<'_>,
 ) -> Result<LineStep, AllocError>
     ensures taken { IfOk result (λ it. Steps it session.old (line_meant line.entry) session.new) }
@@ -109,7 +109,7 @@ fn step_of(answer: Result<Finished, StepRefusal>) -> LineStep
 // A script ended.
 fn end_script(
     alloc: Global,
-    session: &mut Session<'_>,
+    session: &mut RecordSession<'_>,
     id: &str,
     record: LentRecord<'_>,
 ) -> Result<LineStep, AllocError>
@@ -122,7 +122,7 @@ fn end_script(
 }
 
 // An attempt starts, which finishes no test.
-fn start(session: &mut Session<'_>, binary: &str, name: &str) -> Result<LineStep, AllocError>
+fn start(session: &mut RecordSession<'_>, binary: &str, name: &str) -> Result<LineStep, AllocError>
     ensures taken { IfOk result
         (λ it. Steps it session.old (lines.Start binary.now name.now) session.new) }
     ensures kept { OnErr result (session.new ≡ session.old) }
@@ -144,7 +144,7 @@ fn start(session: &mut Session<'_>, binary: &str, name: &str) -> Result<LineStep
 // An attempt ended. Of its record that is kept which a report may show.
 fn end(
     alloc: Global,
-    session: &mut Session<'_>,
+    session: &mut RecordSession<'_>,
     binary: &str,
     name: &str,
     record: LentRecord<'_>,

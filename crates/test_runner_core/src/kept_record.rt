@@ -10,12 +10,12 @@ use nextest_config_elements_choices::TestOutputDisplay;
 use nextest_run_events_results::{Record, TestInstanceId};
 use std::alloc::{AllocError, Global};
 use test_runner_core_line_syntax::{LentOutput, LentRecord, LentStream};
-use test_runner_core_session::Session;
+use test_runner_core_session::RecordSession;
 
 // The record of an attempt of a test, as far as a report can show it: without what was written in a success that is never shown.
 pub(crate) fn record_to_keep(
     alloc: Global,
-    session: &Session<'_>,
+    session: &RecordSession<'_>,
     test: TestInstanceId<'_>,
     record: LentRecord<'_>,
 ) -> Result<Record, AllocError>
@@ -49,7 +49,7 @@ fn is_unwritten(output: LentOutput<'_>) -> bool
 }
 
 // Whether the test of a name shows nothing of its successes.
-fn hides_success(session: &Session<'_>, test: TestInstanceId<'_>) -> bool
+fn hides_success(session: &RecordSession<'_>, test: TestInstanceId<'_>) -> bool
     ensures { result ≡ hides_success session.now.plan.tests
         (place_in session.now.plan test.entry.binary_id.now test.entry.test_name.now) }
 {

@@ -17,7 +17,7 @@ use test_runner_core_log_reader::LogLines;
 use test_runner_core_plan::Plan;
 use test_runner_core_planning::PlanFault;
 use test_runner_core_reporter::{ReportFault, report_final, report_words, write_waiting};
-use test_runner_core_session::Session;
+use test_runner_core_session::RecordSession;
 use test_runner_core_streams::{LogReader, ReportWriter, write_all};
 
 // The exit status where a line, or a stream's first line, is refused.
@@ -43,7 +43,7 @@ pub(crate) fn judge_plan<R: LogReader, W: ReportWriter>(
     ensures write_failures { CountsWriteFailures result (W.failures report.old)
         (W.failures report.new) (W.last_failed report.new) }
 {
-    let mut session = Session::new(alloc, plan)?;
+    let mut session = RecordSession::new(alloc, plan)?;
     let mut text = String::new(alloc);
     let found = judge_lines(alloc, &mut session, lines, log, &mut text, report)?;
     Ok(end_report(alloc, &mut text, report, &session, found)?)
@@ -54,7 +54,7 @@ fn end_report<W: ReportWriter>(
     alloc: Global,
     text: &mut String,
     report: &mut W,
-    session: &Session<'_>,
+    session: &RecordSession<'_>,
     found: Option<RefusedLine>,
 ) -> Result<u8, ReportFault>
     requires writes_fit { W.failures report.old < 2 ^ 62 }
@@ -75,7 +75,7 @@ fn report_ending<W: ReportWriter>(
     alloc: Global,
     text: &mut String,
     report: &mut W,
-    session: &Session<'_>,
+    session: &RecordSession<'_>,
     found: Option<RefusedLine>,
 ) -> Result<u8, ReportFault>
     requires writes_fit { W.failures report.old < 2 ^ 62 }

@@ -1,46 +1,40 @@
 -- What is reported of a run is reported of what is kept of it.
-use Rattle.std.proofs.Common.{◌≡◌, ℕ, zero, suc, ◌+◌, ◌-◌, Bool, true, false, ◌&&◌, ◌||◌, List, [], ◌∷◌, ◌++◌, length, map, codes, decimal, Option, Some, None, refl, sym, ap, ◌∙◌, subst, inl, inr}
+use Rattle.std.proofs.Common.{◌≡◌, ℕ, zero, suc, ◌+◌, Bool, true, false, ◌&&◌, ◌||◌, List, [], ◌∷◌, ◌++◌, map, codes, decimal, Option, Some, None, refl, sym, ap, ◌∙◌, subst, inl, inr}
 use Rattle.std.specs.Prelude.{◌⊎◌, not, slice_get, if◌then◌else◌}
-use Rattle.std.specs.Option.{option_map, option_map_or}
+use Rattle.std.specs.Option.{option_map}
 use Rattle.std.proofs.lemmas.Bool.{true≢false}
 use Rattle.std.proofs.lemmas.List.{length-map}
 use Rattle.nextest_config_elements_choices.specs.Display.{shown_at_end, shown_at_once}
 use Rattle.nextest_config_elements_choices.specs.declared.output_display.TestOutputDisplay.{TestOutputDisplay}
-use Rattle.nextest_config_elements_choices.specs.declared.output_display.TestOutputDisplay.TheVariants as display
 use Rattle.nextest_run_events_counters.specs.Rows.{Finished}
 use Rattle.nextest_run_events_counters.specs.Summary.{summary_of}
 use Rattle.nextest_run_events_counters.specs.declared.run_stats.RunStats.{RunStats}
 use Rattle.nextest_run_events_results.specs.Result.{is_success}
 use Rattle.nextest_run_events_results.specs.declared.cancel_reason.CancelReason.{CancelReason}
 use Rattle.nextest_run_events_results.specs.declared.record.Record.{Record}
-use Rattle.nextest_run_events_results.specs.declared.record.RecordOutput.TheVariants as wrote
 use Rattle.nextest_run_events_visibility.specs.Visibility.{is_at_most_signal, is_signal, is_stored, shows_at_once, shows_output_at_end, was_ended_by_run}
 use Rattle.nextest_run_events_visibility.specs.declared.visibility.OutputOnTestFinished.{OutputOnTestFinished}
 use Rattle.nextest_run_events_visibility.specs.declared.visibility.OutputStoreFinal.{OutputStoreFinal}
 use Rattle.nextest_run_events_visibility.specs.declared.visibility.OutputStoreFinal.TheVariants as stored
 use Rattle.test_runner_core_plan.specs.declared.plan.Plan.{Plan}
 use Rattle.test_runner_core_plan.specs.declared.plan.PlanTest.{PlanTest}
-use Rattle.test_runner_core_report_lines.specs.Due.{display_of, due_after, due_by, due_of, final_level_of_test, level_of_test}
-use Rattle.test_runner_core_report_lines.specs.Report.{IsDone, IsDoneBy, IsShown, IsShownBy, IsShownOutputs, kept_of}
-use Rattle.test_runner_core_report_lines.specs.Texts.{NamedTest, end_by, fate_after, fate_by, fate_of, fate_word, line, test_line, tries_text, try_lines}
-use Rattle.test_runner_core_report_lines.specs.declared.fate.ReportedFate.{ReportedFate}
+use Rattle.test_runner_core_report_lines.specs.Due.{display_of, due_after, due_by, due_of, final_level_of_test}
+use Rattle.test_runner_core_report_lines.specs.Report.{IsDoneBy, IsShownBy, IsShownOutputs, kept_of}
+use Rattle.test_runner_core_report_lines.specs.Texts.{NamedTest, end_by, fate_after, fate_by, fate_of, fate_word, line, test_line, try_lines}
 use Rattle.test_runner_core_report_lines.specs.declared.fate.ReportedFate.TheVariants as fates
 use Rattle.test_runner_core_report_lines.specs.declared.shows.Shows.{Shows}
-use Rattle.test_runner_core_run_model.specs.Counters.{counters, status, status_of}
-use Rattle.test_runner_core_run_model.specs.Finishing.{KeepsReasons, finishing}
-use Rattle.test_runner_core_run_model.specs.RunPlan.{RunPlan}
-use Rattle.test_runner_core_run_model.specs.State.{State, TestState, finished_as, initial, is_finished, last_record}
-use Rattle.test_runner_core_run_model.specs.Step.{step}
+use Rattle.test_runner_core_run_model.specs.Counters.{status, status_of}
+use Rattle.test_runner_core_run_model.specs.Finishing.{finishing}
+use Rattle.test_runner_core_run_model.specs.State.{State, TestState, finished_as, is_finished, last_record}
 use Rattle.test_runner_core_run_model.specs.declared.event.Event.{Event}
 use Rattle.test_runner_core_run_model.specs.declared.mark.Mark.{Mark}
 use Rattle.test_runner_core_run_model.specs.declared.mark.Mark.TheVariants as marks
-use Rattle.test_runner_core_reporter.specs.Final.{done_part, final_parts, script_parts, shown_part, shown_tests, shows_of}
+use Rattle.test_runner_core_reporter.specs.Final.{final_parts, script_parts, shown_part, shown_tests, shows_of}
 use Rattle.test_runner_core_reporter.specs.Keeping.{event_with, hides_success, is_never_shown, record_to_keep, state_to_keep, state_with, tests_with, unwritten, with_records}
-use Rattle.test_runner_core_reporter.specs.Parts.{Done, IsPart, IsTextOf, Part, Said, Shown}
+use Rattle.test_runner_core_reporter.specs.Parts.{Done, IsPart, IsTextOf, Part, Shown}
 use Rattle.test_runner_core_reporter.specs.RunEnd.{end_text}
 use Rattle.test_runner_core_reporter.specs.Steps.{all_done, done, done_at, step_parts}
 use Rattle.test_runner_core_reporter.specs.Writes.{WritesAll, WritesPrefix}
-use Rattle.test_runner_core_reporter.specs.declared.final_text.ShownTest.{ShownTest}
 use Rattle.test_runner_core_reporter.proofs.KeptRuns.{KeepEnds, KeepsEnd, counters_with, finished_with, finishing_with, last_with}
 
 -- ---- lists of parts that have the same texts

@@ -9,14 +9,13 @@ use Rattle.nextest_config_elements_choices.specs.MaxFail.{mode_at}
 use Rattle.nextest_config_elements_choices.specs.declared.max_fail.TerminateMode.{TerminateMode}
 use Rattle.nextest_run_events_counters.specs.Rows as rows
 use Rattle.nextest_run_events_counters.specs.Rows.{Finished, fails_test}
-use Rattle.nextest_run_events_counters.specs.declared.run_stats.RunStats.{RunStats}
 use Rattle.nextest_run_events_results.specs.Cancel.{graver_reason, is_inner}
 use Rattle.nextest_run_events_results.specs.Result.{is_success}
 use Rattle.nextest_run_events_results.specs.declared.cancel_reason.CancelReason.{CancelReason}
 use Rattle.nextest_run_events_results.specs.declared.cancel_reason.CancelReason.TheVariants as why
 use Rattle.nextest_run_events_results.specs.declared.record.Record.{Record}
 use Rattle.test_runner_core_run_model.specs.Counters.{counters}
-use Rattle.test_runner_core_run_model.specs.Finishing.{KeepsReasons, finished_at, finishing, is_stopped_at, is_stopped_mark, newly_finished, newly_finished_at, places_among}
+use Rattle.test_runner_core_run_model.specs.Finishing.{KeepsReasons, finished_at, finishing, is_stopped_mark, newly_finished, places_among}
 use Rattle.test_runner_core_run_model.specs.RunPlan.{RunPlan, weight}
 use Rattle.test_runner_core_run_model.specs.State.{State, TestState, counts, failed_weight, finished_as, initial, is_finished, last_record, waiting}
 use Rattle.test_runner_core_run_model.specs.Step.{after_attempt, after_limit, after_script, attempt_ended, end_from, finished_by, finishes, limit_reason, script_ended, start_from, start_of, state_after_start, state_after_stop, step, stopped_by, with_test}

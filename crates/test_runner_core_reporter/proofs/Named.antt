@@ -6,10 +6,12 @@ use Rattle.test_runner_core_plan.specs.declared.plan.Plan.{Plan}
 use Rattle.test_runner_core_plan.specs.declared.plan.PlanTest.{PlanTest}
 use Rattle.test_runner_core_report_lines.specs.Texts.{NamedTest}
 use Rattle.test_runner_core_report_lines.specs.declared.shows.Shows.{Shows}
-use Rattle.test_runner_core_run_state.specs.Statuses.{IsAttempts}
+use Rattle.nextest_run_events_results.specs.declared.record.Record.{Record}
+use Rattle.test_runner_core_run_model.specs.declared.mark.Mark.{Mark}
+use Rattle.test_runner_core_run_model.specs.declared.run_test.RunTest.{RunTest}
 use Rattle.test_runner_core_run_model.specs.State.{TestState}
-use Rattle.test_runner_core_session.specs.Session.{IsFate}
-use Rattle.test_runner_core_session.specs.declared.session.Fate.{Fate}
+use Rattle.test_runner_core_session.specs.Session.{IsKeptTest}
+use Rattle.test_runner_core_session.specs.declared.plan_run.KeptTest.{KeptTest}
 use Rattle.test_runner_core_reporter.specs.Final.{part_of_shown, shown_part, shown_tests, shows_of}
 use Rattle.test_runner_core_reporter.specs.Parts.{Part}
 use Rattle.test_runner_core_reporter.specs.Writes.{WritesAll, WritesPrefix}
@@ -46,11 +48,12 @@ no_state plan (first ∷ tests) [] place none = refl
 no_state plan (first ∷ tests) (one ∷ states) zero none = absurd (let e = none in cc)
 no_state plan (first ∷ tests) (one ∷ states) (suc place) none = no_state plan tests states place none
 
--- by how far a test is reported to be
-pub fate_none : (plan : Plan) (tests : List PlanTest) (states : List TestState) (place : ℕ) → IsFate (slice_get states place) None → slice_get (shown_tests plan tests states) place ≡ None
-fate_none plan tests states place is = by_state (slice_get states place) refl is
+-- by what is kept of a test
+pub kept_none : {Kept : Type 0} (are_of : RunTest → Kept → Type 0) (records : Kept → List Record) (plan : Plan) (tests : List PlanTest) (states : List TestState) (place : ℕ)
+    → IsKeptTest are_of records (slice_get states place) None → slice_get (shown_tests plan tests states) place ≡ None
+kept_none are_of records plan tests states place is = by_state (slice_get states place) refl is
   where
-    by_state : (found : Option TestState) → slice_get states place ≡ found → IsFate found None → slice_get (shown_tests plan tests states) place ≡ None
+    by_state : (found : Option TestState) → slice_get states place ≡ found → IsKeptTest are_of records found None → slice_get (shown_tests plan tests states) place ≡ None
     by_state None e is = no_state plan tests states place e
     by_state (Some state) e is = absurd is
 
@@ -67,18 +70,28 @@ unfolding with_shows
 shown_as plan shows told test state set named =
     ap (λ (s : Shows). Some (record { shows = s; test = told })) set ∙ ap (λ (t : NamedTest). Some (record { shows = shows_of plan test; test = t })) named
 
-pub fate_some : (plan : Plan) (tests : List PlanTest) (states : List TestState) (place : ℕ) (test : PlanTest) (fate : Fate) (shows : Shows) (told : NamedTest)
-    → slice_get tests place ≡ Some test → IsFate (slice_get states place) (Some fate) → shows ≡ shows_of plan test
+abbrev state_as : RunTest → List Record → Mark → TestState
+state_as plan records mark = record { plan = plan; records = records; mark = mark }
+
+pub kept_some : {Kept : Type 0} (are_of : RunTest → Kept → Type 0) (records : Kept → List Record) (plan : Plan) (tests : List PlanTest) (states : List TestState) (place : ℕ)
+    (test : PlanTest) (kept : KeptTest Kept) (shows : Shows) (told : NamedTest) (own : List Record)
+    → slice_get tests place ≡ Some test → IsKeptTest are_of records (slice_get states place) (Some kept) → shows ≡ shows_of plan test
     → told.name.binary_id ≡ test.instance.binary_id → told.name.test_name ≡ test.instance.test_name
-    → ((state : TestState) → state.plan ≡ fate.plan → state.mark ≡ fate.mark → IsAttempts (Some state) fate.attempts → told.state ≡ state)
+    → told.state ≡ record { plan = kept.plan; records = own; mark = kept.mark } → own ≡ records kept.attempts.now
     → Some (record { shows = shows; test = told }) ≡ slice_get (shown_tests plan tests states) place
 unfolding with_shows
-fate_some plan tests states place test fate shows told here is set binary name as_told = by_state (slice_get states place) refl is
+kept_some are_of records plan tests states place test kept shows told own here is set binary name as_told same = by_state (slice_get states place) refl is
   where
-    by_state : (found : Option TestState) → slice_get states place ≡ found → IsFate found (Some fate) → Some (record { shows = shows; test = told }) ≡ slice_get (shown_tests plan tests states) place
+    by_state : (found : Option TestState) → slice_get states place ≡ found → IsKeptTest are_of records found (Some kept) → Some (record { shows = shows; test = told }) ≡ slice_get (shown_tests plan tests states) place
     by_state None e is = absurd is
     by_state (Some state) e is =
-        shown_as plan shows told test state set (named_as told test state binary name (as_told state (sym is.1) (sym is.0) is.2)) ∙ sym (shown_here plan tests states place test state here e)
+        let whole : told.state ≡ state =
+        as_told
+        ∙ ap (λ (p : RunTest). state_as p own kept.mark) is.1
+        ∙ ap (λ (m : Mark). state_as state.plan own m) is.0
+        ∙ ap (λ (r : List Record). state_as state.plan r state.mark) (same ∙ is.2.1)
+        in
+        shown_as plan shows told test state set (named_as told test state binary name whole) ∙ sym (shown_here plan tests states place test state here e)
 
 -- there are no more than the plan has
 pub shown_within : (plan : Plan) (tests : List PlanTest) (states : List TestState) → length (shown_tests plan tests states) ≤ length tests

@@ -11,7 +11,7 @@ use crate::run_end::RunEnd;
 use std::alloc::Global;
 use test_runner_core_plan::{Plan, PlanTest};
 use test_runner_core_report_lines::{ReportedTest, Shows};
-use test_runner_core_session::Session;
+use test_runner_core_session::RecordSession;
 use test_runner_core_streams::ReportWriter;
 
 /// A test of a plan, as far as its run is, with what is set of what is shown of it.
@@ -36,17 +36,21 @@ fn shows_of(plan: &Plan, test: &PlanTest) -> Shows
 }
 
 // The test at a place of the plan, as far as the run is, with what is set of what is shown of it.
-pub(crate) fn shown_test_at<'s>(session: &'s Session<'_>, place: usize) -> Option<ShownTest<'s>>
+pub(crate) fn shown_test_at<'s>(
+    session: &'s RecordSession<'_>,
+    place: usize,
+) -> Option<ShownTest<'s>>
     ensures { result ≡ slice_get
         (shown_tests session.now.plan session.now.plan.tests session.now.run.tests) place }
 {
     let plan = session.plan();
     let tests = plan.tests.as_slice();
     let test = tests.get(place)?;
-    let fate = session.fate_at(place)?;
+    let kept = session.kept_at(place)?;
+    let records = kept.attempts.as_slice();
     Some(ShownTest {
         shows: shows_of(plan, test),
-        test: ReportedTest::new(test.instance.as_ref(), fate.plan, fate.mark, fate.attempts),
+        test: ReportedTest::new(test.instance.as_ref(), kept.plan, kept.mark, records),
     })
 }
 
@@ -55,7 +59,7 @@ pub fn report_final<W: ReportWriter>(
     alloc: Global,
     text: &mut String,
     report: &mut W,
-    session: &Session<'_>,
+    session: &RecordSession<'_>,
 ) -> Result<(), ReportFault>
     requires writes_fit { W.failures report.old < 2 ^ 63 }
     ensures writes { WritesParts result (final_parts session.now.plan session.now.run)
@@ -73,7 +77,7 @@ fn report_end<W: ReportWriter>(
     alloc: Global,
     text: &mut String,
     report: &mut W,
-    session: &Session<'_>,
+    session: &RecordSession<'_>,
 ) -> Result<(), ReportFault>
     requires writes_fit { W.failures report.old < 2 ^ 63 }
     ensures writes { WritesParts result (Said (end_text (end_of session.now.run)) ∷ [])
@@ -93,7 +97,7 @@ fn report_end<W: ReportWriter>(
 fn report_scripts<W: ReportWriter>(
     text: &mut String,
     report: &mut W,
-    session: &Session<'_>,
+    session: &RecordSession<'_>,
 ) -> Result<(), ReportFault>
     requires writes_fit { W.failures report.old < 2 ^ 63 }
     ensures writes { WritesParts result (script_parts session.now.plan session.now.run)
@@ -112,7 +116,7 @@ fn report_scripts<W: ReportWriter>(
 fn report_tests<W: ReportWriter>(
     text: &mut String,
     report: &mut W,
-    session: &Session<'_>,
+    session: &RecordSession<'_>,
 ) -> Result<(), ReportFault>
     requires writes_fit { W.failures report.old < 2 ^ 63 }
     ensures writes { WritesParts result (test_parts session.now.plan session.now.run)
@@ -130,7 +134,7 @@ fn report_tests<W: ReportWriter>(
 fn report_shown_at<W: ReportWriter>(
     text: &mut String,
     report: &mut W,
-    session: &Session<'_>,
+    session: &RecordSession<'_>,
     place: usize,
 ) -> Result<(), ReportFault>
     requires writes_fit { W.failures report.old < 2 ^ 63 }

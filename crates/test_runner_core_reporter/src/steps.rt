@@ -9,7 +9,7 @@ use crate::fault::ReportFault;
 use crate::final_text::shown_test_at;
 use crate::reporting::report_done;
 use test_runner_core_run_model::{Finished, Mark};
-use test_runner_core_session::Session;
+use test_runner_core_session::RecordSession;
 use test_runner_core_streams::ReportWriter;
 
 /// Reports what the step that a run took last finished: the test of its attempt, and then, in the plan's order, those that
@@ -17,7 +17,7 @@ use test_runner_core_streams::ReportWriter;
 pub fn report_step<W: ReportWriter>(
     text: &mut String,
     report: &mut W,
-    session: &Session<'_>,
+    session: &RecordSession<'_>,
     finished: Finished,
 ) -> Result<(), ReportFault>
     requires writes_fit { W.failures report.old < 2 ^ 63 }
@@ -35,7 +35,7 @@ pub fn report_step<W: ReportWriter>(
 fn report_if_stopped<W: ReportWriter>(
     text: &mut String,
     report: &mut W,
-    session: &Session<'_>,
+    session: &RecordSession<'_>,
     stops: bool,
 ) -> Result<(), ReportFault>
     requires writes_fit { W.failures report.old < 2 ^ 63 }
@@ -55,7 +55,7 @@ fn report_if_stopped<W: ReportWriter>(
 fn report_ended<W: ReportWriter>(
     text: &mut String,
     report: &mut W,
-    session: &Session<'_>,
+    session: &RecordSession<'_>,
     ended: Option<usize>,
 ) -> Result<(), ReportFault>
     requires writes_fit { W.failures report.old < 2 ^ 63 }
@@ -75,7 +75,7 @@ fn report_ended<W: ReportWriter>(
 fn report_stopped<W: ReportWriter>(
     text: &mut String,
     report: &mut W,
-    session: &Session<'_>,
+    session: &RecordSession<'_>,
 ) -> Result<(), ReportFault>
     requires writes_fit { W.failures report.old < 2 ^ 63 }
     ensures writes { WritesParts result
@@ -95,7 +95,7 @@ fn report_stopped<W: ReportWriter>(
 fn report_if<W: ReportWriter>(
     text: &mut String,
     report: &mut W,
-    session: &Session<'_>,
+    session: &RecordSession<'_>,
     place: usize,
     is_told: bool,
 ) -> Result<(), ReportFault>
@@ -116,7 +116,7 @@ fn report_if<W: ReportWriter>(
 fn report_at<W: ReportWriter>(
     text: &mut String,
     report: &mut W,
-    session: &Session<'_>,
+    session: &RecordSession<'_>,
     place: usize,
 ) -> Result<(), ReportFault>
     requires writes_fit { W.failures report.old < 2 ^ 63 }
@@ -132,15 +132,15 @@ fn report_at<W: ReportWriter>(
 }
 
 // How far the test at a place is.
-fn mark_at(session: &Session<'_>, place: usize) -> Option<Mark>
+fn mark_at(session: &RecordSession<'_>, place: usize) -> Option<Mark>
     ensures { result ≡ option_map (λ test. test.mark) (slice_get session.now.run.tests place) }
 {
-    let fate = session.fate_at(place)?;
-    Some(fate.mark)
+    let kept = session.kept_at(place)?;
+    Some(kept.mark)
 }
 
 // Whether the test at a place is over under a reason.
-fn is_stopped_at(session: &Session<'_>, place: usize) -> bool
+fn is_stopped_at(session: &RecordSession<'_>, place: usize) -> bool
     ensures { result ≡ is_stopped_at session.now.run.tests place }
 {
     match mark_at(session, place) {
