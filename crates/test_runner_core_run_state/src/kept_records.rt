@@ -1,31 +1,19 @@
 // Ended attempts, kept as their records.
-ghost use Rattle.std.specs.Prelude.{◌≡◌, ◌<◌, ◌≤◌, ◌∷◌, ◌++◌, [], OnOk};
-ghost use Rattle.test_runner_core_run_state.specs.Kept.{record_room, records_of};
+ghost use Rattle.std.specs.Prelude.{◌≡◌};
 
 use crate::keep_attempts::KeepAttempts;
 use nextest_run_events_counters::RunStats;
 use nextest_run_events_results::Record;
 use std::alloc::{AllocError, Global};
 use std::marker::Model;
-use std::{mem, slice};
 use test_runner_core_run_model::RunTest;
 
-/// Ended attempts, kept as their records, the first of them without memory of its own. In a clause it is those, and for how
-/// many more there is room.
+/// Ended attempts, kept as their records, and the room of the one that runs. In a clause it is those, and for how many there
+/// is room.
 #[derive(Drop)]
 pub struct KeptRecords {
-    records: RecordsSlot,
-}
-
-// Records: most tests have one attempt.
-#[derive(Drop)]
-pub(crate) enum RecordsSlot {
-    // None.
-    Empty,
-    // One, and no room.
-    One(Record),
-    // Several, or one with room for more.
-    Several(Vec<Record>),
+    // `None` before an attempt starts: that takes no memory.
+    records: Option<Vec<Record>>,
 }
 
 impl Model for KeptRecords {
@@ -42,9 +30,8 @@ impl KeptRecords {
         ensures { result.now ≡ self.now.records }
     {
         match &self.records {
-            RecordsSlot::Empty => &[],
-            RecordsSlot::One(only) => slice::from_ref(only),
-            RecordsSlot::Several(records) => records.as_slice(),
+            Some(records) => records.as_slice(),
+            None => &[],
         }
     }
 }
@@ -59,9 +46,7 @@ impl KeepAttempts for KeptRecords {
     ghost are_of = { λ _ _. ⊤ };
 
     fn new() -> KeptRecords {
-        KeptRecords {
-            records: RecordsSlot::Empty,
-        }
+        KeptRecords { records: None }
     }
 
     fn len(&self) -> usize {
@@ -69,11 +54,20 @@ impl KeepAttempts for KeptRecords {
     }
 
     fn reserve(&mut self, alloc: Global) -> Result<(), AllocError> {
-        reserve_in(&mut self.records, alloc)
+        match &mut self.records {
+            Some(records) => records.reserve(1),
+            None => {
+                self.records = Some(Vec::with_capacity(alloc, 1)?);
+                Ok(())
+            }
+        }
     }
 
     fn push(&mut self, _alloc: Global, _plan: RunTest, _attempt: u32, record: Record) {
-        push_in(&mut self.records, record);
+        match &mut self.records {
+            Some(records) => records.push_reserved(record),
+            None => unreachable!(),
+        }
     }
 
     fn count_in(&self, plan: RunTest, stats: &mut RunStats) {
@@ -82,40 +76,4 @@ impl KeepAttempts for KeptRecords {
             stats.count_test(&last.result, last.slow, records.len() > 1, plan.flaky);
         }
     }
-}
-
-// Makes room for a record.
-fn reserve_in(records: &mut RecordsSlot, alloc: Global) -> Result<(), AllocError>
-    ensures room { OnOk result (0 < record_room records.new) }
-    ensures grows { record_room records.old ≤ record_room records.new }
-    ensures records { records_of records.new ≡ records_of records.old }
-{
-    match records {
-        RecordsSlot::Empty => Ok(()),
-        RecordsSlot::Several(several) => several.reserve(1),
-        RecordsSlot::One(_) => {
-            let mut several = Vec::with_capacity(alloc, 2)?;
-            match mem::replace(records, RecordsSlot::Empty) {
-                RecordsSlot::One(first) => several.push_reserved(first),
-                RecordsSlot::Empty | RecordsSlot::Several(_) => unreachable!(),
-            }
-            *records = RecordsSlot::Several(several);
-            Ok(())
-        }
-    }
-}
-
-// Adds a record, for which there is room.
-fn push_in(records: &mut RecordsSlot, record: Record)
-    requires room { 0 < record_room records.old }
-    ensures records { records_of records.new ≡ records_of records.old ++ «record» ∷ [] }
-{
-    *records = match mem::replace(records, RecordsSlot::Empty) {
-        RecordsSlot::Empty => RecordsSlot::One(record),
-        RecordsSlot::One(_) => unreachable!(),
-        RecordsSlot::Several(mut several) => {
-            several.push_reserved(record);
-            RecordsSlot::Several(several)
-        }
-    };
 }
