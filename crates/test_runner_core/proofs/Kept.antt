@@ -1,5 +1,5 @@
 -- What is kept of a run, and what is reported of it.
-use Rattle.std.proofs.Common.{◌≡◌, ℕ, Bool, true, false, List, Option, Some, None, Result, Ok, Err, refl, sym, ap, ◌∙◌, subst, ◌&&◌}
+use Rattle.std.proofs.Common.{◌≡◌, ℕ, Bool, true, false, List, Option, Some, None, Ok, Err, refl, sym, ap, ◌∙◌, subst, ◌&&◌}
 use Rattle.std.specs.Prelude.{if◌then◌else◌}
 use Rattle.nextest_run_events_results.specs.Result.{is_success}
 use Rattle.nextest_run_events_results.specs.declared.record.Record.{Record}
@@ -8,12 +8,9 @@ use Rattle.nextest_run_events_results.specs.declared.record.RecordOutput.TheVari
 use Rattle.test_runner_core_line_syntax.specs.declared.log_line.LogLine.{LogLine}
 use Rattle.test_runner_core_plan.specs.declared.plan.Plan.{Plan}
 use Rattle.test_runner_core_plan.specs.declared.plan.PlanTest.{PlanTest}
-use Rattle.test_runner_core_run_model.specs.Counters.{status}
 use Rattle.test_runner_core_run_model.specs.State.{State}
 use Rattle.test_runner_core_run_model.specs.Step.{step}
-use Rattle.test_runner_core_run_model.specs.declared.step_refusal.StepRefusal.{StepRefusal}
 use Rattle.test_runner_core_reporter.specs.Keeping.{hides_success, record_to_keep, state_to_keep, unwritten}
-use Rattle.test_runner_core_reporter.specs.Parts.{Part}
 use Rattle.test_runner_core_reporter.specs.Steps.{step_parts}
 use Rattle.test_runner_core_reporter.specs.Writes.{WritesAll, WritesPrefix}
 use Rattle.test_runner_core_reporter.proofs.KeptReports.{SayAs, all_as, final_as, front_as, keeps_ends, self_as, status_as, step_as}

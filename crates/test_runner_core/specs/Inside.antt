@@ -1,8 +1,6 @@
 -- What the parts of judging answer and leave.
 use Rattle.std.specs.Prelude.{◌≡◌, ◌⊎◌, ℕ, ◌+◌, ◌≤◌, List, [], ◌++◌, map, length, Option, None, Some, Result, Ok, Err, ⊤}
-use Rattle.test_runner_core_line_syntax.specs.Reading.{ReadsLine}
 use Rattle.test_runner_core_line_syntax.specs.Spelling.{Spells}
-use Rattle.test_runner_core_line_syntax.specs.declared.parse_line_error.ParseLineError.TheVariants as unread
 use Rattle.test_runner_core_line_syntax.specs.declared.log_line.LogLine.{LogLine}
 use Rattle.test_runner_core_log_reader.specs.Calls.{Hands, HandsAhead, HandsBytes, KeepsAhead, idle_reads}
 use Rattle.test_runner_core_log_reader.specs.Cursor.{Cursor, items_ahead, bytes_received}
