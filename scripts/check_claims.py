@@ -22,7 +22,7 @@ class Crate:
 
     def __init__(self, name):
         folder = ROOT / "crates" / name / "src"
-        self.functions, self.impls, self.words = [], [], set()
+        self.functions, self.impls, self.words, self.aliases = [], [], set(), {}
         for file in sorted(folder.rglob("*.rt")):
             self.read(file)
         if not folder.is_dir():
@@ -31,6 +31,7 @@ class Crate:
     def read(self, file):
         text = re.sub(r"//[^\n]*", "", file.read_text())
         self.hand_on(file.stem, text)
+        self.aliases |= dict(re.findall(r"\btype (\w+)(?:<[^=>]*>)? = (\w+)<", text))
         owner = None
         for part in re.split(r"\n(?=(?:pub(?:\([a-z]+\))? )?(?:impl|trait|fn|struct|enum|mod|type|const)\b|#\[)", "\n" + text):
             head = part.strip().split("{")[0]
@@ -63,7 +64,9 @@ class Crate:
             derived = [set() for it in self.impls if len(it) == 2 and it[0] == words[0]] if words[1] in self.words else []
             return set().union(*found, *derived) if found or derived else None
         owner, _, name = words[0].rpartition("::")
-        found = [it[2] for it in self.functions if it[1] == name and owner in ("", it[0])]
+        # What is a call of a generic type is one of each name that it has for some parameters.
+        owners = (owner, self.aliases.get(owner, owner))
+        found = [it[2] for it in self.functions if it[1] == name and (not owner or it[0] in owners)]
         found += [it[-1] if len(it) == 3 else set() for it in self.impls if it[0] == name and not owner]
         return set().union(*found) if found else None
 
