@@ -1,5 +1,6 @@
 pub mod Counts
 pub mod Tallies
 pub mod Kept
+pub mod OtherRecords
 pub mod Totals
 pub mod Taken

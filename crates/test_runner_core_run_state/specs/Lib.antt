@@ -1,5 +1,6 @@
 pub mod Statuses
 pub mod Kept
+pub mod Records
 pub mod Parts
 pub mod Counted
 pub mod Progress

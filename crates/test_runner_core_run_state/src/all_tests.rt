@@ -9,8 +9,10 @@ ghost use Rattle.test_runner_core_run_model.specs.Step.{after_attempt, finished_
 ghost use Rattle.test_runner_core_run_model.specs.declared.mark.Mark.TheVariants as marks;
 ghost use Rattle.test_runner_core_run_state.specs.Counted.{with_finished, with_tests, CountsNoTest};
 ghost use Rattle.test_runner_core_run_state.specs.Parts.{IsKept, IsStartable, IsRunningAt, ChangesAt};
+ghost use Rattle.test_runner_core_run_state.specs.Records.{tests_with, unwritten_at};
 
 use crate::keep_attempts::KeepAttempts;
+use crate::kept_records::KeptRecords;
 use crate::test_progress::TestProgress;
 use nextest_run_events_counters::RunStats;
 use nextest_run_events_results::{CancelReason, Record};
@@ -153,6 +155,15 @@ impl<A: KeepAttempts> AllTests<A> {
     }
 }
 
+impl AllTests<KeptRecords> {
+    // What the attempts of the test at a place wrote goes, if there is such a test.
+    pub(crate) fn forget_outputs(&mut self, place: usize)
+        ensures { self.new ≡ tests_with (unwritten_at place) self.old }
+    {
+        forget_at(&mut self.tests, place);
+    }
+}
+
 // The tests of which no attempt started.
 fn waiting_tests<A: KeepAttempts>(
     alloc: Global,
@@ -198,6 +209,17 @@ fn end_at<A: KeepAttempts>(
 {
     let test = &mut tests[place];
     test.end(alloc, record, reason)
+}
+
+// What the attempts of the test at a place wrote goes, if there is such a test.
+fn forget_at(tests: &mut Vec<TestProgress<KeptRecords>>, place: usize)
+    ensures { tests.new.items ≡ tests_with (unwritten_at place) tests.old.items }
+{
+    if place >= tests.len() {
+        return;
+    }
+    let test = &mut tests[place];
+    test.forget_outputs();
 }
 
 // The tests between two attempts are finished.

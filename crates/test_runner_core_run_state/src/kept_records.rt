@@ -1,9 +1,11 @@
 // Ended attempts, kept as their records.
-ghost use Rattle.std.specs.Prelude.{◌≡◌};
+ghost use Rattle.std.specs.Prelude.{◌≡◌, map};
+ghost use Rattle.test_runner_core_run_state.specs.Kept.{record_room, records_of};
+ghost use Rattle.test_runner_core_run_state.specs.Records.{unwritten};
 
 use crate::keep_attempts::KeepAttempts;
 use nextest_run_events_counters::RunStats;
-use nextest_run_events_results::Record;
+use nextest_run_events_results::{Record, RecordOutput};
 use std::alloc::{AllocError, Global};
 use std::marker::Model;
 use test_runner_core_run_model::RunTest;
@@ -33,6 +35,14 @@ impl KeptRecords {
             Some(records) => records.as_slice(),
             None => &[],
         }
+    }
+
+    // What the attempts wrote goes.
+    pub(crate) fn forget_outputs(&mut self)
+        ensures records { self.new.records ≡ map unwritten self.old.records }
+        ensures room { self.new.room ≡ self.old.room }
+    {
+        forget_in(&mut self.records);
     }
 }
 
@@ -76,4 +86,33 @@ impl KeepAttempts for KeptRecords {
             stats.count_test(&last.result, last.slow, records.len() > 1, plan.flaky);
         }
     }
+}
+
+// What the attempts wrote goes.
+fn forget_in(records: &mut Option<Vec<Record>>)
+    ensures records { records_of records.new ≡ map unwritten (records_of records.old) }
+    ensures room { record_room records.new ≡ record_room records.old }
+{
+    if let Some(records) = records {
+        forget_each(records.as_mut_slice());
+    }
+}
+
+// What each of these attempts wrote goes.
+fn forget_each(records: &mut [Record])
+    ensures { records.new ≡ map unwritten records.old }
+{
+    for ended in records.iter_mut() {
+        forget(ended);
+    }
+}
+
+// What an attempt wrote goes.
+fn forget(ended: &mut Record)
+    ensures { ended.new ≡ unwritten ended.old }
+{
+    ended.output = RecordOutput::Streams {
+        out: None,
+        err: None,
+    };
 }

@@ -14,10 +14,12 @@ ghost use Rattle.test_runner_core_run_model.specs.declared.event.Event.TheVarian
 ghost use Rattle.test_runner_core_run_state.specs.Counted.{CountsNoTest, with_tests_counted, with_tests};
 ghost use Rattle.test_runner_core_run_state.specs.Parts.{IsKept, IsRunningAt};
 ghost use Rattle.test_runner_core_run_state.specs.Progress.{Takes, Starts, EndsAttempt};
+ghost use Rattle.test_runner_core_run_state.specs.Records.{state_with, unwritten_at};
 ghost use Rattle.test_runner_core_run_state.specs.Statuses.{IsScriptStatus};
 
 use crate::all_tests::AllTests;
 use crate::keep_attempts::KeepAttempts;
+use crate::kept_records::KeptRecords;
 use crate::recorded::script_status;
 use crate::scripts::Scripts;
 use crate::start_fault::StartFault;
@@ -318,6 +320,15 @@ impl<A: KeepAttempts> Progress<A> {
         ensures { IsScriptStatus (slice_get self.now.scripts script) result }
     {
         self.scripts.status(script)
+    }
+}
+
+impl Progress<KeptRecords> {
+    /// What the attempts of the test at a place wrote goes, if the plan has such a place. Takes no memory.
+    pub fn forget_outputs(&mut self, test: usize)
+        ensures { self.new ≡ state_with (unwritten_at test) self.old }
+    {
+        self.tests.forget_outputs(test);
     }
 }
 

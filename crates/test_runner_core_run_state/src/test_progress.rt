@@ -7,8 +7,10 @@ ghost use Rattle.test_runner_core_run_model.specs.Step.{after_attempt, finished_
 ghost use Rattle.test_runner_core_run_model.specs.declared.mark.Mark.TheVariants as marks;
 ghost use Rattle.test_runner_core_run_state.specs.Counted.{with_finished};
 ghost use Rattle.test_runner_core_run_state.specs.Parts.{IsKept};
+ghost use Rattle.test_runner_core_run_state.specs.Records.{unwritten, with_records};
 
 use crate::keep_attempts::KeepAttempts;
+use crate::kept_records::KeptRecords;
 use nextest_run_events_counters::RunStats;
 use nextest_run_events_results::{CancelReason, Record};
 use std::alloc::{AllocError, Global};
@@ -125,6 +127,15 @@ impl<A: KeepAttempts> TestProgress<A> {
         if let Mark::Finished(_) = self.mark {
             self.attempts.count_in(self.plan, stats);
         }
+    }
+}
+
+impl TestProgress<KeptRecords> {
+    // What its attempts wrote goes.
+    pub(crate) fn forget_outputs(&mut self)
+        ensures { self.new ≡ with_records unwritten self.old }
+    {
+        self.attempts.forget_outputs();
     }
 }
 

@@ -26,7 +26,7 @@ use Rattle.test_runner_core_run_model.specs.declared.mark.Mark.TheVariants as ma
 use Rattle.test_runner_core_run_model.specs.declared.run_test.RunTest.{RunTest}
 use Rattle.test_runner_core_run_model.specs.declared.step_refusal.StepRefusal.{StepRefusal}
 use Rattle.test_runner_core_run_model.specs.declared.step_refusal.StepRefusal.TheVariants as refused
-use Rattle.test_runner_core_reporter.specs.Keeping.{event_with, state_with, tests_with, with_records}
+use Rattle.test_runner_core_run_state.specs.Records.{event_with, is_place, state_with, tests_with, unwritten, unwritten_at, with_records}
 
 -- a record keeps how it ended
 abbrev pub KeepsEnd : (Record → Record) → Type 0
@@ -78,7 +78,7 @@ pub length_with : (kept : ℕ → Record → Record) (tests : List TestState) �
 length_with kept [] = refl
 length_with kept (test ∷ tests) = let more = length_with (λ p. kept (suc p)) tests in cc
 
-fold_with : (kept : ℕ → Record → Record) (of : TestState → ℕ) → ((place : ℕ) (test : TestState) → of (with_records (kept place) test) ≡ of test)
+pub fold_with : (kept : ℕ → Record → Record) (of : TestState → ℕ) → ((place : ℕ) (test : TestState) → of (with_records (kept place) test) ≡ of test)
     → (tests : List TestState) (sum : ℕ) → fold (λ a test. a + of test) sum (tests_with kept tests) ≡ fold (λ a test. a + of test) sum tests
 fold_with kept of same [] sum = refl
 fold_with kept of same (test ∷ tests) sum =
@@ -250,6 +250,45 @@ refused_with kept ends state now event refusal is never = by_step (step state ev
     by_step : (found : Result State StepRefusal) → step state event ≡ found → step state event ≡ Err refusal
     by_step (Ok real) e = absurd (let h : Ok (state_with kept real) ≡ Err refusal = ap (result_with kept) (sym e) ∙ whole in cc)
     by_step (Err other) e = e ∙ ap (result_with kept) (sym e) ∙ whole
+
+-- ---- without what the attempts of one test wrote
+
+pub unwritten_ends : (place : ℕ) → KeepEnds (unwritten_at place)
+unwritten_ends place other told = by_test (is_place place other)
+  where
+    by_test : (b : Bool) →
+        ((if b then unwritten told else told).result ≡ told.result)
+        × ((if b then unwritten told else told).slow ≡ told.slow)
+        × ((if b then unwritten told else told).nanos ≡ told.nanos)
+    by_test true = (refl, refl, refl)
+    by_test false = (refl, refl, refl)
+
+same_records : (records : List Record) → map (λ (told : Record). told) records ≡ records
+same_records [] = refl
+same_records (told ∷ records) = ap (λ (more : List Record). told ∷ more) (same_records records)
+
+same_tests : (tests : List TestState) → tests_with (λ place told. told) tests ≡ tests
+same_tests [] = refl
+same_tests (test ∷ tests) = λ i. record test { records = same_records test.records i } ∷ same_tests tests i
+
+-- the test at a place, with nothing that its attempts wrote, among the others
+pub set_unwritten : (tests : List TestState) (place : ℕ) (test : TestState) → slice_get tests place ≡ Some test
+    → slice_set tests place (with_records unwritten test) ≡ tests_with (unwritten_at place) tests
+set_unwritten [] place test found = absurd (let e = found in cc)
+set_unwritten (first ∷ tests) zero test found =
+    ap (λ (t : TestState). with_records unwritten t ∷ tests) (let e = found in cc)
+    ∙ ap (λ (more : List TestState). with_records unwritten first ∷ more) (sym (same_tests tests))
+set_unwritten (first ∷ tests) (suc place) test found =
+    ap (λ (records : List Record). record first { records = records } ∷ slice_set tests place (with_records unwritten test)) (sym (same_records first.records))
+    ∙ ap (λ (more : List TestState). with_records (λ told. told) first ∷ more) (set_unwritten tests place test found)
+
+-- there is no such place
+pub none_unwritten : (tests : List TestState) (place : ℕ) → slice_get tests place ≡ None → tests ≡ tests_with (unwritten_at place) tests
+none_unwritten [] place none = refl
+none_unwritten (first ∷ tests) zero none = absurd (let e = none in cc)
+none_unwritten (first ∷ tests) (suc place) none =
+    ap (λ (records : List Record). record first { records = records } ∷ tests) (sym (same_records first.records))
+    ∙ ap (λ (more : List TestState). with_records (λ told. told) first ∷ more) (none_unwritten tests place none)
 
 -- ---- what it finishes, and its counters
 
