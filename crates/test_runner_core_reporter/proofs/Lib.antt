@@ -4,5 +4,4 @@ pub mod Done
 pub mod Each
 pub mod Scripts
 pub mod Texts
-pub mod KeptRuns
 pub mod KeptReports

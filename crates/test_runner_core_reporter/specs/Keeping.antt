@@ -1,16 +1,20 @@
--- What of a run is kept to report it: all but what was written by successes that are never shown.
-use Rattle.std.specs.Prelude.{ℕ, zero, suc, Bool, false, ◌&&◌, not, List, [], ◌∷◌, None, map, slice_get, if◌then◌else◌}
+-- What of a run is kept to report it.
+use Rattle.std.specs.Prelude.{◌≡◌, ℕ, Bool, true, false, ◌&&◌, not, List, Option, None, Some, slice_get, if◌then◌else◌}
 use Rattle.std.specs.Option.{option_map_or}
 use Rattle.nextest_config_elements_choices.specs.Display.{shown_at_end, shown_at_once}
 use Rattle.nextest_config_elements_choices.specs.declared.output_display.TestOutputDisplay.{TestOutputDisplay}
 use Rattle.nextest_run_events_results.specs.Result.{is_success}
 use Rattle.nextest_run_events_results.specs.declared.record.Record.{Record}
-use Rattle.nextest_run_events_results.specs.declared.record.RecordOutput.TheVariants as wrote
+use Rattle.nextest_run_events_visibility.specs.declared.visibility.OutputOnTestFinished.{OutputOnTestFinished}
+use Rattle.nextest_run_events_visibility.specs.declared.visibility.OutputStoreFinal.{OutputStoreFinal}
+use Rattle.nextest_run_events_visibility.specs.declared.visibility.OutputStoreFinal.TheVariants as stored
 use Rattle.test_runner_core_plan.specs.declared.plan.Plan.{Plan}
 use Rattle.test_runner_core_plan.specs.declared.plan.PlanTest.{PlanTest}
-use Rattle.test_runner_core_run_model.specs.State.{State, TestState}
+use Rattle.test_runner_core_report_lines.specs.Due.{due_of}
+use Rattle.test_runner_core_run_model.specs.State.{State}
 use Rattle.test_runner_core_run_model.specs.declared.event.Event.{Event}
-use Rattle.test_runner_core_run_model.specs.declared.event.Event.TheVariants as events
+use Rattle.test_runner_core_run_state.specs.Records.{event_with, state_with, unwritten}
+use Rattle.test_runner_core_reporter.specs.Final.{shown_tests}
 
 -- an output that is shown neither at once nor at the end
 abbrev pub is_never_shown : TestOutputDisplay → Bool
@@ -20,38 +24,39 @@ is_never_shown display = not (shown_at_once display) && not (shown_at_end displa
 abbrev pub hides_success : List PlanTest → ℕ → Bool
 hides_success tests place = option_map_or (λ test. is_never_shown test.settings.success_output) (slice_get tests place) false
 
--- a record without what was written
-abbrev pub unwritten : Record → Record
-unwritten ending = record ending { output = wrote.Streams None None }
-
 -- what is kept of a record of the test at a place
 abbrev pub record_to_keep : List PlanTest → ℕ → Record → Record
 record_to_keep tests place ending =
     if is_success ending.result && hides_success tests place then unwritten ending else ending
 
--- a test with other records
-abbrev pub with_records : (Record → Record) → TestState → TestState
-with_records kept test = record test { records = map kept test.records }
+-- the same, where nothing is kept of what the attempts of some tests wrote
+abbrev pub record_left : (ℕ → Bool) → List PlanTest → ℕ → Record → Record
+record_left forgotten tests place ending = if forgotten place then unwritten ending else record_to_keep tests place ending
 
--- tests with other records, by their places
-abbrev pub tests_with : (ℕ → Record → Record) → List TestState → List TestState
-tests_with kept [] = []
-tests_with kept (test ∷ tests) = with_records (kept zero) test ∷ tests_with (λ place. kept (suc place)) tests
-
--- a run with other records of its tests
-abbrev pub state_with : (ℕ → Record → Record) → State → State
-state_with kept state = record state { tests = tests_with kept state.tests }
-
--- an event with another record of a test
-abbrev pub event_with : (ℕ → Record → Record) → Event → Event
-event_with kept (events.ScriptEnded script ending) = events.ScriptEnded script ending
-event_with kept (events.Started test) = events.Started test
-event_with kept (events.Ended test ending) = events.Ended test (kept test ending)
-event_with kept (events.Stopped reason) = events.Stopped reason
-
--- what is kept of a run of a plan, and of an event of it
-abbrev pub state_to_keep : Plan → State → State
-state_to_keep plan = state_with (record_to_keep plan.tests)
-
+-- what is kept of an event of a plan's run
 abbrev pub event_to_keep : Plan → Event → Event
 event_to_keep plan = event_with (record_to_keep plan.tests)
+
+-- whether outputs are in the final text
+abbrev pub has_outputs : OutputStoreFinal → Bool
+has_outputs stored.No = false
+has_outputs (stored.Yes display_output) = display_output
+
+-- a test is finished, and the final text won't have its outputs
+abbrev pub is_settled_by : Option OutputOnTestFinished → Bool
+is_settled_by None = false
+is_settled_by (Some due) = not (has_outputs due.store_final)
+
+-- the test at a place is settled: no report needs its outputs any more
+abbrev pub is_settled : Plan → State → ℕ → Bool
+is_settled plan state place =
+    option_map_or (λ named. is_settled_by (due_of named.shows named.test.state)) (slice_get (shown_tests plan plan.tests state.tests) place) false
+
+-- these tests are settled
+abbrev pub AreSettled : (ℕ → Bool) → Plan → State → Type 0
+AreSettled forgotten plan state = (place : ℕ) → forgotten place ≡ true → is_settled plan state place ≡ true
+
+-- what is kept of a run of a plan: all but what settled tests wrote, not of each, and successes that are never shown
+abbrev pub IsKeptOf : Plan → State → State → Type 0
+IsKeptOf plan state kept =
+    (forgotten : ℕ → Bool) × AreSettled forgotten plan state × (kept ≡ state_with (record_left forgotten plan.tests) state)

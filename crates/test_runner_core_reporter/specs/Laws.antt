@@ -1,13 +1,24 @@
 -- What the laws say.
-use Rattle.std.specs.Prelude.{◌≡◌, ℕ, List}
+use Rattle.std.specs.Prelude.{◌≡◌, ℕ, List, true, Ok, Err}
 use Rattle.test_runner_core_plan.specs.declared.plan.Plan.{Plan}
 use Rattle.test_runner_core_run_model.specs.Counters.{status}
-use Rattle.test_runner_core_run_model.specs.State.{State}
+use Rattle.test_runner_core_run_model.specs.State.{State, initial}
+use Rattle.test_runner_core_run_model.specs.Step.{step}
 use Rattle.test_runner_core_run_model.specs.declared.event.Event.{Event}
+use Rattle.test_runner_core_run_model.specs.declared.step_refusal.StepRefusal.{StepRefusal}
+use Rattle.test_runner_core_run_state.specs.Records.{state_with, unwritten_at}
+use Rattle.test_runner_core_session.specs.Session.{run_plan}
 use Rattle.test_runner_core_reporter.specs.Final.{final_parts}
-use Rattle.test_runner_core_reporter.specs.Keeping.{event_to_keep, state_to_keep}
+use Rattle.test_runner_core_reporter.specs.Keeping.{IsKeptOf, event_to_keep, is_settled}
 use Rattle.test_runner_core_reporter.specs.Parts.{IsTextOf, Part}
 use Rattle.test_runner_core_reporter.specs.Steps.{step_parts}
+
+-- the run takes the step too, its texts are those of what is kept, and of the run after it that is kept
+pub record GoesOn (plan : Plan) (event : Event) (real old now : State) : Type 0 where
+  pub next : State
+  pub taken : step real event ≡ Ok next
+  pub kept : IsKeptOf plan next now
+  pub texts : (text : List ℕ) → IsTextOf (step_parts plan (event_to_keep plan event) old now) text → IsTextOf (step_parts plan event real next) text
 
 -- parts have one text
 abbrev pub HaveOneText : Type 0
@@ -17,16 +28,27 @@ HaveOneText = (parts : List Part) (one other : List ℕ) → IsTextOf parts one 
 abbrev pub HaveSomeText : Type 0
 HaveSomeText = (parts : List Part) → ¬ ¬ ((text : List ℕ) × IsTextOf parts text)
 
--- what is kept of a run and of an event is reported as they are
-abbrev pub KeepsProgress : Type 0
-KeepsProgress = (plan : Plan) (event : Event) (old new : State) (text : List ℕ)
-    → IsTextOf (step_parts plan (event_to_keep plan event) (state_to_keep plan old) (state_to_keep plan new)) text
-    → IsTextOf (step_parts plan event old new) text
+-- what is kept of a run is at its beginning the run
+abbrev pub KeepsBegin : Type 0
+KeepsBegin = (plan : Plan) → IsKeptOf plan (initial (run_plan plan)) (initial (run_plan plan))
 
--- so is its end
+-- it goes on as the run does, and each step of it reports the same
+abbrev pub KeepsProgress : Type 0
+KeepsProgress = (plan : Plan) (event : Event) (real old now : State) → IsKeptOf plan real old → step old (event_to_keep plan event) ≡ Ok now → GoesOn plan event real old now
+
+-- it refuses what the run refuses
+abbrev pub KeepsRefusals : Type 0
+KeepsRefusals = (plan : Plan) (event : Event) (real old : State) (refusal : StepRefusal) → IsKeptOf plan real old → step old (event_to_keep plan event) ≡ Err refusal
+    → step real event ≡ Err refusal
+
+-- what settled tests wrote can be forgotten
+abbrev pub KeepsForgetting : Type 0
+KeepsForgetting = (plan : Plan) (real kept : State) (place : ℕ) → IsKeptOf plan real kept → is_settled plan kept place ≡ true → IsKeptOf plan real (state_with (unwritten_at place) kept)
+
+-- its end is reported as that of the run
 abbrev pub KeepsFinal : Type 0
-KeepsFinal = (plan : Plan) (state : State) (text : List ℕ) → IsTextOf (final_parts plan (state_to_keep plan state)) text → IsTextOf (final_parts plan state) text
+KeepsFinal = (plan : Plan) (real kept : State) (text : List ℕ) → IsKeptOf plan real kept → IsTextOf (final_parts plan kept) text → IsTextOf (final_parts plan real) text
 
 -- and it comes to the same status
 abbrev pub KeepsStatus : Type 0
-KeepsStatus = (plan : Plan) (state : State) → status (state_to_keep plan state) ≡ status state
+KeepsStatus = (plan : Plan) (real kept : State) → IsKeptOf plan real kept → status kept ≡ status real

@@ -4,5 +4,5 @@ pub mod Writes
 pub mod Final
 pub mod Steps
 pub mod Opening
-pub mod Laws
 pub mod Keeping
+pub mod Laws

@@ -2,12 +2,14 @@
 ghost use Rattle.std.specs.Prelude.{◌≡◌, ◌^◌, ◌<◌, [], ◌∷◌, slice_get, string_bytes};
 ghost use Rattle.test_runner_core_reporter.specs.Parts.{Said};
 ghost use Rattle.test_runner_core_reporter.specs.Final.{final_parts, script_parts, part_of_shown, shown_tests, shows_of, test_parts};
+ghost use Rattle.test_runner_core_reporter.specs.Keeping.{is_settled, is_settled_by};
 ghost use Rattle.test_runner_core_reporter.specs.RunEnd.{end_of, end_text};
 ghost use Rattle.test_runner_core_reporter.specs.Writes.{WritesParts, CountsWriteFailures};
 
 use crate::fault::ReportFault;
 use crate::reporting::{report_done, report_script, report_shown, report_words};
 use crate::run_end::RunEnd;
+use nextest_run_events_visibility::{OutputOnTestFinished, OutputStoreFinal};
 use std::alloc::Global;
 use test_runner_core_plan::{Plan, PlanTest};
 use test_runner_core_report_lines::{ReportedTest, Shows};
@@ -52,6 +54,29 @@ pub(crate) fn shown_test_at<'s>(
         shows: shows_of(plan, test),
         test: ReportedTest::new(test.instance.as_ref(), kept.plan, kept.mark, records),
     })
+}
+
+/// Whether the test at a place is finished, and the final text won't have its outputs: so no report needs them any more.
+pub fn is_settled(session: &RecordSession<'_>, place: usize) -> bool
+    ensures { result ≡ is_settled session.now.plan session.now.run place }
+{
+    let Some(shown) = shown_test_at(session, place) else {
+        return false;
+    };
+    is_settled_by(shown.test.due(&shown.shows))
+}
+
+// Whether a test of which this is due is finished, and the final text won't have its outputs.
+fn is_settled_by(due: Option<OutputOnTestFinished>) -> bool
+    ensures { result ≡ is_settled_by due }
+{
+    match due {
+        Some(due) => match due.store_final {
+            OutputStoreFinal::Yes { display_output } => !display_output,
+            OutputStoreFinal::No => true,
+        },
+        None => false,
+    }
 }
 
 /// Reports the final text of a run.

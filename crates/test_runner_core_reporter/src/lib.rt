@@ -10,7 +10,7 @@ mod run_end;
 mod steps;
 
 pub use fault::ReportFault;
-pub use final_text::{ShownTest, report_final};
+pub use final_text::{ShownTest, is_settled, report_final};
 pub use opening::report_opening;
 pub use reporting::{report_done, report_script, report_shown, report_words, write_waiting};
 pub use run_end::RunEnd;

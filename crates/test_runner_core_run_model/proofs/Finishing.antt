@@ -489,3 +489,63 @@ run_keeps_reasons old (event ∷ run) new keeps happens =
 -- where no reason stands, no test was finished by one
 pub keeps_reasons : (plan : RunPlan) (run : List Event) (last : State) → Run (initial plan) run last → KeepsReasons last
 keeps_reasons plan run last happens = run_keeps_reasons (initial plan) run last (initial_keeps_reasons plan) happens
+
+-- ---- a test that is over stays as it is
+
+stop_stays : (reason : CancelReason) (o : Option TestState) → option_map_or is_finished o false ≡ true → option_map (finished_by reason) o ≡ o
+stop_stays reason None over = refl
+stop_stays reason (Some test) over = by_mark test.mark refl over
+  where
+    by_mark : (mark : Mark) → test.mark ≡ mark → is_finished_mark mark ≡ true → Some (finished_by reason test) ≡ Some test
+    by_mark marks.Waiting m h = cc
+    by_mark marks.Running m h = cc
+    by_mark marks.Between m h = cc
+    by_mark (marks.Finished kept) m h = ap (λ (mark : Mark). Some (record test { mark = mark })) (ap (stopped_mark reason) m ∙ sym m)
+
+all_stay : (reason : CancelReason) (tests : List TestState) (place : ℕ) → finished_at tests place ≡ true → slice_get (map (finished_by reason) tests) place ≡ slice_get tests place
+all_stay reason tests place over = slice_get-map (finished_by reason) tests place ∙ stop_stays reason (slice_get tests place) over
+
+limit_stays : (finished : Bool) (state : State) (place : ℕ) → finished_at state.tests place ≡ true → slice_get (after_limit finished state).tests place ≡ slice_get state.tests place
+limit_stays finished state place over = by_test (finished && not (is_some state.reason)) (mode_at state.limit (failed_weight state.tests))
+  where
+    by_test : (b : Bool) (reached : Option TerminateMode)
+        → slice_get (cond b (option_map_or (λ mode. stopped_by (limit_reason mode) state) reached state) state).tests place ≡ slice_get state.tests place
+    by_test true (Some mode) = all_stay (limit_reason mode) state.tests place over
+    by_test true None = refl
+    by_test false reached = refl
+
+-- a place where a test is over isn't that of one that isn't
+not_there : (tests : List TestState) (place other : ℕ) (test : TestState) → finished_at tests place ≡ true → slice_get tests other ≡ Some test → is_finished test ≡ false → place ≡ other → ⊥
+not_there tests place other test over found unfinished e =
+    let never : true ≡ false = sym over ∙ ap (finished_at tests) e ∙ finished_there tests other test found ∙ unfinished in cc
+
+pub finished_stays : (old new : State) (event : Event) (place : ℕ) → step old event ≡ Ok new → finished_at old.tests place ≡ true → slice_get new.tests place ≡ slice_get old.tests place
+finished_stays old new (events.ScriptEnded script ending) place happens over =
+    let shows = script_shows old new script ending happens in
+    ap (λ (s : State). slice_get s.tests place) shows.is ∙ by_success (is_success ending.result)
+  where
+    ended : State
+    ended = record old { scripts = old.scripts ++ ending ∷ [] }
+
+    by_success : (succeeds : Bool) → slice_get (cond succeeds ended (stopped_by why.SetupScriptFailure ended)).tests place ≡ slice_get old.tests place
+    by_success true = refl
+    by_success false = all_stay why.SetupScriptFailure old.tests place over
+finished_stays old new (events.Started test) place happens over =
+    let shows = start_shows old new test happens in
+    ap (λ (s : State). slice_get s.tests place) shows.is
+    ∙ set_elsewhere old.tests test place (record shows.test { mark = marks.Running }) (not_there old.tests place test shows.test over shows.found shows.unfinished)
+finished_stays old new (events.Ended test ending) place happens over =
+    let shows = end_shows old new test ending happens in
+    let after = after_attempt old shows.test ending in
+    let elsewhere = set_elsewhere old.tests test place after (not_there old.tests place test shows.test over shows.found (ap is_finished_mark shows.running)) in
+    ap (λ (s : State). slice_get s.tests place) shows.is
+    ∙ limit_stays (finishes old shows.test ending) (with_test old test after) place (ap (λ (o : Option TestState). option_map_or is_finished o false) elsewhere ∙ over)
+    ∙ elsewhere
+finished_stays old new (events.Stopped reason) place happens over =
+    let free = guard_ok (is_inner reason) refused.InnerReason _ new happens in
+    ap (λ (s : State). slice_get s.tests place) (ok_is _ new free.1) ∙ by_reason old.reason
+  where
+    by_reason : (given : Option CancelReason)
+        → slice_get (option_map_or (λ kept. record old { reason = Some (graver_reason kept reason) }) given (stopped_by reason old)).tests place ≡ slice_get old.tests place
+    by_reason None = all_stay reason old.tests place over
+    by_reason (Some kept) = refl

@@ -292,7 +292,7 @@ none_unwritten (first ∷ tests) (suc place) none =
 
 -- ---- what it finishes, and its counters
 
-finished_at_with : (kept : ℕ → Record → Record) (tests : List TestState) (place : ℕ) → finished_at (tests_with kept tests) place ≡ finished_at tests place
+pub finished_at_with : (kept : ℕ → Record → Record) (tests : List TestState) (place : ℕ) → finished_at (tests_with kept tests) place ≡ finished_at tests place
 finished_at_with kept tests place = ap (λ (found : Option TestState). option_map_or is_finished found false) (get_with kept tests place) ∙ by_found (slice_get tests place)
   where
     by_found : (found : Option TestState) → option_map_or is_finished (option_map (with_records (kept place)) found) false ≡ option_map_or is_finished found false

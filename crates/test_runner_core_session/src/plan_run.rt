@@ -35,7 +35,7 @@ pub struct KeptTest<'s, A> {
 pub struct PlanRun<'a, A: KeepAttempts> {
     plan: &'a Plan,
     places: Places<'a>,
-    progress: Progress<A>,
+    pub(crate) progress: Progress<A>,
 }
 
 // One call drops it, whoever holds it.

@@ -1,5 +1,6 @@
 // Runs of a plan by what they keep: statuses, or records.
-ghost use Rattle.std.specs.Prelude.{slice_get};
+ghost use Rattle.std.specs.Prelude.{◌≡◌, slice_get};
+ghost use Rattle.test_runner_core_run_state.specs.Records.{state_with, unwritten_at};
 ghost use Rattle.test_runner_core_session.specs.Session.{test_of, IsFate};
 
 use crate::plan_run::PlanRun;
@@ -46,5 +47,15 @@ impl<'a> Session<'a> {
             plan: kept.plan,
             attempts: kept.attempts.statuses(),
         })
+    }
+}
+
+impl<'a> RecordSession<'a> {
+    /// What the attempts of the test at a place wrote goes, if the plan has such a place. Takes no memory.
+    pub fn forget_outputs(&mut self, place: usize)
+        ensures plan { self.new.plan ≡ self.old.plan }
+        ensures run { self.new.run ≡ state_with (unwritten_at place) self.old.run }
+    {
+        self.progress.forget_outputs(place);
     }
 }
