@@ -1,5 +1,5 @@
 -- What is kept of a run, and what is reported of it.
-use Rattle.std.proofs.Common.{◌≡◌, ℕ, Bool, true, false, List, Option, Some, None, Ok, Err, refl, sym, ap, ◌∙◌, subst, ◌&&◌}
+use Rattle.std.proofs.Common.{◌≡◌, ℕ, Bool, true, false, List, Option, Some, None, Ok, Err, refl, sym, ap, ◌∙◌, subst, inl, inr, ◌&&◌}
 use Rattle.std.specs.Prelude.{if◌then◌else◌}
 use Rattle.nextest_run_events_results.specs.Result.{is_success}
 use Rattle.nextest_run_events_results.specs.declared.record.Record.{Record}
@@ -10,12 +10,12 @@ use Rattle.test_runner_core_plan.specs.declared.plan.Plan.{Plan}
 use Rattle.test_runner_core_plan.specs.declared.plan.PlanTest.{PlanTest}
 use Rattle.test_runner_core_run_model.specs.State.{State}
 use Rattle.test_runner_core_run_model.specs.Step.{step}
-use Rattle.test_runner_core_reporter.specs.Keeping.{hides_success, record_to_keep, state_to_keep, unwritten}
+use Rattle.test_runner_core_run_state.specs.Records.{unwritten}
+use Rattle.test_runner_core_reporter.specs.Keeping.{IsKeptOf, hides_success, is_settled, record_to_keep}
 use Rattle.test_runner_core_reporter.specs.Steps.{step_parts}
 use Rattle.test_runner_core_reporter.specs.Writes.{WritesAll, WritesPrefix}
-use Rattle.test_runner_core_reporter.proofs.KeptReports.{SayAs, all_as, final_as, front_as, keeps_ends, self_as, status_as, step_as}
-use Rattle.test_runner_core_reporter.proofs.KeptRuns.{refused_with, taken_with}
-use Rattle.test_runner_core.specs.Inside.{kept_event}
+use Rattle.test_runner_core_reporter.proofs.KeptReports.{SayAs, all_as, front_as, kept_final, kept_forgets, kept_refuses, kept_status, kept_step, self_as}
+use Rattle.test_runner_core.specs.Inside.{Forgets, kept_event}
 use Rattle.test_runner_core.specs.Judging.{Refuses, RefusesBy, event_of}
 use Rattle.test_runner_core.specs.Report.{ending, exit_status, refused_line}
 use Rattle.test_runner_core.specs.declared.refused_line.LineRefusal.{LineRefusal}
@@ -26,26 +26,28 @@ use Rattle.test_runner_core.specs.declared.refused_line.RefusedLine.{RefusedLine
 pub record StepsAs (plan other : Plan) (line : LogLine) (real old now : State) : Type 0 where
   pub next : State
   pub taken : step real (event_of plan line) ≡ Ok next
-  pub kept : now ≡ state_to_keep plan next
+  pub kept : IsKeptOf plan next now
   pub says : SayAs (step_parts other (kept_event other line) old now) (step_parts plan (event_of plan line) real next)
 
-pub steps_as : (plan other : Plan) (real old now : State) (line : LogLine) → other ≡ plan → old ≡ state_to_keep plan real → step old (kept_event other line) ≡ Ok now
+pub steps_as : (plan other : Plan) (real old now : State) (line : LogLine) → other ≡ plan → IsKeptOf plan real old → step old (kept_event other line) ≡ Ok now
     → StepsAs plan other line real old now
 steps_as plan other real old now line same kept taken =
-    let here = taken_with (record_to_keep plan.tests) (keeps_ends plan.tests) real old now (event_of plan line) kept (subst (λ (p : Plan). step old (kept_event p line) ≡ Ok now) same taken) in
+    let here = kept_step plan (event_of plan line) real old now kept (subst (λ (p : Plan). step old (kept_event p line) ≡ Ok now) same taken) in
     record {
-      next = here.0;
-      taken = here.1;
-      kept = here.2;
-      says =
-          subst (λ (p : Plan). SayAs (step_parts p (kept_event p line) old now) (step_parts plan (event_of plan line) real here.0)) (sym same)
-          (subst (λ (s : State). SayAs (step_parts plan (kept_event plan line) s now) (step_parts plan (event_of plan line) real here.0)) (sym kept)
-          (subst (λ (s : State). SayAs (step_parts plan (kept_event plan line) (state_to_keep plan real) s) (step_parts plan (event_of plan line) real here.0)) (sym here.2)
-          (step_as plan (event_of plan line) real here.0)));
+      next = here.next;
+      taken = here.taken;
+      kept = here.kept;
+      says = subst (λ (p : Plan). SayAs (step_parts p (kept_event p line) old now) (step_parts plan (event_of plan line) real here.next)) (sym same) here.says;
     }
 
+-- what a settled test wrote may go
+pub forgets_as : (plan other : Plan) (real old new : State) → other ≡ plan → IsKeptOf plan real old → Forgets other old new → IsKeptOf plan real new
+forgets_as plan other real old new same kept (inl none) = subst (IsKeptOf plan real) (sym none) kept
+forgets_as plan other real old new same kept (inr (place, over, is)) =
+    subst (IsKeptOf plan real) (sym is) (kept_forgets plan real old place kept (ap (λ (p : Plan). is_settled p old place) (sym same) ∙ over))
+
 -- a refused line
-pub refuses_as : (plan other : Plan) (real old : State) (bytes : List ℕ) (refusal : LineRefusal) → other ≡ plan → old ≡ state_to_keep plan real → RefusesBy (kept_event other) old bytes refusal
+pub refuses_as : (plan other : Plan) (real old : State) (bytes : List ℕ) (refusal : LineRefusal) → other ≡ plan → IsKeptOf plan real old → RefusesBy (kept_event other) old bytes refusal
     → Refuses plan real bytes refusal
 refuses_as plan other real old bytes refused.LineTooLong same kept refuses = refuses
 refuses_as plan other real old bytes refused.LogTooLong same kept refuses = refuses
@@ -55,29 +57,25 @@ refuses_as plan other real old bytes refused.BadLine same kept refuses = refuses
 refuses_as plan other real old bytes (refused.Step refusal) same kept (line, spells, never) = (
   line,
   spells,
-  refused_with (record_to_keep plan.tests) (keeps_ends plan.tests) real old (event_of plan line) refusal kept (subst (λ (p : Plan). step old (kept_event p line) ≡ Err refusal) same never),
+  kept_refuses plan (event_of plan line) real old refusal kept (subst (λ (p : Plan). step old (kept_event p line) ≡ Err refusal) same never),
 )
 
 -- the ending of a report
-pub ending_as : (plan : Plan) (last : State) (found : Option RefusedLine) → SayAs (ending plan (state_to_keep plan last) found) (ending plan last found)
-ending_as plan last None = final_as plan last
-ending_as plan last (Some found) = self_as (refused_line found)
+ending_as : (plan : Plan) (last kept : State) (found : Option RefusedLine) → IsKeptOf plan last kept → SayAs (ending plan kept found) (ending plan last found)
+ending_as plan last kept None is = kept_final plan last kept is
+ending_as plan last kept (Some found) is = self_as (refused_line found)
 
-pub exit_as : (plan : Plan) (last : State) (found : Option RefusedLine) → exit_status (state_to_keep plan last) found ≡ exit_status last found
-exit_as plan last None = status_as plan last
-exit_as plan last (Some found) = refl
+pub exit_as : (plan : Plan) (last kept : State) (found : Option RefusedLine) → IsKeptOf plan last kept → exit_status kept found ≡ exit_status last found
+exit_as plan last kept None is = kept_status plan last kept is
+exit_as plan last kept (Some found) is = refl
 
 pub ended_as : (plan : Plan) (kept last : State) (found : Option RefusedLine) (before : Option (List ℕ)) (waited : List ℕ) (after : Option (List ℕ)) (waits : List ℕ)
-    → kept ≡ state_to_keep plan last → WritesAll (ending plan kept found) before waited after waits → WritesAll (ending plan last found) before waited after waits
-ended_as plan kept last found before waited after waits is all =
-    all_as (ending plan (state_to_keep plan last) found) (ending plan last found) before waited after waits (ending_as plan last found)
-    (subst (λ (s : State). WritesAll (ending plan s found) before waited after waits) is all)
+    → IsKeptOf plan last kept → WritesAll (ending plan kept found) before waited after waits → WritesAll (ending plan last found) before waited after waits
+ended_as plan kept last found before waited after waits is = all_as (ending plan kept found) (ending plan last found) before waited after waits (ending_as plan last kept found is)
 
 pub unended_as : (plan : Plan) (kept last : State) (found : Option RefusedLine) (before : Option (List ℕ)) (waited : List ℕ) (after : Option (List ℕ))
-    → kept ≡ state_to_keep plan last → WritesPrefix (ending plan kept found) before waited after → WritesPrefix (ending plan last found) before waited after
-unended_as plan kept last found before waited after is failed =
-    front_as (ending plan (state_to_keep plan last) found) (ending plan last found) before waited after (ending_as plan last found)
-    (subst (λ (s : State). WritesPrefix (ending plan s found) before waited after) is failed)
+    → IsKeptOf plan last kept → WritesPrefix (ending plan kept found) before waited after → WritesPrefix (ending plan last found) before waited after
+unended_as plan kept last found before waited after is = front_as (ending plan kept found) (ending plan last found) before waited after (ending_as plan last kept found is)
 
 -- ---- one record
 

@@ -13,7 +13,7 @@ use Rattle.test_runner_core_reporter.specs.Parts.{Part}
 use Rattle.test_runner_core_reporter.specs.Steps.{all_done, step_parts}
 use Rattle.test_runner_core_reporter.specs.Writes.{WritesAll, WritesPrefix}
 use Rattle.test_runner_core_reporter.specs.declared.fault.ReportFault.{ReportFault}
-use Rattle.test_runner_core.specs.Inside.{Steps, StepsLine, kept_event}
+use Rattle.test_runner_core.specs.Inside.{Forgets, Steps, StepsLine, kept_event}
 use Rattle.test_runner_core.specs.declared.judging_line.LineStep.TheVariants as it
 use Rattle.test_runner_core.specs.declared.refused_line.LineRefusal.{LineRefusal}
 
@@ -38,8 +38,16 @@ step_fails result old new last line finished before waited after waits is reason
     line_fails result old last line before waited after waits is
     (inr (new.run, taken.1.taken, subst (λ (parts : List Part). WritesPrefix parts before waited after) (record_output_of old new line finished reasons taken) front))
 
-pub step_tells : (old new : SessionState) (line : LogLine) (finished : Finished) (before : Option (List ℕ)) (waited : List ℕ) (after : Option (List ℕ)) (waits : List ℕ)
-    → KeepsReasons old.run → Steps (it.Taken finished) old line new → WritesAll (all_done new.plan new.run (finished_places finished new.run)) before waited after waits
+pub step_tells : (old next new : SessionState) (line : LogLine) (finished : Finished) (before : Option (List ℕ)) (waited : List ℕ) (after : Option (List ℕ)) (waits : List ℕ)
+    → KeepsReasons old.run → Steps (it.Taken finished) old line next → new.plan ≡ next.plan → Forgets next.plan next.run new.run
+    → WritesAll (all_done next.plan next.run (finished_places finished next.run)) before waited after waits
     → StepsLine (Ok None) old line new before waited after waits
-step_tells old new line finished before waited after waits reasons taken told =
-    (taken.0, taken.1.taken, subst (λ (parts : List Part). WritesAll parts before waited after waits) (record_output_of old new line finished reasons taken) told)
+step_tells old next new line finished before waited after waits reasons taken same forgets told = (
+  same ∙ taken.0,
+  (
+    next.run,
+    taken.1.taken,
+    subst (λ (plan : Plan). Forgets plan next.run new.run) taken.0 forgets,
+    subst (λ (parts : List Part). WritesAll parts before waited after waits) (record_output_of old next line finished reasons taken) told,
+  ),
+)

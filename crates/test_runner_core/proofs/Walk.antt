@@ -15,7 +15,7 @@ use Rattle.test_runner_core_log_reader.specs.declared.next.Next.TheVariants as f
 use Rattle.test_runner_core_plan.specs.declared.plan.Plan.{Plan}
 use Rattle.test_runner_core_run_model.specs.State.{State, initial}
 use Rattle.test_runner_core_session.specs.Session.{SessionState, run_plan}
-use Rattle.test_runner_core_reporter.specs.Keeping.{state_to_keep}
+use Rattle.test_runner_core_reporter.specs.Keeping.{IsKeptOf}
 use Rattle.test_runner_core_reporter.specs.Opening.{opening}
 use Rattle.test_runner_core_reporter.specs.Parts.{Part}
 use Rattle.test_runner_core_reporter.specs.Steps.{step_parts}
@@ -33,7 +33,7 @@ use Rattle.test_runner_core.specs.Judging.{event_of, line_refusal_of}
 use Rattle.test_runner_core.specs.Report.{SoFar}
 use Rattle.test_runner_core.specs.declared.refused_line.LineRefusal.{LineRefusal}
 use Rattle.test_runner_core.proofs.Course.{so_far_more, so_far_none, so_far_same}
-use Rattle.test_runner_core.proofs.Kept.{refuses_as, steps_as}
+use Rattle.test_runner_core.proofs.Kept.{forgets_as, refuses_as, steps_as}
 
 -- the items ahead are what these lines leave of the log, where its bytes are known
 abbrev pub LeavesAhead : Cursor → Option (List ℕ) → List (List ℕ) → Cursor → Option (List ℕ) → Type 0
@@ -51,7 +51,7 @@ pub record Where (plan : Plan) (begin : Cursor) (known before : Option (List ℕ
   pub parts : List Part
   pub planned : session.plan ≡ plan
   pub real : State
-  pub kept : session.run ≡ state_to_keep plan real
+  pub kept : IsKeptOf plan real session.run
   pub so_far : SoFar plan front real parts
   pub told : WritesAll parts before [] after waits
   pub items : LeavesAhead begin known front cursor left
@@ -155,25 +155,25 @@ line_accepted plan begin known before old new cursor next left rest middle later
       parts = here.parts;
       planned = ap (λ (s : SessionState). s.plan) same ∙ here.planned;
       real = here.real;
-      kept = ap (λ (s : SessionState). s.run) same ∙ here.kept;
+      kept = subst (λ (s : SessionState). IsKeptOf plan here.real s.run) (sym same) here.kept;
       so_far = so_far_same plan here.front here.real here.parts next.line here.so_far empty;
       told = told_still here.parts before later after later_waits waits (told_still here.parts before middle later mid later_waits here.told still) nothing;
       items = log_past_line begin cursor next known left rest here.front here.items hands;
       bytes = takes_line begin cursor next known left rest here.front here.bytes ahead;
       numbered = let size = length-append here.front (next.line ∷ []) in let numbered = here.numbered in omega (arith, size, numbered);
     }
-line_accepted plan begin known before old new cursor next left rest middle later after mid later_waits waits number here hands ahead still (inr (line, spells, (same, taken, told))) =
-    let it = steps_as plan old.plan here.real old.run new.run line here.planned here.kept taken in
+line_accepted plan begin known before old new cursor next left rest middle later after mid later_waits waits number here hands ahead still (inr (line, spells, (same, (state, taken, forgets, told)))) =
+    let it = steps_as plan old.plan here.real old.run state line here.planned here.kept taken in
     record {
       front = here.front ++ next.line ∷ [];
       parts = here.parts ++ step_parts plan (event_of plan line) here.real it.next;
       planned = same ∙ here.planned;
       real = it.next;
-      kept = it.kept;
+      kept = forgets_as plan old.plan it.next state new.run here.planned it.kept forgets;
       so_far = so_far_more plan here.front here.real it.next here.parts next.line line here.so_far spells it.taken;
       told = all_then here.parts (step_parts plan (event_of plan line) here.real it.next) before later after [] later_waits waits
           (told_still here.parts before middle later mid later_waits here.told still)
-          (all_as (step_parts old.plan (kept_event old.plan line) old.run new.run) (step_parts plan (event_of plan line) here.real it.next) later later_waits after waits it.says told);
+          (all_as (step_parts old.plan (kept_event old.plan line) old.run state) (step_parts plan (event_of plan line) here.real it.next) later later_waits after waits it.says told);
       items = log_past_line begin cursor next known left rest here.front here.items hands;
       bytes = takes_line begin cursor next known left rest here.front here.bytes ahead;
       numbered = let size = length-append here.front (next.line ∷ []) in let numbered = here.numbered in omega (arith, size, numbered);
@@ -186,7 +186,7 @@ pub line_refused : (plan : Plan) (begin : Cursor) (known before : Option (List �
     → KeepsJudged plan new.run (Some (record { line = number; refusal = refusal })) begin known before after waits
 line_refused plan begin known before old new cursor next left rest middle later after mid later_waits waits number refusal here hands still (refuses, same, nothing) = (
   here.real,
-  ap (λ (s : SessionState). s.run) same ∙ here.kept,
+  subst (λ (s : SessionState). IsKeptOf plan here.real s.run) (sym same) here.kept,
   record {
     front = here.front;
     rest = Line next.line ∷ rest_behind next rest;

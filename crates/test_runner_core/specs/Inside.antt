@@ -1,5 +1,5 @@
 -- What the parts of judging answer and leave.
-use Rattle.std.specs.Prelude.{◌≡◌, ◌⊎◌, ℕ, ◌+◌, ◌≤◌, List, [], ◌++◌, map, length, Option, None, Some, Result, Ok, Err, ⊤}
+use Rattle.std.specs.Prelude.{◌≡◌, ◌⊎◌, ℕ, ◌+◌, ◌≤◌, List, true, [], ◌++◌, map, length, Option, None, Some, Result, Ok, Err, ⊤}
 use Rattle.test_runner_core_line_syntax.specs.Spelling.{Spells}
 use Rattle.test_runner_core_line_syntax.specs.declared.log_line.LogLine.{LogLine}
 use Rattle.test_runner_core_log_reader.specs.Calls.{Hands, HandsAhead, HandsBytes, KeepsAhead, idle_reads}
@@ -14,7 +14,8 @@ use Rattle.test_runner_core_run_model.specs.State.{State}
 use Rattle.test_runner_core_run_model.specs.Step.{step}
 use Rattle.test_runner_core_run_model.specs.declared.event.Event.{Event}
 use Rattle.test_runner_core_session.specs.Session.{SessionState}
-use Rattle.test_runner_core_reporter.specs.Keeping.{event_to_keep, state_to_keep}
+use Rattle.test_runner_core_run_state.specs.Records.{state_with, unwritten_at}
+use Rattle.test_runner_core_reporter.specs.Keeping.{IsKeptOf, event_to_keep, is_settled}
 use Rattle.test_runner_core_reporter.specs.Parts.{Part}
 use Rattle.test_runner_core_reporter.specs.Steps.{step_parts}
 use Rattle.test_runner_core_reporter.specs.Writes.{MovesOn, WritesAll, WritesPrefix}
@@ -38,11 +39,16 @@ abbrev pub Steps : LineStep → SessionState → LogLine → SessionState → Ty
 Steps (it.Taken finished) old line new = (new.plan ≡ old.plan) × TakesStep old.run (kept_event old.plan line) finished new.run
 Steps (it.Refused refusal) old line new = (step old.run (kept_event old.plan line) ≡ Err refusal) × (new ≡ old)
 
+-- nothing goes of what is kept of a run, or what a settled test wrote
+abbrev pub Forgets : Plan → State → State → Type 0
+Forgets plan old new = (new ≡ old) ⊎ ((place : ℕ) × (is_settled plan old place ≡ true) × (new ≡ state_with (unwritten_at place) old))
+
 -- what a line's event does, and what is reported of it
 abbrev pub StepsLine : Result (Option LineRefusal) ReportFault → SessionState → LogLine → SessionState → Option (List ℕ) → List ℕ → Option (List ℕ) → List ℕ → Type 0
 StepsLine (Ok None) old line new before waited after waits =
-    (new.plan ≡ old.plan) × (step old.run (kept_event old.plan line) ≡ Ok new.run)
-    × WritesAll (step_parts old.plan (kept_event old.plan line) old.run new.run) before waited after waits
+    (new.plan ≡ old.plan)
+    × ((next : State) × (step old.run (kept_event old.plan line) ≡ Ok next) × Forgets old.plan next new.run
+    × WritesAll (step_parts old.plan (kept_event old.plan line) old.run next) before waited after waits)
 StepsLine (Ok (Some (refused.Step refusal))) old line new before waited after waits =
     (step old.run (kept_event old.plan line) ≡ Err refusal) × (new ≡ old) × WritesAll [] before waited after waits
 StepsLine (Ok (Some other)) old line new before waited after waits = ⊥
@@ -123,7 +129,7 @@ pub record BegunLines (plan : Plan) (begin : Cursor) (known before after : Optio
 -- the same, and this is kept of the run
 abbrev pub KeepsJudged : Plan → State → Option RefusedLine → Cursor → Option (List ℕ) → Option (List ℕ) → Option (List ℕ) → List ℕ → Type 0
 KeepsJudged plan kept found begin known before after waits =
-    (last : State) × (kept ≡ state_to_keep plan last) × JudgedLines plan last found begin known before after waits
+    (last : State) × IsKeptOf plan last kept × JudgedLines plan last found begin known before after waits
 
 abbrev pub JudgesLines : Result (Option RefusedLine) JudgeFault → Plan → State → Cursor → Option (List ℕ) → Option (List ℕ) → Option (List ℕ) → Option (List ℕ) → List ℕ → Type 0
 JudgesLines (Ok found) plan last begin known left before after waits = KeepsJudged plan last found begin known before after waits

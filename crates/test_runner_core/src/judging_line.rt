@@ -5,14 +5,14 @@ ghost use Rattle.test_runner_core_reporter.specs.Writes.{CountsWriteFailures};
 ghost use Rattle.test_runner_core_line_syntax.specs.Lent.{line_meant, record_meant};
 ghost use Rattle.test_runner_core_line_syntax.specs.declared.log_line.LogLine.TheVariants as lines;
 ghost use Rattle.test_runner_core.specs.declared.judging_line.LineStep.TheVariants as it;
-ghost use Rattle.test_runner_core.specs.Inside.{JudgesLine, Steps, StepsLine};
+ghost use Rattle.test_runner_core.specs.Inside.{Forgets, JudgesLine, Steps, StepsLine};
 
 use crate::kept_record::record_to_keep;
 use crate::refused_line::LineRefusal;
-use nextest_run_events_results::TestInstanceId;
+use nextest_run_events_results::{RecordOutput, TestInstanceId};
 use std::alloc::{AllocError, Global};
 use test_runner_core_line_syntax::{LentLine, LentRecord, SpellingError};
-use test_runner_core_reporter::{ReportFault, report_step};
+use test_runner_core_reporter::{ReportFault, is_settled, report_step};
 use test_runner_core_run_model::{Finished, StepRefusal};
 use test_runner_core_run_state::StartFault;
 use test_runner_core_session::RecordSession;
@@ -69,8 +69,35 @@ fn report_line<W: ReportWriter>(
         LineStep::Refused(refusal) => Ok(Some(LineRefusal::Step(refusal))),
         LineStep::Taken(finished) => {
             report_step(text, report, session, finished)?;
+            forget_settled(session, finished);
             Ok(None)
         }
+    }
+}
+
+// Of the test that a step finished what its attempts wrote goes, where no report needs it any more.
+fn forget_settled(session: &mut RecordSession<'_>, finished: Finished)
+    ensures plan { session.new.plan ≡ session.old.plan }
+    ensures run { Forgets session.old.plan session.old.run session.new.run }
+{
+    if let Some(place) = finished.ended {
+        if has_outputs(session, place) && is_settled(session, place) {
+            session.forget_outputs(place);
+        }
+    }
+}
+
+// Whether an output of the last attempt of the test at a place is kept. Only time depends on it.
+fn has_outputs(session: &RecordSession<'_>, place: usize) -> bool {
+    let Some(kept) = session.kept_at(place) else {
+        return false;
+    };
+    match kept.attempts.as_slice().last() {
+        Some(last) => match &last.output {
+            RecordOutput::Streams { out, err } => out.is_some() || err.is_some(),
+            RecordOutput::Message(_) => true,
+        },
+        None => false,
     }
 }
 

@@ -3,7 +3,8 @@ ghost use Rattle.std.specs.Prelude.{◌≡◌, None, IfOk};
 ghost use Rattle.std.specs.Bool.{OnTrue};
 ghost use Rattle.nextest_run_events_results.specs.declared.record.RecordOutput.TheVariants as wrote;
 ghost use Rattle.test_runner_core_line_syntax.specs.Lent.{output_meant, record_meant};
-ghost use Rattle.test_runner_core_reporter.specs.Keeping.{hides_success, is_never_shown, record_to_keep, unwritten};
+ghost use Rattle.test_runner_core_reporter.specs.Keeping.{hides_success, is_never_shown, record_to_keep};
+ghost use Rattle.test_runner_core_run_state.specs.Records.{unwritten};
 ghost use Rattle.test_runner_core_session.specs.Session.{place_in};
 
 use nextest_config_elements_choices::TestOutputDisplay;

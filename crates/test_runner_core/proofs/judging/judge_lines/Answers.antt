@@ -2,11 +2,10 @@ use Rattle.std.proofs.Common.{◌≡◌, List, ℕ, [], Option, Some, None, Ok, 
 use Rattle.test_runner_core_log_reader.specs.Calls.{Hands, HandsAhead, HandsBytes, idle_reads}
 use Rattle.test_runner_core_log_reader.specs.declared.next.Next.{Next}
 use Rattle.test_runner_core_log_reader.proofs.WholeLines.{takes_none}
-use Rattle.test_runner_core_run_model.specs.Finishing.{KeepsReasons}
 use Rattle.test_runner_core_run_model.specs.State.{initial}
 use Rattle.test_runner_core_session.specs.Session.{SessionState, run_plan}
-use Rattle.test_runner_core_reporter.specs.Keeping.{record_to_keep}
-use Rattle.test_runner_core_reporter.proofs.KeptRuns.{initial_with, reasons_with}
+use Rattle.test_runner_core_reporter.specs.Keeping.{IsKeptOf}
+use Rattle.test_runner_core_reporter.proofs.KeptReports.{kept_begin, kept_reasons}
 use Rattle.test_runner_core_reporter.specs.Opening.{opening}
 use Rattle.test_runner_core.specs.Inside.{JudgesLine, KeepsJudged}
 use Rattle.test_runner_core.specs.declared.refused_line.LineRefusal.{LineRefusal}
@@ -25,7 +24,7 @@ loop-fault-init g c =
         parts = opening plan;
         planned = refl;
         real = initial (run_plan plan);
-        kept = ap (λ (s : SessionState). s.run) begins ∙ initial_with (record_to_keep plan.tests) (run_plan plan);
+        kept = subst (λ (s : SessionState). IsKeptOf plan (initial (run_plan plan)) s.run) (sym begins) (kept_begin plan);
         so_far = so_far_none plan;
         told = told_from_nothing plan c.plan.result.now (g.W.ReportWriter.taken c.args.report.now) (g.W.ReportWriter.taken c.report_opening.new.report) (string_bytes c.args.text.now) (string_bytes c.report_opening.new.text)
             c.plan.ensures c.requires.empty c.in_ok-report_opening.ensures.writes;
@@ -84,7 +83,7 @@ pub judge_line-requires-clause-reached : goal.judge_line-requires-clause-reached
 judge_line-requires-clause-reached g c =
     let here = c.loop-fault.invariant.here in
     let plan = c.args.session.now.plan in
-    subst KeepsReasons (sym here.kept) (reasons_with (record_to_keep plan.tests) here.real (reached plan here.front here.real here.parts here.so_far))
+    kept_reasons plan here.real c.loop-fault.session.run here.kept (reached plan here.front here.real here.parts here.so_far)
 
 pub returns-in_err-refusal-clause-judged : goal.returns-in_err-refusal-clause-judged
 returns-in_err-refusal-clause-judged g c =

@@ -23,7 +23,8 @@ returns-in_err-report_step-in-Taken-clause-judged g c =
 pub returns-in_ok-report_step-in-Taken-clause-judged : goal.returns-in_ok-report_step-in-Taken-clause-judged
 returns-in_ok-report_step-in-Taken-clause-judged g c =
     let old = c.args.session.now in
-    let new = c.take_step.new.session in
+    let next = c.take_step.new.session in
     let line = line_meant c.args.line in
-    let taken = subst (λ (found : LineStep). Steps found old line new) c.in-Taken.is c.in_ok-refusal.ensures.taken in
-    step_tells old new line _ (g.W.ReportWriter.taken c.args.report.now) (string_bytes c.args.text.now) _ _ c.requires.reached taken c.in_ok-report_step-in-Taken.ensures.writes
+    let taken = subst (λ (found : LineStep). Steps found old line next) c.in-Taken.is c.in_ok-refusal.ensures.taken in
+    step_tells old next c.forget_settled.new.session line _ (g.W.ReportWriter.taken c.args.report.now) (string_bytes c.args.text.now) _ _ c.requires.reached taken
+    c.forget_settled.ensures.plan c.forget_settled.ensures.run c.in_ok-report_step-in-Taken.ensures.writes

@@ -1,11 +1,10 @@
 use Rattle.std.proofs.Common.{◌≡◌, Err, string_bytes, ap, ◌∙◌, subst}
 use Rattle.std.proofs.lemmas.Result.{err_from_is_err_and}
 use Rattle.test_runner_core_plan.specs.declared.plan.Plan.{Plan}
-use Rattle.test_runner_core_run_model.specs.State.{State}
 use Rattle.test_runner_core_session.specs.Session.{SessionState}
 use Rattle.test_runner_core_reporter.specs.Writes.{WritesAll, WritesPrefix}
 use Rattle.test_runner_core.specs.Inside.{JudgesLines, KeepsJudged}
-use Rattle.test_runner_core.specs.Report.{ending, exit_status}
+use Rattle.test_runner_core.specs.Report.{ending}
 use Rattle.test_runner_core.proofs.Kept.{ended_as, exit_as, unended_as}
 use Rattle.test_runner_core.proofs.Whole.{reports_none, reports_unended, reports_unjudged, reports_whole}
 use Rattle.test_runner_core.proofs.whole_report.judge_plan.Goals as goal
@@ -65,4 +64,4 @@ returns-clause-reports g c =
     (string_bytes c.judge_lines.new.text) (string_bytes c.end_report.new.text) c.in_ok-end_report.field-0 judged.2
     (ended_as c.args.plan.now session.run judged.0 found (taken c.judge_lines.new.report) (string_bytes c.judge_lines.new.text) (taken c.end_report.new.report) (string_bytes c.end_report.new.text) judged.1 ended)
     c.in_ok-end_report.ensures.empty
-    (c.in_ok-end_report.ensures.code ∙ ap (λ (s : State). exit_status s found) judged.1 ∙ exit_as c.args.plan.now judged.0 found)
+    (c.in_ok-end_report.ensures.code ∙ exit_as c.args.plan.now judged.0 session.run found judged.1)
