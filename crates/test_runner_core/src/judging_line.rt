@@ -9,12 +9,12 @@ ghost use Rattle.test_runner_core.specs.Inside.{Forgets, JudgesLine, Steps, Step
 
 use crate::kept_record::record_to_keep;
 use crate::refused_line::LineRefusal;
-use nextest_run_events_results::{RecordOutput, TestInstanceId};
+use nextest_run_events_results::TestInstanceId;
 use std::alloc::{AllocError, Global};
 use test_runner_core_line_syntax::{LentLine, LentRecord, SpellingError};
 use test_runner_core_reporter::{ReportFault, is_settled, report_step};
 use test_runner_core_run_model::{Finished, StepRefusal};
-use test_runner_core_run_state::StartFault;
+use test_runner_core_run_state::{KeptRecord, StartFault};
 use test_runner_core_session::RecordSession;
 use test_runner_core_streams::ReportWriter;
 
@@ -93,10 +93,7 @@ fn has_outputs(session: &RecordSession<'_>, place: usize) -> bool {
         return false;
     };
     match kept.attempts.as_slice().last() {
-        Some(last) => match &last.output {
-            RecordOutput::Streams { out, err } => out.is_some() || err.is_some(),
-            RecordOutput::Message(_) => true,
-        },
+        Some(last) => last.output().is_some(),
         None => false,
     }
 }
@@ -185,5 +182,6 @@ fn end(
         test_name: name,
     };
     let record = record_to_keep(alloc, session, test, record)?;
-    Ok(step_of(session.attempt_finished(test, record)))
+    let ending = KeptRecord::new(alloc, record)?;
+    Ok(step_of(session.attempt_finished(test, ending)))
 }

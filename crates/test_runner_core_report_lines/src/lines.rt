@@ -10,9 +10,10 @@ use itoa::Buffer;
 use nextest_config_elements_choices::{LeakTimeoutResult, SlowTimeoutResult};
 use nextest_run_events_outputs::{LiveSpec, SetupScriptExecuteStatus};
 use nextest_run_events_results::{
-    AbortDescription, ExecutionResultDescription, FailureDescription, Record,
+    AbortDescription, ExecutionResultDescription, FailureDescription,
 };
 use std::alloc::AllocError;
+use test_runner_core_run_state::KeptRecord;
 
 // Adds a line of this kind on the test.
 pub(crate) fn push_test_line(
@@ -118,14 +119,19 @@ fn slow_word(slow: bool) -> &'static str
 }
 
 // Adds the line of an attempt with this number, which ended so.
-fn push_try(text: &mut String, number: usize, ended: &Record) -> Result<(), AllocError>
+fn push_try(text: &mut String, number: usize, ended: &KeptRecord) -> Result<(), AllocError>
     ensures ok { OnOk result
         (string_bytes text.new ≡ string_bytes text.old ++ try_line number ended.now) }
     ensures grows { Extends (string_bytes text.old) (string_bytes text.new) }
 {
     push_text(text, "try")?;
     push_field(text, Buffer::new().format(number))?;
-    push_end(text, &ended.result, ended.slow, u128::from(ended.nanos))?;
+    push_end(
+        text,
+        ended.result(),
+        ended.slow(),
+        u128::from(ended.nanos()),
+    )?;
     push_feed(text)
 }
 
@@ -181,7 +187,7 @@ pub(crate) fn push_script_line(
 }
 
 // Adds the lines of all attempts.
-pub(crate) fn push_attempts(text: &mut String, records: &[Record]) -> Result<(), AllocError>
+pub(crate) fn push_attempts(text: &mut String, records: &[KeptRecord]) -> Result<(), AllocError>
     ensures ok { OnOk result
         (string_bytes text.new ≡ string_bytes text.old ++ try_lines 1 records.now) }
     ensures grows { Extends (string_bytes text.old) (string_bytes text.new) }

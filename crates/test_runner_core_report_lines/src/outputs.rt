@@ -11,17 +11,17 @@ use crate::writing::{push_feed, push_field, push_hex, push_text};
 use crate::written::Written;
 use itoa::Buffer;
 use nextest_run_events_outputs::{LiveSpec, SetupScriptExecuteStatus};
-use nextest_run_events_results::Record;
 use nextest_run_events_slices::{ByteSubslice, TestOutputErrorSlice};
 use std::alloc::AllocError;
+use test_runner_core_run_state::KeptRecord;
 
 // Adds the outputs of an attempt that ended so.
-pub(crate) fn push_outputs(text: &mut String, ended: &Record) -> Result<(), AllocError>
+pub(crate) fn push_outputs(text: &mut String, ended: &KeptRecord) -> Result<(), AllocError>
     ensures ok { OnOk result
         (Adds (IsOutputs ended.now) (string_bytes text.old) (string_bytes text.new)) }
     ensures grows { Extends (string_bytes text.old) (string_bytes text.new) }
 {
-    push_written(text, Written::in_record(&ended.output))?;
+    push_written(text, Written::in_record(ended))?;
     push_slice(text, slice_of(ended))
 }
 
@@ -90,13 +90,13 @@ fn push_message(text: &mut String, written: Written<'_>) -> Result<(), AllocErro
 }
 
 // The part of an attempt's outputs that shows its error; none of a success.
-fn slice_of(ended: &Record) -> Option<TestOutputErrorSlice<'_>>
+fn slice_of(ended: &KeptRecord) -> Option<TestOutputErrorSlice<'_>>
     ensures { IsShownSlice (is_success ended.now.result) ended.now.output result }
 {
-    if ended.result.is_success() {
+    if ended.result().is_success() {
         return None;
     }
-    let written = Written::in_record(&ended.output);
+    let written = Written::in_record(ended);
     TestOutputErrorSlice::heuristic_extract(written.out(), written.err())
 }
 

@@ -7,10 +7,11 @@ ghost use Rattle.test_runner_core_report_lines.specs.Texts.{fate_of};
 use crate::fate::ReportedFate;
 use crate::finished_test::FinishedTest;
 use crate::shows::Shows;
-use nextest_run_events_results::{Record, TestInstanceId};
+use nextest_run_events_results::TestInstanceId;
 use nextest_run_events_visibility::OutputOnTestFinished;
 use std::marker::Model;
 use test_runner_core_run_model::{Mark, RunTest};
+use test_runner_core_run_state::KeptRecord;
 
 /// A test as a report shows it: its name, and how far it is. In a clause it is these two.
 #[derive(Drop)]
@@ -18,7 +19,7 @@ pub struct ReportedTest<'a> {
     name: TestInstanceId<'a>,
     plan: RunTest,
     mark: Mark,
-    records: &'a [Record],
+    records: &'a [KeptRecord],
 }
 
 impl<'a> Model for ReportedTest<'a> {
@@ -38,7 +39,7 @@ impl<'a> ReportedTest<'a> {
         name: TestInstanceId<'a>,
         plan: RunTest,
         mark: Mark,
-        records: &'a [Record],
+        records: &'a [KeptRecord],
     ) -> ReportedTest<'a>
         ensures binary { result.name.binary_id ≡ name.entry.binary_id.now }
         ensures name { result.name.test_name ≡ name.entry.test_name.now }
@@ -82,7 +83,7 @@ impl<'a> ReportedTest<'a> {
     }
 
     /// The records of its ended attempts, in their order.
-    pub fn records(&self) -> &'a [Record]
+    pub fn records(&self) -> &'a [KeptRecord]
         ensures { result.now ≡ self.now.state.records }
     {
         self.records
@@ -111,12 +112,12 @@ impl<'a> ReportedTest<'a> {
     }
 
     // The finished test whose last attempt this is.
-    fn finished_by(&self, last: &'a Record) -> FinishedTest<'a>
+    fn finished_by(&self, last: &'a KeptRecord) -> FinishedTest<'a>
         ensures { finished_in result ≡ finished_as self.now.state last.now }
     {
         FinishedTest {
-            result: &last.result,
-            slow: last.slow,
+            result: last.result(),
+            slow: last.slow(),
             late: self.records.len() > 1,
             flaky: self.plan.flaky,
         }

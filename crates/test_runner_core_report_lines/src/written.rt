@@ -10,6 +10,7 @@ use nextest_run_events_outputs::{
 };
 use nextest_run_events_results::RecordOutput;
 use nextest_text::Listing;
+use test_runner_core_run_state::KeptRecord;
 
 // What an attempt or a script wrote, or why it could not be started, as a record or a status lends it.
 #[derive(Clone, Copy)]
@@ -27,7 +28,20 @@ pub(crate) enum Written<'s> {
 
 impl<'s> Written<'s> {
     // What a record has.
-    pub(crate) fn in_record(output: &'s RecordOutput) -> Written<'s>
+    pub(crate) fn in_record(ended: &'s KeptRecord) -> Written<'s>
+        ensures { written_meant result ≡ ended.now.output }
+    {
+        match ended.output() {
+            Some(output) => Written::in_output(output),
+            None => Written::Streams {
+                out: None,
+                err: None,
+            },
+        }
+    }
+
+    // What an output has.
+    fn in_output(output: &'s RecordOutput) -> Written<'s>
         ensures { written_meant result ≡ output.now }
     {
         match output {

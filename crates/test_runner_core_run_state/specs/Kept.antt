@@ -1,10 +1,11 @@
 -- The ended attempts of a test, as they are kept, and the room of the one that runs.
-use Rattle.std.specs.Prelude.{◌≡◌, ℕ, ◌-◌, ◌<◌, List, [], length, map, Option, None, Some, ⊤, vec_len, vec_capacity}
-use Rattle.std.specs.Global.{Vec}
+use Rattle.std.specs.Prelude.{◌≡◌, ℕ, ◌-◌, ◌<◌, List, [], ◌∷◌, length, map, Option, None, Some, ⊤, vec_len, vec_capacity}
 use Rattle.nextest_config_elements_choices.specs.declared.timeouts.FlakyResult.{FlakyResult}
 use Rattle.nextest_run_events_results.specs.declared.record.Record.{Record}
 use Rattle.test_runner_core_run_model.specs.declared.run_test.RunTest.{RunTest}
 use Rattle.test_runner_core_run_state.specs.Statuses.{Status, AreStatusesFrom, record_of}
+use Rattle.test_runner_core_run_state.specs.declared.kept_records.RecordsSlot.{RecordsSlot}
+use Rattle.test_runner_core_run_state.specs.declared.kept_records.RecordsSlot.TheVariants as held
 use Rattle.test_runner_core_run_state.specs.declared.kept_statuses.SlotAttempts.{SlotAttempts}
 use Rattle.test_runner_core_run_state.specs.declared.kept_statuses.SlotAttempts.TheVariants as slots
 
@@ -54,10 +55,12 @@ pub record RecordsState : Type 0 where
   pub records : List Record
   pub room : ℕ
 
-abbrev pub records_of : Option (Vec Record) → List Record
-records_of None = []
-records_of (Some records) = records.items
+abbrev pub records_of : RecordsSlot → List Record
+records_of held.Empty = []
+records_of (held.One only) = only ∷ []
+records_of (held.Several records) = records.items
 
-abbrev pub record_room : Option (Vec Record) → ℕ
-record_room None = 0
-record_room (Some records) = vec_capacity records - vec_len records
+abbrev pub record_room : RecordsSlot → ℕ
+record_room held.Empty = 1
+record_room (held.One only) = 0
+record_room (held.Several records) = vec_capacity records - vec_len records

@@ -15,7 +15,7 @@ use crate::keep_attempts::KeepAttempts;
 use crate::kept_records::KeptRecords;
 use crate::test_progress::TestProgress;
 use nextest_run_events_counters::RunStats;
-use nextest_run_events_results::{CancelReason, Record};
+use nextest_run_events_results::CancelReason;
 use std::alloc::{AllocError, Global};
 use std::marker::Model;
 use test_runner_core_run_model::{Mark, RunTest};
@@ -114,17 +114,17 @@ impl<A: KeepAttempts> AllTests<A> {
         &mut self,
         alloc: Global,
         place: usize,
-        record: Record,
+        ending: A::Ending,
         reason: Option<CancelReason>,
     ) -> bool
         requires { IsRunningAt self.old place }
         ensures after { (state : State) → state.reason ≡ reason
-            → ChangesAt place (λ test. after_attempt state test «record») self.old self.new }
+            → ChangesAt place (λ test. after_attempt state test (A.record_of ending)) self.old self.new }
         ensures finished { (state : State) (test : TestState) → state.reason ≡ reason
-            → slice_get self.old place ≡ Some test → result ≡ finishes state test «record» }
+            → slice_get self.old place ≡ Some test → result ≡ finishes state test (A.record_of ending) }
         ensures bound { length self.old < 2 ^ 63 }
     {
-        let finished = end_at(&mut self.tests, alloc, place, record, reason);
+        let finished = end_at(&mut self.tests, alloc, place, ending, reason);
         self.running -= 1;
         finished
     }
@@ -198,17 +198,17 @@ fn end_at<A: KeepAttempts>(
     tests: &mut Vec<TestProgress<A>>,
     alloc: Global,
     place: usize,
-    record: Record,
+    ending: A::Ending,
     reason: Option<CancelReason>,
 ) -> bool
     requires { IsRunningAt tests.old.items place }
     ensures after { (state : State) → state.reason ≡ reason → ChangesAt place
-        (λ test. after_attempt state test «record») tests.old.items tests.new.items }
+        (λ test. after_attempt state test (A.record_of ending)) tests.old.items tests.new.items }
     ensures finished { (state : State) (test : TestState) → state.reason ≡ reason
-        → slice_get tests.old.items place ≡ Some test → result ≡ finishes state test «record» }
+        → slice_get tests.old.items place ≡ Some test → result ≡ finishes state test (A.record_of ending) }
 {
     let test = &mut tests[place];
-    test.end(alloc, record, reason)
+    test.end(alloc, ending, reason)
 }
 
 // What the attempts of the test at a place wrote goes, if there is such a test.

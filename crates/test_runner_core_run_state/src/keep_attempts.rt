@@ -1,6 +1,5 @@
 // How the ended attempts of a test are kept.
 use nextest_run_events_counters::RunStats;
-use nextest_run_events_results::Record;
 use std::alloc::{AllocError, Global};
 use test_runner_core_run_model::RunTest;
 
@@ -9,11 +8,18 @@ use test_runner_core_run_model::RunTest;
 pub trait KeepAttempts: Drop {
     ghost use Rattle.std.specs.Prelude.{◌≡◌, ℕ, ◌+◌, ◌<◌, ◌≤◌, List, [], ◌∷◌, ◌++◌, OnOk, length};
     ghost use Rattle.nextest_run_events_counters.specs.Counting.{CanCountTest};
+    ghost use Rattle.nextest_run_events_results.specs.Result.{is_success};
     ghost use Rattle.nextest_run_events_results.specs.declared.record.Record.{Record};
     ghost use Rattle.test_runner_core_run_model.specs.declared.run_test.RunTest.{RunTest};
     ghost use Rattle.test_runner_core_run_state.specs.Counted.{with_last};
 
-    // Their records, in their order.
+    /// How an attempt ended, as it is handed in.
+    type Ending: Drop;
+
+    // Its record.
+    ghost record_of: { Self.Ending → Record };
+
+    // The records of the attempts, in their order.
     ghost records: { Self → List Record };
 
     // For how many more attempts there is room.
@@ -38,12 +44,12 @@ pub trait KeepAttempts: Drop {
         ensures records { records self.new ≡ records self.old }
         ensures of { (plan : RunTest) → are_of plan self.old → are_of plan self.new };
 
-    /// The attempt of this number, which is the next one, of a test with this plan ended. Takes no memory.
-    fn push(&mut self, alloc: Global, plan: RunTest, attempt: u32, record: Record)
+    /// The attempt of this number, which is the next one, of a test with this plan ended so. Takes no memory.
+    fn push(&mut self, alloc: Global, plan: RunTest, attempt: u32, ending: Self::Ending)
         requires room { 0 < room self.old }
         requires of { are_of plan self.old }
         requires next { attempt ≡ length (records self.old) + 1 }
-        ensures records { records self.new ≡ records self.old ++ «record» ∷ [] }
+        ensures records { records self.new ≡ records self.old ++ record_of ending ∷ [] }
         ensures of { are_of plan self.new };
 
     /// Counts a finished test with this plan by these attempts, if there is one.
@@ -51,4 +57,8 @@ pub trait KeepAttempts: Drop {
         requires of { are_of plan self.now }
         requires below_maximum { CanCountTest stats.old }
         ensures { stats.new ≡ with_last plan (records self.now) stats.old };
+
+    /// Whether an attempt that ended so is a success.
+    fn is_success(ending: &Self::Ending) -> bool
+        ensures { result ≡ is_success (record_of ending.now).result };
 }

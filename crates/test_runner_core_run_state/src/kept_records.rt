@@ -1,21 +1,33 @@
 // Ended attempts, kept as their records.
-ghost use Rattle.std.specs.Prelude.{◌≡◌, map};
+ghost use Rattle.std.specs.Prelude.{◌≡◌, ◌<◌, ◌≤◌, ◌∷◌, ◌++◌, [], OnOk, map};
+ghost use Rattle.nextest_run_events_results.specs.declared.record.Record.{Record};
 ghost use Rattle.test_runner_core_run_state.specs.Kept.{record_room, records_of};
 ghost use Rattle.test_runner_core_run_state.specs.Records.{unwritten};
 
 use crate::keep_attempts::KeepAttempts;
+use crate::kept_record::KeptRecord;
 use nextest_run_events_counters::RunStats;
-use nextest_run_events_results::{Record, RecordOutput};
 use std::alloc::{AllocError, Global};
 use std::marker::Model;
+use std::{mem, slice};
 use test_runner_core_run_model::RunTest;
 
-/// Ended attempts, kept as their records, and the room of the one that runs. In a clause it is those, and for how many there
-/// is room.
+/// Ended attempts, kept as their records, and the room of the one that runs: that of the first is in place. In a clause it is
+/// those, and for how many there is room.
 #[derive(Drop)]
 pub struct KeptRecords {
-    // `None` before an attempt starts: that takes no memory.
-    records: Option<Vec<Record>>,
+    records: RecordsSlot,
+}
+
+// Records: most tests have one attempt.
+#[derive(Drop)]
+pub(crate) enum RecordsSlot {
+    // None, and room for one.
+    Empty,
+    // One, and no room.
+    One(KeptRecord),
+    // Several, or one with room for more.
+    Several(Vec<KeptRecord>),
 }
 
 impl Model for KeptRecords {
@@ -28,12 +40,13 @@ impl Model for KeptRecords {
 
 impl KeptRecords {
     /// The records, in their order.
-    pub fn as_slice(&self) -> &[Record]
+    pub fn as_slice(&self) -> &[KeptRecord]
         ensures { result.now ≡ self.now.records }
     {
         match &self.records {
-            Some(records) => records.as_slice(),
-            None => &[],
+            RecordsSlot::Empty => &[],
+            RecordsSlot::One(only) => slice::from_ref(only),
+            RecordsSlot::Several(records) => records.as_slice(),
         }
     }
 
@@ -49,6 +62,10 @@ impl KeptRecords {
 impl KeepAttempts for KeptRecords {
     ghost use Rattle.std.specs.Prelude.{⊤};
 
+    type Ending = KeptRecord;
+
+    ghost record_of = { λ ending. ending };
+
     ghost records = { λ kept. kept.records };
 
     ghost room = { λ kept. kept.room };
@@ -56,7 +73,9 @@ impl KeepAttempts for KeptRecords {
     ghost are_of = { λ _ _. ⊤ };
 
     fn new() -> KeptRecords {
-        KeptRecords { records: None }
+        KeptRecords {
+            records: RecordsSlot::Empty,
+        }
     }
 
     fn len(&self) -> usize {
@@ -64,55 +83,78 @@ impl KeepAttempts for KeptRecords {
     }
 
     fn reserve(&mut self, alloc: Global) -> Result<(), AllocError> {
-        match &mut self.records {
-            Some(records) => records.reserve(1),
-            None => {
-                self.records = Some(Vec::with_capacity(alloc, 1)?);
-                Ok(())
-            }
-        }
+        reserve_in(&mut self.records, alloc)
     }
 
-    fn push(&mut self, _alloc: Global, _plan: RunTest, _attempt: u32, record: Record) {
-        match &mut self.records {
-            Some(records) => records.push_reserved(record),
-            None => unreachable!(),
-        }
+    fn push(&mut self, _alloc: Global, _plan: RunTest, _attempt: u32, ending: KeptRecord) {
+        push_in(&mut self.records, ending);
     }
 
     fn count_in(&self, plan: RunTest, stats: &mut RunStats) {
         let records = self.as_slice();
         if let Some(last) = records.last() {
-            stats.count_test(&last.result, last.slow, records.len() > 1, plan.flaky);
+            stats.count_test(last.result(), last.slow(), records.len() > 1, plan.flaky);
+        }
+    }
+
+    fn is_success(ending: &KeptRecord) -> bool {
+        ending.result().is_success()
+    }
+}
+
+// Makes room for a record.
+fn reserve_in(records: &mut RecordsSlot, alloc: Global) -> Result<(), AllocError>
+    ensures room { OnOk result (0 < record_room records.new) }
+    ensures grows { record_room records.old ≤ record_room records.new }
+    ensures records { records_of records.new ≡ records_of records.old }
+{
+    match records {
+        RecordsSlot::Empty => Ok(()),
+        RecordsSlot::Several(several) => several.reserve(1),
+        RecordsSlot::One(_) => {
+            let mut several = Vec::with_capacity(alloc, 2)?;
+            match mem::replace(records, RecordsSlot::Empty) {
+                RecordsSlot::One(first) => several.push_reserved(first),
+                RecordsSlot::Empty | RecordsSlot::Several(_) => unreachable!(),
+            }
+            *records = RecordsSlot::Several(several);
+            Ok(())
         }
     }
 }
 
+// Adds a record, for which there is room.
+fn push_in(records: &mut RecordsSlot, ending: KeptRecord)
+    requires room { 0 < record_room records.old }
+    ensures records { records_of records.new ≡ records_of records.old ++ ending ∷ [] }
+{
+    *records = match mem::replace(records, RecordsSlot::Empty) {
+        RecordsSlot::Empty => RecordsSlot::One(ending),
+        RecordsSlot::One(_) => unreachable!(),
+        RecordsSlot::Several(mut several) => {
+            several.push_reserved(ending);
+            RecordsSlot::Several(several)
+        }
+    };
+}
+
 // What the attempts wrote goes.
-fn forget_in(records: &mut Option<Vec<Record>>)
+fn forget_in(records: &mut RecordsSlot)
     ensures records { records_of records.new ≡ map unwritten (records_of records.old) }
     ensures room { record_room records.new ≡ record_room records.old }
 {
-    if let Some(records) = records {
-        forget_each(records.as_mut_slice());
+    match records {
+        RecordsSlot::Empty => {}
+        RecordsSlot::One(only) => only.forget_output(),
+        RecordsSlot::Several(several) => forget_each(several.as_mut_slice()),
     }
 }
 
 // What each of these attempts wrote goes.
-fn forget_each(records: &mut [Record])
+fn forget_each(records: &mut [KeptRecord])
     ensures { records.new ≡ map unwritten records.old }
 {
     for ended in records.iter_mut() {
-        forget(ended);
+        ended.forget_output();
     }
-}
-
-// What an attempt wrote goes.
-fn forget(ended: &mut Record)
-    ensures { ended.new ≡ unwritten ended.old }
-{
-    ended.output = RecordOutput::Streams {
-        out: None,
-        err: None,
-    };
 }

@@ -71,6 +71,10 @@ impl KeptStatuses {
 impl KeepAttempts for KeptStatuses {
     ghost use Rattle.test_runner_core_run_state.specs.Kept.{records_in, AreKept};
 
+    type Ending = Record;
+
+    ghost record_of = { λ ending. ending };
+
     ghost records = { λ kept. records_in kept };
 
     ghost room = { λ kept. kept.room };
@@ -95,12 +99,12 @@ impl KeepAttempts for KeptStatuses {
         reserve_in(&mut self.attempts, alloc)
     }
 
-    fn push(&mut self, alloc: Global, plan: RunTest, attempt: u32, record: Record) {
+    fn push(&mut self, alloc: Global, plan: RunTest, attempt: u32, ending: Record) {
         let retry_data = RetryData {
             attempt,
             total_attempts: plan.tries,
         };
-        let status = execute_status(alloc, record, retry_data);
+        let status = execute_status(alloc, ending, retry_data);
         push_in(&mut self.attempts, status, plan.flaky);
     }
 
@@ -108,6 +112,10 @@ impl KeepAttempts for KeptStatuses {
         if let Some(attempts) = self.attempts() {
             stats.on_test_finished(attempts);
         }
+    }
+
+    fn is_success(ending: &Record) -> bool {
+        ending.result.is_success()
     }
 }
 

@@ -4,6 +4,7 @@
 
 mod all_tests;
 mod keep_attempts;
+mod kept_record;
 mod kept_records;
 mod kept_statuses;
 mod progress;
@@ -13,6 +14,7 @@ mod start_fault;
 mod test_progress;
 
 pub use keep_attempts::KeepAttempts;
+pub use kept_record::KeptRecord;
 pub use kept_records::KeptRecords;
 pub use kept_statuses::KeptStatuses;
 pub use progress::Progress;

@@ -116,10 +116,14 @@ impl<A: KeepAttempts> Progress<A> {
         Ok(())
     }
 
-    /// What the step finished: the attempt of the test at a place that runs ended. Takes no memory. An `Err` says why
+    /// What the step finished: the attempt of the test at a place that runs ended so. Takes no memory. An `Err` says why
     /// that can't be, and leaves everything as it was.
-    pub fn attempt_finished(&mut self, test: usize, record: Record) -> Result<Finished, StepRefusal>
-        ensures { Takes self.old (events.Ended test «record») result self.new }
+    pub fn attempt_finished(
+        &mut self,
+        test: usize,
+        ending: A::Ending,
+    ) -> Result<Finished, StepRefusal>
+        ensures { Takes self.old (events.Ended test (A.record_of ending)) result self.new }
     {
         let Some(mark) = self.tests.mark(test) else {
             return Err(StepRefusal::UnknownTest);
@@ -128,19 +132,19 @@ impl<A: KeepAttempts> Progress<A> {
             return Err(refusal);
         }
         let was_stopped = self.is_stopped();
-        let finished = self.end(test, record);
+        let finished = self.end(test, ending);
         let exceeded = self.limit_stop(finished);
         self.stop_for(exceeded);
         Ok(self.finished(test, was_stopped))
     }
 
     // The attempt of the test at a place that runs ended: whether that finishes the test.
-    fn end(&mut self, test: usize, record: Record) -> bool
+    fn end(&mut self, test: usize, ending: A::Ending) -> bool
         requires { IsRunningAt self.old.tests test }
-        ensures { EndsAttempt self.old test «record» result self.new }
+        ensures { EndsAttempt self.old test (A.record_of ending) result self.new }
     {
         let reason = self.stats.cancel_reason;
-        let finished = self.tests.end(self.alloc, test, record, reason);
+        let finished = self.tests.end(self.alloc, test, ending, reason);
         self.tests.count_at(test, &mut self.stats);
         finished
     }

@@ -1,6 +1,5 @@
 // How far one test is.
 ghost use Rattle.std.specs.Prelude.{◌≡◌, ◌||◌, false, nat_le, is_some, Some, OnOk, OnErr, if◌then◌else◌};
-ghost use Rattle.nextest_run_events_results.specs.Result as results;
 ghost use Rattle.nextest_run_events_counters.specs.Counting.{CanCountTest};
 ghost use Rattle.test_runner_core_run_model.specs.State.{State, waiting, is_finished};
 ghost use Rattle.test_runner_core_run_model.specs.Step.{after_attempt, finished_by, finishes};
@@ -12,7 +11,7 @@ ghost use Rattle.test_runner_core_run_state.specs.Records.{unwritten, with_recor
 use crate::keep_attempts::KeepAttempts;
 use crate::kept_records::KeptRecords;
 use nextest_run_events_counters::RunStats;
-use nextest_run_events_results::{CancelReason, Record};
+use nextest_run_events_results::CancelReason;
 use std::alloc::{AllocError, Global};
 use std::marker::Model;
 use test_runner_core_run_model::{Mark, RunTest};
@@ -94,18 +93,19 @@ impl<A: KeepAttempts> TestProgress<A> {
     pub(crate) fn end(
         &mut self,
         alloc: Global,
-        record: Record,
+        ending: A::Ending,
         reason: Option<CancelReason>,
     ) -> bool
         requires { self.old.mark ≡ marks.Running }
         ensures after { (state : State) → state.reason ≡ reason
-            → self.new ≡ after_attempt state self.old «record» }
+            → self.new ≡ after_attempt state self.old (A.record_of ending) }
         ensures finished { (state : State) → state.reason ≡ reason
-            → result ≡ finishes state self.old «record» }
+            → result ≡ finishes state self.old (A.record_of ending) }
     {
         let attempt = self.attempts.len() as u32 + 1;
-        let finished = is_finishing(&record, self.plan.tries, attempt, reason);
-        self.attempts.push(alloc, self.plan, attempt, record);
+        let success = A::is_success(&ending);
+        let finished = is_finishing(success, self.plan.tries, attempt, reason);
+        self.attempts.push(alloc, self.plan, attempt, ending);
         self.mark = mark_after(finished, reason);
         finished
     }
@@ -141,11 +141,10 @@ impl TestProgress<KeptRecords> {
 
 // Whether an attempt of this number, of so many, finishes its test: it is a success or the last one, or the run is
 // stopped.
-fn is_finishing(record: &Record, tries: u32, attempt: u32, reason: Option<CancelReason>) -> bool
-    ensures { result
-        ≡ (results.is_success «record».now.result || nat_le tries attempt || is_some reason) }
+fn is_finishing(success: bool, tries: u32, attempt: u32, reason: Option<CancelReason>) -> bool
+    ensures { result ≡ (success || nat_le tries attempt || is_some reason) }
 {
-    record.result.is_success() || tries <= attempt || reason.is_some()
+    success || tries <= attempt || reason.is_some()
 }
 
 // How far a test is after an attempt.

@@ -92,20 +92,20 @@ impl<'a, A: KeepAttempts> PlanRun<'a, A> {
         self.progress.start(place)
     }
 
-    /// What the step finished: the attempt of a test that runs ended. Takes no memory. An `Err` says why that can't be,
+    /// What the step finished: the attempt of a test that runs ended so. Takes no memory. An `Err` says why that can't be,
     /// and leaves everything as it was.
     pub fn attempt_finished(
         &mut self,
         test: TestInstanceId<'_>,
-        record: Record,
+        ending: A::Ending,
     ) -> Result<Finished, StepRefusal>
         ensures plan { self.new.plan ≡ self.old.plan }
         ensures step { Takes self.old.run (events.Ended
-            (place_in self.old.plan test.entry.binary_id.now test.entry.test_name.now) «record»)
-            result self.new.run }
+            (place_in self.old.plan test.entry.binary_id.now test.entry.test_name.now)
+            (A.record_of ending)) result self.new.run }
     {
         let place = self.places.find(test);
-        self.progress.attempt_finished(place, record)
+        self.progress.attempt_finished(place, ending)
     }
 
     /// What the step finished: a script ended. Takes no memory. An `Err` says why that can't be, and leaves everything as

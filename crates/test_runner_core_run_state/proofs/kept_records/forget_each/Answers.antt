@@ -6,5 +6,5 @@ use Rattle.test_runner_core_run_state.proofs.kept_records.forget_each.Goals as g
 
 pub loop-ended-preserved : goal.loop-ended-preserved
 loop-ended-preserved c =
-    ap (λ (e : Record). slice_set c.loop-ended.records c.loop-ended.ended-index e) (c.forget.ensures ∙ ap unwritten (sym c.ended-item.is))
+    ap (λ (e : Record). slice_set c.loop-ended.records c.loop-ended.ended-index e) (c.forget_output.ensures ∙ ap unwritten (sym c.ended-item.is))
     ∙ map_over_more unwritten c.args.records.now c.loop-ended.records c.loop-ended.ended-index c.ended-item.result (omega arith) c.loop-ended.invariant c.ended-item.is

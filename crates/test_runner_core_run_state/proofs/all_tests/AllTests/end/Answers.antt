@@ -18,5 +18,5 @@ invariant_of-self g c =
     let state = with_reason c.args.reason in
     subst (λ (tests : List TestState). c.self.inside.running - 1 ≡ count_by is_running tests)
     (sym (c.end_at-finished.ensures.after state refl it.test it.found))
-    (ended_running c.self.inside.tests.items c.args.place c.self.inside.running it.test (after_attempt state it.test c.args.record) it.found (ap is_running_mark it.runs)
-    (after_idle state it.test c.args.record) c.self.invariant)
+    (ended_running c.self.inside.tests.items c.args.place c.self.inside.running it.test (after_attempt state it.test (g.A.KeepAttempts.record_of c.args.ending)) it.found (ap is_running_mark it.runs)
+    (after_idle state it.test (g.A.KeepAttempts.record_of c.args.ending)) c.self.invariant)

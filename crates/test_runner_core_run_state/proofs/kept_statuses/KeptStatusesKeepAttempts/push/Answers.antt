@@ -16,6 +16,6 @@ returns-clause-of c =
     let number : c.args.attempt ≡ 1 + length old = omega (arith, next, many) in
     record {
       made = subst (λ (s : List Status). AreStatusesFrom 1 tries (map record_of s) s) (sym is_new)
-          (status_more 1 tries old c.args.record status c.requires.of.made (subst (λ (n : ℕ). IsStatusOf n tries c.args.record status) number c.execute_status-status.ensures));
+          (status_more 1 tries old c.args.ending status c.requires.of.made (subst (λ (n : ℕ). IsStatusOf n tries c.args.ending status) number c.execute_status-status.ensures));
       rule = subst (KeepsRule c.args.plan.flaky) (sym c.push_in.ensures.rule) refl;
     }

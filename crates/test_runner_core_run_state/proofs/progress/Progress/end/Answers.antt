@@ -17,24 +17,24 @@ use Rattle.test_runner_core_run_state.proofs.progress.Progress.end.Goals as goal
 
 pub count_at-requires-clause-place : goal.count_at-requires-clause-place
 count_at-requires-clause-place g c =
-    let state = the_view g.row.A g.A.KeepAttempts c.self.inside in
+    let state = the_view g.row.A g.row.A-Ending g.A.KeepAttempts c.self.inside in
     let it : IsRunningAt state.tests c.args.test = subst (λ (s : State). IsRunningAt s.tests c.args.test) (sym c.self.view_is) c.requires in
     let is_new = c.end-finished.ensures.after state refl it.test it.found in
     let within = slice_get_within state.tests c.args.test it.test it.found in
-    let same = ap length is_new ∙ length-set state.tests c.args.test (after_attempt state it.test c.args.record) in
+    let same = ap length is_new ∙ length-set state.tests c.args.test (after_attempt state it.test (g.A.KeepAttempts.record_of c.args.ending)) in
     omega (arith, within, same)
 
 pub count_at-requires-clause-below_maximum : goal.count_at-requires-clause-below_maximum
 count_at-requires-clause-below_maximum g c =
-    let state = the_view g.row.A g.A.KeepAttempts c.self.inside in
+    let state = the_view g.row.A g.row.A-Ending g.A.KeepAttempts c.self.inside in
     let bound = c.end-finished.ensures.bound in
     subst CanCountTest (sym c.self.invariant) (can_count_test state (omega (arith, bound)))
 
 pub invariant_of-self : goal.invariant_of-self
 invariant_of-self g c =
-    let state = the_view g.row.A g.A.KeepAttempts c.self.inside in
+    let state = the_view g.row.A g.row.A-Ending g.A.KeepAttempts c.self.inside in
     let it : IsRunningAt state.tests c.args.test = subst (λ (s : State). IsRunningAt s.tests c.args.test) (sym c.self.view_is) c.requires in
-    let made = after_attempt state it.test c.args.record in
+    let made = after_attempt state it.test (g.A.KeepAttempts.record_of c.args.ending) in
     let is_new = c.end-finished.ensures.after state refl it.test it.found in
     let there : slice_get c.end-finished.new.self c.args.test ≡ Some made = ap (λ (ts : List TestState). slice_get ts c.args.test) is_new ∙ written state.tests c.args.test it.test made it.found in
     subst (λ (ts : List TestState). Counts c.self.inside.scripts ts c.count_at.new.stats c.self.inside.limit) (sym is_new)
@@ -42,14 +42,14 @@ invariant_of-self g c =
 
 pub returns : goal.returns
 returns g c =
-    let state = the_view g.row.A g.A.KeepAttempts c.self.inside in
+    let state = the_view g.row.A g.row.A-Ending g.A.KeepAttempts c.self.inside in
     let it : IsRunningAt state.tests c.args.test = subst (λ (s : State). IsRunningAt s.tests c.args.test) (sym c.self.view_is) c.requires in
-    let made = after_attempt state it.test c.args.record in
+    let made = after_attempt state it.test (g.A.KeepAttempts.record_of c.args.ending) in
     let is_new = c.end-finished.ensures.after state refl it.test it.found in
     let there : slice_get c.end-finished.new.self c.args.test ≡ Some made = ap (λ (ts : List TestState). slice_get ts c.args.test) is_new ∙ written state.tests c.args.test it.test made it.found in
     let stats = c.count_at.ensures made there in
     let shown : ℕ → Option CancelReason → State = λ skipped reason. record state { tests = c.end-finished.new.self; skipped = skipped; reason = reason } in
-    subst (λ (s : State). EndsAttempt s c.args.test c.args.record c.end-finished.result (state_of c.self.inside.scripts c.end-finished.new.self c.count_at.new.stats c.self.inside.limit)) c.self.view_is
+    subst (λ (s : State). EndsAttempt s c.args.test (g.A.KeepAttempts.record_of c.args.ending) c.end-finished.result (state_of c.self.inside.scripts c.end-finished.new.self c.count_at.new.stats c.self.inside.limit)) c.self.view_is
     (record {
       rest = ap (λ (n : ℕ). shown n c.count_at.new.stats.cancel_reason) (ap (λ (s : RunStats). s.skipped) stats) ∙ ap (λ (r : Option CancelReason). shown state.skipped r) (ap (λ (s : RunStats). s.cancel_reason) stats);
       test = λ test found. c.end-finished.ensures.after state refl test found;

@@ -65,7 +65,7 @@ invariant_of-self g c =
 
 pub returns : goal.returns
 returns g c =
-    let state = the_view g.row.A g.A.KeepAttempts c.self.inside in
+    let state = the_view g.row.A g.row.A-Ending g.A.KeepAttempts c.self.inside in
     let stats = c.on_setup_script_finished.new.self in
     let kept = c.on_setup_script_finished.ensures in
     let back = script_record_back c.args.record c.script_status-status.result c.script_status-status.ensures in

@@ -9,7 +9,7 @@ use Rattle.test_runner_core_run_state.proofs.progress.Progress.is_over.Goals as 
 
 pub returns-then-all_scripts : goal.returns-then-all_scripts
 returns-then-all_scripts g c =
-    let state = the_view g.row.A g.A.KeepAttempts c.self.inside in
+    let state = the_view g.row.A g.row.A-Ending g.A.KeepAttempts c.self.inside in
     let stats = c.self.inside.stats in
     let own = c.self.invariant in
     let first : eqb (length state.scripts) state.planned_scripts ≡ true =

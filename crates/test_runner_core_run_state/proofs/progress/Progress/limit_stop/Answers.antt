@@ -21,21 +21,21 @@ failed_count-requires g c =
 
 pub returns-in-Some-Wait : goal.returns-in-Some-Wait
 returns-in-Some-Wait g c =
-    let state = the_view g.row.A g.A.KeepAttempts c.self.inside in
+    let state = the_view g.row.A g.row.A-Ending g.A.KeepAttempts c.self.inside in
     subst (λ (s : State). after_limit c.args.finished s ≡ stopped_by why.TestFailure s) c.self.view_is
     (limited_when state c.args.finished _ c.if-not-finished.false (sym c.is_some.ensures ∙ c.if-is_some.false)
     (ap (mode_at state.limit) (sym (failed_is state) ∙ sym (ap failed_count c.self.invariant) ∙ sym c.failed_count.ensures) ∙ sym c.is_exceeded.ensures ∙ c.in-Some-Wait.is ∙ ap (λ (m : TerminateMode). Some m) c.in-Some-Wait.field-0-is))
 
 pub returns-in-Some-Immediate : goal.returns-in-Some-Immediate
 returns-in-Some-Immediate g c =
-    let state = the_view g.row.A g.A.KeepAttempts c.self.inside in
+    let state = the_view g.row.A g.row.A-Ending g.A.KeepAttempts c.self.inside in
     subst (λ (s : State). after_limit c.args.finished s ≡ stopped_by why.TestFailureImmediate s) c.self.view_is
     (limited_when state c.args.finished _ c.if-not-finished.false (sym c.is_some.ensures ∙ c.if-is_some.false)
     (ap (mode_at state.limit) (sym (failed_is state) ∙ sym (ap failed_count c.self.invariant) ∙ sym c.failed_count.ensures) ∙ sym c.is_exceeded.ensures ∙ c.in-Some-Immediate.is ∙ ap (λ (m : TerminateMode). Some m) c.in-Some-Immediate.field-0-is))
 
 pub returns-in-None : goal.returns-in-None
 returns-in-None g c =
-    let state = the_view g.row.A g.A.KeepAttempts c.self.inside in
+    let state = the_view g.row.A g.row.A-Ending g.A.KeepAttempts c.self.inside in
     subst (λ (s : State). after_limit c.args.finished s ≡ s) c.self.view_is
     (limited_when state c.args.finished None c.if-not-finished.false (sym c.is_some.ensures ∙ c.if-is_some.false)
     (ap (mode_at state.limit) (sym (failed_is state) ∙ sym (ap failed_count c.self.invariant) ∙ sym c.failed_count.ensures) ∙ sym c.is_exceeded.ensures ∙ c.in-None.is))

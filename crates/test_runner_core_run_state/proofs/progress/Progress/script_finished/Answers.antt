@@ -10,7 +10,7 @@ use Rattle.test_runner_core_run_state.proofs.progress.Progress.script_finished.G
 
 pub end_script-requires : goal.end_script-requires
 end_script-requires g c =
-    let state = the_view g.row.A g.A.KeepAttempts c.self.inside in
+    let state = the_view g.row.A g.row.A-Ending g.A.KeepAttempts c.self.inside in
     subst (λ (s : State). length s.scripts < s.planned_scripts) c.self.view_is
     (script_within state c.args.script c.args.record
     (c.in_default.ensures state c.args.record
@@ -18,7 +18,7 @@ end_script-requires g c =
 
 pub returns : goal.returns
 returns g c =
-    let state = the_view g.row.A g.A.KeepAttempts c.self.inside in
+    let state = the_view g.row.A g.row.A-Ending g.A.KeepAttempts c.self.inside in
     let taken = script_within state c.args.script c.args.record
     (c.in_default.ensures state c.args.record
     (record { planned_scripts = sym c.planned-planned.ensures; ended_scripts = sym c.ended-ended.ensures.count; reason = sym c.is_some-is_stopped.ensures })) in

@@ -13,7 +13,7 @@ use Rattle.test_runner_core_run_state.proofs.progress.Progress.start.Goals as go
 
 pub start-requires : goal.start-requires
 start-requires g c =
-    let state = the_view g.row.A g.A.KeepAttempts c.self.inside in
+    let state = the_view g.row.A g.row.A-Ending g.A.KeepAttempts c.self.inside in
     startable state c.args.test
     (c.in_default-start_refusal.ensures state c.args.test
     (record { planned_scripts = sym c.planned-planned.ensures; ended_scripts = sym c.ended-ended.ensures.count; reason = sym c.is_some-is_stopped.ensures })
@@ -21,7 +21,7 @@ start-requires g c =
 
 pub invariant_of-self-2 : goal.invariant_of-self-2
 invariant_of-self-2 g c =
-    let state = the_view g.row.A g.A.KeepAttempts c.self.inside in
+    let state = the_view g.row.A g.row.A-Ending g.A.KeepAttempts c.self.inside in
     let it : IsStartable state.tests c.args.test =
     startable state c.args.test
     (c.in_default-start_refusal.ensures state c.args.test
@@ -34,7 +34,7 @@ invariant_of-self-2 g c =
 
 pub returns : goal.returns
 returns g c =
-    let state = the_view g.row.A g.A.KeepAttempts c.self.inside in
+    let state = the_view g.row.A g.row.A-Ending g.A.KeepAttempts c.self.inside in
     let taken : Decides state (events.Started c.args.test) None =
     c.in_default-start_refusal.ensures state c.args.test
     (record { planned_scripts = sym c.planned-planned.ensures; ended_scripts = sym c.ended-ended.ensures.count; reason = sym c.is_some-is_stopped.ensures })

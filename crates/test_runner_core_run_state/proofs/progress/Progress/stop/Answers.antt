@@ -11,7 +11,7 @@ use Rattle.test_runner_core_run_state.proofs.progress.Progress.stop.Goals as goa
 
 pub returns-in-Some-cancel_reason : goal.returns-in-Some-cancel_reason
 returns-in-Some-cancel_reason g c =
-    let state = the_view g.row.A g.A.KeepAttempts c.self.inside in
+    let state = the_view g.row.A g.row.A-Ending g.A.KeepAttempts c.self.inside in
     let old = c.args.self.now in
     let new = record state { reason = Some c.graver.result } in
     let happens =
