@@ -87,13 +87,13 @@ fn forget_settled(session: &mut RecordSession<'_>, finished: Finished)
     }
 }
 
-// Whether an output of the last attempt of the test at a place is kept. Only time depends on it.
+// Whether outputs of the last attempt of the test at a place may be kept. Only time depends on it.
 fn has_outputs(session: &RecordSession<'_>, place: usize) -> bool {
     let Some(kept) = session.kept_at(place) else {
         return false;
     };
     match kept.attempts.as_slice().last() {
-        Some(last) => last.output().is_some(),
+        Some(last) => last.whole().is_some(),
         None => false,
     }
 }

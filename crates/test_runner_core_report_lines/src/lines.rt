@@ -126,12 +126,11 @@ fn push_try(text: &mut String, number: usize, ended: &KeptRecord) -> Result<(), 
 {
     push_text(text, "try")?;
     push_field(text, Buffer::new().format(number))?;
-    push_end(
-        text,
-        ended.result(),
-        ended.slow(),
-        u128::from(ended.nanos()),
-    )?;
+    let (slow, nanos) = (ended.slow(), u128::from(ended.nanos()));
+    match ended.whole() {
+        Some(whole) => push_end(text, &whole.result, slow, nanos)?,
+        None => push_end(text, &ExecutionResultDescription::Pass, slow, nanos)?,
+    }
     push_feed(text)
 }
 

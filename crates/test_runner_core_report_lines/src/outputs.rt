@@ -93,7 +93,7 @@ fn push_message(text: &mut String, written: Written<'_>) -> Result<(), AllocErro
 fn slice_of(ended: &KeptRecord) -> Option<TestOutputErrorSlice<'_>>
     ensures { IsShownSlice (is_success ended.now.result) ended.now.output result }
 {
-    if ended.result().is_success() {
+    if ended.is_success() {
         return None;
     }
     let written = Written::in_record(ended);

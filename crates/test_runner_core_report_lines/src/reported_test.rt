@@ -1,13 +1,14 @@
 // A test as a report shows it.
-ghost use Rattle.std.specs.Prelude.{◌≡◌, length};
-ghost use Rattle.test_runner_core_run_model.specs.State.{finished_as, is_finished_mark};
+ghost use Rattle.std.specs.Prelude.{◌≡◌, length, nat_lt};
+ghost use Rattle.nextest_run_events_results.specs.declared.result.ExecutionResultDescription.TheVariants.{Pass};
+ghost use Rattle.test_runner_core_run_model.specs.State.{is_finished_mark};
 ghost use Rattle.test_runner_core_report_lines.specs.Due.{due_of, finished_in};
 ghost use Rattle.test_runner_core_report_lines.specs.Texts.{fate_of};
 
 use crate::fate::ReportedFate;
 use crate::finished_test::FinishedTest;
 use crate::shows::Shows;
-use nextest_run_events_results::TestInstanceId;
+use nextest_run_events_results::{ExecutionResultDescription, TestInstanceId};
 use nextest_run_events_visibility::OutputOnTestFinished;
 use std::marker::Model;
 use test_runner_core_run_model::{Mark, RunTest};
@@ -94,33 +95,61 @@ impl<'a> ReportedTest<'a> {
         ensures { result ≡ due_of shows.now self.now.state }
     {
         let last = self.records.last()?;
-        match self.mark {
-            Mark::Finished(reason) => Some(shows.due_after(reason, self.finished_by(last))),
-            Mark::Waiting | Mark::Running | Mark::Between => None,
-        }
+        let Mark::Finished(reason) = self.mark else {
+            return None;
+        };
+        let pass = ExecutionResultDescription::Pass;
+        let test = self.finished_by(result_in(last, &pass), last.slow());
+        Some(shows.due_after(reason, test))
     }
 
     /// What became of it.
     pub fn fate(&self) -> ReportedFate
         ensures { result ≡ fate_of self.now.state }
     {
-        match self.records.last() {
-            Some(last) if is_finished(self.mark) => self.finished_by(last).fate(),
-            Some(_) => ReportedFate::Unfinished,
-            None => ReportedFate::NotRun,
+        let Some(last) = self.records.last() else {
+            return ReportedFate::NotRun;
+        };
+        if !is_finished(self.mark) {
+            return ReportedFate::Unfinished;
         }
+        let pass = ExecutionResultDescription::Pass;
+        self.finished_by(result_in(last, &pass), last.slow()).fate()
     }
 
-    // The finished test whose last attempt this is.
-    fn finished_by(&self, last: &'a KeptRecord) -> FinishedTest<'a>
-        ensures { finished_in result ≡ finished_as self.now.state last.now }
+    // The finished test whose last attempt ended with this result, slow or not.
+    fn finished_by<'b>(
+        &self,
+        last_result: &'b ExecutionResultDescription,
+        slow: bool,
+    ) -> FinishedTest<'b>
+        ensures { finished_in result ≡ record {
+          result = last_result.now;
+          slow = slow;
+          late = nat_lt 1 (length self.now.state.records);
+          flaky = self.now.state.plan.flaky;
+        } }
     {
         FinishedTest {
-            result: last.result(),
-            slow: last.slow(),
+            result: last_result,
+            slow,
             late: self.records.len() > 1,
             flaky: self.plan.flaky,
         }
+    }
+}
+
+// How an attempt ended, where a pass is at hand to be lent.
+fn result_in<'b>(
+    ended: &'b KeptRecord,
+    pass: &'b ExecutionResultDescription,
+) -> &'b ExecutionResultDescription
+    requires { pass.now ≡ Pass }
+    ensures { result.now ≡ ended.now.result }
+{
+    match ended.whole() {
+        Some(whole) => &whole.result,
+        None => pass,
     }
 }
 

@@ -31,8 +31,8 @@ impl<'s> Written<'s> {
     pub(crate) fn in_record(ended: &'s KeptRecord) -> Written<'s>
         ensures { written_meant result ≡ ended.now.output }
     {
-        match ended.output() {
-            Some(output) => Written::in_output(output),
+        match ended.whole() {
+            Some(whole) => Written::in_output(&whole.output),
             None => Written::Streams {
                 out: None,
                 err: None,

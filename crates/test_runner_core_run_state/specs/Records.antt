@@ -1,16 +1,10 @@
 -- Runs with other records of their tests: with less of what was written.
-use Rattle.std.specs.Prelude.{ℕ, zero, suc, Bool, true, false, List, [], ◌∷◌, map, Option, None, Some, if◌then◌else◌}
+use Rattle.std.specs.Prelude.{ℕ, zero, suc, Bool, true, false, List, [], ◌∷◌, map, None, if◌then◌else◌}
 use Rattle.nextest_run_events_results.specs.declared.record.Record.{Record}
-use Rattle.nextest_run_events_results.specs.declared.record.RecordOutput.{RecordOutput}
 use Rattle.nextest_run_events_results.specs.declared.record.RecordOutput.TheVariants as wrote
 use Rattle.test_runner_core_run_model.specs.State.{State, TestState}
 use Rattle.test_runner_core_run_model.specs.declared.event.Event.{Event}
 use Rattle.test_runner_core_run_model.specs.declared.event.Event.TheVariants as events
-
--- an output that is apart, where there is any
-abbrev pub output_kept : Option RecordOutput → RecordOutput
-output_kept None = wrote.Streams None None
-output_kept (Some output) = output
 
 -- a record without what was written
 abbrev pub unwritten : Record → Record

@@ -1,74 +1,100 @@
 // A record in less memory.
 ghost use Rattle.std.specs.Prelude.{◌≡◌, None, IfNone, IfOk, IfSome};
+ghost use Rattle.std.specs.Bool.{OnTrue};
+ghost use Rattle.nextest_run_events_results.specs.Result.{is_success};
 ghost use Rattle.nextest_run_events_results.specs.declared.record.RecordOutput.TheVariants as wrote;
-ghost use Rattle.test_runner_core_run_state.specs.Records.{output_kept, unwritten};
+ghost use Rattle.nextest_run_events_results.specs.declared.result.ExecutionResultDescription.TheVariants as ended;
+ghost use Rattle.test_runner_core_run_state.specs.Records.{unwritten};
+ghost use Rattle.test_runner_core_run_state.specs.Short.{record_kept};
 
-use nextest_run_events_outputs::Boxed;
 use nextest_run_events_results::{ExecutionResultDescription, Record, RecordOutput};
 use std::alloc::{AllocError, Global};
 use std::marker::Model;
 
-/// A record whose output is apart, where it has any. In a clause it is the record.
+/// A record, which takes little where it is that of a pass without outputs. In a clause it is the record.
 #[derive(Drop)]
 pub struct KeptRecord {
-    result: ExecutionResultDescription,
-    slow: bool,
-    nanos: u64,
-    // `None` where no stream was captured.
-    output: Option<Boxed<RecordOutput>>,
+    record: ShortRecord,
+}
+
+// A record.
+#[derive(Drop)]
+pub(crate) enum ShortRecord {
+    // A pass of which no stream was captured.
+    Passed {
+        // Whether it was slow.
+        slow: bool,
+        // How long it took, in nanoseconds.
+        nanos: u64,
+    },
+    // Any other.
+    Whole(Box<Record>),
 }
 
 impl Model for KeptRecord {
     ghost use Rattle.nextest_run_events_results.specs.declared.record.Record.{Record};
-    ghost use Rattle.test_runner_core_run_state.specs.Records.{output_kept};
+    ghost use Rattle.test_runner_core_run_state.specs.Short.{record_kept};
 
     ghost Value = { Record };
 
-    ghost view = { λ k. record { result = k.result; slow = k.slow; nanos = k.nanos; output = output_kept k.output } };
+    ghost view = { λ k. record_kept k.record };
 }
 
 impl KeptRecord {
-    /// The record. It fails only on allocation, and not where no stream was captured.
+    /// The record. It fails only on allocation, and not where it is that of a pass without outputs.
     pub fn new(alloc: Global, ending: Record) -> Result<KeptRecord, AllocError>
         ensures { IfOk result (λ kept. kept ≡ ending) }
     {
-        Ok(KeptRecord {
-            result: ending.result,
-            slow: ending.slow,
-            nanos: ending.nanos,
-            output: boxed(alloc, ending.output)?,
-        })
+        let record = if is_short(&ending) {
+            ShortRecord::Passed {
+                slow: ending.slow,
+                nanos: ending.nanos,
+            }
+        } else {
+            ShortRecord::Whole(Box::new(alloc, ending)?)
+        };
+        Ok(KeptRecord { record })
     }
 
-    /// How the attempt ended.
-    pub fn result(&self) -> &ExecutionResultDescription
-        ensures { result.now ≡ self.now.result }
+    /// The record, lent; `None` where it is that of a pass without outputs.
+    pub fn whole(&self) -> Option<&Record>
+        ensures whole { IfSome result (λ lent. lent.now ≡ self.now) }
+        ensures passed { IfNone result (self.now.result ≡ ended.Pass) }
+        ensures unwritten { IfNone result (self.now.output ≡ wrote.Streams None None) }
     {
-        &self.result
+        match &self.record {
+            ShortRecord::Passed { .. } => None,
+            ShortRecord::Whole(whole) => Some(whole),
+        }
     }
 
-    /// Whether it was slow.
+    /// Whether the attempt was slow.
     pub fn slow(&self) -> bool
         ensures { result ≡ self.now.slow }
     {
-        self.slow
+        match &self.record {
+            ShortRecord::Passed { slow, .. } => *slow,
+            ShortRecord::Whole(whole) => whole.slow,
+        }
     }
 
     /// How long it took, in nanoseconds.
     pub fn nanos(&self) -> u64
         ensures { result ≡ self.now.nanos }
     {
-        self.nanos
+        match &self.record {
+            ShortRecord::Passed { nanos, .. } => *nanos,
+            ShortRecord::Whole(whole) => whole.nanos,
+        }
     }
 
-    /// What it wrote, or why it could not be started; `None` where no stream was captured.
-    pub fn output(&self) -> Option<&RecordOutput>
-        ensures some { IfSome result (λ output. output.now ≡ self.now.output) }
-        ensures none { IfNone result (self.now.output ≡ wrote.Streams None None) }
+    /// Whether it is a success.
+    pub fn is_success(&self) -> bool
+        ensures { result ≡ is_success self.now.result }
     {
-        match &self.output {
-            Some(output) => Some(output.get()),
-            None => None,
+        match self.whole() {
+            Some(whole) => whole.result.is_success(),
+            None => true,
         }
     }
 
@@ -76,19 +102,38 @@ impl KeptRecord {
     pub(crate) fn forget_output(&mut self)
         ensures { self.new ≡ unwritten self.old }
     {
-        self.output = None;
+        forget_in(&mut self.record);
     }
 }
 
-// An output, where there is any.
-fn boxed(alloc: Global, output: RecordOutput) -> Result<Option<Boxed<RecordOutput>>, AllocError>
-    ensures { IfOk result (λ kept. output_kept kept ≡ output) }
+// Whether a record is that of a pass without outputs.
+fn is_short(ending: &Record) -> bool
+    ensures passed { OnTrue result (ending.now.result ≡ ended.Pass) }
+    ensures unwritten { OnTrue result (ending.now.output ≡ wrote.Streams None None) }
 {
-    match output {
-        RecordOutput::Streams {
-            out: None,
-            err: None,
-        } => Ok(None),
-        output => Ok(Some(Boxed::new(alloc, output)?)),
+    match (&ending.result, &ending.output) {
+        (
+            ExecutionResultDescription::Pass,
+            RecordOutput::Streams {
+                out: None,
+                err: None,
+            },
+        ) => true,
+        _ => false,
+    }
+}
+
+// What an attempt wrote goes.
+fn forget_in(kept: &mut ShortRecord)
+    ensures { record_kept kept.new ≡ unwritten (record_kept kept.old) }
+{
+    match kept {
+        ShortRecord::Passed { .. } => {}
+        ShortRecord::Whole(whole) => {
+            whole.output = RecordOutput::Streams {
+                out: None,
+                err: None,
+            };
+        }
     }
 }

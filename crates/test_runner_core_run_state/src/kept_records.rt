@@ -7,6 +7,7 @@ ghost use Rattle.test_runner_core_run_state.specs.Records.{unwritten};
 use crate::keep_attempts::KeepAttempts;
 use crate::kept_record::KeptRecord;
 use nextest_run_events_counters::RunStats;
+use nextest_run_events_results::ExecutionResultDescription;
 use std::alloc::{AllocError, Global};
 use std::marker::Model;
 use std::{mem, slice};
@@ -92,13 +93,22 @@ impl KeepAttempts for KeptRecords {
 
     fn count_in(&self, plan: RunTest, stats: &mut RunStats) {
         let records = self.as_slice();
+        let late = records.len() > 1;
         if let Some(last) = records.last() {
-            stats.count_test(last.result(), last.slow(), records.len() > 1, plan.flaky);
+            match last.whole() {
+                Some(whole) => stats.count_test(&whole.result, whole.slow, late, plan.flaky),
+                None => stats.count_test(
+                    &ExecutionResultDescription::Pass,
+                    last.slow(),
+                    late,
+                    plan.flaky,
+                ),
+            }
         }
     }
 
     fn is_success(ending: &KeptRecord) -> bool {
-        ending.result().is_success()
+        ending.is_success()
     }
 }
 
