@@ -39,7 +39,7 @@ abbrev pub Steps : LineStep → SessionState → LogLine → SessionState → Ty
 Steps (it.Taken finished) old line new = (new.plan ≡ old.plan) × TakesStep old.run (kept_event old.plan line) finished new.run
 Steps (it.Refused refusal) old line new = (step old.run (kept_event old.plan line) ≡ Err refusal) × (new ≡ old)
 
--- nothing goes of what is kept of a run, or what a settled test wrote
+-- what is kept of a run stays, or loses the outputs of a settled test
 abbrev pub Forgets : Plan → State → State → Type 0
 Forgets plan old new = (new ≡ old) ⊎ ((place : ℕ) × (is_settled plan old place ≡ true) × (new ≡ state_with (unwritten_at place) old))
 

@@ -75,7 +75,7 @@ fn report_line<W: ReportWriter>(
     }
 }
 
-// Of the test that a step finished what its attempts wrote goes, where no report needs it any more.
+// Forgets the outputs of the test that a step finished, where no report needs them any more.
 fn forget_settled(session: &mut RecordSession<'_>, finished: Finished)
     ensures plan { session.new.plan ≡ session.old.plan }
     ensures run { Forgets session.old.plan session.old.run session.new.run }
@@ -87,7 +87,7 @@ fn forget_settled(session: &mut RecordSession<'_>, finished: Finished)
     }
 }
 
-// Whether outputs of the last attempt of the test at a place may be kept. Only time depends on it.
+// Whether outputs of the last attempt of the test at a place may be kept. It affects only time.
 fn has_outputs(session: &RecordSession<'_>, place: usize) -> bool {
     let Some(kept) = session.kept_at(place) else {
         return false;

@@ -139,7 +139,7 @@ impl<'a> ReportedTest<'a> {
     }
 }
 
-// How an attempt ended, where a pass is at hand to be lent.
+// How an attempt ended: by its record, or by the pass that is handed in where the record is kept short.
 fn result_in<'b>(
     ended: &'b KeptRecord,
     pass: &'b ExecutionResultDescription,

@@ -29,7 +29,7 @@ abbrev pub record_to_keep : List PlanTest → ℕ → Record → Record
 record_to_keep tests place ending =
     if is_success ending.result && hides_success tests place then unwritten ending else ending
 
--- the same, where nothing is kept of what the attempts of some tests wrote
+-- the same, where the outputs of some tests are forgotten
 abbrev pub record_left : (ℕ → Bool) → List PlanTest → ℕ → Record → Record
 record_left forgotten tests place ending = if forgotten place then unwritten ending else record_to_keep tests place ending
 
@@ -56,7 +56,8 @@ is_settled plan state place =
 abbrev pub AreSettled : (ℕ → Bool) → Plan → State → Type 0
 AreSettled forgotten plan state = (place : ℕ) → forgotten place ≡ true → is_settled plan state place ≡ true
 
--- what is kept of a run of a plan: all but what settled tests wrote, not of each, and successes that are never shown
+-- what is kept of a run of a plan: all of it but what was written by successes that are never shown, and the outputs of some
+-- settled tests
 abbrev pub IsKeptOf : Plan → State → State → Type 0
 IsKeptOf plan state kept =
     (forgotten : ℕ → Bool) × AreSettled forgotten plan state × (kept ≡ state_with (record_left forgotten plan.tests) state)

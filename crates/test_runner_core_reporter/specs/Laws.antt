@@ -13,7 +13,7 @@ use Rattle.test_runner_core_reporter.specs.Keeping.{IsKeptOf, event_to_keep, is_
 use Rattle.test_runner_core_reporter.specs.Parts.{IsTextOf, Part}
 use Rattle.test_runner_core_reporter.specs.Steps.{step_parts}
 
--- the run takes the step too, its texts are those of what is kept, and of the run after it that is kept
+-- the run takes the step too, what is kept after the step is kept of the run after it, and a text of what is kept is one of the run
 pub record GoesOn (plan : Plan) (event : Event) (real old now : State) : Type 0 where
   pub next : State
   pub taken : step real event ≡ Ok next
@@ -28,7 +28,7 @@ HaveOneText = (parts : List Part) (one other : List ℕ) → IsTextOf parts one 
 abbrev pub HaveSomeText : Type 0
 HaveSomeText = (parts : List Part) → ¬ ¬ ((text : List ℕ) × IsTextOf parts text)
 
--- what is kept of a run is at its beginning the run
+-- at its beginning a run is kept whole
 abbrev pub KeepsBegin : Type 0
 KeepsBegin = (plan : Plan) → IsKeptOf plan (initial (run_plan plan)) (initial (run_plan plan))
 

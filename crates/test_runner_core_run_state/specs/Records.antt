@@ -37,6 +37,6 @@ is_place zero (suc other) = false
 is_place (suc place) zero = false
 is_place (suc place) (suc other) = is_place place other
 
--- nothing that the attempts of the test at a place wrote, and all that those of the others did
+-- the records of the test at a place without their outputs, and those of the others as they are
 abbrev pub unwritten_at : ℕ → ℕ → Record → Record
 unwritten_at place other ending = if is_place place other then unwritten ending else ending

@@ -156,7 +156,7 @@ impl<A: KeepAttempts> AllTests<A> {
 }
 
 impl AllTests<KeptRecords> {
-    // What the attempts of the test at a place wrote goes, if there is such a test.
+    // Forgets the outputs of the attempts of the test at a place, if there is such a test.
     pub(crate) fn forget_outputs(&mut self, place: usize)
         ensures { self.new ≡ tests_with (unwritten_at place) self.old }
     {
@@ -211,7 +211,7 @@ fn end_at<A: KeepAttempts>(
     test.end(alloc, ending, reason)
 }
 
-// What the attempts of the test at a place wrote goes, if there is such a test.
+// Forgets the outputs of the attempts of the test at a place, if there is such a test.
 fn forget_at(tests: &mut Vec<TestProgress<KeptRecords>>, place: usize)
     ensures { tests.new.items ≡ tests_with (unwritten_at place) tests.old.items }
 {

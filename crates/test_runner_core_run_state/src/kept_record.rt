@@ -11,7 +11,7 @@ use nextest_run_events_results::{ExecutionResultDescription, Record, RecordOutpu
 use std::alloc::{AllocError, Global};
 use std::marker::Model;
 
-/// A record, which takes little where it is that of a pass without outputs. In a clause it is the record.
+/// A record in less memory: that of a pass without outputs is its slowness and its time. In a clause it is the record.
 #[derive(Drop)]
 pub struct KeptRecord {
     record: ShortRecord,
@@ -98,7 +98,7 @@ impl KeptRecord {
         }
     }
 
-    // What it wrote goes.
+    // Forgets what it wrote.
     pub(crate) fn forget_output(&mut self)
         ensures { self.new ≡ unwritten self.old }
     {
@@ -123,7 +123,7 @@ fn is_short(ending: &Record) -> bool
     }
 }
 
-// What an attempt wrote goes.
+// Forgets what an attempt wrote.
 fn forget_in(kept: &mut ShortRecord)
     ensures { record_kept kept.new ≡ unwritten (record_kept kept.old) }
 {

@@ -51,7 +51,7 @@ impl KeptRecords {
         }
     }
 
-    // What the attempts wrote goes.
+    // Forgets the outputs of the attempts.
     pub(crate) fn forget_outputs(&mut self)
         ensures records { self.new.records ≡ map unwritten self.old.records }
         ensures room { self.new.room ≡ self.old.room }
@@ -148,7 +148,7 @@ fn push_in(records: &mut RecordsSlot, ending: KeptRecord)
     };
 }
 
-// What the attempts wrote goes.
+// Forgets the outputs of the attempts.
 fn forget_in(records: &mut RecordsSlot)
     ensures records { records_of records.new ≡ map unwritten (records_of records.old) }
     ensures room { record_room records.new ≡ record_room records.old }
@@ -160,7 +160,7 @@ fn forget_in(records: &mut RecordsSlot)
     }
 }
 
-// What each of these attempts wrote goes.
+// Forgets the output of each of these attempts.
 fn forget_each(records: &mut [KeptRecord])
     ensures { records.new ≡ map unwritten records.old }
 {

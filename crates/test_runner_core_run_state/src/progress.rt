@@ -34,7 +34,7 @@ use test_runner_core_run_model::{
     stop_refusal,
 };
 
-/// How far a run is, of whose tests the ended attempts are kept so. In a clause it is the state of the run.
+/// How far a run is. The ended attempts of its tests are kept as `A` keeps them. In a clause it is the state of the run.
 ///
 /// Each event takes constant time, but the one that stops the run goes over all tests.
 pub struct Progress<A: KeepAttempts> {
@@ -328,7 +328,7 @@ impl<A: KeepAttempts> Progress<A> {
 }
 
 impl Progress<KeptRecords> {
-    /// What the attempts of the test at a place wrote goes, if the plan has such a place. Takes no memory.
+    /// Forgets the outputs of the attempts of the test at a place, if the plan has such a place. Takes no memory.
     pub fn forget_outputs(&mut self, test: usize)
         ensures { self.new ≡ state_with (unwritten_at test) self.old }
     {

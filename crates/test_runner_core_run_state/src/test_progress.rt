@@ -131,7 +131,7 @@ impl<A: KeepAttempts> TestProgress<A> {
 }
 
 impl TestProgress<KeptRecords> {
-    // What its attempts wrote goes.
+    // Forgets the outputs of its attempts.
     pub(crate) fn forget_outputs(&mut self)
         ensures { self.new ≡ with_records unwritten self.old }
     {

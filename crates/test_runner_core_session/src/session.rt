@@ -51,7 +51,7 @@ impl<'a> Session<'a> {
 }
 
 impl<'a> RecordSession<'a> {
-    /// What the attempts of the test at a place wrote goes, if the plan has such a place. Takes no memory.
+    /// Forgets the outputs of the attempts of the test at a place, if the plan has such a place. Takes no memory.
     pub fn forget_outputs(&mut self, place: usize)
         ensures plan { self.new.plan ≡ self.old.plan }
         ensures run { self.new.run ≡ state_with (unwritten_at place) self.old.run }
