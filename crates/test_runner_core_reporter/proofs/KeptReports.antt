@@ -38,7 +38,7 @@ use Rattle.test_runner_core_session.specs.Session.{run_plan}
 use Rattle.test_runner_core_run_model.specs.declared.mark.Mark.{Mark}
 use Rattle.test_runner_core_run_model.specs.declared.mark.Mark.TheVariants as marks
 use Rattle.test_runner_core_reporter.specs.Final.{final_parts, script_parts, shown_part, shown_tests, shows_of}
-use Rattle.test_runner_core_reporter.specs.Keeping.{AreSettled, IsKeptOf, event_to_keep, has_outputs, hides_success, is_never_shown, is_settled, is_settled_by, record_left, record_to_keep}
+use Rattle.test_runner_core_reporter.specs.Keeping.{AllSettled, IsKeptOf, event_to_keep, has_outputs, hides_success, is_never_shown, is_settled, is_settled_by, record_left, record_to_keep}
 use Rattle.test_runner_core_reporter.specs.declared.final_text.ShownTest.{ShownTest}
 use Rattle.test_runner_core_reporter.specs.Parts.{Done, IsPart, IsTextOf, Part, Shown}
 use Rattle.test_runner_core_reporter.specs.RunEnd.{end_text}
@@ -448,13 +448,13 @@ shown_same plan one other place same = by_state (slice_get one place) refl
     by_state (Some so_far) there = by_test so_far there (slice_get plan.tests place) refl
 
 -- settled tests stay so
-settled_on : (plan : Plan) (forgotten : ℕ → Bool) (real next : State) (event : Event) → AreSettled forgotten plan real → step real event ≡ Ok next → AreSettled forgotten plan next
+settled_on : (plan : Plan) (forgotten : ℕ → Bool) (real next : State) (event : Event) → AllSettled forgotten plan real → step real event ≡ Ok next → AllSettled forgotten plan next
 settled_on plan forgotten real next event settled taken place is =
     ap (λ (o : Option ShownTest). option_map_or (λ (named : ShownTest). is_settled_by (due_of named.shows named.test.state)) o false)
     (shown_same plan next.tests real.tests place (finished_stays real next event place taken (settled_finished plan real place (settled place is))))
     ∙ settled place is
 
-unforgotten : (plan : Plan) (forgotten : ℕ → Bool) (real : State) → AreSettled forgotten plan real → (place : ℕ) → finished_at real.tests place ≡ false → forgotten place ≡ false
+unforgotten : (plan : Plan) (forgotten : ℕ → Bool) (real : State) → AllSettled forgotten plan real → (place : ℕ) → finished_at real.tests place ≡ false → forgotten place ≡ false
 unforgotten plan forgotten real settled place unfinished = by_test (forgotten place) refl
   where
     by_test : (b : Bool) → forgotten place ≡ b → forgotten place ≡ false
@@ -478,7 +478,7 @@ over_refuses state place one other over = by_found (slice_get state.tests place)
     by_found None h = refl
     by_found (Some test) h = by_mark test test.mark h
 
-step_same : (plan : Plan) (forgotten : ℕ → Bool) (real : State) (event : Event) → AreSettled forgotten plan real
+step_same : (plan : Plan) (forgotten : ℕ → Bool) (real : State) (event : Event) → AllSettled forgotten plan real
     → step (state_with (record_left forgotten plan.tests) real) (event_to_keep plan event) ≡ step (state_with (record_left forgotten plan.tests) real) (event_with (record_left forgotten plan.tests) event)
 step_same plan forgotten real (events.ScriptEnded script told) settled = refl
 step_same plan forgotten real (events.Started test) settled = refl
@@ -494,7 +494,7 @@ step_same plan forgotten real (events.Ended test told) settled = by_test (forgot
     by_test false e = ap (attempt_ended kept test) (sym (left_there forgotten plan.tests test told e))
 step_same plan forgotten real (events.Stopped reason) settled = refl
 
-as_taken : (plan : Plan) (forgotten : ℕ → Bool) (real old : State) (event : Event) (came : Result State StepRefusal) → AreSettled forgotten plan real → old ≡ state_with (record_left forgotten plan.tests) real
+as_taken : (plan : Plan) (forgotten : ℕ → Bool) (real old : State) (event : Event) (came : Result State StepRefusal) → AllSettled forgotten plan real → old ≡ state_with (record_left forgotten plan.tests) real
     → step old (event_to_keep plan event) ≡ came → step old (event_with (record_left forgotten plan.tests) event) ≡ came
 as_taken plan forgotten real old event came settled is taken =
     ap (λ (s : State). step s (event_with (record_left forgotten plan.tests) event)) is ∙ sym (step_same plan forgotten real event settled)
@@ -506,7 +506,7 @@ same_finishing plan kept (events.Started test) old new = refl
 same_finishing plan kept (events.Ended test told) old new = refl
 same_finishing plan kept (events.Stopped reason) old new = refl
 
-step_as : (plan : Plan) (forgotten : ℕ → Bool) (event : Event) (real old next now : State) → AreSettled forgotten plan real
+step_as : (plan : Plan) (forgotten : ℕ → Bool) (event : Event) (real old next now : State) → AllSettled forgotten plan real
     → old ≡ state_with (record_left forgotten plan.tests) real → now ≡ state_with (record_left forgotten plan.tests) next
     → SayAs (step_parts plan (event_to_keep plan event) old now) (step_parts plan event real next)
 step_as plan forgotten event real old next now settled was is =
@@ -616,7 +616,7 @@ kept_forgets plan real kept place (forgotten, settled, is) over = (
     same : (other : ℕ) (told : Record) → unwritten_at place other (record_left forgotten plan.tests other told) ≡ record_left more plan.tests other told
     same other told = by_tests told (is_place place other) (forgotten other) (is_success told.result && hides_success plan.tests other)
 
-keeps_all : (plan : Plan) (forgotten : ℕ → Bool) (real : State) → AreSettled forgotten plan real → KeepsAll plan (record_left forgotten plan.tests) plan.tests real.tests
+keeps_all : (plan : Plan) (forgotten : ℕ → Bool) (real : State) → AllSettled forgotten plan real → KeepsAll plan (record_left forgotten plan.tests) plan.tests real.tests
 unfolding shows_of
 keeps_all plan forgotten real settled place test so_far here there = by_test (forgotten place) refl
   where

@@ -53,11 +53,11 @@ is_settled plan state place =
     option_map_or (λ named. is_settled_by (due_of named.shows named.test.state)) (slice_get (shown_tests plan plan.tests state.tests) place) false
 
 -- these tests are settled
-abbrev pub AreSettled : (ℕ → Bool) → Plan → State → Type 0
-AreSettled forgotten plan state = (place : ℕ) → forgotten place ≡ true → is_settled plan state place ≡ true
+abbrev pub AllSettled : (ℕ → Bool) → Plan → State → Type 0
+AllSettled forgotten plan state = (place : ℕ) → forgotten place ≡ true → is_settled plan state place ≡ true
 
 -- what is kept of a run of a plan: all of it but what was written by successes that are never shown, and the outputs of some
 -- settled tests
 abbrev pub IsKeptOf : Plan → State → State → Type 0
 IsKeptOf plan state kept =
-    (forgotten : ℕ → Bool) × AreSettled forgotten plan state × (kept ≡ state_with (record_left forgotten plan.tests) state)
+    (forgotten : ℕ → Bool) × AllSettled forgotten plan state × (kept ≡ state_with (record_left forgotten plan.tests) state)

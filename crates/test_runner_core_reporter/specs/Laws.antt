@@ -14,7 +14,7 @@ use Rattle.test_runner_core_reporter.specs.Parts.{IsTextOf, Part}
 use Rattle.test_runner_core_reporter.specs.Steps.{step_parts}
 
 -- the run takes the step too, what is kept after the step is kept of the run after it, and a text of what is kept is one of the run
-pub record GoesOn (plan : Plan) (event : Event) (real old now : State) : Type 0 where
+pub record GoesAlike (plan : Plan) (event : Event) (real old now : State) : Type 0 where
   pub next : State
   pub taken : step real event ≡ Ok next
   pub kept : IsKeptOf plan next now
@@ -34,7 +34,7 @@ KeepsBegin = (plan : Plan) → IsKeptOf plan (initial (run_plan plan)) (initial 
 
 -- it goes on as the run does, and each step of it reports the same
 abbrev pub KeepsProgress : Type 0
-KeepsProgress = (plan : Plan) (event : Event) (real old now : State) → IsKeptOf plan real old → step old (event_to_keep plan event) ≡ Ok now → GoesOn plan event real old now
+KeepsProgress = (plan : Plan) (event : Event) (real old now : State) → IsKeptOf plan real old → step old (event_to_keep plan event) ≡ Ok now → GoesAlike plan event real old now
 
 -- it refuses what the run refuses
 abbrev pub KeepsRefusals : Type 0

@@ -20,7 +20,7 @@ use Rattle.nextest_run_events_results.specs.declared.cancel_reason.CancelReason.
 use Rattle.test_runner_core_run_model.specs.State.{is_finished_mark, is_running_mark}
 use Rattle.test_runner_core_run_model.specs.declared.mark.Mark.TheVariants as marks
 use Rattle.test_runner_core_run_state.specs.Parts.{KeepsTest}
-use Rattle.test_runner_core_run_state.specs.Counted.{with_finished, with_last}
+use Rattle.test_runner_core_run_state.specs.Counted.{with_finished, with_last_record}
 use Rattle.test_runner_core_run_state.proofs.Tallies.{finished_adds}
 use Rattle.nextest_run_events_results.specs.declared.result.ExecutionResultDescription.{ExecutionResultDescription}
 use Rattle.nextest_run_events_results.specs.declared.record.Record.{Record}
@@ -103,7 +103,7 @@ last_told statuses =
 
 -- a finished test counts by its attempts as by their records
 pub counted_last : (plan : RunTest) (attempts : Attempts Status) (stats : RunStats) → attempts.flaky_result ≡ plan.flaky
-    → with_attempts attempts stats ≡ with_last plan (map record_of attempts.statuses) stats
+    → with_attempts attempts stats ≡ with_last_record plan (map record_of attempts.statuses) stats
 counted_last plan attempts stats rule =
     ap (λ (f : FlakyResult). option_map_or (λ (final : Status). with_test (record { result = final.result; slow = final.is_slow; late = nat_lt 1 (length attempts.statuses); flaky = f }) stats) (last attempts.statuses) stats) rule
     ∙ ap (λ (n : ℕ). option_map_or (λ (final : Status). with_test (record { result = final.result; slow = final.is_slow; late = nat_lt 1 n; flaky = plan.flaky }) stats) (last attempts.statuses) stats) (sym (length_map record_of attempts.statuses))
@@ -120,7 +120,7 @@ counted_last plan attempts stats rule =
     by_last (Some final) = refl
 
 -- a finished test with a record counts by its last one
-pub counted_once : (test : TestState) (stats : RunStats) → is_finished test ≡ true → 0 < length test.records → with_last test.plan test.records stats ≡ with_finished test stats
+pub counted_once : (test : TestState) (stats : RunStats) → is_finished test ≡ true → 0 < length test.records → with_last_record test.plan test.records stats ≡ with_finished test stats
 counted_once test stats over some =
     let final = get_within test.records (length test.records - 1) (omega (arith, some)) in
     ap (λ (o : Option Record). option_map_or (λ (ending : Record). with_test (finished_as test ending) stats) o stats) final.1

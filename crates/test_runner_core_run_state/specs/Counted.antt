@@ -66,6 +66,6 @@ with_tests_counted tests stats =
     }
 
 -- a finished test with this plan, counted by the last of its records, where it has one
-abbrev pub with_last : RunTest → List Record → RunStats → RunStats
-with_last plan records stats =
+abbrev pub with_last_record : RunTest → List Record → RunStats → RunStats
+with_last_record plan records stats =
     option_map_or (λ ending. with_test (record { result = ending.result; slow = ending.slow; late = nat_lt 1 (length records); flaky = plan.flaky }) stats) (last_record records) stats

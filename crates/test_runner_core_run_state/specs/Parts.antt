@@ -37,12 +37,12 @@ pub record KeepsTest {Kept : Type 0} (are_of : RunTest → Kept → Type 0) (rec
   pub ended : is_over_once mark ≡ true → 0 < length (records kept)
   pub tries_left : is_finished_mark mark ≡ false → length (records kept) ≤ plan.tries - 1
 
--- what is kept of the attempts of a test, if there is one
-abbrev pub IsKept : {Kept : Type 0} → (RunTest → Kept → Type 0) → (Kept → List Record) → Option TestState → Option (Bor Kept) → Type 0
-IsKept are_of records None None = ⊤
-IsKept are_of records None (Some kept) = ⊥
-IsKept are_of records (Some test) None = ⊥
-IsKept are_of records (Some test) (Some kept) = are_of test.plan kept.now × (records kept.now ≡ test.records)
+-- these are the attempts of a test, as they are kept, if there is one
+abbrev pub HasAttempts : {Kept : Type 0} → (RunTest → Kept → Type 0) → (Kept → List Record) → Option TestState → Option (Bor Kept) → Type 0
+HasAttempts are_of records None None = ⊤
+HasAttempts are_of records None (Some kept) = ⊥
+HasAttempts are_of records (Some test) None = ⊥
+HasAttempts are_of records (Some test) (Some kept) = are_of test.plan kept.now × (records kept.now ≡ test.records)
 
 -- the state of a run that is kept in these parts; why it is stopped and how many tests were skipped is kept with the counters
 abbrev pub state_of : ScriptState → List TestState → RunStats → MaxFail → State

@@ -8,7 +8,7 @@ ghost use Rattle.test_runner_core_run_model.specs.State.{TestState, State, waiti
 ghost use Rattle.test_runner_core_run_model.specs.Step.{after_attempt, finished_by, finishes};
 ghost use Rattle.test_runner_core_run_model.specs.declared.mark.Mark.TheVariants as marks;
 ghost use Rattle.test_runner_core_run_state.specs.Counted.{with_finished, with_tests, CountsNoTest};
-ghost use Rattle.test_runner_core_run_state.specs.Parts.{IsKept, IsStartable, IsRunningAt, ChangesAt};
+ghost use Rattle.test_runner_core_run_state.specs.Parts.{HasAttempts, IsStartable, IsRunningAt, ChangesAt};
 ghost use Rattle.test_runner_core_run_state.specs.Records.{tests_with, unwritten_at};
 
 use crate::keep_attempts::KeepAttempts;
@@ -91,7 +91,7 @@ impl<A: KeepAttempts> AllTests<A> {
 
     // What is kept of the ended attempts of the test at a place; `None` where there is no test.
     pub(crate) fn attempts(&self, place: usize) -> Option<&A>
-        ensures { IsKept A.are_of A.records (slice_get self.now place) result }
+        ensures { HasAttempts A.are_of A.records (slice_get self.now place) result }
     {
         let test = self.tests.as_slice().get(place)?;
         Some(test.attempts())

@@ -11,7 +11,7 @@ pub trait KeepAttempts: Drop {
     ghost use Rattle.nextest_run_events_results.specs.Result.{is_success};
     ghost use Rattle.nextest_run_events_results.specs.declared.record.Record.{Record};
     ghost use Rattle.test_runner_core_run_model.specs.declared.run_test.RunTest.{RunTest};
-    ghost use Rattle.test_runner_core_run_state.specs.Counted.{with_last};
+    ghost use Rattle.test_runner_core_run_state.specs.Counted.{with_last_record};
 
     /// How an attempt ended, as it is handed in.
     type Ending: Drop;
@@ -56,7 +56,7 @@ pub trait KeepAttempts: Drop {
     fn count_in(&self, plan: RunTest, stats: &mut RunStats)
         requires of { are_of plan self.now }
         requires below_maximum { CanCountTest stats.old }
-        ensures { stats.new ≡ with_last plan (records self.now) stats.old };
+        ensures { stats.new ≡ with_last_record plan (records self.now) stats.old };
 
     /// Whether an attempt that ended so is a success.
     fn is_success(ending: &Self::Ending) -> bool

@@ -12,7 +12,7 @@ ghost use Rattle.test_runner_core_run_model.specs.State.{TestState, initial, is_
 ghost use Rattle.test_runner_core_run_model.specs.Step.{after_limit, stopped_by};
 ghost use Rattle.test_runner_core_run_model.specs.declared.event.Event.TheVariants as events;
 ghost use Rattle.test_runner_core_run_state.specs.Counted.{CountsNoTest, with_tests_counted, with_tests};
-ghost use Rattle.test_runner_core_run_state.specs.Parts.{IsKept, IsRunningAt};
+ghost use Rattle.test_runner_core_run_state.specs.Parts.{HasAttempts, IsRunningAt};
 ghost use Rattle.test_runner_core_run_state.specs.Progress.{Takes, Starts, EndsAttempt};
 ghost use Rattle.test_runner_core_run_state.specs.Records.{state_with, unwritten_at};
 ghost use Rattle.test_runner_core_run_state.specs.Statuses.{IsScriptStatus};
@@ -314,7 +314,7 @@ impl<A: KeepAttempts> Progress<A> {
 
     /// What is kept of the ended attempts of the test at a place; `None` where the plan has no such place.
     pub fn attempts(&self, test: usize) -> Option<&A>
-        ensures { IsKept A.are_of A.records (slice_get self.now.tests test) result }
+        ensures { HasAttempts A.are_of A.records (slice_get self.now.tests test) result }
     {
         self.tests.attempts(test)
     }

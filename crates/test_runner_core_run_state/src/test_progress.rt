@@ -5,7 +5,7 @@ ghost use Rattle.test_runner_core_run_model.specs.State.{State, waiting, is_fini
 ghost use Rattle.test_runner_core_run_model.specs.Step.{after_attempt, finished_by, finishes};
 ghost use Rattle.test_runner_core_run_model.specs.declared.mark.Mark.TheVariants as marks;
 ghost use Rattle.test_runner_core_run_state.specs.Counted.{with_finished};
-ghost use Rattle.test_runner_core_run_state.specs.Parts.{IsKept};
+ghost use Rattle.test_runner_core_run_state.specs.Parts.{HasAttempts};
 ghost use Rattle.test_runner_core_run_state.specs.Records.{unwritten, with_records};
 
 use crate::keep_attempts::KeepAttempts;
@@ -73,7 +73,7 @@ impl<A: KeepAttempts> TestProgress<A> {
 
     // What is kept of its ended attempts.
     pub(crate) fn attempts(&self) -> &A
-        ensures { IsKept A.are_of A.records (Some self.now) (Some result) }
+        ensures { HasAttempts A.are_of A.records (Some self.now) (Some result) }
     {
         &self.attempts
     }

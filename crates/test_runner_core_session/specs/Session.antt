@@ -7,7 +7,7 @@ use Rattle.test_runner_core_plan.specs.declared.plan.PlanTest.{PlanTest}
 use Rattle.test_runner_core_run_model.specs.RunPlan.{RunPlan}
 use Rattle.test_runner_core_run_model.specs.State.{State, TestState, initial}
 use Rattle.test_runner_core_run_model.specs.declared.run_test.RunTest.{RunTest}
-use Rattle.test_runner_core_run_state.specs.Parts.{IsKept}
+use Rattle.test_runner_core_run_state.specs.Parts.{HasAttempts}
 use Rattle.test_runner_core_run_state.specs.Statuses.{IsAttempts}
 use Rattle.test_runner_core_session.specs.Names.{place_of}
 use Rattle.test_runner_core_session.specs.declared.plan_run.KeptTest.{KeptTest}
@@ -46,7 +46,7 @@ abbrev pub IsKeptTest : {Kept : Type 0} → (RunTest → Kept → Type 0) → (K
 IsKeptTest are_of records None None = ⊤
 IsKeptTest are_of records None (Some kept) = ⊥
 IsKeptTest are_of records (Some test) None = ⊥
-IsKeptTest are_of records (Some test) (Some kept) = (kept.mark ≡ test.mark) × (kept.plan ≡ test.plan) × IsKept are_of records (Some test) (Some kept.attempts)
+IsKeptTest are_of records (Some test) (Some kept) = (kept.mark ≡ test.mark) × (kept.plan ≡ test.plan) × HasAttempts are_of records (Some test) (Some kept.attempts)
 
 -- what is told of a test is how far it is, what is planned of it, and its ended attempts; nothing where there is no such
 -- test
