@@ -87,14 +87,15 @@ fn forget_settled(session: &mut RecordSession<'_>, finished: Finished)
     }
 }
 
-// Whether outputs of the last attempt of the test at a place may be kept. It affects only time.
+// Whether outputs of attempts of the test at a place may be kept. It affects only time.
 fn has_outputs(session: &RecordSession<'_>, place: usize) -> bool {
     let Some(kept) = session.kept_at(place) else {
         return false;
     };
-    match kept.attempts.as_slice().last() {
-        Some(last) => last.whole().is_some(),
-        None => false,
+    match kept.attempts.as_slice() {
+        [] => false,
+        [only] => only.whole().is_some(),
+        _ => true,
     }
 }
 
