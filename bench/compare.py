@@ -51,6 +51,15 @@ def with_outputs(count, size):
     return loads.inputs([loads.binary("p", names)]), "".join(f"start\tp\t{name}\nend\tp\t{name}\t{ended}" for name in names)
 
 
+def flaky(count, size):
+    """Tests that fail at their first try, at which each writes so many bytes, and pass at their second."""
+    names = loads.names_of(count)
+    failed = f"fail:101\t-\t1\t{loads.written(size - size // 2)}\t{loads.written(size // 2)}\n"
+    tries = "start\tp\t{0}\nend\tp\t{0}\t" + failed + "start\tp\t{0}\nend\tp\t{0}\tpass\t-\t1\t-\t-\n"
+    settings = "[profile.default]\nretries = 1\n"
+    return loads.inputs([loads.binary("p", names)], settings), "".join(tries.format(name) for name in names)
+
+
 # Each load: what it is, and what makes its inputs and its log.
 LOADS = {
     "sorted": ("200,000 tests of one binary, names in order, all pass", lambda: loads.tests(200_000)),
@@ -61,6 +70,7 @@ LOADS = {
     "short": ("20,000 tests that pass, 4 KiB of output each", lambda: with_outputs(20_000, 4096)),
     "long": ("2,000 tests that pass, 64 KiB of output each", lambda: with_outputs(2_000, 65_536)),
     "gibibyte": ("8,000 tests that pass, 64 KiB of output each", lambda: with_outputs(8_000, 65_536)),
+    "flaky": ("1,000 tests that fail at first, 64 KiB of output each, then pass", lambda: flaky(1_000, 65_536)),
     "failing": ("1,000 tests that fail, 64 KiB of output each, all written", lambda: loads.failing(65_536)),
     "planned": ("300,000 tests of 300 binaries, planned, no log", lambda: (of_binaries(300_000, False)[0], "")),
 }
