@@ -20,10 +20,10 @@ With `colliding` or `colliding N` as arguments it times these alone, of N names 
 a quarter of them. They cost as ordinary ones do; the time of a program with a table that they are aimed at grows with the square of N.
 
   ordinary N       names that come one after another, which fall, as all of these do: names that rise need no table
-  listing N        names of one hash in the set of a binary's names, if that were a table that is given no hasher
-  session N        the same for the map from a binary's id and a name to a test
-  near listing N   names that lie close together in that set, if it were given std's hasher with no key
-  near session N   the same for that map
+  listing N        names of one hash, where it is found whether a binary has a name twice
+  session N        the same for the table by which a session looks for a test
+  near listing N   names that would lie close together in a set of a binary's names, if it were given std's hasher with no key
+  near session N   the same for a map from a binary's id and a name
 """
 import itertools
 import json
@@ -123,11 +123,12 @@ def failing(count):
 
 WORD = 2**64 - 1
 
-# What the hashers of the map read before a name, and all hashers behind each text.
+# What the hasher of a session's table reads before a name, and what a map's would; std's hashers read an end behind each text.
+TABLE_KEY = b"p"
 TEXT_END = b"\xff"
 MAP_KEY = b"p" + TEXT_END
 
-# The hasher of a table that is given none, as far as single bytes and names of 32 bytes want it.
+# The kit's `FoldHasher`, as far as single bytes and names of 32 bytes want it.
 FOLD_START = 0x243F_6A88_85A3_08D3
 FOLD_FACTOR = 0x9E37_79B9_7F4A_7C15
 
@@ -219,7 +220,7 @@ def colliding(count):
     makers = [
         ("ordinary", one_by_one, b""),
         ("listing", one_hash, b""),
-        ("session", one_hash, MAP_KEY),
+        ("session", one_hash, TABLE_KEY),
         ("near listing", near, b""),
         ("near session", near, MAP_KEY),
     ]

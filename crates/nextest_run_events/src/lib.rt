@@ -45,8 +45,8 @@ pub use nextest_run_events_reporting::{
 };
 pub use nextest_run_events_results::{
     AbortDescription, AbortStatus, CancelReason, ExecutionResult, ExecutionResultDescription,
-    ExitStatus, FailureDescription, FailureStatus, OwnedTestInstanceId, SIGTERM, TestInstanceId,
-    signal_name,
+    ExitStatus, FailureDescription, FailureStatus, OwnedTestInstanceId, RustBinaryId, SIGTERM,
+    TestInstanceId, signal_name,
 };
 pub use nextest_run_events_slices::{ByteSubslice, TestOutputErrorSlice};
 pub use nextest_run_events_visibility::{OutputOnTestFinished, OutputStoreFinal, StatusLevels};

@@ -1,6 +1,7 @@
 // Which test of which binary.
 ghost use Rattle.std.specs.Prelude.{◌≡◌, IfOk};
 
+use crate::binary_id::RustBinaryId;
 use nextest_text::Text;
 use std::alloc::{AllocError, Global};
 
@@ -17,7 +18,7 @@ pub struct TestInstanceId<'a> {
 #[derive(Clone, Debug, PartialEq, Eq, PartialOrd, Ord, Hash, Drop)]
 pub struct OwnedTestInstanceId {
     /// The binary's id.
-    pub binary_id: Text,
+    pub binary_id: RustBinaryId,
     /// The test's name.
     pub test_name: Text,
 }
@@ -42,7 +43,7 @@ impl TestInstanceId<'_> {
         ensures test_name { IfOk result (λ owned. owned.test_name ≡ self.now.test_name.now) }
     {
         Ok(OwnedTestInstanceId {
-            binary_id: Text::from_str(alloc, self.binary_id)?,
+            binary_id: RustBinaryId::new(alloc, self.binary_id)?,
             test_name: Text::from_str(alloc, self.test_name)?,
         })
     }

@@ -2,6 +2,7 @@
 //! was, and what a log tells of its end.
 #![tactic(auto)]
 
+mod binary_id;
 mod cancel_reason;
 mod execution_result;
 mod instance;
@@ -10,6 +11,7 @@ mod record;
 mod result;
 mod signals;
 
+pub use binary_id::RustBinaryId;
 pub use cancel_reason::CancelReason;
 pub use execution_result::{AbortStatus, ExecutionResult, ExitStatus, FailureStatus};
 pub use instance::{OwnedTestInstanceId, TestInstanceId};

@@ -28,7 +28,7 @@ pub use nextest_run_events_counters::{
 };
 pub use nextest_run_events_results::{
     AbortDescription, CancelReason, ExecutionResultDescription, FailureDescription,
-    OwnedTestInstanceId, Record, RecordOutput, TestInstanceId,
+    OwnedTestInstanceId, Record, RecordOutput, RustBinaryId, TestInstanceId,
 };
 pub use nextest_text::{Listing, Text};
 pub use nextest_version::PlainVersion;

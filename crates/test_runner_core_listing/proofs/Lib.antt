@@ -1,3 +1,4 @@
+pub mod Differing
 pub mod OneByOne
 pub mod Walk
 pub mod Told

@@ -1,15 +1,12 @@
 -- The names of a binary, one after another.
-use Rattle.std.proofs.Common.{◌≡◌, ℕ, ◌+◌, ◌<◌, ◌==◌, ◌∷◌, ◌++◌, [], List, length, get_or, take, drop, Bool, true, false, ◌||◌, Option, Some, refl, ap, sym, ◌∙◌, cond, drop-cons, add-one, arith, subst, length-take-le}
+use Rattle.std.proofs.Common.{◌≡◌, ℕ, ◌+◌, ◌<◌, ◌==◌, ◌∷◌, ◌++◌, [], List, length, get_or, take, drop, Bool, true, false, ◌||◌, Option, Some, refl, ap, sym, ◌∙◌, cond, drop-cons, add-one, arith, length-take-le}
 use Rattle.std.proofs.lemmas.List.{get_or-take, get_or_default}
 use Rattle.std.proofs.lemmas.List.Folds.{list_any_none}
-use Rattle.std.proofs.lemmas.Map.Keys.{Less-from_sorted}
-use Rattle.std.proofs.lemmas.Map.Text.{is_eq-slice_cmp}
-use Rattle.std.specs.List.Sorted.{IsStrictlySortedBy}
-use Rattle.std.specs.Ordering.{is_eq, nat_cmp}
-use Rattle.std.specs.declared.cmp.Ordering.TheVariants.{Less}
+use Rattle.std.proofs.lemmas.Map.Keys.{apart_from_distinct}
+use Rattle.std.specs.List.{IsDistinct}
 use Rattle.std.specs.HashSet.{HashSet, contains_by, Updates}
 use Rattle.std.specs.Str.{bytes_eq}
-use Rattle.std.specs.Cmp.Lexicographic.{nat_list_eq_equiv, slice_cmp}
+use Rattle.std.specs.Cmp.Lexicographic.{nat_list_eq_equiv}
 use Rattle.std.proofs.lemmas.List.{take_more}
 use Rattle.std.proofs.lemmas.List.Folds.{list_any-append}
 use denote.Ref.{Bor}
@@ -61,16 +58,15 @@ at_name names i name empty bad repeated within is e b r =
     ∙ ap (λ (t : Bool). from_name empty bad t rest) r
     ∙ ap (λ (before : List (List ℕ)). from_name empty bad repeated (refused_name before (drop (i + 1) names))) (sym (taken_more names i name within is))
 
--- where names rise, none is among those before it
-pub new_name : (names : List (List ℕ)) (i : ℕ) (name : List ℕ) → IsStrictlySortedBy (slice_cmp nat_cmp) names → i < length names → name ≡ get_or names i name
+-- where none stands twice, none is among those before it
+pub new_name : (names : List (List ℕ)) (i : ℕ) (name : List ℕ) → IsDistinct bytes_eq names → i < length names → name ≡ get_or names i name
     → is_among (take i names) name ≡ false
-new_name names i name rise within is =
+new_name names i name distinct within is =
     list_any_none (bytes_eq name) (take i names) (λ k d inside.
-    let below : k < i = omega (arith, inside, length-take-le i names (omega (arith, within))) in
-    let text = get_or names k d in
-    let less : slice_cmp nat_cmp text (get_or names i d) ≡ Less = Less-from_sorted (slice_cmp nat_cmp) names k i d rise below within in
-    let same : get_or names i d ≡ name = get_or_default names i d name within ∙ sym is in
-    ap (bytes_eq name) (get_or-take i names k d below)
-    ∙ nat_list_eq_equiv.symm name text
-    ∙ sym (is_eq-slice_cmp text name)
-    ∙ ap is_eq (subst (λ (y : List ℕ). slice_cmp nat_cmp text y ≡ Less) same less))
+      let below : k < i = omega (arith, inside, length-take-le i names (omega (arith, within))) in
+      let text = get_or names k d in
+      let same : get_or names i d ≡ name = get_or_default names i d name within ∙ sym is in
+      ap (bytes_eq name) (get_or-take i names k d below)
+      ∙ nat_list_eq_equiv.symm name text
+      ∙ ap (bytes_eq text) (sym same)
+      ∙ apart_from_distinct bytes_eq names k i d distinct below within)

@@ -1,6 +1,7 @@
 //! Which tests a run selects: the binaries on which each of the filters in force can hold are asked for their tests, and all of them are tried on each.
 #![tactic(auto)]
 
+mod distinct;
 pub mod laws;
 mod listing;
 mod listing_error;

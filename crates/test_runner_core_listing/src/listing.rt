@@ -12,7 +12,7 @@ use crate::names::refusal;
 use crate::query::query_of;
 use crate::selection::{SelectedTests, Selection};
 use nextest_filtering_filters::{BinaryEvaluator, CompiledExpr, EvalContext, GroupLookup};
-use nextest_run_events_results::OwnedTestInstanceId;
+use nextest_run_events_results::{OwnedTestInstanceId, RustBinaryId};
 use nextest_text::{Listing, Text};
 use std::alloc::{AllocError, Global};
 use test_runner_core_workspace::{Binary, ListFault, Lister};
@@ -132,6 +132,7 @@ fn add_tests<'w, G: GroupLookup>(
         → let more = words.skipped_in chosen binary.now names in
         OnOk result (found.new.skipped ≡ found.old.skipped ++ more) }
 {
+    let id = RustBinaryId::new(alloc, binary.id.as_str())?;
     let mut on_all = Listing::new(alloc);
     for name in Vec::from(names) {
         let selected = is_selected(evaluators, name.as_str(), groups)?;
@@ -139,7 +140,7 @@ fn add_tests<'w, G: GroupLookup>(
             on_all.push(name)?;
         } else {
             found.skipped.push(OwnedTestInstanceId {
-                binary_id: binary.id.clone()?,
+                binary_id: id.clone()?,
                 test_name: name,
             })?;
         }

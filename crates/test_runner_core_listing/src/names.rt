@@ -1,10 +1,10 @@
 // The names that a binary answers.
-ghost use Rattle.std.specs.Prelude.{◌≡◌, [], IfOk, IsTrue};
-ghost use Rattle.std.specs.Cmp.Lexicographic.{slice_cmp};
-ghost use Rattle.std.specs.List.Sorted.{IsStrictlySortedBy};
-ghost use Rattle.std.specs.Ordering.{nat_cmp};
+ghost use Rattle.std.specs.Prelude.{◌≡◌, [], IfOk};
+ghost use Rattle.std.specs.List.{IsDistinct};
+ghost use Rattle.std.specs.Str.{bytes_eq};
 ghost use Rattle.test_runner_core_listing.specs.Listing.{refused_name};
 
+use crate::distinct::differ;
 use crate::listing_fault::ListingFault;
 use nextest_text::Text;
 use std::alloc::{AllocError, Global};
@@ -16,27 +16,15 @@ use test_runner_core_workspace::has_separator;
 pub(crate) fn refusal(alloc: Global, names: &[Text]) -> Result<Option<ListingFault>, AllocError>
     ensures { IfOk result (λ refused. refused ≡ refused_name [] names.now) }
 {
-    if rise(names) {
+    if differ(alloc, names)? {
         return Ok(refusal_of_distinct(names));
     }
     refusal_of_any(alloc, names)
 }
 
-// Whether each name is greater than the one before it, so that none stands twice. Mostly they do.
-fn rise(names: &[Text]) -> bool
-    ensures { IsTrue result → IsStrictlySortedBy (slice_cmp nat_cmp) names.now }
-{
-    for place in 1..names.len() {
-        if names[place] <= names[place - 1] {
-            return false;
-        }
-    }
-    true
-}
-
 // Why the names of a binary are refused, if they are, where none stands twice.
 fn refusal_of_distinct(names: &[Text]) -> Option<ListingFault>
-    requires { IsStrictlySortedBy (slice_cmp nat_cmp) names.now }
+    requires { IsDistinct bytes_eq names.now }
     ensures { result ≡ refused_name [] names.now }
 {
     for name in names {

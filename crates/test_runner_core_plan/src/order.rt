@@ -44,7 +44,7 @@ fn shared_by_all(tests: &[PlanTest]) -> (usize, usize) {
     let Some(first) = tests.first() else {
         return (0, 0);
     };
-    let mut id = first.instance.binary_id.len();
+    let mut id = first.instance.binary_id.as_str().len();
     let mut name = first.instance.test_name.len();
     for test in tests {
         id = id.min(shared(
@@ -80,15 +80,13 @@ fn key_of(test: &PlanTest, skip: (usize, usize)) -> (TestPriority, u128, u128) {
 
 // Sixteen bytes of a text as a number, the first one the highest; behind its end there are zeros.
 fn number_at(text: &str, skip: usize) -> u128 {
-    let mut number = 0;
-    for place in skip..skip.saturating_add(16) {
-        let byte = match text.as_bytes().get(place) {
-            Some(byte) => *byte,
-            None => 0,
-        };
-        number = (number << 8) | u128::from(byte);
-    }
-    number
+    let Some(rest) = text.as_bytes().get(skip..) else {
+        return 0;
+    };
+    let mut bytes = [0; 16];
+    let count = rest.len().min(16);
+    bytes[..count].copy_from_slice(&rest[..count]);
+    u128::from_be_bytes(bytes)
 }
 
 // Whether no test is greater than the next. Mostly they stand so already, and none is moved.

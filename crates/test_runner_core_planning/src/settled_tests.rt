@@ -14,11 +14,12 @@ ghost use Rattle.test_runner_core_plan.specs.declared.plan_settings.PlanSettings
 ghost use Rattle.test_runner_core_planning.specs.Plan.{with_settings};
 ghost use Rattle.test_runner_core_platforms.specs.declared.platform_spec.PlatformSpec.{PlatformSpec};
 ghost use Rattle.test_runner_core_planning.specs.Tests.{AreShared, HasForEach, HasForRow};
+ghost use Rattle.test_runner_core_workspace.specs.declared.record.Binary.{Binary};
 
 use nextest_config_elements_choices::NextestRunMode;
 use nextest_config_resolution_profiles::{EnabledNames, EvaluatableProfile, HeldRules};
 use nextest_filtering_compiling::Filterset;
-use nextest_run_events_results::OwnedTestInstanceId;
+use nextest_run_events_results::{OwnedTestInstanceId, RustBinaryId};
 use nextest_text::{Listing, Text};
 use std::alloc::{AllocError, Global};
 use std::collections::BTreeMap;
@@ -109,11 +110,12 @@ fn push_tests(
     let SelectedTests { binary, names } = of_binary;
     let held = held_rules_of(alloc, profile, binary, names.as_slice())?;
     profile.add_scripts(alloc, &held, names.len(), scripts)?;
+    let id = RustBinaryId::new(alloc, binary.id.as_str())?;
     let mut row = Vec::new(alloc);
     for (place, name) in Vec::from(names).into_iter().enumerate() {
         held.row(place, &mut row)?;
         let settings = settings_of_row(alloc, profile, mode, row.as_slice(), shared)?;
-        push_test(binary, name, settings, tests)?;
+        push_test(&id, name, settings, tests)?;
     }
     Ok(())
 }
@@ -227,19 +229,19 @@ fn settings_by_row(
     }
 }
 
-// Adds a test of a binary, with these settings.
+// Adds a test of a binary of this id, with these settings.
 fn push_test(
-    binary: &Binary,
+    id: &RustBinaryId,
     name: Text,
     settings: SharedSettings,
     tests: &mut Vec<PlanTest>,
 ) -> Result<(), AllocError>
-    ensures { OnOk result (tests.new.items
-        ≡ tests.old.items ++ with_settings (λ _. settings) (seen_test binary.now name) ∷ []) }
+    ensures { (binary : Binary) → id.now ≡ binary.id → OnOk result (tests.new.items
+        ≡ tests.old.items ++ with_settings (λ _. settings) (seen_test binary name) ∷ []) }
 {
     let tries = settings.retries.count().saturating_add(1);
     let instance = OwnedTestInstanceId {
-        binary_id: binary.id.clone()?,
+        binary_id: id.clone()?,
         test_name: name,
     };
     tests.push(PlanTest {

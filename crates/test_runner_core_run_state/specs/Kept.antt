@@ -15,16 +15,19 @@ pub record StatusesState : Type 0 where
   pub room : ℕ
   pub rule : Option FlakyResult
 
+-- the statuses in a slot
 abbrev pub statuses_in : SlotAttempts → List Status
 statuses_in slots.Empty = []
 statuses_in (slots.Reserved first) = first.items
 statuses_in (slots.Ended ended) = ended.statuses
 
+-- for how many more of them a slot has room
 abbrev pub room_in : SlotAttempts → ℕ
 room_in slots.Empty = 0
 room_in (slots.Reserved first) = vec_capacity first - vec_len first
 room_in (slots.Ended ended) = ended.room
 
+-- the flaky rule in a slot
 abbrev pub rule_in : SlotAttempts → Option FlakyResult
 rule_in slots.Empty = None
 rule_in (slots.Reserved first) = None
@@ -41,7 +44,7 @@ abbrev pub KeepsRule : FlakyResult → Option FlakyResult → Type 0
 KeepsRule flaky None = ⊤
 KeepsRule flaky (Some rule) = rule ≡ flaky
 
--- the records of attempts that are kept as statuses
+-- the records that statuses are made of
 abbrev pub records_in : StatusesState → List Record
 records_in kept = map record_of kept.statuses
 
@@ -55,11 +58,13 @@ pub record RecordsState : Type 0 where
   pub records : List Record
   pub room : ℕ
 
+-- the records in a slot
 abbrev pub records_of : RecordsSlot → List Record
 records_of held.Empty = []
 records_of (held.One only) = only ∷ []
 records_of (held.Several records) = records.items
 
+-- for how many more of them a slot has room
 abbrev pub record_room : RecordsSlot → ℕ
 record_room held.Empty = 1
 record_room (held.One only) = 0

@@ -6,6 +6,7 @@ ghost use Rattle.test_runner_core_session.specs.Names.{is_named};
 use crate::places::is_at;
 use nextest_run_events_results::TestInstanceId;
 use std::alloc::{AllocError, Global};
+use std::hash::{FoldHasher, Hasher};
 use test_runner_core_plan::PlanTest;
 
 // How many slots a test may have, from that of its hash on.
@@ -88,33 +89,21 @@ impl Guesses {
         None
     }
 
-    // The first slot for a hash.
+    // The first slot for a hash, as far among all as the hash is among numbers.
     fn first_slot(&self, hash: u64) -> usize {
-        match hash.checked_rem(self.width as u64) {
-            Some(slot) => slot as usize,
-            None => 0,
-        }
+        (u128::from(hash).wrapping_mul(self.width as u128) >> 64) as usize
     }
 }
 
-// The part of a hash that a slot keeps.
+// The part of a hash that a slot keeps: the end, since the slot tells of the rest.
 fn part_of(hash: u64) -> u32 {
-    (hash >> 32) as u32
+    (hash & 0xffff_ffff) as u32
 }
 
 // A hash of a name.
 fn hash_of(test: TestInstanceId<'_>) -> u64 {
-    with_text(
-        with_text(0xcbf2_9ce4_8422_2325, test.binary_id),
-        test.test_name,
-    )
-}
-
-// A hash with a text behind what it is of.
-fn with_text(hash: u64, text: &str) -> u64 {
-    let mut hash = hash.wrapping_add(1);
-    for byte in text.as_bytes() {
-        hash = (hash ^ u64::from(*byte)).wrapping_mul(0x100_0000_01b3);
-    }
-    hash
+    let mut hasher = FoldHasher::default();
+    hasher.write(test.binary_id.as_bytes());
+    hasher.write(test.test_name.as_bytes());
+    hasher.finish()
 }

@@ -22,10 +22,10 @@ loop-name-preserved-in_ok-push g c =
       listed = before.listed;
       tests = before.tests;
       names = λ chosen are.
-          let told = said Member asked initial binary chosen c.as_str.result.now name selected before.same are c.as_str.ensures c.in_ok-selected.ensures.value in
+          let told = said Member asked initial binary chosen c.as_str-in-loop-name.result.now name selected before.same are c.as_str-in-loop-name.ensures c.in_ok-selected.ensures.value in
           name_added (chosen.selects binary) c.loop-name.yielded name c.loop-name.on_all _ (sym told ∙ taken) (before.names chosen are) c.in_ok-push.ensures.ok;
       skipped = λ chosen are.
-          let told = said Member asked initial binary chosen c.as_str.result.now name selected before.same are c.as_str.ensures c.in_ok-selected.ensures.value in
+          let told = said Member asked initial binary chosen c.as_str-in-loop-name.result.now name selected before.same are c.as_str-in-loop-name.ensures c.in_ok-selected.ensures.value in
           none_added (λ (it : List ℕ). not (chosen.selects binary it)) binary c.loop-name.yielded name c.args.found.now.skipped c.loop-name.found.skipped (ap not (sym told ∙ taken))
           (before.skipped chosen are);
     }
@@ -45,12 +45,12 @@ loop-name-preserved g c =
       listed = before.listed;
       tests = before.tests;
       names = λ chosen are.
-          let told = said Member asked initial binary chosen c.as_str.result.now name selected before.same are c.as_str.ensures c.in_ok-selected.ensures.value in
+          let told = said Member asked initial binary chosen c.as_str-in-loop-name.result.now name selected before.same are c.as_str-in-loop-name.ensures c.in_ok-selected.ensures.value in
           name_left (chosen.selects binary) c.loop-name.yielded name c.loop-name.on_all (sym told ∙ left) (before.names chosen are);
       skipped = λ chosen are.
-          let told = said Member asked initial binary chosen c.as_str.result.now name selected before.same are c.as_str.ensures c.in_ok-selected.ensures.value in
+          let told = said Member asked initial binary chosen c.as_str-in-loop-name.result.now name selected before.same are c.as_str-in-loop-name.ensures c.in_ok-selected.ensures.value in
           one_added (λ (it : List ℕ). not (chosen.selects binary it)) binary c.loop-name.yielded name c.in_ok-clone.field-0 c.args.found.now.skipped c.loop-name.found.skipped _ (ap not (sym told ∙ left))
-          c.in_ok-clone.ensures.cases (before.skipped chosen are) c.in_ok-push-2.ensures.ok;
+          (c.in_ok-clone.ensures.cases ∙ c.in_ok-id.ensures ∙ c.as_str.ensures) (before.skipped chosen are) c.in_ok-push-2.ensures.ok;
     }
 
 pub returns-clause-tests : goal.returns-clause-tests

@@ -29,7 +29,8 @@ loop-place-preserved c =
       tests = λ of_test has.
           test_more of_test binary c.in_ok-settings.settings (c.in-Some.place, c.in-Some.name) c.args.tests.now.items c.loop-place.tests.items _ c.loop-place.yielded
           (has (seen_test binary c.in-Some.name) c.in_ok-settings.settings (c.in_ok-settings.ensures.settings (seen_test binary c.in-Some.name) row))
-          (c.loop-place.invariant.tests of_test has) c.in_ok-push_test.ensures;
+          (c.loop-place.invariant.tests of_test has)
+          (c.in_ok-push_test.ensures binary (c.in_ok-id.ensures ∙ c.as_str.ensures));
     }
 
 pub returns-clause-tests : goal.returns-clause-tests

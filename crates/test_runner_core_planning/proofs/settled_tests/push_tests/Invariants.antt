@@ -10,5 +10,5 @@ abbrev pub invariant-loop-place : goal.invariant-loop-place
 invariant-loop-place l = record {
   shared : AreShared l.profile l.mode l.shared;
   tests : (of_test : Test → PlanSettings) → HasForEach l.profile l.mode of_test
-      → l.tests.items ≡ l.initial.tests.items ++ map (λ one. with_settings of_test (seen_test l.binary one.1)) l.yielded;
+      → l.tests.items ≡ l.initial.tests.items ++ map (λ one. with_settings of_test (seen_test l.fn.of_binary.binary.now one.1)) l.yielded;
 }

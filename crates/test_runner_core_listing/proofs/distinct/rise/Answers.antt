@@ -3,7 +3,8 @@ use Rattle.std.specs.Cmp.Lexicographic.{slice_cmp, nat_list_cmp_total}
 use Rattle.std.specs.Ordering.{nat_cmp}
 use Rattle.std.specs.declared.cmp.Ordering.TheVariants.{Less}
 use Rattle.test_runner_core_plan.proofs.Strict.{greater, one_more, strictly}
-use Rattle.test_runner_core_listing.proofs.names.rise.Goals as goal
+use Rattle.test_runner_core_listing.proofs.Differing.{rising_differ}
+use Rattle.test_runner_core_listing.proofs.distinct.rise.Goals as goal
 
 pub loop-place-preserved : goal.loop-place-preserved
 loop-place-preserved c =
@@ -15,4 +16,5 @@ loop-place-preserved c =
     (greater (slice_cmp nat_cmp) nat_list_cmp_total before name (sym c.le.ensures ∙ c.if-le.false))
 
 pub returns : goal.returns
-returns c = λ _. strictly (slice_cmp nat_cmp) nat_list_cmp_total c.args.names.now (λ k d inside. c.loop-place.invariant k d (omega (arith, inside, c.loop-place-test.false)))
+returns c = λ _. rising_differ c.args.names.now
+    (strictly (slice_cmp nat_cmp) nat_list_cmp_total c.args.names.now (λ k d inside. c.loop-place.invariant k d (omega (arith, inside, c.loop-place-test.false))))

@@ -3,7 +3,7 @@ use Rattle.std.specs.Cmp.Lexicographic.{slice_cmp}
 use Rattle.std.specs.List.{AllAdjacentBelow}
 use Rattle.std.specs.Ordering.{nat_cmp}
 use Rattle.std.specs.declared.cmp.Ordering.TheVariants.{Less}
-use Rattle.test_runner_core_listing.proofs.names.rise.Given as goal
+use Rattle.test_runner_core_listing.proofs.distinct.rise.Given as goal
 
 -- the names so far rise
 abbrev pub invariant-loop-place : goal.invariant-loop-place
