@@ -133,7 +133,7 @@ fn add_tests<'w, G: GroupLookup>(
         OnOk result (found.new.skipped ≡ found.old.skipped ++ more) }
 {
     let id = RustBinaryId::new(alloc, binary.id.as_str())?;
-    let mut on_all = Listing::new(alloc);
+    let mut on_all = Listing::from(Vec::with_capacity(alloc, names.len())?);
     for name in Vec::from(names) {
         let selected = is_selected(evaluators, name.as_str(), groups)?;
         if selected {

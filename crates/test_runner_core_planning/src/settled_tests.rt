@@ -70,7 +70,7 @@ pub(crate) fn settled_tests(
         AreNamesOf (IsEnabled HasOnTest profile.now (tests_in selected.entry.items)) it.scripts) }
 {
     let mut shared = BTreeMap::new(alloc);
-    let mut tests = Vec::new(alloc);
+    let mut tests = Vec::with_capacity(alloc, count_of(selected.as_slice()))?;
     let mut names = EnabledNames::new(alloc);
     for of_binary in selected {
         push_tests(
@@ -85,6 +85,15 @@ pub(crate) fn settled_tests(
     }
     let scripts = names.listed(alloc)?;
     Ok(SettledTests { tests, scripts })
+}
+
+// How many tests these are, for which room is made at once.
+fn count_of(selected: &[SelectedTests<'_>]) -> usize {
+    let mut count: usize = 0;
+    for of_binary in selected {
+        count = count.saturating_add(of_binary.names.len());
+    }
+    count
 }
 
 // Adds the selected tests of a binary, the names of the setup scripts that are enabled for them, and to what is shared the
