@@ -14,7 +14,8 @@ use Rattle.nextest_config_resolution.specs.TestSettingsType.{TestSettings}
 use Rattle.nextest_config_resolution.specs.Tracking.{TellsAll}
 use Rattle.nextest_config_resolution.specs.WholeConfig.{Whole}
 
--- the profile of this name, on these platforms, has settings for a test, and they have it tried again so
+-- the profile of this name, on these platforms, has settings for a test, and they have it tried
+-- again so
 pub record IsRetriedBy {F S Facts : Type 0} (value_on : S → Facts → Option Bool) (OnTest : F → F → Test → Bool → Type 0)
     (config : Whole F S) (name : List ℕ) (platforms : BuildPlatforms Facts) (test : Test) (it : RetryPolicy) : Type 0 where
   pub early : Early F S

@@ -1,5 +1,5 @@
-//! What a user of the faces writes: this crate names no other crate of the repository, and its clauses cite the definitions
-//! that the faces hand on.
+//! What a user of the faces writes: this crate names no other crate of the repository, and its
+//! clauses cite the definitions that the faces hand on.
 #![tactic(auto)]
 
 mod errors;

@@ -9,8 +9,8 @@ use nextest_run_events::{
     TestOutputDisplay,
 };
 
-/// Whether something is kept for the end of a run of a test that failed, where the run goes on and outputs are shown when tests
-/// end.
+/// Whether something is kept for the end of a run of a test that failed, where the run goes on and
+/// outputs are shown when tests end.
 pub fn keeps_failure(levels: StatusLevels, ended: &ExecutionResultDescription) -> bool
     ensures { result
         ≡ is_stored display.Immediate None levels.final_status_level final_level.Fail ended.now }

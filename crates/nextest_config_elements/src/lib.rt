@@ -1,4 +1,5 @@
-//! The values of the configuration: what its keys are set to, the names in it, and how each value is read from a TOML value.
+//! The values of the configuration: what its keys are set to, the names in it, and how each value
+//! is read from a TOML value.
 //!
 //! What the contracts of these speak of is handed on as `Rattle.nextest_config_elements.specs`.
 #![tactic(auto)]

@@ -1,4 +1,5 @@
-//! What holds of all levels and of all limits. Each law is the contract of a function without parameters.
+//! What holds of all levels and of all limits. Each law is the contract of a function without
+//! parameters.
 ghost use Rattle.nextest_config_elements_choices.specs.Laws.{OneMaxFail, ReadsBack, RisesByRank};
 ghost use Rattle.nextest_config_elements_choices.specs.Levels.{rank, final_rank};
 
@@ -14,7 +15,8 @@ pub fn final_levels_rise()
     ensures { RisesByRank final_rank ⟦<FinalStatusLevel as Ord>⟧.cmp }
 {}
 
-/// What is printed of a limit is read as that limit: of `MaxFail::All`, and of each number from 1 to 2^63 - 1.
+/// What is printed of a limit is read as that limit: of `MaxFail::All`, and of each number from 1
+/// to 2^63 - 1.
 pub fn reads_back()
     ensures { ReadsBack }
 {}

@@ -1,5 +1,5 @@
-//! The plain enums of the configuration: how a test's or a script's end is judged, when a run stops, what is run, and what is
-//! shown of it.
+//! The plain enums of the configuration: how a test's or a script's end is judged, when a run
+//! stops, what is run, and what is shown of it.
 #![tactic(auto)]
 
 pub mod laws;

@@ -65,8 +65,8 @@ pub enum MaxFail {
 }
 
 impl MaxFail {
-    /// The limit of a run that stops at its first failing test, and lets what runs end by itself; or of one that failing
-    /// tests never stop.
+    /// The limit of a run that stops at its first failing test, and lets what runs end by itself;
+    /// or of one that failing tests never stop.
     pub fn from_fail_fast(fail_fast: bool) -> MaxFail
         ensures { result ≡ of_fail_fast fail_fast }
     {
@@ -80,9 +80,10 @@ impl MaxFail {
         }
     }
 
-    /// The limit that `text` is: `all` in letters of any case, or a number from 1 to 9223372036854775807 in decimal
-    /// digits, leading zeros and a `+` allowed, behind which `:wait` or `:immediate` may say how the run stops: it waits
-    /// where nothing is said. An `Err` for every other text.
+    /// The limit that `text` is: `all` in letters of any case, or a number from 1 to
+    /// 9223372036854775807 in decimal digits, leading zeros and a `+` allowed, behind which `:wait`
+    /// or `:immediate` may say how the run stops: it waits where nothing is said. An `Err` for
+    /// every other text.
     pub fn from_text(text: &str) -> Result<MaxFail, BadText>
         ensures found { IfOk result (λ limit. IsMaxFail text.now limit) }
         ensures refused { OnErr result ((limit : MaxFail) → ¬ (IsMaxFail text.now limit)) }

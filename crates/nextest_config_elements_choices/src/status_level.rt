@@ -1,6 +1,7 @@
 // Which statuses of tests are shown.
 
-/// Which statuses are shown while tests run. A level shows what every level below it shows, and its own besides.
+/// Which statuses are shown while tests run. A level shows what every level below it shows, and its
+/// own besides.
 #[derive(Clone, Copy, Debug, PartialEq, Eq, PartialOrd, Ord)]
 pub enum StatusLevel {
     /// Nothing.
@@ -21,7 +22,8 @@ pub enum StatusLevel {
     All,
 }
 
-/// Which statuses are shown at the end of a run. A level shows what every level below it shows, and its own besides.
+/// Which statuses are shown at the end of a run. A level shows what every level below it shows, and
+/// its own besides.
 #[derive(Clone, Copy, Debug, PartialEq, Eq, PartialOrd, Ord)]
 pub enum FinalStatusLevel {
     /// Nothing.

@@ -15,8 +15,8 @@ pub enum FlakyResult {
 }
 
 impl FlakyResult {
-    /// What is told of a test that passed on this attempt of so many, where it fails for that; `None` where it passes. An
-    /// `Err` says that there was no memory.
+    /// What is told of a test that passed on this attempt of so many, where it fails for that;
+    /// `None` where it passes. An `Err` says that there was no memory.
     pub fn fail_message(
         self,
         alloc: Global,

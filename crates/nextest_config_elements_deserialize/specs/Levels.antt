@@ -1,4 +1,5 @@
--- Which statuses are shown, when outputs are, how a run stops, and what becomes of a test or process: a word each.
+-- Which statuses are shown, when outputs are, how a run stops, and what becomes of a test or
+-- process: a word each.
 use Rattle.toml.specs.Data.{Data}
 use Rattle.nextest_config_elements_choices.specs.declared.max_fail.TerminateMode.{TerminateMode}
 use Rattle.nextest_config_elements_choices.specs.declared.output_display.TestOutputDisplay.{TestOutputDisplay}

@@ -21,7 +21,8 @@ pub fn deserialize_report_skip_policy(
     whole::<Any, ReportSkipPolicy>(alloc, value, path)
 }
 
-/// How a test is reported that fails since it is flaky: `failure` or `success`. An `Err` for everything else.
+/// How a test is reported that fails since it is flaky: `failure` or `success`. An `Err` for
+/// everything else.
 pub fn deserialize_junit_flaky_fail_status(
     alloc: Global,
     value: &Value,

@@ -13,7 +13,8 @@ use nextest_config_elements_toml::ValueError;
 use std::alloc::Global;
 use toml::Value;
 
-/// What becomes of a test that passes on a later attempt than its first: `pass` or `fail`. An `Err` for everything else.
+/// What becomes of a test that passes on a later attempt than its first: `pass` or `fail`. An `Err`
+/// for everything else.
 pub fn deserialize_flaky_result(
     alloc: Global,
     value: &Value,
@@ -24,8 +25,8 @@ pub fn deserialize_flaky_result(
     whole::<Any, FlakyResult>(alloc, value, path)
 }
 
-/// Which statuses are shown while tests run: `none`, `fail`, `retry`, `slow`, `leak`, `pass`, `skip` or `all`. An `Err` for
-/// everything else.
+/// Which statuses are shown while tests run: `none`, `fail`, `retry`, `slow`, `leak`, `pass`,
+/// `skip` or `all`. An `Err` for everything else.
 pub fn deserialize_status_level(
     alloc: Global,
     value: &Value,
@@ -36,8 +37,8 @@ pub fn deserialize_status_level(
     whole::<Any, StatusLevel>(alloc, value, path)
 }
 
-/// Which statuses are shown at the end of a run: `none`, `fail`, `flaky` or `retry`, which are one, `slow`, `skip`, `leak`,
-/// `pass` or `all`. An `Err` for everything else.
+/// Which statuses are shown at the end of a run: `none`, `fail`, `flaky` or `retry`, which are one,
+/// `slow`, `skip`, `leak`, `pass` or `all`. An `Err` for everything else.
 pub fn deserialize_final_status_level(
     alloc: Global,
     value: &Value,
@@ -48,7 +49,8 @@ pub fn deserialize_final_status_level(
     whole::<Any, FinalStatusLevel>(alloc, value, path)
 }
 
-/// When an output is shown: `immediate`, `immediate-final`, `final` or `never`. An `Err` for everything else.
+/// When an output is shown: `immediate`, `immediate-final`, `final` or `never`. An `Err` for
+/// everything else.
 pub fn deserialize_test_output_display(
     alloc: Global,
     value: &Value,
@@ -59,7 +61,8 @@ pub fn deserialize_test_output_display(
     whole::<Any, TestOutputDisplay>(alloc, value, path)
 }
 
-/// How a run ends that is stopped by failing tests: `wait` or `immediate`. An `Err` for everything else.
+/// How a run ends that is stopped by failing tests: `wait` or `immediate`. An `Err` for everything
+/// else.
 pub fn deserialize_terminate_mode(
     alloc: Global,
     value: &Value,
@@ -70,7 +73,8 @@ pub fn deserialize_terminate_mode(
     whole::<Any, TerminateMode>(alloc, value, path)
 }
 
-/// What becomes of a process that is ended since it took too long: `fail` or `pass`. An `Err` for everything else.
+/// What becomes of a process that is ended since it took too long: `fail` or `pass`. An `Err` for
+/// everything else.
 pub fn deserialize_slow_timeout_result(
     alloc: Global,
     value: &Value,
@@ -81,7 +85,8 @@ pub fn deserialize_slow_timeout_result(
     whole::<Any, SlowTimeoutResult>(alloc, value, path)
 }
 
-/// What becomes of a process that leaves handles open: `pass` or `fail`. An `Err` for everything else.
+/// What becomes of a process that leaves handles open: `pass` or `fail`. An `Err` for everything
+/// else.
 pub fn deserialize_leak_timeout_result(
     alloc: Global,
     value: &Value,

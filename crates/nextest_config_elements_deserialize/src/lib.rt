@@ -1,7 +1,8 @@
 //! How each value of a configuration is read from a TOML value.
 //!
-//! A reader is handed a value and its path. Of a table it looks at the keys that it knows by the order of their bytes, and
-//! reads past all others; the first value that is none is refused with its path, and a key that is missing at its own.
+//! A reader is handed a value and its path. Of a table it looks at the keys that it knows by the
+//! order of their bytes, and reads past all others; the first value that is none is refused with
+//! its path, and a key that is missing at its own.
 #![tactic(auto)]
 
 mod backoff;

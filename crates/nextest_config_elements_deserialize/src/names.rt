@@ -67,8 +67,8 @@ pub fn deserialize_test_group(
     }
 }
 
-/// A group of tests that a configuration names: a text that is an identifier, plain or a tool's. An `Err` for everything else,
-/// `@global` too.
+/// A group of tests that a configuration names: a text that is an identifier, plain or a tool's. An
+/// `Err` for everything else, `@global` too.
 pub fn deserialize_custom_test_group(
     alloc: Global,
     value: &Value,

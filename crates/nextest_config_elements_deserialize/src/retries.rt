@@ -12,11 +12,12 @@ use nextest_config_elements_values::{ConfigDuration, RetryPolicy};
 use std::alloc::Global;
 use toml::{Table, Value};
 
-/// How a failing test is tried again: an integer from 0 to 4294967295 is a count of further attempts without delay; a table
-/// has `backoff`, `fixed` or `exponential`, and `count`, and may have `delay` and `jitter`. Fixed delays are 0 where `delay`
-/// is left out, and `jitter` needs one above 0; `max-delay` is read past. Exponential ones need a `count` and a `delay` above
-/// 0, and a `max-delay` that stands isn't below `delay`. An `Err` names the first of these, by the bytes of their keys, that
-/// is missing or may not be; other keys are read past.
+/// How a failing test is tried again: an integer from 0 to 4294967295 is a count of further
+/// attempts without delay; a table has `backoff`, `fixed` or `exponential`, and `count`, and may
+/// have `delay` and `jitter`. Fixed delays are 0 where `delay` is left out, and `jitter` needs one
+/// above 0; `max-delay` is read past. Exponential ones need a `count` and a `delay` above 0, and a
+/// `max-delay` that stands isn't below `delay`. An `Err` names the first of these, by the bytes of
+/// their keys, that is missing or may not be; other keys are read past.
 pub fn deserialize_retry_policy(
     alloc: Global,
     value: &Value,

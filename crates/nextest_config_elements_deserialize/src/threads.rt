@@ -11,8 +11,9 @@ use nextest_config_elements_values::{TestGroupConfig, TestThreads, ThreadsRequir
 use std::alloc::Global;
 use toml::{Table, Value};
 
-/// How many tests run at a time: an integer above 0 is that many, one below 0 is so many less than there are processors, and
-/// `num-cpus` is as many as there are. An `Err` for everything else, 0 too.
+/// How many tests run at a time: an integer above 0 is that many, one below 0 is so many less than
+/// there are processors, and `num-cpus` is as many as there are. An `Err` for everything else, 0
+/// too.
 pub fn deserialize_test_threads(
     alloc: Global,
     value: &Value,
@@ -23,7 +24,8 @@ pub fn deserialize_test_threads(
     whole::<Any, TestThreads>(alloc, value, path)
 }
 
-/// How many threads a test takes: an integer above 0, `num-cpus` or `num-test-threads`. An `Err` for everything else.
+/// How many threads a test takes: an integer above 0, `num-cpus` or `num-test-threads`. An `Err`
+/// for everything else.
 pub fn deserialize_threads_required(
     alloc: Global,
     value: &Value,
@@ -34,8 +36,8 @@ pub fn deserialize_threads_required(
     whole::<Any, ThreadsRequired>(alloc, value, path)
 }
 
-/// What a group of tests is set to: a table with `max-threads`, read as the number of tests that run at a time. An `Err` for
-/// everything else; other keys are read past.
+/// What a group of tests is set to: a table with `max-threads`, read as the number of tests that
+/// run at a time. An `Err` for everything else; other keys are read past.
 pub fn deserialize_test_group_config(
     alloc: Global,
     value: &Value,

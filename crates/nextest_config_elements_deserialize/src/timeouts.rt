@@ -12,10 +12,11 @@ use nextest_config_elements_values::{ConfigDuration, GlobalTimeout, LeakTimeout,
 use std::alloc::Global;
 use toml::{Table, Value};
 
-/// When a test or script is slow: a duration above 0 is its period alone, and it is never ended. A table has `period`, a
-/// duration above 0, and may have `terminate-after`, an integer from 1 on, `grace-period`, a duration (10 seconds where it is
-/// left out), and `on-timeout`, `fail` or `pass` (`fail` where it is left out). An `Err` names the first of these, by the bytes
-/// of their keys, that is missing or may not be; other keys are read past.
+/// When a test or script is slow: a duration above 0 is its period alone, and it is never ended. A
+/// table has `period`, a duration above 0, and may have `terminate-after`, an integer from 1 on,
+/// `grace-period`, a duration (10 seconds where it is left out), and `on-timeout`, `fail` or `pass`
+/// (`fail` where it is left out). An `Err` names the first of these, by the bytes of their keys,
+/// that is missing or may not be; other keys are read past.
 pub fn deserialize_slow_timeout(
     alloc: Global,
     value: &Value,
@@ -72,9 +73,9 @@ fn slow_in(alloc: Global, table: &Table, path: &[&str]) -> Result<SlowTimeout, V
     })
 }
 
-/// How long handles may stay open: a duration is that period, and what leaves them open for longer passes. A table has
-/// `period`, a duration, and may have `result`, `pass` or `fail`. An `Err` names the first of these that is missing or may not
-/// be; other keys are read past.
+/// How long handles may stay open: a duration is that period, and what leaves them open for longer
+/// passes. A table has `period`, a duration, and may have `result`, `pass` or `fail`. An `Err`
+/// names the first of these that is missing or may not be; other keys are read past.
 pub fn deserialize_leak_timeout(
     alloc: Global,
     value: &Value,

@@ -3,7 +3,8 @@ use crate::config_value::ConfigValue;
 use nextest_config_elements_values::ConfigDuration;
 use toml::Value;
 
-/// The rule of a type whose values all may stand: any number of it, any duration, each of its words.
+/// The rule of a type whose values all may stand: any number of it, any duration, each of its
+/// words.
 #[derive(Drop)]
 pub struct Any;
 

@@ -19,7 +19,8 @@ abbrev pub is_plain : List ℕ → Bool
 is_plain [] = false
 is_plain (first ∷ further) = is_xid_start first && list_all is_further further
 
--- what characters are as the name of a tool, as they stand: the text of a plain identifier, or why they are none
+-- what characters are as the name of a tool, as they stand: the text of a plain identifier, or why
+-- they are none
 abbrev pub name_of : List ℕ → Result (List ℕ) InvalidIdentifier
 name_of [] = Err refused.Empty
 name_of (first ∷ further) =

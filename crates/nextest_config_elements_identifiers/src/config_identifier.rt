@@ -18,8 +18,9 @@ use std::fmt;
 use std::hash::{Hash, Hasher};
 use std::marker::Model;
 
-/// An identifier of a configuration, in its NFC: a plain identifier, or `@tool:TOOL:OWN` with two plain identifiers, the
-/// name of a tool and one that the tool defines. In a clause it is the list of its bytes.
+/// An identifier of a configuration, in its NFC: a plain identifier, or `@tool:TOOL:OWN` with two
+/// plain identifiers, the name of a tool and one that the tool defines. In a clause it is the list
+/// of its bytes.
 #[derive(Drop)]
 pub struct ConfigIdentifier {
     name: Text,
@@ -37,10 +38,10 @@ impl Model for ConfigIdentifier {
 }
 
 impl ConfigIdentifier {
-    /// The identifier that `text` is in its NFC. An `Err` says that it is empty; that it begins with `@` and isn't
-    /// `@tool:TOOL:OWN`, divided at the first `:` behind `@tool:`, or that one of the two names is empty, or no plain
-    /// identifier; that it doesn't begin with `@` and isn't a plain identifier; or that there was no memory, which says
-    /// nothing of the text.
+    /// The identifier that `text` is in its NFC. An `Err` says that it is empty; that it begins
+    /// with `@` and isn't `@tool:TOOL:OWN`, divided at the first `:` behind `@tool:`, or that one
+    /// of the two names is empty, or no plain identifier; that it doesn't begin with `@` and isn't
+    /// a plain identifier; or that there was no memory, which says nothing of the text.
     pub fn new(alloc: Global, text: &str) -> Result<ConfigIdentifier, InvalidIdentifier>
         ensures exact { Answers (identifier text.now) result }
     {
@@ -55,8 +56,8 @@ impl ConfigIdentifier {
         is_tool(self.name.as_str())
     }
 
-    /// The names of the tool and of what the tool defines, of `@tool:TOOL:OWN`; `None` of an identifier that doesn't
-    /// begin with `@`.
+    /// The names of the tool and of what the tool defines, of `@tool:TOOL:OWN`; `None` of an
+    /// identifier that doesn't begin with `@`.
     pub fn tool_components(&self) -> Option<(&str, &str)>
         ensures names { behind result ≡ tool_parts self.now }
         ensures tool { is_some result ≡ is_tool self.now }

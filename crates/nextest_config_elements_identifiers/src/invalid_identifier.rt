@@ -18,7 +18,8 @@ pub enum InvalidIdentifier {
     /// It is an identifier of a tool in which one of the two names is empty: the text, in its NFC.
     #[error("tool identifier has empty component: `{0}`")]
     ToolComponentEmpty(Text),
-    /// It is an identifier of a tool in which one of the two names is no plain identifier: the text, in its NFC.
+    /// It is an identifier of a tool in which one of the two names is no plain identifier: the
+    /// text, in its NFC.
     #[error("tool identifier contains invalid identifier: `{0}`")]
     ToolIdentifierInvalidXid(Text),
     /// There was no memory for it, which says nothing of the text.

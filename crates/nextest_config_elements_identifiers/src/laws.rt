@@ -6,7 +6,8 @@ pub fn one_identifier()
     ensures { OneIdentifier }
 {}
 
-/// An identifier that begins with `@` is `@tool:`, a name, `:` and a name, and neither name has a `:`.
+/// An identifier that begins with `@` is `@tool:`, a name, `:` and a name, and neither name has a
+/// `:`.
 pub fn tool_identifier()
     ensures { ToolIdentifier }
 {}

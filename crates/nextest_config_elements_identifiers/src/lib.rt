@@ -1,9 +1,10 @@
-//! Identifiers of a configuration: which texts are plain identifiers, the names of tools and of groups of tests, and the
-//! files of tools.
+//! Identifiers of a configuration: which texts are plain identifiers, the names of tools and of
+//! groups of tests, and the files of tools.
 //!
-//! An identifier is taken in its NFC, so that one name spelled in two ways is one identifier. A plain identifier begins
-//! with a character that may start an identifier by Unicode (XID_Start); each further one may continue one
-//! (XID_Continue) or is `-`. An identifier is a plain one, or `@tool:TOOL:OWN` with two plain ones.
+//! An identifier is taken in its NFC, so that one name spelled in two ways is one identifier. A
+//! plain identifier begins with a character that may start an identifier by Unicode (XID_Start);
+//! each further one may continue one (XID_Continue) or is `-`. An identifier is a plain one, or
+//! `@tool:TOOL:OWN` with two plain ones.
 #![tactic(auto)]
 
 mod config_identifier;

@@ -15,7 +15,8 @@ use std::fmt;
 use std::hash::{Hash, Hasher};
 use std::marker::Model;
 
-/// A group of tests that a configuration names, by an identifier. In a clause it is the list of its bytes.
+/// A group of tests that a configuration names, by an identifier. In a clause it is the list of its
+/// bytes.
 #[derive(Drop)]
 pub struct CustomTestGroup {
     name: ConfigIdentifier,
@@ -148,7 +149,8 @@ impl Drop for TestGroup {
 }
 
 impl TestGroup {
-    /// The group that `text` names: `@global`, or an identifier. An `Err` is that of `ConfigIdentifier::new`.
+    /// The group that `text` names: `@global`, or an identifier. An `Err` is that of
+    /// `ConfigIdentifier::new`.
     pub fn from_text(alloc: Global, text: &str) -> Result<TestGroup, InvalidIdentifier>
         ensures exact { Answers (group_of text.now) result }
     {

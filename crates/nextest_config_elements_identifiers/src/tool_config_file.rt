@@ -65,9 +65,10 @@ impl<T: Drop> From<AllocFailed<T>> for ToolConfigFileError {
 }
 
 impl ToolConfigFile {
-    /// The tool and the file of `NAME:PATH`, which is divided at its first `:`. The name is taken as `ToolName::new`
-    /// takes it, and the path as it is written. An `Err` says that there is no `:`, that the name is no tool's, or that
-    /// the path doesn't begin with `/`; or that there was no memory, which says nothing of the text.
+    /// The tool and the file of `NAME:PATH`, which is divided at its first `:`. The name is taken
+    /// as `ToolName::new` takes it, and the path as it is written. An `Err` says that there is no
+    /// `:`, that the name is no tool's, or that the path doesn't begin with `/`; or that there was
+    /// no memory, which says nothing of the text.
     pub fn from_text(alloc: Global, text: &str) -> Result<ToolConfigFile, ToolConfigFileError>
         ensures exact { ReadsToolConfigFile text.now result }
     {

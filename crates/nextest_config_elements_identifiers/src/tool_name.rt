@@ -35,8 +35,8 @@ impl Model for ToolName {
 }
 
 impl ToolName {
-    /// The name that `text` is in its NFC. An `Err` says that it is empty, or that it isn't a plain identifier, with
-    /// its NFC, or that there was no memory, which says nothing of the text.
+    /// The name that `text` is in its NFC. An `Err` says that it is empty, or that it isn't a plain
+    /// identifier, with its NFC, or that there was no memory, which says nothing of the text.
     #[tactic(auto, using(crate::proofs::Names::readings))]
     pub fn new(alloc: Global, text: &str) -> Result<ToolName, InvalidIdentifier>
         ensures exact { ReadsToolName text.now result }

@@ -26,7 +26,8 @@ abbrev pub IsExpected : List ℕ → ValueError → Type 0
 IsExpected expected (error.Refused bad) = bad.expected.now ≡ expected
 IsExpected expected error.OutOfMemory = ⊤
 
--- a text tells what stands somewhere: a text in quotes, a number or a truth value as written, else the name of its type
+-- a text tells what stands somewhere: a text in quotes, a number or a truth value as written, else
+-- the name of its type
 abbrev pub IsTold : Option Data → List ℕ → Type 0
 IsTold None text = text ≡ codes "nothing"
 IsTold (Some (string given)) text = ⊤

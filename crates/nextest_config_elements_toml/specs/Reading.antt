@@ -1,4 +1,5 @@
--- How the values of tables are read: key by key, by the bytes of the keys, up to the first that is none.
+-- How the values of tables are read: key by key, by the bytes of the keys, up to the first that is
+-- none.
 use Rattle.std.specs.Prelude.{ℕ, List, [], ◌∷◌, Option, None, Some, Result, Ok, Err}
 use Rattle.std.specs.Option.{option_map_or}
 use Rattle.toml.specs.Data.{Data, Members, get_member}

@@ -11,8 +11,8 @@ pub struct BadValue {
     pub path: KeyPath,
     /// What may stand there.
     pub expected: &'static str,
-    /// What stands there: a text in quotes, a number or a truth value as written, else the name of its type; `nothing` where
-    /// a key is missing.
+    /// What stands there: a text in quotes, a number or a truth value as written, else the name of
+    /// its type; `nothing` where a key is missing.
     pub found: Text,
 }
 

@@ -6,7 +6,8 @@ use nextest_text::{Listing, Text};
 use std::alloc::{AllocError, Global};
 use std::fmt;
 
-/// Where a value stands: the keys that lead to it, the outermost first. It prints with dots between them.
+/// Where a value stands: the keys that lead to it, the outermost first. It prints with dots between
+/// them.
 #[derive(Clone, Debug, PartialEq, Eq, Drop)]
 pub struct KeyPath {
     /// The keys; a list position is one in decimal.

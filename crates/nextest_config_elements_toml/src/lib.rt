@@ -1,7 +1,8 @@
 //! How values of a configuration are read: why one is refused, and where it stands.
 //!
-//! A reader is handed a TOML value and its path, the keys that lead to it; a list position is such a key too, in decimal. It
-//! gives the value, or refuses with the path of the first thing that is none.
+//! A reader is handed a TOML value and its path, the keys that lead to it; a list position is such
+//! a key too, in decimal. It gives the value, or refuses with the path of the first thing that is
+//! none.
 #![tactic(auto)]
 
 mod bad_value;

@@ -64,7 +64,8 @@ pub sum_ahead : (text : List ℕ) (nanos : ℕ) → IsSum text nanos → Reads (
 sum_ahead text nanos sum =
     record { parts = sum.parts; each = sum.each; whole = parts_ahead text nanos sum; adds_up = sum.adds_up }
 
--- a text is no duration where what follows its blanks is no zero, and nothing or no parts of a sum that fits
+-- a text is no duration where what follows its blanks is no zero, and nothing or no parts of a sum
+-- that fits
 pub no_duration : (text : List ℕ) (nanos : ℕ) → is_zero (behind is_blank text) ≡ false
     → ((all : ℕ) → Reads (behind is_blank text) all → IsSum text all → ⊥) → IsDuration text nanos → ⊥
 no_duration text nanos other no_sum (inl zero) = both_ways (is_zero (behind is_blank text)) other (zero_ahead text nanos zero)

@@ -40,8 +40,8 @@ look_up (row ∷ further) word = if is_among row.0 word then Some row.1 else loo
 abbrev pub unit_nanos : List ℕ → Option ℕ
 unit_nanos word = look_up units word
 
--- a part of a duration: the digits of its number, the blanks behind them, the word of its unit, the blanks behind it,
--- and the nanoseconds of its unit
+-- a part of a duration: the digits of its number, the blanks behind them, the word of its unit, the
+-- blanks behind it, and the nanoseconds of its unit
 pub record Part : Type 0 where
   pub digits : List ℕ
   pub gap : List ℕ

@@ -5,7 +5,8 @@ use Rattle.nextest_config_elements_values.specs.declared.threads.TestThreads.The
 use Rattle.nextest_config_elements_values.specs.declared.threads.ThreadsRequired.{ThreadsRequired}
 use Rattle.nextest_config_elements_values.specs.declared.threads.ThreadsRequired.TheVariants as required
 
--- how many tests run at a time with so many processors: at least 1 where a number is taken from theirs
+-- how many tests run at a time with so many processors: at least 1 where a number is taken from
+-- theirs
 abbrev pub test_threads_of : TestThreads → ℕ → ℕ
 test_threads_of (threads.Count count) processors = count
 test_threads_of (threads.CpusLess count) processors = max (processors - count) 1

@@ -14,7 +14,8 @@ pub fn one_duration()
     ensures { OneDuration }
 {}
 
-/// The nanoseconds that a text has are those of the duration that it is; a text that is none has no nanoseconds.
+/// The nanoseconds that a text has are those of the duration that it is; a text that is none has no
+/// nanoseconds.
 pub fn nanos_of_durations()
     ensures { NanosOfDurations }
 {}

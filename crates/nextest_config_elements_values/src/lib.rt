@@ -1,5 +1,6 @@
-//! The numbers, timeouts and policies of the configuration: how often a failing test is tried again, how long it may take, how
-//! many threads there are, in which order tests run, and what a JUnit report has.
+//! The numbers, timeouts and policies of the configuration: how often a failing test is tried
+//! again, how long it may take, how many threads there are, in which order tests run, and what a
+//! JUnit report has.
 #![tactic(auto)]
 
 mod config_duration;

@@ -3,7 +3,8 @@ ghost use Rattle.std.specs.Prelude.{◌≡◌, ◌+◌, ◌-◌, ◌*◌, ◌^�
 ghost use Rattle.std.specs.Int.{IsInRange};
 ghost use Rattle.std.specs.Str.Parse.{AllDigits, IsNumeral, digits_value};
 
-// The number that digits write, leading zeros allowed. `None` where there is no digit, and above `u64::MAX`.
+// The number that digits write, leading zeros allowed. `None` where there is no digit, and above
+// `u64::MAX`.
 #[tactic(auto, using(crate::proofs::Numbers::reads_digits))]
 pub(crate) fn number_of(digits: &[u8]) -> Option<u64>
     requires { AllDigits 10 digits.now }

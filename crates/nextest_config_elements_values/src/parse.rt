@@ -17,10 +17,11 @@ use thiserror::Error;
 #[error("expected a duration, as `1h 30m`")]
 pub struct BadDuration;
 
-/// The duration that `text` is: parts of a whole number and a unit, as `1h 30m`, which add up, or `0`. Blanks (space,
-/// tab, line feed, carriage return) may stand before, behind and between numbers and units. Units are `ns`, `us`, `ms`,
-/// `s`, `m`, `h`, `d`, `w`, `M` (months of 2,630,016 seconds) and `y` (years of 31,557,600 seconds), and their longer
-/// words. An `Err` for every other text, and above `u64::MAX` nanoseconds.
+/// The duration that `text` is: parts of a whole number and a unit, as `1h 30m`, which add up, or
+/// `0`. Blanks (space, tab, line feed, carriage return) may stand before, behind and between
+/// numbers and units. Units are `ns`, `us`, `ms`, `s`, `m`, `h`, `d`, `w`, `M` (months of 2,630,016
+/// seconds) and `y` (years of 31,557,600 seconds), and their longer words. An `Err` for every other
+/// text, and above `u64::MAX` nanoseconds.
 #[tactic(auto, using(crate::proofs::Nanos::nanos_is_duration))]
 pub fn parse_duration(text: &str) -> Result<Duration, BadDuration>
     ensures found { IfOk result (λ duration. IsDuration text.now (as_nanos duration)) }
@@ -69,7 +70,8 @@ fn is_zero(text: &[u8]) -> bool
     }
 }
 
-// The sum of the parts that a text is, in nanoseconds. `None` where it isn't parts, and above `u64::MAX` nanoseconds.
+// The sum of the parts that a text is, in nanoseconds. `None` where it isn't parts, and above
+// `u64::MAX` nanoseconds.
 fn sum_of_parts(text: &[u8]) -> Option<u64>
     ensures found { IfSome result (λ nanos. Reads text.now nanos) }
     ensures fits { IfSome result (λ nanos. nanos < 2 ^ 64) }
@@ -90,8 +92,8 @@ fn sum_of_parts(text: &[u8]) -> Option<u64>
     Some(sum)
 }
 
-// The first part of a text, in nanoseconds, and what follows it and its blanks. `None` where no part stands first, and
-// above `u64::MAX` nanoseconds.
+// The first part of a text, in nanoseconds, and what follows it and its blanks. `None` where no
+// part stands first, and above `u64::MAX` nanoseconds.
 fn first_part(text: &[u8]) -> Option<(u64, &[u8])>
     ensures found { IfSome result (λ part. StartsWith text.now part.0) }
     ensures rest { IfSome result (λ part. part.1.now ≡ behind_part text.now) }

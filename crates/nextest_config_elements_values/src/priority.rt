@@ -17,8 +17,8 @@ pub struct TestPriorityOutOfRange {
     pub priority: i8,
 }
 
-/// The priority of a test, from -100 to 100: tests of greater priorities come first, in their order too. In a clause it
-/// is its number.
+/// The priority of a test, from -100 to 100: tests of greater priorities come first, in their order
+/// too. In a clause it is its number.
 #[derive(Clone, Copy, Debug)]
 pub struct TestPriority {
     number: i8,

@@ -18,7 +18,8 @@ pub enum RetryPolicy {
     },
     /// The delay doubles with each further attempt.
     Exponential {
-        /// How many more attempts there are after the first, at least 1 in every accepted configuration.
+        /// How many more attempts there are after the first, at least 1 in every accepted
+        /// configuration.
         count: u32,
         /// The delay before the first of them, above 0 in every accepted configuration.
         delay: ConfigDuration,

@@ -8,7 +8,8 @@ use Rattle.nextest_config_elements_toml.specs.Reading.{Reading, ◌>>=◌, leaf,
 use Rattle.nextest_config_elements_versions.specs.declared.asked_versions.AskedVersions.{AskedVersions}
 use Rattle.nextest_config_elements_versions.specs.declared.demand.VersionDemand.{VersionDemand}
 
--- the version that a text asks for: the one that it is, or with `.0` behind it, so that `X.Y` is `X.Y.0`
+-- the version that a text asks for: the one that it is, or with `.0` behind it, so that `X.Y` is
+-- `X.Y.0`
 abbrev pub asked_version : List ℕ → Option Parts
 asked_version text = option_or (version_of text) (version_of (text ++ codes ".0"))
 

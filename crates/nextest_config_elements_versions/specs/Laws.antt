@@ -22,7 +22,8 @@ Partition = (front rest : List Asking) (one other : VersionOnlyConfig) → Comes
 abbrev pub SourcesCome : List Source → VersionOnlyConfig → Type 0
 SourcesCome sources config = (all : List Asking) × (askings sources ≡ Ok all) × Comes all config
 
--- a list of sources is refused as the first of its two parts that is, and comes to what both come to, merged
+-- a list of sources is refused as the first of its two parts that is, and comes to what both come
+-- to, merged
 pub record PartitionOfSources : Type 0 where
   pub comes : (front rest : List Source) (one other : VersionOnlyConfig) → SourcesCome front one → SourcesCome rest other → SourcesCome (front ++ rest) (merge_of one other)
   pub front_refused : (front rest : List Source) (refusal : Refusal) → askings front ≡ Err refusal → askings (front ++ rest) ≡ Err refusal
@@ -36,7 +37,8 @@ Associative = (one other third : VersionOnlyConfig) → merge_of (merge_of one o
 abbrev pub Neutral : Type 0
 Neutral = (none one : VersionOnlyConfig) → Comes [] none → (merge_of none one ≡ one) × (merge_of one none ≡ one)
 
--- a text is the first two numbers of a version, with a dot between them, and the version is these and 0
+-- a text is the first two numbers of a version, with a dot between them, and the version is these
+-- and 0
 abbrev pub IsShortOf : List ℕ → Parts → Type 0
 IsShortOf text version =
     (major : ℕ) × (minor : ℕ) × (text ≡ decimal major ++ (46 ∷ decimal minor)) × (version ≡ (major, minor, 0, [], []))

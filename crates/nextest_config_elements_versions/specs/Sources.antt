@@ -155,7 +155,8 @@ GivesDemand source asked (Ok demand) = asked ≡ Ok demand
 GivesDemand source asked (Err (error.Refused fault)) = (why : Reason) × (asked ≡ Err why) × TellsFault fault (source.path, why)
 GivesDemand source asked (Err error.OutOfMemory) = ⊤
 
--- a call gives what a list of sources comes to, or refuses its first bad source; want of memory says nothing
+-- a call gives what a list of sources comes to, or refuses its first bad source; want of memory
+-- says nothing
 abbrev pub GivesConfig : List Source → Result VersionOnlyConfig VersionOnlyError → Type 0
 GivesConfig sources (Ok config) = (all : List Asking) × (askings sources ≡ Ok all) × Comes all config
 GivesConfig sources (Err (error.Refused fault)) = (refusal : Refusal) × (askings sources ≡ Err refusal) × TellsFault fault refusal

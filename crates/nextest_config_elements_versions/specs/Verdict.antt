@@ -13,8 +13,8 @@ use Rattle.nextest_config_elements_versions.specs.declared.origin.VersionOrigin.
 abbrev pub Ask : Type 0
 Ask = Parts × VersionOrigin
 
--- of versions that are asked for, the lowest source first, this one counts: none is above it, and each that a later source
--- asks for is below it
+-- of versions that are asked for, the lowest source first, this one counts: none is above it, and
+-- each that a later source asks for is below it
 pub record Counts (asks : List Ask) (ask : Ask) : Type 0 where
   pub before : List Ask
   pub behind : List Ask
@@ -61,7 +61,8 @@ verdict_by req.None recommended current = recommended_verdict recommended curren
 abbrev pub verdict : NextestVersionConfig → Parts → Verdict
 verdict config current = verdict_by config.required config.recommended current
 
--- two parts of a list, each with what counts of it: the later one's, unless that of the former is above it
+-- two parts of a list, each with what counts of it: the later one's, unless that of the former is
+-- above it
 abbrev pub later_of : NextestVersionReq → NextestVersionReq → NextestVersionReq
 later_of one req.None = one
 later_of req.None (req.Version version source) = req.Version version source

@@ -23,8 +23,9 @@ pub struct AskedVersions {
 
 const EXPECTED: &'static str = "a version as `X.Y.Z` or `X.Y`";
 
-/// The versions that `value`, at `path`, asks for: a text is the required one, a table may have `required` and
-/// `recommended`. Another value, and a text that is no version, are refused with their path.
+/// The versions that `value`, at `path`, asks for: a text is the required one, a table may have
+/// `required` and `recommended`. Another value, and a text that is no version, are refused with
+/// their path.
 pub fn deserialize_nextest_version(
     alloc: Global,
     value: &Value,

@@ -9,8 +9,9 @@ use nextest_text::{Listing, Text};
 use std::alloc::{AllocError, Global};
 use toml::{Table, Value};
 
-/// The names of the features that `value`, at `path`, asks for: an array of texts, or a table of truth values, of which
-/// `false` asks for nothing. Another value is refused with the path of the first thing that is none.
+/// The names of the features that `value`, at `path`, asks for: an array of texts, or a table of
+/// truth values, of which `false` asks for nothing. Another value is refused with the path of the
+/// first thing that is none.
 pub fn deserialize_experimental(
     alloc: Global,
     value: &Value,

@@ -1,5 +1,5 @@
-//! What holds of all lists of sources, and of all texts that ask for a version. Each function does nothing, and its contract
-//! is the law.
+//! What holds of all lists of sources, and of all texts that ask for a version. Each function does
+//! nothing, and its contract is the law.
 ghost use Rattle.nextest_config_elements_versions.specs.Laws.{OneConfig, EachComes, Partition, PartitionOfSources, Associative, Neutral, ShortVersion};
 
 /// A list comes to one result.
@@ -17,7 +17,8 @@ pub fn partition()
     ensures { Partition }
 {}
 
-/// A list of sources comes to what its two parts come to, merged, or is refused as the first part that is.
+/// A list of sources comes to what its two parts come to, merged, or is refused as the first part
+/// that is.
 pub fn partition_of_sources()
     ensures { PartitionOfSources }
 {}

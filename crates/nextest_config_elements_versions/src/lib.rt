@@ -1,7 +1,9 @@
-//! Which versions and features the sources of a configuration ask for, and what a version is by them.
+//! Which versions and features the sources of a configuration ask for, and what a version is by
+//! them.
 //!
-//! Each source asks for at most one required and one recommended version, and for features by name. Of a list of sources, the
-//! lowest first, the greatest version of each role counts, as the last source asks for it that asks for one equal to it.
+//! Each source asks for at most one required and one recommended version, and for features by name.
+//! Of a list of sources, the lowest first, the greatest version of each role counts, as the last
+//! source asks for it that asks for one equal to it.
 #![tactic(auto)]
 
 mod asked_versions;

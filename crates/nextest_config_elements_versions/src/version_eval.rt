@@ -56,8 +56,8 @@ pub enum NextestVersionEval<'a> {
 }
 
 impl NextestVersionConfig {
-    /// What `current` is by these versions: the required one is judged first. With `override_version_check` what is below
-    /// one is let pass, and told as such.
+    /// What `current` is by these versions: the required one is judged first. With
+    /// `override_version_check` what is below one is let pass, and told as such.
     pub fn eval<'a>(
         &'a self,
         current: &'a Version,

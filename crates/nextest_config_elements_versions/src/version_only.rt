@@ -27,8 +27,9 @@ impl VersionOnlyConfig {
         }
     }
 
-    /// What a list of sources asks for, the lowest first. The first source that may not stand in it is refused: its text is no
-    /// TOML, a value in it can't stand at its key, or it is a tool's and asks for a feature.
+    /// What a list of sources asks for, the lowest first. The first source that may not stand in it
+    /// is refused: its text is no TOML, a value in it can't stand at its key, or it is a tool's and
+    /// asks for a feature.
     pub fn from_sources(
         alloc: Global,
         sources: &[VersionSource],

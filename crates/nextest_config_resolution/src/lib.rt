@@ -1,4 +1,5 @@
-//! Configurations: what a list of sources comes to, which profiles there are and what each of them sets.
+//! Configurations: what a list of sources comes to, which profiles there are and what each of them
+//! sets.
 //!
 //! What the contracts of these speak of is handed on as `Rattle.nextest_config_resolution.specs`.
 #![tactic(auto)]

@@ -41,7 +41,8 @@ AreVariables (member name given more) (variable ∷ variables) = IsVariable name
 abbrev pub HasVariables : Members → ScriptCommandEnvMap → Type 0
 HasVariables members env = AreVariables members env.variables
 
--- a table sets a command; without `env` it has no variables, and without `relative-to` its program stands as it is written
+-- a table sets a command; without `env` it has no variables, and without `relative-to` its program
+-- stands as it is written
 pub record IsCommandTable (members : Members) (it : ScriptCommand) : Type 0 where
   pub words : MustBe members (codes "command-line") HasWords (it.program ∷ it.args)
   pub env : MayBeOr members (codes "env") (IsTable HasVariables) no_variables it.env

@@ -1,4 +1,5 @@
--- The words of a command that is written as one text, as a Unix shell divides them. All is over bytes.
+-- The words of a command that is written as one text, as a Unix shell divides them. All is over
+-- bytes.
 use Rattle.std.specs.Prelude.{◌≡◌, ◌≢◌, ℕ, ◌==◌, Bool, true, false, ◌||◌, not, ◌&&◌, List, [], ◌∷◌, ◌++◌}
 use Rattle.std.specs.List.{AllByRecursion}
 
@@ -14,8 +15,9 @@ is_taken byte = byte == 34 || byte == 92 || byte == 36 || byte == 96
 abbrev pub HasNo : ℕ → List ℕ → Type 0
 HasNo byte text = AllByRecursion (λ one. one ≢ byte) text
 
--- bytes between double quotes, and what they say: those that stand for themselves; what a backslash takes; nothing for a backslash
--- and a line feed; and before anything else a backslash stands for itself
+-- bytes between double quotes, and what they say: those that stand for themselves; what a backslash
+-- takes; nothing for a backslash and a line feed; and before anything else a backslash stands for
+-- itself
 pub data IsQuoted : List ℕ → List ℕ → Type 0 where
   quoted_nothing : IsQuoted [] []
   quoted_itself : (byte : ℕ) (text said : List ℕ) → byte ≢ 34 → byte ≢ 92 → IsQuoted text said → IsQuoted (byte ∷ text) (byte ∷ said)
@@ -27,9 +29,10 @@ pub data IsQuoted : List ℕ → List ℕ → Type 0 where
 abbrev pub is_plain : ℕ → Bool
 is_plain byte = not (is_divider byte || byte == 39 || byte == 34 || byte == 92)
 
--- pieces of a word stand at the front of a text, say this, and then the rest follows: bytes that stand for themselves; what a
--- backslash takes, any byte but a line feed, with which it stands for nothing; a backslash at the end of the text, which stands for
--- itself; what is between single quotes, as it stands; what is between double quotes
+-- pieces of a word stand at the front of a text, say this, and then the rest follows: bytes that
+-- stand for themselves; what a backslash takes, any byte but a line feed, with which it stands for
+-- nothing; a backslash at the end of the text, which stands for itself; what is between single
+-- quotes, as it stands; what is between double quotes
 pub data ArePieces : List ℕ → List ℕ → List ℕ → Type 0 where
   no_pieces : (rest : List ℕ) → ArePieces rest [] rest
   itself : (byte : ℕ) (text said rest : List ℕ) → is_plain byte ≡ true → ArePieces text said rest → ArePieces (byte ∷ text) (byte ∷ said) rest
@@ -41,8 +44,8 @@ pub data ArePieces : List ℕ → List ℕ → List ℕ → Type 0 where
   quoted : (inside meant text said rest : List ℕ) → IsQuoted inside meant → ArePieces text said rest
       → ArePieces (34 ∷ inside ++ 34 ∷ text) (meant ++ said) rest
 
--- what may stand before a word, and behind the last one: dividers, a backslash with a line feed, and comments, each from a `#` up to
--- the next line feed or the end
+-- what may stand before a word, and behind the last one: dividers, a backslash with a line feed,
+-- and comments, each from a `#` up to the next line feed or the end
 pub data IsGap : List ℕ → List ℕ → Type 0 where
   no_gap : (rest : List ℕ) → IsGap rest rest
   divided : (byte : ℕ) (text rest : List ℕ) → is_divider byte ≡ true → IsGap text rest → IsGap (byte ∷ text) rest

@@ -11,8 +11,8 @@ pub fn one_split()
     ensures { OneSplit }
 {}
 
-/// A value is read as a command exactly if it is that command by what stands under its keys, in whatever order they are looked at,
-/// and by the pieces of its words.
+/// A value is read as a command exactly if it is that command by what stands under its keys, in
+/// whatever order they are looked at, and by the pieces of its words.
 pub fn accepted_command()
     ensures { AcceptedCommand }
 {}

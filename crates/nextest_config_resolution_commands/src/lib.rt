@@ -1,4 +1,5 @@
-//! The commands of scripts: the names of scripts, how a command is read, and where its program stands.
+//! The commands of scripts: the names of scripts, how a command is read, and where its program
+//! stands.
 #![tactic(auto)]
 
 mod command_line;

@@ -13,13 +13,15 @@ use nextest_text::Listing;
 use std::alloc::Global;
 use toml::{Table, Value};
 
-/// The command of a script: its words in one text, as `split_words` divides them, a list of texts, or a table of `command-line`, one
-/// of these two, which must stand, `env`, and `relative-to`, `none`, `workspace-root` or `target`. The first word is the program.
+/// The command of a script: its words in one text, as `split_words` divides them, a list of texts,
+/// or a table of `command-line`, one of these two, which must stand, `env`, and `relative-to`,
+/// `none`, `workspace-root` or `target`. The first word is the program.
 ///
 /// # Errors
 ///
-/// `Refused` where there is no word, or a quote isn't closed; where a variable of `env` begins with `NEXTEST` or is no text; and for
-/// every other value. A table is looked at by the bytes of its keys, and other keys are read past.
+/// `Refused` where there is no word, or a quote isn't closed; where a variable of `env` begins with
+/// `NEXTEST` or is no text; and for every other value. A table is looked at by the bytes of its
+/// keys, and other keys are read past.
 pub fn deserialize_script_command(
     alloc: Global,
     value: &Value,

@@ -47,9 +47,9 @@ impl Drop for ScriptCommand {
 }
 
 impl ScriptCommand {
-    /// Where its program stands: as it is written, or below the root of the workspace or the target directory, as `relative_to`
-    /// says. A program that begins with `/` is as it is written, as is one below a directory that is the empty text. It fails
-    /// only on allocation.
+    /// Where its program stands: as it is written, or below the root of the workspace or the target
+    /// directory, as `relative_to` says. A program that begins with `/` is as it is written, as is
+    /// one below a directory that is the empty text. It fails only on allocation.
     pub fn program(
         &self,
         alloc: Global,

@@ -55,8 +55,8 @@ impl ScriptId {
         &self.name
     }
 
-    /// The id of its run in the run `run_id`: `RUN:ID`, and then `@stress-N` in the sub-run N of a stress run. It fails only on
-    /// allocation.
+    /// The id of its run in the run `run_id`: `RUN:ID`, and then `@stress-N` in the sub-run N of a
+    /// stress run. It fails only on allocation.
     pub fn unique_id(
         &self,
         alloc: Global,

@@ -12,8 +12,8 @@ use nextest_config_elements_toml::{KeyPath, ValueError, refused_below};
 use std::alloc::{AllocError, Global};
 use toml::{Table, Value};
 
-/// What was refused, told below a key of the table at a path: with these in front of its own path, and else as it was. Want of
-/// memory stays, and may be what comes of another error.
+/// What was refused, told below a key of the table at a path: with these in front of its own path,
+/// and else as it was. Want of memory stays, and may be what comes of another error.
 pub fn below(alloc: Global, path: &[&str], key: &str, error: ValueError) -> ValueError
     ensures { IsBelow (texts path.now ++ key.now ∷ []) error result }
 {
@@ -61,7 +61,8 @@ pub fn optional_value<T: DeserializeValue>(
     }
 }
 
-/// The value of a key that must stand, by the reader of its type. Where it is missing, `expected` says what may stand there.
+/// The value of a key that must stand, by the reader of its type. Where it is missing, `expected`
+/// says what may stand there.
 pub fn required_value<T: DeserializeValue>(
     alloc: Global,
     table: &Table,
@@ -79,7 +80,8 @@ pub fn required_value<T: DeserializeValue>(
     }
 }
 
-/// The value of a key for which something else stands where it is left out, by the reader of its type.
+/// The value of a key for which something else stands where it is left out, by the reader of its
+/// type.
 pub fn defaulted_value<T: DeserializeValue>(
     alloc: Global,
     table: &Table,

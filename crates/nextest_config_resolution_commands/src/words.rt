@@ -8,11 +8,12 @@ use nextest_text::{Listing, Text};
 use std::alloc::{AllocError, Global};
 use std::mem;
 
-/// The words of a text, as a Unix shell divides them: by spaces, tabs and line feeds. What is between single quotes stands for
-/// itself; between double quotes a backslash takes `"`, `\`, `$` and a backtick, stands for nothing before a line feed, with it, and
-/// for itself before all else; and elsewhere it takes any character, stands for nothing before a line feed, with it, and for itself
-/// at the end. A `#` where a word would begin begins a comment, up to the next line feed or the end. `None` where a quote isn't
-/// closed. It fails only on allocation.
+/// The words of a text, as a Unix shell divides them: by spaces, tabs and line feeds. What is
+/// between single quotes stands for itself; between double quotes a backslash takes `"`, `\`, `$`
+/// and a backtick, stands for nothing before a line feed, with it, and for itself before all else;
+/// and elsewhere it takes any character, stands for nothing before a line feed, with it, and for
+/// itself at the end. A `#` where a word would begin begins a comment, up to the next line feed or
+/// the end. `None` where a quote isn't closed. It fails only on allocation.
 pub fn split_words(alloc: Global, text: &str) -> Result<Option<Listing<Text>>, AllocError>
     ensures { IfOk result (λ words. words ≡ words_of text.now) }
 {

@@ -5,7 +5,8 @@ use Rattle.nextest_config_resolution_filters.specs.declared.filter_error.FilterE
 use Rattle.nextest_config_resolution_filters.specs.declared.spec_error.SpecError.{SpecError}
 use Rattle.nextest_config_resolution_filters.specs.declared.spec_error.SpecError.TheVariants as spec
 
--- the filter that a text is; or it is refused, since it is none, or too deep for the reader; want of memory says nothing of it
+-- the filter that a text is; or it is refused, since it is none, or too deep for the reader; want
+-- of memory says nothing of it
 abbrev pub Reads : {Filter : Type 0} → (Filter → Type 0) → Type 0 → Result Filter FilterError → Type 0
 Reads IsThis IsTooDeep (Ok it) = IsThis it
 Reads {Filter} IsThis IsTooDeep (Err filter.Refused) = ((it : Filter) → IsThis it → ⊥) ⊎ IsTooDeep

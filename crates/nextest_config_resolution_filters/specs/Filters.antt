@@ -5,8 +5,8 @@ use Rattle.nextest_filtering_arguments.specs.declared.ban.FiltersetKind.TheVaria
 use Rattle.nextest_filtering_filters.specs.declared.known_groups.KnownGroups.{KnownGroups}
 use Rattle.nextest_filtering_filters.specs.Query.{Binary, Test}
 
--- Two filters that no question tells apart: each answer of the one is an answer of the other, as the filter that is asked and as the
--- default filter.
+-- Two filters that no question tells apart: each answer of the one is an answer of the other, as
+-- the filter that is asked and as the default filter.
 pub record AreAlike {Filter : Type 0} (OnBinary : Filter → Filter → Binary → Option Bool → Type 0) (OnTest : Filter → Filter → Test → Bool → Type 0)
     (asks_groups has_runtime_leaves serves_as_default : Filter → Bool) (one other : Filter) : Type 0 where
   pub groups : asks_groups one ≡ asks_groups other
@@ -21,7 +21,8 @@ pub record AreAlike {Filter : Type 0} (OnBinary : Filter → Filter → Binary �
 abbrev pub IsRead : {Filter Cx : Type 0} → (Cx → FiltersetKind → KnownGroups → List ℕ → Filter → Type 0) → Filter → Type 0
 IsRead {Filter} {Cx} IsParsed it = (cx : Cx) × (purpose : FiltersetKind) × (known : KnownGroups) × (text : List ℕ) × IsParsed cx purpose known text it
 
--- Filters, where these say which filter a text is, and what a filter is on a binary and on a test, beside the default filter.
+-- Filters, where these say which filter a text is, and what a filter is on a binary and on a test,
+-- beside the default filter.
 pub record FiltersLaws {Filter Cx : Type 0} (IsParsed : Cx → FiltersetKind → KnownGroups → List ℕ → Filter → Type 0)
     (OnBinary : Filter → Filter → Binary → Option Bool → Type 0) (OnTest : Filter → Filter → Test → Bool → Type 0)
     (asks_groups has_runtime_leaves serves_as_default : Filter → Bool) : Type 0 where

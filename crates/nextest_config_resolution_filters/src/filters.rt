@@ -13,8 +13,8 @@ use nextest_filtering_filters::{BinaryQuery, KnownGroups, TestQuery};
 use nextest_text::Text;
 use std::alloc::{AllocError, Global};
 
-/// A filter, by which a configuration tells tests apart. It is asked beside the default filter of a profile, which
-/// `default()` is.
+/// A filter, by which a configuration tells tests apart. It is asked beside the default filter of a
+/// profile, which `default()` is.
 pub trait Filters: Drop {
     /// What texts are read in: a workspace.
     type Cx;
@@ -25,7 +25,8 @@ pub trait Filters: Drop {
     // The reader may refuse the text though it is a filter.
     ghost is_too_deep: { List ℕ → Type 0 };
 
-    // What it is on a binary, beside this default filter: a value whatever the binary's tests are, or none where tests tell.
+    // What it is on a binary, beside this default filter: a value whatever the binary's tests are,
+    // or none where tests tell.
     ghost on_binary: { Self → Self → Binary → Option Bool → Type 0 };
 
     // What it is on a test, beside this default filter.
@@ -40,8 +41,9 @@ pub trait Filters: Drop {
     // It may be a default filter: it asks neither for the default filter nor for groups.
     ghost serves_as_default: { Self → Bool };
 
-    /// The filter of a text, in this context, for this purpose and where these groups are known. It is refused where the
-    /// text is no filter there, or too deep for the reader. Or there was no memory, which says nothing of the text.
+    /// The filter of a text, in this context, for this purpose and where these groups are known. It
+    /// is refused where the text is no filter there, or too deep for the reader. Or there was no
+    /// memory, which says nothing of the text.
     fn parse(
         alloc: Global,
         text: Text,
@@ -51,8 +53,8 @@ pub trait Filters: Drop {
     ) -> Result<Self, FilterError>
         ensures { Reads (is_parsed cx.now kind known_groups.now text) (is_too_deep text) result };
 
-    /// The value that it has on a binary whatever the binary's tests are; `None` where tests tell. It fails only on
-    /// allocation.
+    /// The value that it has on a binary whatever the binary's tests are; `None` where tests tell.
+    /// It fails only on allocation.
     fn matches_binary(
         &self,
         alloc: Global,
@@ -73,8 +75,8 @@ pub trait Filters: Drop {
         requires no_groups { asks_groups self.now ≡ false }
         ensures { IfOk result (on_test self.now default.now (test_of query.now)) };
 
-    /// Whether it, which asks for no groups, holds on each of some tests of a binary, by their names and in their order: what
-    /// its matchers take is made once. It fails only on allocation.
+    /// Whether it, which asks for no groups, holds on each of some tests of a binary, by their
+    /// names and in their order: what its matchers take is made once. It fails only on allocation.
     fn matches_tests(
         &self,
         alloc: Global,
@@ -95,7 +97,8 @@ pub trait Filters: Drop {
     fn has_runtime_leaves(&self) -> bool
         ensures { result ≡ has_runtime_leaves self.now };
 
-    /// Whether it may be a default filter: whether it asks neither for the default filter nor for groups.
+    /// Whether it may be a default filter: whether it asks neither for the default filter nor for
+    /// groups.
     fn serves_as_default(&self) -> bool
         ensures { result ≡ serves_as_default self.now };
 

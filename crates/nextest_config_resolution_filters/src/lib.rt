@@ -1,5 +1,5 @@
-//! What a configuration is generic over: filters, by which it tells tests apart, and platform specs, by which it tells
-//! builds apart.
+//! What a configuration is generic over: filters, by which it tells tests apart, and platform
+//! specs, by which it tells builds apart.
 #![tactic(auto)]
 
 mod filter_error;

@@ -17,11 +17,13 @@ pub trait Specs: Drop {
     // Whether it holds on a platform of which this is known; none where that doesn't tell.
     ghost value_on: { Self → Self.Facts → Option Bool };
 
-    /// The spec of a text. It is refused where the text is none. Or there was no memory, which says nothing of the text.
+    /// The spec of a text. It is refused where the text is none. Or there was no memory, which says
+    /// nothing of the text.
     fn parse(alloc: Global, text: &str) -> Result<Self, SpecError>
         ensures { ReadsSpec (is_parsed text.now) result };
 
-    /// Whether it holds on a platform of which this is known; `None` where that doesn't tell. It takes no memory.
+    /// Whether it holds on a platform of which this is known; `None` where that doesn't tell. It
+    /// takes no memory.
     fn eval(&self, facts: &Self::Facts) -> Option<bool>
         ensures { result ≡ value_on self.now facts.now };
 

@@ -26,7 +26,8 @@ abbrev pub IsFirstEndless : List ℕ → Option ℕ → Type 0
 IsFirstEndless parents None = (place : ℕ) → place < length parents → Leaves parents place
 IsFirstEndless parents (Some place) = (place < length parents) × ¬ Leaves parents place × ((k : ℕ) → k < place → Leaves parents k)
 
--- the walks so far began below a place, and each place that they came by leaves; elsewhere stands the number of all places
+-- the walks so far began below a place, and each place that they came by leaves; elsewhere stands
+-- the number of all places
 abbrev pub AreKnown : List ℕ → List ℕ → ℕ → Type 0
 AreKnown parents walks start = (place : ℕ) → place < length parents → slice_index_or walks place 0 ≢ length parents
     → (slice_index_or walks place 0 < start) × Leaves parents place

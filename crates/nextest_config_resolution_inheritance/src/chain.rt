@@ -7,8 +7,8 @@ use crate::inherits::Inherits;
 use crate::places::place_of_next;
 use std::alloc::{AllocError, Global};
 
-/// The chain of the profile at a place, by places: the profile itself, its parents one after another, and `default` last. It
-/// fails only on allocation.
+/// The chain of the profile at a place, by places: the profile itself, its parents one after
+/// another, and `default` last. It fails only on allocation.
 ///
 /// The profiles are accepted by `check_inheritance`, and `default` is one of them.
 pub fn chain_of<P: Inherits>(

@@ -12,15 +12,17 @@ use crate::places::places_of_parents;
 use nextest_text::Text;
 use std::alloc::Global;
 
-/// Whether profiles may inherit as they do: no profile with a reserved name, `default` or one that begins with `default-`,
-/// sets a parent; each parent is the name of one of the profiles; the parents of each come to `default`.
+/// Whether profiles may inherit as they do: no profile with a reserved name, `default` or one that
+/// begins with `default-`, sets a parent; each parent is the name of one of the profiles; the
+/// parents of each come to `default`.
 ///
 /// The names rise by their bytes. `default` itself needn't be among them.
 ///
 /// # Errors
 ///
-/// `Refused` says which rule is broken: each is asked of all profiles before the next, in this order, and the first profile
-/// that breaks it is named. Want of memory says nothing of the profiles.
+/// `Refused` says which rule is broken: each is asked of all profiles before the next, in this
+/// order, and the first profile that breaks it is named. Want of memory says nothing of the
+/// profiles.
 pub fn check_inheritance<P: Inherits>(alloc: Global, profiles: &[P]) -> Result<(), InheritanceError>
     requires { Rise (parents_in P.name_of P.parent_of profiles.now) }
     ensures ok { OnOk result (IsAccepted (parents_in P.name_of P.parent_of profiles.now)) }

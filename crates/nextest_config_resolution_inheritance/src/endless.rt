@@ -5,7 +5,8 @@ ghost use Rattle.nextest_config_resolution_inheritance.specs.Places.{AreKnown, I
 
 use std::alloc::{AllocError, Global};
 
-// The first place from which the parents' places never come past the end. Each place is walked by once in all.
+// The first place from which the parents' places never come past the end. Each place is walked by
+// once in all.
 pub(crate) fn first_endless(alloc: Global, parents: &[usize]) -> Result<Option<usize>, AllocError>
     ensures { IfOk result (IsFirstEndless parents.now) }
 {
@@ -19,8 +20,8 @@ pub(crate) fn first_endless(alloc: Global, parents: &[usize]) -> Result<Option<u
     Ok(None)
 }
 
-// Whether the walk from a place comes past the end. At each place `walks` has the start of the walk that came by, which
-// left, and else the number of places.
+// Whether the walk from a place comes past the end. At each place `walks` has the start of the walk
+// that came by, which left, and else the number of places.
 fn leaves(parents: &[usize], walks: &mut [usize], start: usize) -> bool
     requires within { start < length parents.now }
     requires each { length walks.old ≡ length parents.now }

@@ -2,8 +2,8 @@
 use nextest_text::Text;
 use thiserror::Error;
 
-/// Why profiles are refused. Each reason is looked for in all profiles before the next, in this order, and names the first
-/// profile that it fits.
+/// Why profiles are refused. Each reason is looked for in all profiles before the next, in this
+/// order, and names the first profile that it fits.
 #[derive(Debug, PartialEq, Eq, Error)]
 pub enum InheritanceFault {
     /// A profile whose name is `default`, or begins with `default-`, sets a parent.

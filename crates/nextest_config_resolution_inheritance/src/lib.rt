@@ -1,8 +1,8 @@
 //! Which profiles inherit from which: whether all of them may, and the chain of each.
 //!
-//! Each profile of a configuration has a name and may set one parent. Its chain is the profile, its parents one after another,
-//! and `default` at the end. Profiles are accepted if none with a reserved name sets a parent, each parent is one of them,
-//! and each chain comes to an end.
+//! Each profile of a configuration has a name and may set one parent. Its chain is the profile, its
+//! parents one after another, and `default` at the end. Profiles are accepted if none with a
+//! reserved name sets a parent, each parent is one of them, and each chain comes to an end.
 #![tactic(auto)]
 
 mod chain;

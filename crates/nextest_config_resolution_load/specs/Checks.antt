@@ -39,7 +39,8 @@ abbrev pub value_checks : {A : Type 0} → (Path → Refusal) → Reading A → 
 value_checks refusal (Ok values) = []
 value_checks refusal (Err keys) = broken (refusal keys) ∷ []
 
--- a name that a source may define: of a tool's file one of that tool, of the repository's none of a tool
+-- a name that a source may define: of a tool's file one of that tool, of the repository's none of a
+-- tool
 abbrev pub is_of_tool : List ℕ → Option (List ℕ × List ℕ) → Bool
 is_of_tool tool None = false
 is_of_tool tool (Some parts) = bytes_eq parts.0 tool
@@ -94,7 +95,8 @@ abbrev pub defined_checks : FeatureSet → List ℕ → ConfigSourceKind → Fil
 defined_checks features path kind config =
     table_checks path config ++ (feature_checks features path config ++ (name_checks path kind config ++ repeated_checks path config))
 
--- that each value of a file can stand at its key, that it may define what it does, and what is checked of its rules
+-- that each value of a file can stand at its key, that it may define what it does, and what is
+-- checked of its rules
 abbrev pub file_checks : FeatureSet → List ℕ → ConfigSourceKind → Reading FileConfig → List Check
 file_checks features path kind (Err keys) = broken (bad_value path keys) ∷ []
 file_checks features path kind (Ok config) = defined_checks features path kind config ++ flat_map (profile_checks path) config.profiles
@@ -148,7 +150,8 @@ rules_in path (Some file) = rules_in_file path (file_in file)
 abbrev pub rules_of_source : ConfigSource → FileRules
 rules_of_source source = rules_in source.path (file_of source)
 
--- those of all sources that count: the highest file first, as rules are asked, and the lowest first, as they are checked
+-- those of all sources that count: the highest file first, as rules are asked, and the lowest
+-- first, as they are checked
 abbrev pub rules_downward : List ConfigSource → List PlacedOverride
 rules_downward sources = flat_map (λ source. (rules_of_source source).overrides) (reverse (counting_sources sources))
 
@@ -171,7 +174,8 @@ abbrev pub members_of : Data → Members
 members_of (table members) = members
 members_of other = no_members
 
--- a file whose setup scripts under `script` stand under `scripts.setup`, over those that stand there
+-- a file whose setup scripts under `script` stand under `scripts.setup`, over those that stand
+-- there
 abbrev pub as_setup : Data → Members
 as_setup given = member (codes "scripts") (table (member (codes "setup") given no_members)) no_members
 
@@ -213,8 +217,8 @@ default_check profile text = option_to_list (option_map (λ it. is_filter purpos
 abbrev pub default_checks : List Named → List Check
 default_checks profiles = flat_map (λ profile. default_check profile.0 profile.1.default_filter) profiles
 
--- each value can stand at its key; the groups, setup scripts and wrapper scripts that rules name are defined; profiles inherit as
--- they may; default filters are some
+-- each value can stand at its key; the groups, setup scripts and wrapper scripts that rules name
+-- are defined; profiles inherit as they may; default filters are some
 abbrev pub named_checks : List PlacedOverride → List PlacedScriptRule → MergedConfig → List Check
 named_checks rules scripts config =
     flat_map (group_checks (is_defined config.groups)) rules

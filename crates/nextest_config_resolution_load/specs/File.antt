@@ -1,4 +1,5 @@
--- What a file says, whatever stands in others: each value can stand at its key, and it has these rules, groups and scripts.
+-- What a file says, whatever stands in others: each value can stand at its key, and it has these
+-- rules, groups and scripts.
 use Rattle.std.specs.Prelude.{ℕ, List, [], ◌∷◌, Option, None, Some, Ok, Err, codes}
 use Rattle.std.specs.Cmp.Lexicographic.{slice_cmp}
 use Rattle.std.specs.Ordering.{match_ordering, nat_cmp}
@@ -30,7 +31,8 @@ first_key (key ∷ keys) = key
 abbrev pub first_path : Path → Path → Path
 first_path one other = match_ordering (slice_cmp nat_cmp (first_key one) (first_key other)) one one other
 
--- of two readings of one table what the second gives, or what is refused first, by the bytes of its keys
+-- of two readings of one table what the second gives, or what is refused first, by the bytes of its
+-- keys
 abbrev pub by_keys : {A B : Type 0} → Reading A → Reading B → Reading B
 by_keys (Ok x) reading = reading
 by_keys (Err path) (Ok y) = Err path

@@ -39,7 +39,8 @@ abbrev pub OneReason : {F S : Type 0} → IsFilterBy F → IsSpecBy S → (List 
 OneReason {F} {S} Is IsSpec IsTooDeep = ((text : List ℕ) → ¬ IsTooDeep text) → (features : FeatureSet) (built_in : Members) (sources : List ConfigSource) (one other : LoadFault)
     → IsLoaded Is IsSpec IsTooDeep features built_in sources (Err (Refused one)) → IsLoaded Is IsSpec IsTooDeep features built_in sources (Err (Refused other)) → reason_of one ≡ reason_of other
 
--- It can't be that sources are neither loaded nor refused. No law decides whether a text is a filter, so it is said in this form.
+-- It can't be that sources are neither loaded nor refused. No law decides whether a text is a
+-- filter, so it is said in this form.
 abbrev pub SomeLoad : {F S : Type 0} → IsFilterBy F → IsSpecBy S → (List ℕ → Type 0) → Type 0
 SomeLoad {F} {S} Is IsSpec IsTooDeep = (features : FeatureSet) (built_in : Members) (sources : List ConfigSource)
     → ¬ ¬ (((it : LoadedConfig F S) × IsLoaded Is IsSpec IsTooDeep features built_in sources (Ok it)) ⊎ ((told : LoadFault) × IsLoaded Is IsSpec IsTooDeep features built_in sources (Err (Refused told))))

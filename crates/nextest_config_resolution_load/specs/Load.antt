@@ -1,5 +1,6 @@
--- What a configuration comes to, or why it is refused. A text is a filter by `Is`, for what filters are for, and a platform spec by
--- `IsSpec`; the reader may also refuse a filter for which `IsTooDeep` holds.
+-- What a configuration comes to, or why it is refused. A text is a filter by `Is`, for what filters
+-- are for, and a platform spec by `IsSpec`; the reader may also refuse a filter for which
+-- `IsTooDeep` holds.
 use Rattle.std.specs.Prelude.{◌≡◌, ◌⊎◌, ℕ, List, [], ◌∷◌, map, Option, None, Some, Result, Ok, Err, ⊤}
 use Rattle.std.specs.List.{AllByRecursion, AllZip}
 use Rattle.toml.specs.Data.{Members}
@@ -99,7 +100,8 @@ AreReadRules Is IsSpec rules loaded = AreReadBy conditions_of Is IsSpec rules lo
 abbrev pub AreReadScriptRules : {F S : Type 0} → IsFilterBy F → IsSpecBy S → List PlacedScriptRule → List (LoadedScriptRule F S) → Type 0
 AreReadScriptRules Is IsSpec rules loaded = AreReadBy script_conditions_of Is IsSpec rules loaded
 
--- a configuration is what sources come to: all checks are kept, and these are its values, filters and rules
+-- a configuration is what sources come to: all checks are kept, and these are its values, filters
+-- and rules
 pub record IsLoadedAs {F S : Type 0} (Is : IsFilterBy F) (IsSpec : IsSpecBy S) (features : FeatureSet) (built_in : Members)
     (sources : List ConfigSource) (it : LoadedConfig F S) : Type 0 where
   pub kept : AllByRecursion (IsKept Is IsSpec) (checks_of features built_in sources)
@@ -128,7 +130,8 @@ reason_of (fault.UnknownWrapper rule script) = unknown_wrapper rule script
 reason_of (fault.Inheritance told) = inherits_badly told
 reason_of (fault.BadFilter profile text) = bad_filter profile
 
--- sources are loaded, or refused for the first check that is broken; want of memory says nothing of them
+-- sources are loaded, or refused for the first check that is broken; want of memory says nothing of
+-- them
 abbrev pub IsLoaded : {F S : Type 0} → IsFilterBy F → IsSpecBy S → (List ℕ → Type 0) → FeatureSet → Members → List ConfigSource
     → Result (LoadedConfig F S) LoadError → Type 0
 IsLoaded Is IsSpec IsTooDeep features built_in sources (Ok it) = IsLoadedAs Is IsSpec features built_in sources it

@@ -138,7 +138,8 @@ AreReadDefaults Is profiles found = AllZip (λ profile filter. IsReadAs (Is purp
 
 -- ---- all of it
 
--- what is checked of sources, and of what they come to, before it is asked which groups there are and how profiles inherit
+-- what is checked of sources, and of what they come to, before it is asked which groups there are
+-- and how profiles inherit
 abbrev pub early_checks : FeatureSet → Members → List ConfigSource → List Check
 early_checks features built_in sources = flat_map (source_checks features) (counting_sources sources) ++ value_checks bad_merged (config_in (merged_in built_in sources))
 

@@ -10,8 +10,8 @@ use Rattle.nextest_config_resolution_load.specs.declared.rule_id.RuleId.{RuleId}
 use Rattle.nextest_config_resolution_overrides.specs.declared.override_id.OverrideId.{OverrideId}
 use Rattle.nextest_config_resolution_scripts.specs.declared.script_rule.ScriptRuleId.{ScriptRuleId}
 
--- why sources are refused: what is broken, by the path of a file, by keys, by a feature, by a rule, or by the name of a profile, a
--- group or a script
+-- why sources are refused: what is broken, by the path of a file, by keys, by a feature, by a rule,
+-- or by the name of a profile, a group or a script
 pub data Refusal : Type 0 where
   unread : List ℕ → Refusal
   no_toml : List ℕ → Refusal
@@ -31,8 +31,8 @@ pub data Refusal : Type 0 where
   inherits_badly : InheritanceFault → Refusal
   bad_filter : List ℕ → Refusal
 
--- a check, with the refusal where it is broken: one that the files alone break; that a text is a filter, or a platform spec; that
--- profiles inherit as they may, which has a refusal of its own
+-- a check, with the refusal where it is broken: one that the files alone break; that a text is a
+-- filter, or a platform spec; that profiles inherit as they may, which has a refusal of its own
 pub data Check : Type 0 where
   broken : Refusal → Check
   is_filter : FilterPurpose → List ℕ → Refusal → Check

@@ -108,7 +108,8 @@ spec_checks id of_side text = option_to_list (option_map (λ it. is_spec it (bad
 abbrev pub filter_checks : RuleId → FilterPurpose → Option (List ℕ) → List Check
 filter_checks id of_purpose text = option_to_list (option_map (λ it. is_filter of_purpose it (bad_rule_filter id of_purpose)) text)
 
--- the filter of a rule with `list-wrapper`, which is asked of binaries, asks nothing that only tests tell
+-- the filter of a rule with `list-wrapper`, which is asked of binaries, asks nothing that only
+-- tests tell
 abbrev pub listing_checks : Bool → RuleId → Option (List ℕ) → List Check
 listing_checks true id text = filter_checks id purpose.ListWrapper text
 listing_checks false id text = []

@@ -23,7 +23,8 @@ warnings_for source = warnings_at source.path (file_of source)
 abbrev pub warnings_in : List ConfigSource → List ConfigWarning
 warnings_in sources = flat_map warnings_for (counting_sources sources)
 
--- what a load tells, by its result: all of these; none if it is refused; a front of them if there was no memory
+-- what a load tells, by its result: all of these; none if it is refused; a front of them if there
+-- was no memory
 abbrev pub WarnsAs : {W A : Type 0} → HasWarned W → W → W → List ConfigWarning → Result A LoadError → Type 0
 WarnsAs has_warned old new all (Ok it) = Warns has_warned old new all
 WarnsAs has_warned old new all (Err (error.Refused fault)) = Keeps has_warned old new

@@ -16,7 +16,8 @@ use nextest_config_resolution_scripts::{NamedScript, SetupScriptConfig};
 use std::alloc::Global;
 use std::collections::BTreeSet;
 
-// That the file at a path, by where it comes from and by the features that are known, may define what it does.
+// That the file at a path, by where it comes from and by the features that are known, may define
+// what it does.
 pub(crate) fn check_defined<R: Languages>(
     alloc: Global,
     cx: &R::Cx,

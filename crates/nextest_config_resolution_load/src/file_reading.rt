@@ -31,8 +31,8 @@ use std::alloc::Global;
 use std::cmp::Ordering;
 use toml::{Table, Value};
 
-// What a file says, of which each value must be one that its key may have; other keys are read past. An `Err` names the first
-// value, by the bytes of the keys, that is none.
+// What a file says, of which each value must be one that its key may have; other keys are read
+// past. An `Err` names the first value, by the bytes of the keys, that is none.
 #[tactic(auto, unfolding(crate::specs::File::file_in))]
 pub(crate) fn read_file(alloc: Global, table: &Table) -> Result<FileConfig, ValueError>
     ensures { Gives [] result (file_in (table_view table.now)) }

@@ -26,7 +26,8 @@ use nextest_text::{Listing, Text};
 use std::alloc::{AllocError, Global};
 use toml::Table;
 
-// The files of some sources, in their order, each at the path of its source, and the rules of each source.
+// The files of some sources, in their order, each at the path of its source, and the rules of each
+// source.
 pub(crate) fn read_files<'s, R: Languages>(
     alloc: Global,
     cx: &R::Cx,

@@ -16,7 +16,8 @@ use nextest_config_resolution_overrides::{NamedGroup, OverrideId};
 use std::alloc::Global;
 use std::collections::BTreeSet;
 
-// That each group that overrides name is defined, of the overrides of some sources one after another.
+// That each group that overrides name is defined, of the overrides of some sources one after
+// another.
 pub(crate) fn check_groups<R: Languages>(
     alloc: Global,
     cx: &R::Cx,

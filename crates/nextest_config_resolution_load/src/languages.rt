@@ -15,7 +15,8 @@ pub enum FilterPurpose {
     Default,
     /// It tells on which tests a rule holds.
     Override,
-    /// It tells on which tests a rule with a `list-wrapper` holds: it is such a one, and asks nothing that only tests tell.
+    /// It tells on which tests a rule with a `list-wrapper` holds: it is such a one, and asks
+    /// nothing that only tests tell.
     ListWrapper,
 }
 
@@ -39,7 +40,8 @@ pub trait Languages {
     // The reader may refuse the text though it is a filter.
     ghost is_too_deep: { List ℕ → Type 0 };
 
-    /// The filter of a text; `None` where it is none for this purpose, or too deep for the reader. It fails only on allocation.
+    /// The filter of a text; `None` where it is none for this purpose, or too deep for the reader.
+    /// It fails only on allocation.
     fn read_filter(
         alloc: Global,
         cx: &Self::Cx,
@@ -53,7 +55,8 @@ pub trait Languages {
     fn read_spec(alloc: Global, text: &str) -> Result<Option<Self::Spec>, AllocError>
         ensures { IfOk result (ReadsSpec (is_spec text.now)) };
 
-    /// Whether a filter of a rule may also be that of a rule with a `list-wrapper`: whether it asks nothing that only tests tell.
+    /// Whether a filter of a rule may also be that of a rule with a `list-wrapper`: whether it asks
+    /// nothing that only tests tell.
     fn serves_listing(cx: &Self::Cx, filter: &Self::Filter) -> bool
         ensures { (text : List ℕ) → is_filter cx.now Override text filter.now
             → Serves (is_filter cx.now ListWrapper text) filter.now result };

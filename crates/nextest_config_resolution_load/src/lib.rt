@@ -1,10 +1,13 @@
-//! The load of a configuration: its files, one over the other, by the rules that each must keep, in their order.
+//! The load of a configuration: its files, one over the other, by the rules that each must keep, in
+//! their order.
 //!
-//! Each file, the lowest first, must have been read, must be TOML, must have only values that their keys can have, may define groups
-//! and scripts of its own alone, and scripts only where their features are known; each of its rules, overrides and script rules, must
-//! say on which platforms or tests it holds, and its filters and platform specs must be some. Of what the files come to, one over
-//! the other, each value must be one too, the groups and scripts that rules name must be defined, the profiles must inherit as they
-//! may, and what a profile sets as its default filter must be a filter.
+//! Each file, the lowest first, must have been read, must be TOML, must have only values that their
+//! keys can have, may define groups and scripts of its own alone, and scripts only where their
+//! features are known; each of its rules, overrides and script rules, must say on which platforms
+//! or tests it holds, and its filters and platform specs must be some. Of what the files come to,
+//! one over the other, each value must be one too, the groups and scripts that rules name must be
+//! defined, the profiles must inherit as they may, and what a profile sets as its default filter
+//! must be a filter.
 #![tactic(auto)]
 
 mod default_filters;

@@ -109,7 +109,8 @@ pub enum LoadFault {
         /// The value, and where it stands.
         value: BadValue,
     },
-    /// A file defines scripts under `script`, where setup scripts stood before, and under `scripts`.
+    /// A file defines scripts under `script`, where setup scripts stood before, and under
+    /// `scripts`.
     #[error("{path}: the file defines scripts under `script` and under `scripts`")]
     BothScriptTables {
         /// The path of the source.
@@ -123,8 +124,8 @@ pub enum LoadFault {
         /// The feature.
         feature: ConfigExperimental,
     },
-    /// A file defines a group or a script that it may not define: a tool's file defines those that are named `@tool:`, its name and
-    /// `:`, and the repository's none that is named as a tool's.
+    /// A file defines a group or a script that it may not define: a tool's file defines those that
+    /// are named `@tool:`, its name and `:`, and the repository's none that is named as a tool's.
     #[error("{path}: the file may not define `{name}`")]
     BadName {
         /// The path of the source.
@@ -167,8 +168,9 @@ pub enum LoadFault {
     BadRuleFilter {
         /// The rule.
         rule: RuleId,
-        /// What the filter is for: `Override` is the key `filter`, `Default` is `default-filter`, and `ListWrapper` the key `filter`
-        /// beside a `list-wrapper`, where it asks what only tests tell.
+        /// What the filter is for: `Override` is the key `filter`, `Default` is `default-filter`,
+        /// and `ListWrapper` the key `filter` beside a `list-wrapper`, where it asks what only
+        /// tests tell.
         purpose: FilterPurpose,
         /// What is set.
         filter: Text,

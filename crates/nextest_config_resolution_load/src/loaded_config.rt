@@ -42,10 +42,11 @@ impl Inherits for NamedProfile {
 pub struct LoadedConfig<Filter, Spec> {
     /// The profiles, by the bytes of their names.
     pub profiles: Listing<NamedProfile>,
-    /// The default filter of each profile as it was read, where it sets one, in the order of `profiles`.
+    /// The default filter of each profile as it was read, where it sets one, in the order of
+    /// `profiles`.
     pub default_filters: Listing<Option<Filter>>,
-    /// The overrides of all files: the highest file first, in a file by the bytes of the profiles' names, and those of a profile in
-    /// their order.
+    /// The overrides of all files: the highest file first, in a file by the bytes of the profiles'
+    /// names, and those of a profile in their order.
     pub rules: Listing<LoadedOverride<Filter, Spec>>,
     /// The script rules of all files, in the same order.
     pub script_rules: Listing<LoadedScriptRule<Filter, Spec>>,
@@ -72,7 +73,8 @@ impl<Filter: Drop, Spec: Drop> Drop for LoadedConfig<Filter, Spec> {
     }
 }
 
-// What the files of a configuration come to, before its default filters are read and its rules are looked at.
+// What the files of a configuration come to, before its default filters are read and its rules are
+// looked at.
 #[derive(Drop)]
 pub(crate) struct ReadConfig {
     pub(crate) profiles: Listing<NamedProfile>,

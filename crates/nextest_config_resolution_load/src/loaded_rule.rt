@@ -10,7 +10,8 @@ pub struct CompiledRule<Filter, Spec> {
     pub target: Option<Spec>,
     /// The filter of the tests on which the rule holds.
     pub filter: Option<Filter>,
-    /// The filter of the tests that are run where none is asked for, which overrides alone may have.
+    /// The filter of the tests that are run where none is asked for, which overrides alone may
+    /// have.
     pub default_filter: Option<Filter>,
 }
 

@@ -32,23 +32,28 @@ use nextest_text::Listing;
 use std::alloc::{AllocError, Global};
 use toml::Table;
 
-/// What the sources of a configuration come to, those that count, each over the lower ones and over what is built in. Filters are
-/// read in `cx`, and `features` are the experimental ones that are known. Setup scripts that a file has under `script` count as if
-/// they stood under `scripts.setup`.
+/// What the sources of a configuration come to, those that count, each over the lower ones and over
+/// what is built in. Filters are read in `cx`, and `features` are the experimental ones that are
+/// known. Setup scripts that a file has under `script` count as if they stood under
+/// `scripts.setup`.
 ///
 /// # Errors
 ///
-/// `Refused` tells of the first rule that is broken. They are looked at in this order. Of each source, the lowest first: that it
-/// was read (a file that was looked for may be missing); that its text is TOML; that each value can stand at its key, by the bytes
-/// of the keys; that it doesn't define scripts under `script` and under `scripts`; that the features of its scripts are known, first
-/// that of setup scripts; that it may define its groups, its setup scripts and its wrapper scripts; that no setup script has the name
-/// of a wrapper script; and of each profile, by their names, of its overrides and then of its script rules, in their order: that it
-/// says on which platforms or tests it holds, that it has no filter beside a default filter, that the specs of host and target, its
-/// filter and its default filter are some, and that a filter beside a `list-wrapper` asks nothing that only tests tell. Then, of
-/// what the sources come to: that each value can stand at its key; that each group that an override names is defined, then each
-/// setup script that a script rule names, and then each wrapper script; how profiles inherit, as `check_inheritance` says; and of
-/// each profile that sets a default filter, by the bytes of their names, that it is a filter. A filter that is too deep for the
-/// reader may be refused, too. Want of memory says nothing of the sources.
+/// `Refused` tells of the first rule that is broken. They are looked at in this order. Of each
+/// source, the lowest first: that it was read (a file that was looked for may be missing); that its
+/// text is TOML; that each value can stand at its key, by the bytes of the keys; that it doesn't
+/// define scripts under `script` and under `scripts`; that the features of its scripts are known,
+/// first that of setup scripts; that it may define its groups, its setup scripts and its wrapper
+/// scripts; that no setup script has the name of a wrapper script; and of each profile, by their
+/// names, of its overrides and then of its script rules, in their order: that it says on which
+/// platforms or tests it holds, that it has no filter beside a default filter, that the specs of
+/// host and target, its filter and its default filter are some, and that a filter beside a
+/// `list-wrapper` asks nothing that only tests tell. Then, of what the sources come to: that each
+/// value can stand at its key; that each group that an override names is defined, then each setup
+/// script that a script rule names, and then each wrapper script; how profiles inherit, as
+/// `check_inheritance` says; and of each profile that sets a default filter, by the bytes of their
+/// names, that it is a filter. A filter that is too deep for the reader may be refused, too. Want
+/// of memory says nothing of the sources.
 pub fn load<R: Languages>(
     alloc: Global,
     built_in: &Table,
@@ -64,12 +69,14 @@ pub fn load<R: Languages>(
     accepted::<R>(alloc, cx, read.config, read.rules)
 }
 
-/// What `load` gives of the sources, and `warnings` is told what no configuration knows in the files: in each that counts and is
-/// there, the lowest first, as `warn_file` tells it, under the path of its source.
+/// What `load` gives of the sources, and `warnings` is told what no configuration knows in the
+/// files: in each that counts and is there, the lowest first, as `warn_file` tells it, under the
+/// path of its source.
 ///
 /// # Errors
 ///
-/// As `load`. Where the sources are refused no warning was told; where there was no memory, a front of them was.
+/// As `load`. Where the sources are refused no warning was told; where there was no memory, a front
+/// of them was.
 pub fn load_with_warnings<R: Languages, W: ConfigWarnings>(
     alloc: Global,
     built_in: &Table,
@@ -140,8 +147,8 @@ fn read_merged<R: Languages>(
     }
 }
 
-// A configuration, where what its rules name is defined, its profiles inherit as they may, and what they set as their default
-// filters is some.
+// A configuration, where what its rules name is defined, its profiles inherit as they may, and what
+// they set as their default filters is some.
 fn accepted<R: Languages>(
     alloc: Global,
     cx: &R::Cx,

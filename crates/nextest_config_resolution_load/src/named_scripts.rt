@@ -17,7 +17,8 @@ use nextest_config_resolution_scripts::{
 use std::alloc::Global;
 use std::collections::BTreeSet;
 
-// That each script of a kind that script rules name is among some scripts, of the rules of some sources one after another.
+// That each script of a kind that script rules name is among some scripts, of the rules of some
+// sources one after another.
 pub(crate) fn check_scripts<R: Languages, T>(
     alloc: Global,
     cx: &R::Cx,

@@ -102,7 +102,8 @@ fn compile_texts<R: Languages>(
     })
 }
 
-// That the filter of a rule with a `list-wrapper` asks nothing that only tests tell, where it has one.
+// That the filter of a rule with a `list-wrapper` asks nothing that only tests tell, where it has
+// one.
 fn check_listing<R: Languages>(
     alloc: Global,
     cx: &R::Cx,
@@ -124,7 +125,8 @@ fn check_listing<R: Languages>(
     }
 }
 
-// That the filter of a text, which is that of a rule with a `list-wrapper`, asks nothing that only tests tell.
+// That the filter of a text, which is that of a rule with a `list-wrapper`, asks nothing that only
+// tests tell.
 fn check_served<R: Languages>(
     alloc: Global,
     cx: &R::Cx,

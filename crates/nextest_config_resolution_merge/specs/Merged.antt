@@ -27,7 +27,8 @@ pub record HasLeafAbove (path : Path) (file : Data) : Type 0 where
   pub leaf : Data
   pub stands_there : stands front file ≡ Some (a_leaf leaf)
 
--- at a path stands what the highest file that has something there has, unless a file above that one has a leaf above the path
+-- at a path stands what the highest file that has something there has, unless a file above that one
+-- has a leaf above the path
 pub record StandsIn (files : List Data) (path : Path) (it : Standing) : Type 0 where
   pub above : List Data
   pub file : Data

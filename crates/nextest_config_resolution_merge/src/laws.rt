@@ -1,8 +1,8 @@
 //! What holds of merged trees.
 ghost use Rattle.nextest_config_resolution_merge.specs.Laws.{MergedByOver, OneStanding};
 
-/// Files of which each is over the lower ones have at each path what the highest file that has something there has, unless a
-/// file above that one has a leaf above the path.
+/// Files of which each is over the lower ones have at each path what the highest file that has
+/// something there has, unless a file above that one has a leaf above the path.
 pub fn merged_by_over()
     ensures { MergedByOver }
 {}

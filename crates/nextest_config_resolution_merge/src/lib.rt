@@ -1,8 +1,9 @@
-//! The merged tree: what stands at each path of some files, of which the higher ones hide the lower.
+//! The merged tree: what stands at each path of some files, of which the higher ones hide the
+//! lower.
 //!
-//! A file is a tree of tables. It is kept as the list of what it ends in, the leaves and the empty tables, each with its path, a
-//! list of keys; the paths rise, key by key by their bytes, and none is above another. Nothing is copied: paths and leaves are
-//! lent from the files.
+//! A file is a tree of tables. It is kept as the list of what it ends in, the leaves and the empty
+//! tables, each with its path, a list of keys; the paths rise, key by key by their bytes, and none
+//! is above another. Nothing is copied: paths and leaves are lent from the files.
 #![tactic(auto)]
 
 mod choice;

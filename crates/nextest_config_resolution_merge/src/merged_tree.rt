@@ -10,8 +10,8 @@ use crate::reading_back::{keys_in, value_in};
 use std::alloc::{AllocError, Global};
 use toml::{Table, Value};
 
-/// What stands at each path of some files, of which the higher ones hide what is below them. It lends keys and values from the
-/// files. In a clause it `IsTree` of one tree.
+/// What stands at each path of some files, of which the higher ones hide what is below them. It
+/// lends keys and values from the files. In a clause it `IsTree` of one tree.
 #[derive(Drop)]
 pub struct MergedTree<'a> {
     pub(crate) entries: Vec<Entry<'a>>,
@@ -36,7 +36,8 @@ impl<'a> MergedTree<'a> {
         Ok(MergedTree { entries })
     }
 
-    /// The tree of this over a lower one, in a time that is linear in both. It fails only on allocation.
+    /// The tree of this over a lower one, in a time that is linear in both. It fails only on
+    /// allocation.
     pub fn over(self, alloc: Global, lower: MergedTree<'a>) -> Result<MergedTree<'a>, AllocError>
         ensures { (above below : Data) → IsTree self.entry above → IsTree lower.entry below
             → IfOk result (λ it. IsTree it (over above (Some below))) }
@@ -47,8 +48,9 @@ impl<'a> MergedTree<'a> {
         Ok(MergedTree { entries })
     }
 
-    /// What stands at a path: a leaf, or the table of all that stands below it. It takes a time that is linear in that, but for the
-    /// search for it, which is one by halves. It fails only on allocation.
+    /// What stands at a path: a leaf, or the table of all that stands below it. It takes a time
+    /// that is linear in that, but for the search for it, which is one by halves. It fails only on
+    /// allocation.
     pub fn value_at(&self, alloc: Global, path: &[&str]) -> Result<Option<Value>, AllocError>
         ensures { (tree : Data) → IsTree self.now tree
             → IfOk result (λ it. option_map view it ≡ get_path (texts path.now) tree) }
@@ -56,7 +58,8 @@ impl<'a> MergedTree<'a> {
         value_in(alloc, run(self.entries.as_slice(), path), path.len())
     }
 
-    /// The keys of the table at a path, by their bytes; none where no table stands. It fails only on allocation.
+    /// The keys of the table at a path, by their bytes; none where no table stands. It fails only
+    /// on allocation.
     pub fn keys_at(&self, alloc: Global, path: &[&str]) -> Result<Vec<&'a str>, AllocError>
         ensures { (tree : Data) → IsTree self.now tree
             → IfOk result (λ it. texts it.items ≡ keys_in (get_path (texts path.now) tree)) }

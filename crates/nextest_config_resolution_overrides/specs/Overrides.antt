@@ -1,4 +1,5 @@
--- The overrides of a profile, as a file says them. Each key may be left out; other keys are read past.
+-- The overrides of a profile, as a file says them. Each key may be left out; other keys are read
+-- past.
 use Rattle.std.specs.Prelude.{ℕ, ◌+◌, List, [], ◌∷◌, Option, None, Some, Ok, Err, codes, decimal}
 use Rattle.toml.specs.Data.{Data, string, array, table, Items, no_items, item, Members, as_str, get_member}
 use Rattle.nextest_config_elements_values.specs.declared.timeouts.SlowTimeout.{SlowTimeout}
@@ -31,7 +32,8 @@ bench_of (Some given) = table_by bench_in given
 abbrev pub bench_at : Members → Reading (Option SlowTimeout)
 bench_at members = under (codes "bench") (bench_of (get_member (codes "bench") members))
 
--- `platform`: a text is the spec of the target, a table has one of the host, of the target, or of both
+-- `platform`: a text is the spec of the target, a table has one of the host, of the target, or of
+-- both
 unfoldable pub platforms_in : Members → Reading OverridePlatforms
 platforms_in members = do
   host ← optional (codes "host") as_str members

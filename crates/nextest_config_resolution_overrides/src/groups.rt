@@ -28,9 +28,11 @@ impl Drop for NamedGroup {
     }
 }
 
-/// The groups that a configuration defines, in the order of their keys, by what stands under `test-groups` at its top: a table,
-/// or nothing. Each key of it is the name of a group, an identifier, and its value a table with `max-threads`; other keys of that
-/// are read past. An `Err` names the first key or value, by the order of the keys, that is none, and a key before its value.
+/// The groups that a configuration defines, in the order of their keys, by what stands under
+/// `test-groups` at its top: a table, or nothing. Each key of it is the name of a group, an
+/// identifier, and its value a table with `max-threads`; other keys of that are read past. An `Err`
+/// names the first key or value, by the order of the keys, that is none, and a key before its
+/// value.
 pub fn deserialize_test_groups(
     alloc: Global,
     found: Option<&Value>,

@@ -9,7 +9,8 @@ use nextest_config_elements_values::{JunitFlakyFailStatus, ReportSkipPolicy};
 use std::alloc::Global;
 use toml::Table;
 
-/// `junit`: what the report in JUnit's form says of a test. Each setting is `None` where its key is left out.
+/// `junit`: what the report in JUnit's form says of a test. Each setting is `None` where its key is
+/// left out.
 #[derive(Clone, Copy)]
 pub struct OverrideJunit {
     /// `flaky-fail-status`: how the test is reported where it fails since it is flaky.

@@ -1,8 +1,9 @@
-//! The overrides of a profile, key by key: what its file says of some of its tests. And the groups of tests that a
-//! configuration defines.
+//! The overrides of a profile, key by key: what its file says of some of its tests. And the groups
+//! of tests that a configuration defines.
 //!
-//! A reader is handed a table and where it stands. It looks at the keys that it knows by the order of their bytes, inside a
-//! table before what comes behind it, and reads past all others; the first value that is none is refused with its path.
+//! A reader is handed a table and where it stands. It looks at the keys that it knows by the order
+//! of their bytes, inside a table before what comes behind it, and reads past all others; the first
+//! value that is none is refused with its path.
 #![tactic(auto)]
 
 mod bench;

@@ -17,9 +17,10 @@ use nextest_text::Listing;
 use std::alloc::Global;
 use toml::{Table, Value};
 
-/// The overrides of the profile of a name, by what stands under `overrides` in its table: a list of tables, or nothing. Every
-/// key of an override may be left out, and other keys are read past. An `Err` names the first value, by the places in the list
-/// and by the bytes of the keys, that is none: in the tables `bench`, `junit` and `platform` before what comes behind them.
+/// The overrides of the profile of a name, by what stands under `overrides` in its table: a list of
+/// tables, or nothing. Every key of an override may be left out, and other keys are read past. An
+/// `Err` names the first value, by the places in the list and by the bytes of the keys, that is
+/// none: in the tables `bench`, `junit` and `platform` before what comes behind them.
 pub fn deserialize_overrides(
     alloc: Global,
     name: &str,

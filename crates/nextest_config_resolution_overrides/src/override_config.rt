@@ -8,8 +8,8 @@ use nextest_config_elements_values::{
 };
 use nextest_text::{Listing, Text};
 
-/// The values of an override, as its table has them: on which tests it holds, and what is set for these. Each is `None`
-/// where its key is left out.
+/// The values of an override, as its table has them: on which tests it holds, and what is set for
+/// these. Each is `None` where its key is left out.
 pub struct OverrideConfig {
     /// `bench.slow-timeout`: when a benchmark is slow, and when it is ended for that.
     pub bench_slow_timeout: Option<SlowTimeout>,

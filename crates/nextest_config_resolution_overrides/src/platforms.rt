@@ -9,7 +9,8 @@ use nextest_text::Text;
 use std::alloc::Global;
 use toml::{Table, Value};
 
-/// `platform`: the platforms on which an override holds, as they are written. Each is `None` where it is left out.
+/// `platform`: the platforms on which an override holds, as they are written. Each is `None` where
+/// it is left out.
 pub struct OverridePlatforms {
     /// `host`: the spec of the platform on which tests are built and run.
     pub host: Option<Text>,

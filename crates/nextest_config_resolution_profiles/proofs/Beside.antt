@@ -1,4 +1,5 @@
--- Rules of one list beside those of another, where of each pair the one holds exactly if the other does.
+-- Rules of one list beside those of another, where of each pair the one holds exactly if the other
+-- does.
 use Rattle.std.proofs.Common.{◌≡◌, ◌↔◌, zero, suc, List, [], ◌∷◌, ◌++◌, map, Option, Some, refl, ap, subst, arith}
 use Rattle.std.specs.List.{AllByRecursion, AllZip, Contains}
 use Rattle.std.specs.Str.{bytes_eq}
@@ -31,7 +32,8 @@ zip_contains R (z ∷ xs) (y ∷ ys) x all (suc k, within, is) =
     let (found, has, beside) = zip_contains R xs ys x all.1 (k, omega (arith, within), is) in
     (found, Contains-append_right (y ∷ []) ys found has, beside)
 
--- the rules of some profiles stand beside those of others, where they are written in the same profiles
+-- the rules of some profiles stand beside those of others, where they are written in the same
+-- profiles
 pub zip_rules : {A B : Type 0} (R : A → B → Type 0) (written : A → Name) (also : B → Name) → ((x : A) (y : B) → R x y → also y ≡ written x) → (xs : List A) (ys : List B) → AllZip R xs ys
     → (names : List Name) → AllZip R (rules_of written xs names) (rules_of also ys names)
 zip_rules R written also same xs ys all [] = tt

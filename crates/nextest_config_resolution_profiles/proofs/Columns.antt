@@ -1,4 +1,5 @@
--- Which rules hold on the tests of a binary: columns of rules, rows of tests, and what is picked by a row.
+-- Which rules hold on the tests of a binary: columns of rules, rows of tests, and what is picked by
+-- a row.
 use Rattle.std.proofs.Common.{◌≡◌, ℕ, zero, suc, ◌+◌, ◌<◌, Bool, true, false, List, [], ◌∷◌, ◌++◌, Option, Some, Bor, cond, drop, length, get_or, map, take, refl, sym, ap, ◌∙◌, subst, arith}
 use Rattle.std.proofs.lemmas.Bool.{false≢true}
 use Rattle.std.proofs.lemmas.List.{length-map, length-take-le, map-append, map_push}

@@ -1,4 +1,5 @@
--- What is built in of `default` and of the store stays, since no file that is read has anything but tables in the places of its tables.
+-- What is built in of `default` and of the store stays, since no file that is read has anything but
+-- tables in the places of its tables.
 use Rattle.std.proofs.Common.{◌≡◌, ℕ, true, List, ◌∷◌, codes, Option, None, Some, Ok, Err, is_some, refl, sym, ap, ◌∙◌, subst, inl, inr, Ordering, Less, Equal, Greater}
 use Rattle.std.proofs.lemmas.Option.{none-some, same_Some}
 use Rattle.std.proofs.lemmas.Map.Text.{is_eq-slice_cmp}

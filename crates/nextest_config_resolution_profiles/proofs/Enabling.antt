@@ -1,4 +1,5 @@
--- The setup scripts that are enabled: by the rules that hold on some tests, and by the columns of rules.
+-- The setup scripts that are enabled: by the rules that hold on some tests, and by the columns of
+-- rules.
 use Rattle.std.proofs.Common.{◌≡◌, ◌↔◌, ℕ, zero, suc, ◌+◌, ◌<◌, ◌≤◌, Bool, true, false, ◌||◌, List, [], ◌∷◌, ◌++◌, Bor, Some, cond, get_or, length, map, take, refl, sym, ap, ◌∙◌, subst, ◌⊎◌, inl, inr, arith, IsTrue}
 use Rattle.std.specs.BTreeSet.{BTreeSet, Updates}
 use Rattle.std.specs.List.{Contains, filter_map, list_any, slice_get}

@@ -1,4 +1,5 @@
--- A profile that is built in stays, since no file that is accepted has anything but tables in its place.
+-- A profile that is built in stays, since no file that is accepted has anything but tables in its
+-- place.
 use Rattle.std.proofs.Common.{◌≡◌, ℕ, suc, List, [], ◌∷◌, codes, Option, None, Some, Ok, Err, refl, sym, ap, ◌∙◌, subst, Ordering, Less, Equal, Greater, arith, is_some, map, option_map}
 use Rattle.std.proofs.lemmas.Bool.{false≢true}
 use Rattle.std.specs.List.{Contains, AllByRecursion, cons_option, filter_map, flat_map}

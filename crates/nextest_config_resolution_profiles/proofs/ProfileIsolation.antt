@@ -1,4 +1,5 @@
--- Sources that agree but in profiles of other names come to configurations that are the same in those of these names.
+-- Sources that agree but in profiles of other names come to configurations that are the same in
+-- those of these names.
 use Rattle.std.proofs.Common.{◌≡◌, ℕ, true, List, [], ◌∷◌, codes, map, Option, Ok, Err, refl, sym, ap, ◌∙◌, inr, reverse}
 use Rattle.std.specs.List.{AllByRecursion, AllZip, filter_map}
 use Rattle.std.proofs.lemmas.List.Elements.{All-from_recursion}

@@ -1,4 +1,5 @@
--- A configuration sets the directory of its store, and each of its chains sets all that the built-in `default` sets.
+-- A configuration sets the directory of its store, and each of its chains sets all that the
+-- built-in `default` sets.
 use Rattle.std.proofs.Common.{◌≡◌, ℕ, true, List, [], ◌∷◌, ◌++◌, map, codes, Option, None, Some, is_some, option_and_then, refl, sym, ap, ◌∙◌, subst}
 use Rattle.std.proofs.lemmas.Bool.{false≢true}
 use Rattle.std.proofs.lemmas.Option.{none-some, same_Some}

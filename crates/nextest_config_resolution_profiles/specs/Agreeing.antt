@@ -1,4 +1,5 @@
--- Lists of sources that agree but in profiles of other names, and what of a configuration depends on profiles of some names alone.
+-- Lists of sources that agree but in profiles of other names, and what of a configuration depends
+-- on profiles of some names alone.
 use Rattle.std.specs.Prelude.{◌≡◌, ◌≢◌, ℕ, Bool, List, [], ◌∷◌, Option, None, Some, Ok, All, codes, ⊤, if◌then◌else◌}
 use Rattle.std.specs.List.{AllZip, list_any}
 use Rattle.std.specs.Str.{bytes_eq}
@@ -47,8 +48,8 @@ pub record SourceAgrees (names : List Name) (one other : ConfigSource) : Type 0 
 abbrev pub SourcesAgree : List Name → List ConfigSource → List ConfigSource → Type 0
 SourcesAgree names sources others = AllZip (SourceAgrees names) sources others
 
--- two configurations have the same values, overrides and script rules in the profiles of these names, the same groups and scripts, and the
--- same directory of their store
+-- two configurations have the same values, overrides and script rules in the profiles of these
+-- names, the same groups and scripts, and the same directory of their store
 pub record SameOnProfiles {F S : Type 0} (names : List Name) (sources others : List ConfigSource) (config second : Whole F S) : Type 0 where
   pub values : All (λ name. values_of (profiles_of second) name ≡ values_of (profiles_of config) name) names
   pub rules : rules_of profile_of (rules_downward others) names ≡ rules_of profile_of (rules_downward sources) names
@@ -57,7 +58,8 @@ pub record SameOnProfiles {F S : Type 0} (names : List Name) (sources others : L
   pub scripts : second.loaded.scripts ≡ config.loaded.scripts
   pub store_dir : second.loaded.store_dir ≡ config.loaded.store_dir
 
--- sources that agree but in profiles of other names come to configurations that are the same in those of these names
+-- sources that agree but in profiles of other names come to configurations that are the same in
+-- those of these names
 abbrev pub ProfileIsolation : {F S : Type 0} → IsFilterBy F → IsSpecBy S → (List ℕ → Type 0) → Type 0
 ProfileIsolation {F} {S} Is IsSpec IsTooDeep =
     (features other_features : FeatureSet) (root other_root : List ℕ) (sources others : List ConfigSource) (names : List Name) (config second : Whole F S)

@@ -29,9 +29,10 @@ pub record AreDefaultsAlike {F : Type 0} (Alike : F → F → Type 0) (one other
   pub profile : other.profile.now ≡ one.profile.now
   pub section : other.section ≡ one.section
 
--- Two profiles have the same name, directory, chain, groups and scripts, and default filters that are alike; and whatever is asked of tests
--- or of binaries, what the one answers the other does. The limit, the levels, the report in JUnit's form and the other settings of a
--- profile itself follow from its chain.
+-- Two profiles have the same name, directory, chain, groups and scripts, and default filters that
+-- are alike; and whatever is asked of tests or of binaries, what the one answers the other does.
+-- The limit, the levels, the report in JUnit's form and the other settings of a profile itself
+-- follow from its chain.
 pub record AnswerAlike {F S T : Type 0} (OnBinary : F → F → Binary → Option Bool → Type 0) (OnTest : F → F → Test → Bool → Type 0)
     (asks_groups has_runtime_leaves serves_as_default : F → Bool) (Tells : T → Source → Type 0) (one other : Evaluatable F S) : Type 0 where
   pub name : other.name ≡ one.name
@@ -56,7 +57,8 @@ pub record IsProfileOn {F S Facts : Type 0} (Is : IsFilterBy F) (IsSpec : IsSpec
   pub is : IsEarly config name early
   pub put : IsPutOn value_on host target early it
 
--- sources that agree but in profiles outside of a profile's chain come to configurations in which the profiles of its name answer alike
+-- sources that agree but in profiles outside of a profile's chain come to configurations in which
+-- the profiles of its name answer alike
 abbrev pub IsolatesProfiles : {F S Facts T : Type 0} → (F → F → Binary → Option Bool → Type 0) → (F → F → Test → Bool → Type 0) → (F → Bool) → (F → Bool) → (F → Bool)
     → (T → Source → Type 0) → (S → Facts → Option Bool) → IsFilterBy F → IsSpecBy S → (List ℕ → Type 0) → Type 0
 IsolatesProfiles {F} {S} {Facts} {T} OnBinary OnTest asks_groups has_runtime_leaves serves_as_default Tells value_on Is IsSpec IsTooDeep =

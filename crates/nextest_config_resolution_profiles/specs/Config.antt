@@ -45,14 +45,15 @@ dir_in_store root dir name =
 abbrev pub IsStoreDir : {F S : Type 0} → Whole F S → Name → List ℕ → Type 0
 IsStoreDir config name it = (dir : List ℕ) × (config.loaded.store_dir ≡ Some dir) × (it ≡ dir_in_store config.root dir name)
 
--- what sources come to over what is built in, in the workspace at a root, where a text is a filter by `Is`, and a platform spec by
--- `IsSpec`, and these features are known
+-- what sources come to over what is built in, in the workspace at a root, where a text is a filter
+-- by `Is`, and a platform spec by `IsSpec`, and these features are known
 abbrev pub IsConfig : {F S : Type 0} → IsFilterBy F → IsSpecBy S → (List ℕ → Type 0) → FeatureSet → List ℕ → List ConfigSource
     → Result (Whole F S) LoadError → Type 0
 IsConfig Is IsSpec IsTooDeep features root sources (Ok config) = (config.root ≡ root) × IsLoaded Is IsSpec IsTooDeep features built_in_members sources (Ok config.loaded)
 IsConfig Is IsSpec IsTooDeep features root sources (Err refused) = IsLoaded Is IsSpec IsTooDeep features built_in_members sources (Err refused)
 
--- the default filter of a chain is that of the nearest profile that sets one, as it was read; it stands at the same place as its profile
+-- the default filter of a chain is that of the nearest profile that sets one, as it was read; it
+-- stands at the same place as its profile
 pub record IsDefaultFilterOf {F : Type 0} (profiles : List NamedProfile) (filters : List (Option F)) (names : List Name) (chain : List ProfileConfig) (it : CompiledDefaultFilter F) : Type 0 where
   pub place : ℕ
   pub text : List ℕ

@@ -11,8 +11,8 @@ use Rattle.nextest_config_resolution_values.specs.declared.profile_config.Profil
 abbrev pub in_profile : {P F S : Type 0} → (P → List ℕ) → LoadedRule P F S → List ℕ
 in_profile profile_of rule = profile_of rule.placed
 
--- its name, the directory of its files, the profiles that it is read from, the default filter of these, its rules in the order in which
--- they are asked, and all groups of tests and scripts
+-- its name, the directory of its files, the profiles that it is read from, the default filter of
+-- these, its rules in the order in which they are asked, and all groups of tests and scripts
 pub record Early (F S : Type 0) : Type 0 where
   pub name : List ℕ
   pub store_dir : List ℕ

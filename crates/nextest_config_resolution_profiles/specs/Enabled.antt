@@ -32,7 +32,8 @@ HoldsOnSome OnTest default tests rule = (test : Test) × Contains tests test × 
 abbrev pub setup_of : {F S : Type 0} → ScriptRuleOn F S → List (List ℕ)
 setup_of rule = (placed_of rule).config.setup
 
--- a setup script is enabled for some tests: a script rule of the profile names it that holds on some of them
+-- a setup script is enabled for some tests: a script rule of the profile names it that holds on
+-- some of them
 pub record IsEnabled {F S : Type 0} (OnTest : F → F → Test → Bool → Type 0) (profile : Evaluatable F S) (tests : List Test) (id : List ℕ) : Type 0 where
   pub rule : ScriptRuleOn F S
   pub of_profile : Contains profile.script_rules rule
@@ -62,7 +63,8 @@ pub record AreNamesOf (Is : List ℕ → Type 0) (names : List (List ℕ)) : Typ
 abbrev pub defined_as : List (NamedScript SetupScriptConfig) → List ℕ → Option (List ℕ × SetupScriptConfig)
 defined_as scripts id = option_map (λ config. (id, config)) (script_named scripts id)
 
--- these are the scripts of exactly the names of which this is so, by the bytes of their names, each with what it is set to
+-- these are the scripts of exactly the names of which this is so, by the bytes of their names, each
+-- with what it is set to
 pub record AreScriptsOf (Is : List ℕ → Type 0) (scripts : List (NamedScript SetupScriptConfig)) (it : List (List ℕ × SetupScriptConfig)) : Type 0 where
   pub names : List (List ℕ)
   pub are : AreNamesOf Is names
@@ -78,12 +80,14 @@ seen_script it = (it.id, it.config.now)
 
 -- ---- what lists tests
 
--- a rule holds on a binary, whatever its tests are: for the platform that it is built for, and by its filter, beside the default filter
+-- a rule holds on a binary, whatever its tests are: for the platform that it is built for, and by
+-- its filter, beside the default filter
 pub record HoldsOnBinary {P F S : Type 0} (OnBinary : F → F → Binary → Option Bool → Type 0) (default : F) (binary : Binary) (it : RuleOn P F S) : Type 0 where
   pub platform : holds_for binary.platform it ≡ true
   pub filter : IfSome it.rule.compiled.filter (λ filter. OnBinary filter default binary (Some true))
 
--- the wrapper script of what lists the tests of a binary, by the script rules that hold on the binary
+-- the wrapper script of what lists the tests of a binary, by the script rules that hold on the
+-- binary
 pub record IsListWrapper {F S : Type 0} (OnBinary : F → F → Binary → Option Bool → Type 0) (profile : Evaluatable F S) (binary : Binary)
     (it : Option WrapperScriptConfig) : Type 0 where
   pub held : List (ScriptRuleOn F S)

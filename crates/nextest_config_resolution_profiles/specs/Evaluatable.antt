@@ -12,8 +12,8 @@ use Rattle.nextest_config_resolution_settings.specs.Profile.{IsSetTo, OfProfiles
 use Rattle.nextest_config_resolution_settings.specs.declared.default_filter.CompiledDefaultFilter.{CompiledDefaultFilter}
 use Rattle.nextest_config_resolution_values.specs.declared.profile_config.ProfileConfig.{ProfileConfig}
 
--- its name, the directory of its files, the profiles that it is read from, its default filter, its rules in the order in which they are
--- asked, and all groups of tests and scripts
+-- its name, the directory of its files, the profiles that it is read from, its default filter, its
+-- rules in the order in which they are asked, and all groups of tests and scripts
 pub record Evaluatable (F S : Type 0) : Type 0 where
   pub name : List ℕ
   pub store_dir : List ℕ
@@ -24,7 +24,8 @@ pub record Evaluatable (F S : Type 0) : Type 0 where
   pub groups : List NamedGroup
   pub scripts : ScriptConfig
 
--- a profile, put on platforms: its rules hold there or don't, and by that its default filter is chosen
+-- a profile, put on platforms: its rules hold there or don't, and by that its default filter is
+-- chosen
 pub record IsPutOn {F S Facts : Type 0} (value_on : S → Facts → Option Bool) (host target : Facts) (early : Early F S) (it : Evaluatable F S) : Type 0 where
   pub name : it.name ≡ early.name
   pub store_dir : it.store_dir ≡ early.store_dir

@@ -21,8 +21,8 @@ abbrev pub holds_for : {P F S : Type 0} → BuildPlatform → RuleOn P F S → B
 holds_for built.Host it = it.for_host
 holds_for built.Target it = it.for_target
 
--- a rule holds on a test: it does for the platform of the test's binary, and so does its filter, beside the default filter; one without
--- a filter holds on every test there
+-- a rule holds on a test: it does for the platform of the test's binary, and so does its filter,
+-- beside the default filter; one without a filter holds on every test there
 pub record Holds {P F S : Type 0} (OnTest : F → F → Test → Bool → Type 0) (default : F) (test : Test) (it : RuleOn P F S) : Type 0 where
   pub platform : holds_for test.binary.platform it ≡ true
   pub filter : IfSome it.rule.compiled.filter (λ filter. OnTest filter default test true)

@@ -13,8 +13,8 @@ kind_of purpose.Default = kind.DefaultFilter
 kind_of purpose.Override = kind.OverrideFilter
 kind_of purpose.ListWrapper = kind.OverrideFilter
 
--- in a context a text is this filter for a purpose: no kind may ask for a group, so none is known; and that of a rule with a
--- `list-wrapper` asks nothing that only tests tell
+-- in a context a text is this filter for a purpose: no kind may ask for a group, so none is known;
+-- and that of a rule with a `list-wrapper` asks nothing that only tests tell
 abbrev pub IsFilterIn : {F Cx : Type 0} → (Cx → FiltersetKind → KnownGroups → List ℕ → F → Type 0) → (F → Bool)
     → Cx → FilterPurpose → List ℕ → F → Type 0
 IsFilterIn IsParsed asks_tests cx purpose.Default text it = IsParsed cx kind.DefaultFilter groups.Unavailable text it

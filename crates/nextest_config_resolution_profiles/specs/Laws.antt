@@ -22,7 +22,8 @@ use Rattle.nextest_config_elements_versions.specs.declared.feature.FeatureSet.{F
 abbrev pub OneProfile : Type 0
 OneProfile = (profiles : List Named) (name : Name) (a b : List ProfileConfig) → IsChainOf profiles name a → IsChainOf profiles name b → a ≡ b
 
--- It can't be that sources neither come to a configuration nor break a rule. No law decides whether a text is a filter, so it is said in this form.
+-- It can't be that sources neither come to a configuration nor break a rule. No law decides whether
+-- a text is a filter, so it is said in this form.
 abbrev pub SomeConfig : {F S : Type 0} → IsFilterBy F → IsSpecBy S → (List ℕ → Type 0) → Type 0
 SomeConfig {F} {S} Is IsSpec IsTooDeep = (features : FeatureSet) (root : List ℕ) (sources : List ConfigSource)
     → ¬ ¬ (((config : Whole F S) × IsConfig Is IsSpec IsTooDeep features root sources (Ok config)) ⊎ ((fault : LoadFault) × IsConfig Is IsSpec IsTooDeep features root sources (Err (Refused fault))))
@@ -42,7 +43,8 @@ abbrev pub DefaultIsRead : {F S : Type 0} → IsFilterBy F → IsSpecBy S → (L
 DefaultIsRead {F} {S} Is IsSpec IsTooDeep = (features : FeatureSet) (root : List ℕ) (sources : List ConfigSource) (config : Whole F S) (names : List Name) (chain : List ProfileConfig) (it : CompiledDefaultFilter F)
     → IsConfig Is IsSpec IsTooDeep features root sources (Ok config) → (of : IsDefaultFilterOf config.loaded.profiles config.loaded.default_filters names chain it) → Is purpose.Default of.text it.filter.now
 
--- a configuration sets the directory of its store, and each of its chains sets each setting but the path of JUnit's report, whatever files say
+-- a configuration sets the directory of its store, and each of its chains sets each setting but the
+-- path of JUnit's report, whatever files say
 pub record SetsAll {F S : Type 0} (config : Whole F S) : Type 0 where
   pub store : (dir : List ℕ) × (config.loaded.store_dir ≡ Some dir)
   pub each : (name : Name) (chain : List ProfileConfig) → IsChainOf (profiles_of config) name chain → SetsEach chain
@@ -59,7 +61,8 @@ abbrev pub ScriptRulesAreRead : {F S : Type 0} → IsFilterBy F → IsSpecBy S �
 ScriptRulesAreRead {F} {S} Is IsSpec IsTooDeep = (features : FeatureSet) (root : List ℕ) (sources : List ConfigSource) (config : Whole F S) → IsConfig Is IsSpec IsTooDeep features root sources (Ok config)
     → All (λ rule. IsReadBy script_conditions_of Is IsSpec rule.placed rule) config.loaded.script_rules
 
--- what the rules of a profile name is defined: the scripts of its script rules, and the groups of its overrides
+-- what the rules of a profile name is defined: the scripts of its script rules, and the groups of
+-- its overrides
 pub record AreDefined {F S : Type 0} (it : Early F S) : Type 0 where
   pub scripts : AllByRecursion (λ rule. HasScripts it.scripts rule.placed.config) it.script_rules
   pub groups : AllByRecursion (λ rule. HasGroup it.groups rule.placed.config.test_group) it.rules

@@ -39,7 +39,8 @@ pub record IsOfHanded {F S : Type 0} (OnTest : F → F → Test → Bool → Typ
   pub is : IsGroupFor OnTest profile handed group
   pub named : name ≡ text_of group
 
--- what is kept of some tests: a test of the name of one of these has its group, and any other the global one
+-- what is kept of some tests: a test of the name of one of these has its group, and any other the
+-- global one
 abbrev pub ArePrecomputed : {F S : Type 0} → (F → F → Test → Bool → Type 0) → Evaluatable F S → List Test → PrecomputedGroupMembership → Type 0
 ArePrecomputed OnTest profile tests it = (test : Test)
     → IsOfHanded OnTest profile tests test (group_name it test)

@@ -9,14 +9,16 @@ use Rattle.nextest_config_resolution_settings.specs.declared.default_filter.Comp
 use Rattle.nextest_config_resolution_settings.specs.declared.default_filter.CompiledDefaultFilterSection.TheVariants as section
 use Rattle.nextest_config_resolution_profiles.specs.declared.platforms.BuildPlatforms.{BuildPlatforms}
 
--- what is known of the platform that is built on, and of the one that is built for: the same, where no other is handed in
+-- what is known of the platform that is built on, and of the one that is built for: the same, where
+-- no other is handed in
 abbrev pub built_on : {Facts : Type 0} → BuildPlatforms Facts → Facts
 built_on platforms = platforms.host.now
 
 abbrev pub built_for : {Facts : Type 0} → BuildPlatforms Facts → Facts
 built_for platforms = unwrap_or (option_copied platforms.target) platforms.host.now
 
--- whether a spec holds on a platform: an absent one does, and so does one of which what is known doesn't tell
+-- whether a spec holds on a platform: an absent one does, and so does one of which what is known
+-- doesn't tell
 abbrev pub spec_holds : {S Facts : Type 0} → (S → Facts → Option Bool) → Option S → Facts → Bool
 spec_holds value_on None facts = true
 spec_holds value_on (Some spec) facts = unwrap_or (value_on spec facts) true
@@ -25,7 +27,8 @@ spec_holds value_on (Some spec) facts = unwrap_or (value_on spec facts) true
 abbrev pub holds_for_host : {P F S Facts : Type 0} → (S → Facts → Option Bool) → Facts → LoadedRule P F S → Bool
 holds_for_host value_on host rule = spec_holds value_on rule.compiled.host host && spec_holds value_on rule.compiled.target host
 
--- whether it holds for what is built for the target: the spec of the host holds on the host, and that of the target on the target
+-- whether it holds for what is built for the target: the spec of the host holds on the host, and
+-- that of the target on the target
 abbrev pub holds_for_target : {P F S Facts : Type 0} → (S → Facts → Option Bool) → Facts → Facts → LoadedRule P F S → Bool
 holds_for_target value_on host target rule = spec_holds value_on rule.compiled.host host && spec_holds value_on rule.compiled.target target
 

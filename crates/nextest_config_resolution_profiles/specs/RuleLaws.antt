@@ -58,7 +58,8 @@ abbrev pub MoreEnableNoFewer : {F : Type 0} → (F → F → Test → Bool → T
 MoreEnableNoFewer {F} OnTest S = (profile : Evaluatable F S) (some more : List Test) (id : List ℕ)
     → ((test : Test) → Contains some test → Contains more test) → IsEnabled OnTest profile some id → IsEnabled OnTest profile more id
 
--- each test has settings, by each profile of a configuration and on each platforms, and so it has a group
+-- each test has settings, by each profile of a configuration and on each platforms, and so it has a
+-- group
 abbrev pub SomeSettingsFor : {F S Facts T : Type 0} → IsFilterBy F → IsSpecBy S → (List ℕ → Type 0) → (S → Facts → Option Bool) → (F → F → Test → Bool → Type 0) → (T → Source → Type 0) → Type 0
 SomeSettingsFor {F} {S} {Facts} {T} Is IsSpec IsTooDeep value_on OnTest Tells =
     (features : FeatureSet) (root : List ℕ) (sources : List ConfigSource) (config : Whole F S) (name : List ℕ) (early : Early F S) (host target : Facts) (profile : Evaluatable F S) (mode : NextestRunMode) (test : Test)

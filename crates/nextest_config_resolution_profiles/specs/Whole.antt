@@ -18,8 +18,9 @@ pub record Whole (F S : Type 0) : Type 0 where
 abbrev pub AreFiltered : {F : Type 0} → List NamedProfile → List (Option F) → Type 0
 AreFiltered profiles filters = AllZip (λ profile found. is_some found ≡ is_some profile.config.default_filter) profiles filters
 
--- the profiles inherit as they may, their names rise, `default` is among them and sets a default filter, the default filters of all are
--- read and serve as such, no rule asks for groups, and there is a directory of the store
+-- the profiles inherit as they may, their names rise, `default` is among them and sets a default
+-- filter, the default filters of all are read and serve as such, no rule asks for groups, and there
+-- is a directory of the store
 pub record IsSound {F S : Type 0} (serves_as_default asks_groups : F → Bool) (loaded : LoadedConfig F S) : Type 0 where
   pub accepted : IsAccepted (parents_of (merged_of loaded).profiles)
   pub rises : Rise (parents_of (merged_of loaded).profiles)

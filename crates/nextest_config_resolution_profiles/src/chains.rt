@@ -72,8 +72,8 @@ pub(crate) struct Chained<'c, F, S> {
     pub(crate) script_rules: Vec<ChainRule<'c, PlacedScriptRule, F, S>>,
 }
 
-// The chain of the profile at a place, where these are the default filters of all profiles, and these the rules of all, overrides and
-// script rules.
+// The chain of the profile at a place, where these are the default filters of all profiles, and
+// these the rules of all, overrides and script rules.
 pub(crate) fn chain_at<'c, F: Drop, S: Drop>(
     alloc: Global,
     profiles: &'c [NamedProfile],

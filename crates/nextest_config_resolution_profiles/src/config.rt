@@ -19,8 +19,8 @@ use nextest_text::Text;
 use std::alloc::Global;
 use std::marker::Model;
 
-/// A whole configuration: what its sources come to, each over the lower ones and over what is built in. Tests are told apart by
-/// filters `F`, and builds by specs `S`.
+/// A whole configuration: what its sources come to, each over the lower ones and over what is built
+/// in. Tests are told apart by filters `F`, and builds by specs `S`.
 pub struct NextestConfig<F: Filters, S: Specs> {
     root: Text,
     loaded: LoadedConfig<F, S>,
@@ -40,8 +40,9 @@ impl<F: Filters, S: Specs> Model for NextestConfig<F, S> {
 
     ghost view = { λ it. record { root = it.root; loaded = it.loaded } };
 
-    // The profiles inherit as they may, their names rise, `default` is among them and sets a default filter, the default filters of
-    // all are read and serve as such, no rule asks for groups, and there is a directory of the store.
+    // The profiles inherit as they may, their names rise, `default` is among them and sets a
+    // default filter, the default filters of all are read and serve as such, no rule asks for
+    // groups, and there is a directory of the store.
     ghost invariant = { λ it. IsSound F.serves_as_default F.asks_groups it.loaded };
 }
 
@@ -51,13 +52,14 @@ impl<F: Filters, S: Specs> NextestConfig<F, S> {
     ghost use Rattle.nextest_config_resolution_profiles.specs.Selection.{selected_by};
     ghost use Rattle.std.specs.Prelude.{◌≡◌, Some};
 
-    /// What sources come to, those that count, each over the lower ones and over what is built in, in the workspace at `root`,
-    /// which `cx` is to filters, where the `experimental` features are known.
+    /// What sources come to, those that count, each over the lower ones and over what is built in,
+    /// in the workspace at `root`, which `cx` is to filters, where the `experimental` features are
+    /// known.
     ///
     /// # Errors
     ///
-    /// `Refused` tells of the first rule that is broken, as `load` says, where filters are those of `cx`, in which no group is
-    /// known. Want of memory says nothing of the sources.
+    /// `Refused` tells of the first rule that is broken, as `load` says, where filters are those of
+    /// `cx`, in which no group is known. Want of memory says nothing of the sources.
     pub fn from_sources(
         alloc: Global,
         root: &str,
@@ -78,12 +80,13 @@ impl<F: Filters, S: Specs> NextestConfig<F, S> {
         }
     }
 
-    /// What `from_sources` gives of the sources, and `warnings` is told what no configuration knows in the files, as
-    /// `load_with_warnings` tells it.
+    /// What `from_sources` gives of the sources, and `warnings` is told what no configuration knows
+    /// in the files, as `load_with_warnings` tells it.
     ///
     /// # Errors
     ///
-    /// As `from_sources`. Where the sources are refused no warning was told; where there was no memory, a front of them was.
+    /// As `from_sources`. Where the sources are refused no warning was told; where there was no
+    /// memory, a front of them was.
     pub fn from_sources_with_warnings<W: ConfigWarnings>(
         alloc: Global,
         root: &str,
@@ -112,9 +115,10 @@ impl<F: Filters, S: Specs> NextestConfig<F, S> {
         }
     }
 
-    /// What `from_sources_with_warnings` gives of the sources, where the selection says of the repository's whether they are named
-    /// or looked for. So a file that is missing is refused where it was named, and passed over where it was looked for. The
-    /// sources of tools stay as they are.
+    /// What `from_sources_with_warnings` gives of the sources, where the selection says of the
+    /// repository's whether they are named or looked for. So a file that is missing is refused
+    /// where it was named, and passed over where it was looked for. The sources of tools stay as
+    /// they are.
     ///
     /// # Errors
     ///
@@ -176,8 +180,8 @@ impl<F: Filters, S: Specs> NextestConfig<F, S> {
         )
     }
 
-    /// The overrides of all files: the highest file first, in a file by the bytes of the profiles' names, and those of a profile in
-    /// their order.
+    /// The overrides of all files: the highest file first, in a file by the bytes of the profiles'
+    /// names, and those of a profile in their order.
     pub fn rules(&self) -> &[LoadedOverride<F, S>]
         ensures { result.now ≡ self.now.loaded.rules }
     {
@@ -209,8 +213,8 @@ impl<F: Filters, S: Specs> NextestConfig<F, S> {
     ///
     /// # Errors
     ///
-    /// `NotFound` exactly if no profile has that name, with the names of all, which rise by their bytes. Running out of memory says
-    /// nothing of the profiles.
+    /// `NotFound` exactly if no profile has that name, with the names of all, which rise by their
+    /// bytes. Running out of memory says nothing of the profiles.
     pub fn profile(&self, alloc: Global, name: &str) -> Result<EarlyProfile<'_, F, S>, ProfileError>
         ensures exact { IsProfile self.now name.now result }
         ensures rises { KnownRise result }

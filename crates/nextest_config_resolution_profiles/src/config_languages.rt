@@ -10,8 +10,8 @@ use nextest_text::Text;
 use std::alloc::{AllocError, Global};
 use std::marker::PhantomData;
 
-/// Reads filters as filters `F` of a workspace, and platform specs as specs `S`. No group is known to a filter, since neither a
-/// default filter nor the filter of an override may ask for one.
+/// Reads filters as filters `F` of a workspace, and platform specs as specs `S`. No group is known
+/// to a filter, since neither a default filter nor the filter of an override may ask for one.
 pub struct ConfigLanguages<F, S> {
     filters: PhantomData<F>,
     specs: PhantomData<S>,

@@ -21,11 +21,13 @@ use nextest_text::{Listing, Text};
 use std::alloc::{AllocError, Global};
 use std::marker::Model;
 
-/// A profile before anything is known of the platforms: its chain and the rules of that, and where its files stand.
+/// A profile before anything is known of the platforms: its chain and the rules of that, and where
+/// its files stand.
 pub struct EarlyProfile<'c, F: Filters, S: Specs> {
     pub(crate) name: &'c str,
     pub(crate) store_dir: Text,
-    // Its own values first, then those of its parents one after another, and those of `default` last.
+    // Its own values first, then those of its parents one after another, and those of `default`
+    // last.
     pub(crate) chain: Vec<&'c ProfileConfig>,
     // That of the profiles alone.
     pub(crate) default_filter: CompiledDefaultFilter<'c, F>,
@@ -83,15 +85,16 @@ impl<'c, F: Filters, S: Specs> EarlyProfile<'c, F, S> {
         self.name
     }
 
-    /// The directory of its files: DIR/PROFILE where the store's directory begins at the root, or there is no workspace; and
-    /// ROOT/DIR/PROFILE else.
+    /// The directory of its files: DIR/PROFILE where the store's directory begins at the root, or
+    /// there is no workspace; and ROOT/DIR/PROFILE else.
     pub fn store_dir(&self) -> &str
         ensures { result.now ≡ self.now.store_dir }
     {
         self.store_dir.as_str()
     }
 
-    /// Whether there is a report in JUnit's form: exactly if a profile of the chain sets `junit.path`.
+    /// Whether there is a report in JUnit's form: exactly if a profile of the chain sets
+    /// `junit.path`.
     pub fn has_junit(&self) -> bool
         ensures yes { OnTrue result (SetsJunit self.now.chain) }
         ensures no { OnFalse result (SetsNone key.junit_path self.now.chain) }
@@ -121,9 +124,10 @@ impl<'c, F: Filters, S: Specs> EarlyProfile<'c, F, S> {
         self.groups
     }
 
-    /// The profile on these platforms, with the same name and chain, to be asked for its settings. A spec of which what is known
-    /// doesn't tell whether it holds does. The default filter is that of the first rule that holds for what is built for the
-    /// target and sets one; where there is none, it is that of the profiles.
+    /// The profile on these platforms, with the same name and chain, to be asked for its settings.
+    /// A spec of which what is known doesn't tell whether it holds does. The default filter is that
+    /// of the first rule that holds for what is built for the target and sets one; where there is
+    /// none, it is that of the profiles.
     pub fn apply_build_platforms(
         self,
         platforms: &BuildPlatforms<'_, S::Facts>,

@@ -44,8 +44,8 @@ impl<'c> Drop for EnabledScript<'c> {
     }
 }
 
-/// The setup scripts that are enabled for some tests, by the bytes of their names. In a clause it is the list of their names, each
-/// with what the script is set to.
+/// The setup scripts that are enabled for some tests, by the bytes of their names. In a clause it
+/// is the list of their names, each with what the script is set to.
 pub struct SetupScripts<'c> {
     scripts: Vec<EnabledScript<'c>>,
 }
@@ -98,8 +98,8 @@ impl<'c> SetupScripts<'c> {
     }
 }
 
-/// The names of setup scripts that are enabled for some tests, as they are found, binary by binary. In a clause it is the set of
-/// them.
+/// The names of setup scripts that are enabled for some tests, as they are found, binary by binary.
+/// In a clause it is the set of them.
 pub struct EnabledNames {
     names: BTreeSet<ScriptId>,
 }
@@ -326,8 +326,8 @@ fn is_true(value: &bool) -> bool
 }
 
 impl<'c, F: Filters, S: Specs> EvaluatableProfile<'c, F, S> {
-    /// The setup scripts that are enabled for these tests: those that script rules name which hold on some of them, by the bytes
-    /// of their names.
+    /// The setup scripts that are enabled for these tests: those that script rules name which hold
+    /// on some of them, by the bytes of their names.
     ///
     /// # Errors
     ///
@@ -345,7 +345,8 @@ impl<'c, F: Filters, S: Specs> EvaluatableProfile<'c, F, S> {
         names.defined(alloc, self.scripts.setup.as_slice())
     }
 
-    /// Adds the names of the setup scripts that are enabled for the first `count` tests of a binary that `held` tells of.
+    /// Adds the names of the setup scripts that are enabled for the first `count` tests of a binary
+    /// that `held` tells of.
     ///
     /// # Errors
     ///
@@ -368,8 +369,9 @@ impl<'c, F: Filters, S: Specs> EvaluatableProfile<'c, F, S> {
         names.add_all(picked.as_slice())
     }
 
-    /// The settings with which the tests of a binary are listed: the wrapper script is the one that the nearest script rule names
-    /// which names one and holds on the binary, whatever its tests are.
+    /// The settings with which the tests of a binary are listed: the wrapper script is the one that
+    /// the nearest script rule names which names one and holds on the binary, whatever its tests
+    /// are.
     ///
     /// # Errors
     ///

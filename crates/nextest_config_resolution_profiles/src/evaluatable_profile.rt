@@ -41,12 +41,14 @@ use nextest_text::Text;
 use std::alloc::{AllocError, Global};
 use std::marker::Model;
 
-/// A profile on platforms. Each of its settings has the value that the nearest profile of its chain sets, else a fallback; those of
-/// a test are also set by the rules that hold on it. Its configuration tells tests apart by filters `F`, and builds by specs `S`.
+/// A profile on platforms. Each of its settings has the value that the nearest profile of its chain
+/// sets, else a fallback; those of a test are also set by the rules that hold on it. Its
+/// configuration tells tests apart by filters `F`, and builds by specs `S`.
 pub struct EvaluatableProfile<'c, F: Filters, S: Specs> {
     pub(crate) name: &'c str,
     pub(crate) store_dir: Text,
-    // Its own values first, then those of its parents one after another, and those of `default` last.
+    // Its own values first, then those of its parents one after another, and those of `default`
+    // last.
     pub(crate) chain: Vec<&'c ProfileConfig>,
     pub(crate) default_filter: CompiledDefaultFilter<'c, F>,
     // In the order in which they are asked.
@@ -96,7 +98,8 @@ impl<'c, F: Filters, S: Specs> Model for EvaluatableProfile<'c, F, S> {
 }
 
 impl<'c, F: Filters, S: Specs> EvaluatableProfile<'c, F, S> {
-    /// The profiles that it is read from, lent: itself, its parents one after another, and `default`.
+    /// The profiles that it is read from, lent: itself, its parents one after another, and
+    /// `default`.
     pub fn chain(&self) -> &[&'c ProfileConfig]
         ensures { lent_layers result.now ≡ self.now.chain }
     {
@@ -205,7 +208,8 @@ impl<'c, F: Filters, S: Specs> EvaluatableProfile<'c, F, S> {
         *value_or::<FailFastKey, ProfileConfig>(self.chain(), &otherwise)
     }
 
-    /// `slow-timeout`: when a test is slow, and when it is ended for that; of benchmarks `bench.slow-timeout`, and that alone.
+    /// `slow-timeout`: when a test is slow, and when it is ended for that; of benchmarks
+    /// `bench.slow-timeout`, and that alone.
     pub fn slow_timeout(&self, mode: NextestRunMode) -> SlowTimeout
         ensures { OfProfiles (key.slow_timeout mode) self.now.chain
             (fallback.slow_timeout mode) result }
@@ -221,7 +225,8 @@ impl<'c, F: Filters, S: Specs> EvaluatableProfile<'c, F, S> {
         }
     }
 
-    /// `global-timeout`: how long a run may take; of benchmarks `bench.global-timeout`, and that alone.
+    /// `global-timeout`: how long a run may take; of benchmarks `bench.global-timeout`, and that
+    /// alone.
     pub fn global_timeout(&self, mode: NextestRunMode) -> GlobalTimeout
         ensures { OfProfiles
             (key.global_timeout mode) self.now.chain fallback.global_timeout result }
@@ -258,7 +263,8 @@ impl<'c, F: Filters, S: Specs> EvaluatableProfile<'c, F, S> {
         }
     }
 
-    /// The report in JUnit's form. There is one exactly if a profile of the chain sets `junit.path`.
+    /// The report in JUnit's form. There is one exactly if a profile of the chain sets
+    /// `junit.path`.
     pub fn junit(&self) -> Option<JunitConfig<'c>>
         ensures { MayHaveJunit self.now.chain result }
     {
@@ -289,9 +295,9 @@ impl<'c, F: Filters, S: Specs> EvaluatableProfile<'c, F, S> {
         self.scripts
     }
 
-    /// The settings of a test: each is that of the nearest rule that holds on the test and sets it, else that of the nearest
-    /// profile of the chain that does, else a fallback; the wrapper script is the one that the nearest script rule names that holds on the
-    /// test and names one.
+    /// The settings of a test: each is that of the nearest rule that holds on the test and sets it,
+    /// else that of the nearest profile of the chain that does, else a fallback; the wrapper script
+    /// is the one that the nearest script rule names that holds on the test and names one.
     ///
     /// # Errors
     ///
@@ -325,7 +331,8 @@ impl<'c, F: Filters, S: Specs> EvaluatableProfile<'c, F, S> {
         self.settings_on::<SettingSource<'c>>(alloc, mode, query)
     }
 
-    /// The group of a test: that of the nearest rule that holds on the test and sets one, else the global one.
+    /// The group of a test: that of the nearest rule that holds on the test and sets one, else the
+    /// global one.
     ///
     /// # Errors
     ///

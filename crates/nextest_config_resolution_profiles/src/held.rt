@@ -55,7 +55,8 @@ fn push_held<'c, P, F: Filters, S>(
     Ok(())
 }
 
-// The group of the first rule of these that holds on a test and sets one, lent, else the global one.
+// The group of the first rule of these that holds on a test and sets one, lent, else the global
+// one.
 pub(crate) fn group_on<'c, F: Filters, S>(
     alloc: Global,
     rules: &[ChainRule<'c, PlacedOverride, F, S>],

@@ -19,8 +19,9 @@ use nextest_filtering_filters::BinaryQuery;
 use std::alloc::{AllocError, Global};
 use std::marker::Model;
 
-/// Which rules of a profile hold on some tests of a binary: for each override, and for each script rule, a list of truth values,
-/// one a test. In a clause it is these lists; a list that ends before a test says that its rule doesn't hold there.
+/// Which rules of a profile hold on some tests of a binary: for each override, and for each script
+/// rule, a list of truth values, one a test. In a clause it is these lists; a list that ends before
+/// a test says that its rule doesn't hold there.
 pub struct HeldRules {
     overrides: Vec<Vec<bool>>,
     scripts: Vec<Vec<bool>>,
@@ -49,8 +50,9 @@ impl Model for HeldRules {
 }
 
 impl HeldRules {
-    /// Which rules hold on the test at a place among those that were asked: the overrides in their order, and then the script
-    /// rules in theirs. It takes the place of what `row` had. It fails only on allocation.
+    /// Which rules hold on the test at a place among those that were asked: the overrides in their
+    /// order, and then the script rules in theirs. It takes the place of what `row` had. It fails
+    /// only on allocation.
     pub fn row(&self, place: usize, row: &mut Vec<bool>) -> Result<(), AllocError>
         ensures { OnOk result (row.new.items ≡ held_row place self.now) }
     {
@@ -85,7 +87,8 @@ pub(crate) fn value_at(values: &[bool], place: usize) -> bool
     values.get(place).copied().unwrap_or(false)
 }
 
-// The column of each of some rules, beside a default filter: on which of some tests of a binary it holds.
+// The column of each of some rules, beside a default filter: on which of some tests of a binary it
+// holds.
 fn columns_of<P, F: Filters, S>(
     alloc: Global,
     rules: &[ChainRule<'_, P, F, S>],
@@ -105,8 +108,8 @@ fn columns_of<P, F: Filters, S>(
     Ok(columns)
 }
 
-// The column of a rule. It is empty, and takes no memory, where the rule's platform or the binary alone tells that it holds on
-// none of the tests.
+// The column of a rule. It is empty, and takes no memory, where the rule's platform or the binary
+// alone tells that it holds on none of the tests.
 fn column_of<P, F: Filters, S>(
     alloc: Global,
     rule: &ChainRule<'_, P, F, S>,
@@ -147,8 +150,8 @@ fn filtered_column<F: Filters>(
     filter.matches_tests(alloc, binary, names, default)
 }
 
-// Whether a filter holds on none of the tests of a binary, where it asks nothing of tests. One that does is asked of each test:
-// what its matchers take isn't made twice for it.
+// Whether a filter holds on none of the tests of a binary, where it asks nothing of tests. One that
+// does is asked of each test: what its matchers take isn't made twice for it.
 fn holds_nowhere<F: Filters>(
     alloc: Global,
     filter: &F,
@@ -205,8 +208,8 @@ fn row_behind(row: &[bool], count: usize) -> &[bool]
 }
 
 impl<'c, F: Filters, S: Specs> EvaluatableProfile<'c, F, S> {
-    /// Which rules hold on each of some tests of a binary, by their names: what the filter of a rule takes is made for the
-    /// binary, and not for each test anew.
+    /// Which rules hold on each of some tests of a binary, by their names: what the filter of a
+    /// rule takes is made for the binary, and not for each test anew.
     ///
     /// # Errors
     ///
@@ -226,8 +229,9 @@ impl<'c, F: Filters, S: Specs> EvaluatableProfile<'c, F, S> {
         Ok(HeldRules { overrides, scripts })
     }
 
-    /// The settings of each test on which just these rules hold, as a row of `HeldRules` says it: each is that of the nearest of
-    /// them that sets it, else that of the nearest profile of the chain that does, else a fallback.
+    /// The settings of each test on which just these rules hold, as a row of `HeldRules` says it:
+    /// each is that of the nearest of them that sets it, else that of the nearest profile of the
+    /// chain that does, else a fallback.
     ///
     /// # Errors
     ///

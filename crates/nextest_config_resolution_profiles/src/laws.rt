@@ -22,8 +22,8 @@ pub fn one_profile()
     ensures { OneProfile }
 {}
 
-/// It can't be that sources neither come to a configuration nor break a rule; and in a configuration a name has a chain, or no
-/// profile has that name.
+/// It can't be that sources neither come to a configuration nor break a rule; and in a
+/// configuration a name has a chain, or no profile has that name.
 pub fn some_profile<F: Filters, S: Specs>()
     ensures config { (cx : F.Cx)
         → SomeConfig (IsFilterIn F.is_parsed F.has_runtime_leaves cx) S.is_parsed F.is_too_deep }
@@ -31,13 +31,15 @@ pub fn some_profile<F: Filters, S: Specs>()
         → SomeChain (IsFilterIn F.is_parsed F.has_runtime_leaves cx) S.is_parsed F.is_too_deep }
 {}
 
-/// The default filter that a profile of a configuration tells is the one that its text is in the workspace.
+/// The default filter that a profile of a configuration tells is the one that its text is in the
+/// workspace.
 pub fn default_is_read<F: Filters, S: Specs>()
     ensures { (cx : F.Cx)
         → DefaultIsRead (IsFilterIn F.is_parsed F.has_runtime_leaves cx) S.is_parsed F.is_too_deep }
 {}
 
-/// Each rule of a configuration has the filters and platform specs that its texts are in the workspace.
+/// Each rule of a configuration has the filters and platform specs that its texts are in the
+/// workspace.
 pub fn rules_are_read<F: Filters, S: Specs>()
     ensures scripts { (cx : F.Cx) → ScriptRulesAreRead
         (IsFilterIn F.is_parsed F.has_runtime_leaves cx) S.is_parsed F.is_too_deep }
@@ -45,17 +47,20 @@ pub fn rules_are_read<F: Filters, S: Specs>()
         → RulesAreRead (IsFilterIn F.is_parsed F.has_runtime_leaves cx) S.is_parsed F.is_too_deep }
 {}
 
-/// Each script that a script rule of a profile names is found, and each group that one of its overrides names is defined.
+/// Each script that a script rule of a profile names is found, and each group that one of its
+/// overrides names is defined.
 pub fn nothing_is_undefined<F: Filters, S: Specs>()
     ensures { (cx : F.Cx) → NothingIsUndefined
         (IsFilterIn F.is_parsed F.has_runtime_leaves cx) S.is_parsed F.is_too_deep }
 {}
 
-/// Profiles of other names change nothing: two lists of sources whose files agree but in profiles of names other than these come to
-/// configurations with the same values, overrides and script rules in the profiles of these names, and with the same groups, scripts
-/// and store. So a profile answers the same in both, where these are the names of its chain: it has the same name, directory, chain,
-/// groups and scripts, default filters that no question tells apart, and for each test the same settings, for tests the same groups and
-/// setup scripts, and for each binary the same wrapper script.
+/// Profiles of other names change nothing: two lists of sources whose files agree but in profiles
+/// of names other than these come to configurations with the same values, overrides and script
+/// rules in the profiles of these names, and with the same groups, scripts and store. So a profile
+/// answers the same in both, where these are the names of its chain: it has the same name,
+/// directory, chain, groups and scripts, default filters that no question tells apart, and for each
+/// test the same settings, for tests the same groups and setup scripts, and for each binary the
+/// same wrapper script.
 pub fn profile_isolation<'p, F: Filters, S: Specs, T: TrackSource<'p>>()
     ensures values { (cx : F.Cx) → ProfileIsolation
         (IsFilterIn F.is_parsed F.has_runtime_leaves cx) S.is_parsed F.is_too_deep }
@@ -69,7 +74,8 @@ pub fn more_enable_no_fewer<F: Filters, S: Specs>()
     ensures { MoreEnableNoFewer F.on_test S }
 {}
 
-/// The chain of a profile hangs on the profiles in it alone: others that have the same values under their names have the same one.
+/// The chain of a profile hangs on the profiles in it alone: others that have the same values under
+/// their names have the same one.
 pub fn same_chain()
     ensures { SameChain }
 {}
@@ -79,8 +85,8 @@ pub fn written_as()
     ensures { WrittenAs DEFAULT_CONFIG.now }
 {}
 
-/// It is read as the values of its two profiles: `default` sets each setting that has a fallback, and to that, and
-/// `default-miri` sets nothing. It has neither rules nor groups.
+/// It is read as the values of its two profiles: `default` sets each setting that has a fallback,
+/// and to that, and `default-miri` sets nothing. It has neither rules nor groups.
 pub fn read_as()
     ensures { ReadAs }
 {}
@@ -90,23 +96,27 @@ pub fn accepted()
     ensures { Accepted }
 {}
 
-/// A chain that ends with its `default` sets each setting that has a fallback, so that none is ever used.
+/// A chain that ends with its `default` sets each setting that has a fallback, so that none is ever
+/// used.
 pub fn no_fallback()
     ensures { NoFallback }
 {}
 
-/// A configuration sets the directory of its store, and each of its chains sets each setting but the path of JUnit's report, so that no fallback is ever used.
+/// A configuration sets the directory of its store, and each of its chains sets each setting but
+/// the path of JUnit's report, so that no fallback is ever used.
 pub fn never_falls_back<F: Filters, S: Specs>()
     ensures { (cx : F.Cx) → NeverFallsBack
         (IsFilterIn F.is_parsed F.has_runtime_leaves cx) S.is_parsed F.is_too_deep }
 {}
 
-/// Where no rule holds for what is built for the target and sets a default filter, it is that of the profiles.
+/// Where no rule holds for what is built for the target and sets a default filter, it is that of
+/// the profiles.
 pub fn early_default<F: Filters, S: Specs>()
     ensures { EarlyDefault F S }
 {}
 
-/// The rules that hold on a test are one list, and so the test has one list of settings, each taken from one place.
+/// The rules that hold on a test are one list, and so the test has one list of settings, each taken
+/// from one place.
 pub fn one_held<'p, F: Filters, S: Specs, T: TrackSource<'p>, U: TrackSource<'p>>()
     ensures held { OneHeld F.on_test S }
     ensures scripts { OneScriptsHeld F.on_test S }

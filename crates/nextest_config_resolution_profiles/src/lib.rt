@@ -1,4 +1,5 @@
-//! A whole configuration: its profiles and their rules, and what the profile that is asked for comes to.
+//! A whole configuration: its profiles and their rules, and what the profile that is asked for
+//! comes to.
 #![tactic(auto)]
 
 mod chain_rule;

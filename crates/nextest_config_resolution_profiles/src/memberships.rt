@@ -15,8 +15,8 @@ use nextest_text::Text;
 use std::alloc::{AllocError, Global};
 use std::collections::BTreeMap;
 
-/// The groups of tests, found before they are asked for. Tests are told apart by the id of their binary and their name; those that
-/// weren't handed in are in the global group.
+/// The groups of tests, found before they are asked for. Tests are told apart by the id of their
+/// binary and their name; those that weren't handed in are in the global group.
 pub struct PrecomputedGroupMembership {
     alloc: Global,
     groups: BTreeMap<(Text, Text), Text>,
@@ -101,8 +101,8 @@ fn name_of(group: TestGroupRef<'_>) -> &str
 }
 
 impl<'c, F: Filters, S: Specs> EvaluatableProfile<'c, F, S> {
-    /// The groups of these tests, found now: each that of the nearest rule that holds on the test and sets one, else the global
-    /// one. Of several tests with one name one of them counts.
+    /// The groups of these tests, found now: each that of the nearest rule that holds on the test
+    /// and sets one, else the global one. Of several tests with one name one of them counts.
     ///
     /// # Errors
     ///

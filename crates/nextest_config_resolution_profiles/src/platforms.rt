@@ -9,7 +9,8 @@ use nextest_config_resolution_filters::Specs;
 use nextest_config_resolution_overrides::PlacedOverride;
 use nextest_config_resolution_settings::{CompiledDefaultFilter, CompiledDefaultFilterSection};
 
-/// What is known of the platform that is built on, and of the one that is built for where it is another.
+/// What is known of the platform that is built on, and of the one that is built for where it is
+/// another.
 #[derive(Clone, Copy)]
 pub struct BuildPlatforms<'f, Facts> {
     /// What is known of the platform that is built on.
@@ -64,7 +65,8 @@ fn put_each_on<P, F, S: Specs>(
     }
 }
 
-// The default filter on platforms, by rules that were put on them, where this is the one of the profiles.
+// The default filter on platforms, by rules that were put on them, where this is the one of the
+// profiles.
 pub(crate) fn chosen_default<'c, F: Drop, S>(
     early: CompiledDefaultFilter<'c, F>,
     rules: &[ChainRule<'c, PlacedOverride, F, S>],

@@ -12,7 +12,8 @@ use nextest_config_resolution_load::{LoadedRule, NamedProfile};
 use nextest_config_resolution_settings::InProfile;
 use std::alloc::{AllocError, Global};
 
-// The rules of the profiles at some places, one profile after another, and those of a profile in the order of all rules.
+// The rules of the profiles at some places, one profile after another, and those of a profile in
+// the order of all rules.
 pub(crate) fn rules_at<'c, P: InProfile + Drop, F: Drop, S: Drop>(
     alloc: Global,
     profiles: &[NamedProfile],

@@ -5,8 +5,8 @@ ghost use Rattle.nextest_config_resolution_profiles.specs.Config.{dir_in_store, 
 use nextest_text::Text;
 use std::alloc::{AllocError, Global};
 
-// The directory of a profile's files: DIR/PROFILE where the store's directory begins at the root, or there is no workspace; and
-// ROOT/DIR/PROFILE else.
+// The directory of a profile's files: DIR/PROFILE where the store's directory begins at the root,
+// or there is no workspace; and ROOT/DIR/PROFILE else.
 pub(crate) fn dir_in_store(
     alloc: Global,
     root: &str,

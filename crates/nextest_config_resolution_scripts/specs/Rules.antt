@@ -1,5 +1,5 @@
--- The script rules of a profile, as a file says them: which scripts some of its tests need. Each key may be left out; other keys
--- are read past.
+-- The script rules of a profile, as a file says them: which scripts some of its tests need. Each
+-- key may be left out; other keys are read past.
 use Rattle.std.specs.Prelude.{ℕ, ◌+◌, List, [], ◌∷◌, Option, None, Some, Ok, Err, codes, decimal}
 use Rattle.toml.specs.Data.{Data, array, Items, no_items, item, Members, as_str, get_member}
 use Rattle.nextest_config_elements_toml.specs.Reading.{Reading, ◌>>=◌, optional, under}

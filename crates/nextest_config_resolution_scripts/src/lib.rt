@@ -1,7 +1,9 @@
-//! Setup scripts and wrapper scripts: what a configuration says of each, and which tests of a profile need which.
+//! Setup scripts and wrapper scripts: what a configuration says of each, and which tests of a
+//! profile need which.
 //!
-//! A reader is handed what stands at a key, and where it stands. It looks at the keys that it knows by the order of their bytes, and
-//! reads past all others; the first value that is none is refused with its path.
+//! A reader is handed what stands at a key, and where it stands. It looks at the keys that it knows
+//! by the order of their bytes, and reads past all others; the first value that is none is refused
+//! with its path.
 #![tactic(auto)]
 
 pub mod laws;

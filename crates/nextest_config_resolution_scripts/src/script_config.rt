@@ -37,8 +37,8 @@ impl<Config: Drop> Drop for NamedScript<Config> {
     }
 }
 
-/// The scripts that a configuration defines, by the bytes of their keys. Of several of one kind with one name, which keys that are
-/// one identifier in their NFC have, the last one holds.
+/// The scripts that a configuration defines, by the bytes of their keys. Of several of one kind
+/// with one name, which keys that are one identifier in their NFC have, the last one holds.
 pub struct ScriptConfig {
     /// `scripts.setup`: the setup scripts.
     pub setup: Listing<NamedScript<SetupScriptConfig>>,
@@ -168,13 +168,14 @@ impl fmt::Display for ProfileScriptType {
     }
 }
 
-/// The scripts that a configuration defines, by what stands under `scripts` at its top: a table of the tables `setup` and `wrapper`,
-/// or nothing. Each key of these is the name of a script, an identifier, and its value a table with `command`; other keys are read
-/// past.
+/// The scripts that a configuration defines, by what stands under `scripts` at its top: a table of
+/// the tables `setup` and `wrapper`, or nothing. Each key of these is the name of a script, an
+/// identifier, and its value a table with `command`; other keys are read past.
 ///
 /// # Errors
 ///
-/// `Refused` names the first key or value, by the bytes of the keys, that is none, and a key before its value.
+/// `Refused` names the first key or value, by the bytes of the keys, that is none, and a key before
+/// its value.
 pub fn deserialize_scripts(alloc: Global, found: Option<&Value>) -> Result<ScriptConfig, ValueError>
     ensures { GivesAt scripts_path result
         (scripts_of (option_map (λ it. view it.now) found.entry)) }
@@ -218,8 +219,8 @@ fn wrapper_in(
     scripts_of(alloc, member(kinds, "wrapper"), &["scripts", "wrapper"])
 }
 
-/// The setup scripts under `script` at the top of a configuration, where they stood before `scripts.setup`: a table of them, or
-/// nothing.
+/// The setup scripts under `script` at the top of a configuration, where they stood before
+/// `scripts.setup`: a table of them, or nothing.
 ///
 /// # Errors
 ///

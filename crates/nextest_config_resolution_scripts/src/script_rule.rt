@@ -19,13 +19,16 @@ use toml::{Table, Value};
 
 /// A script rule of a profile: the scripts that some of its tests need.
 pub struct ScriptRuleConfig {
-    /// `filter`: the filterset of the tests on which the rule holds; `None` where the key is left out.
+    /// `filter`: the filterset of the tests on which the rule holds; `None` where the key is left
+    /// out.
     pub filter: Option<Text>,
-    /// `list-wrapper`: the wrapper script that the command is handed to which lists the tests, if there is one.
+    /// `list-wrapper`: the wrapper script that the command is handed to which lists the tests, if
+    /// there is one.
     pub list_wrapper: Option<ScriptId>,
     /// `platform`: the platforms on which the rule holds; `None` where the key is left out.
     pub platform: Option<OverridePlatforms>,
-    /// `run-wrapper`: the wrapper script that the commands of the tests are handed to, if there is one.
+    /// `run-wrapper`: the wrapper script that the commands of the tests are handed to, if there is
+    /// one.
     pub run_wrapper: Option<ScriptId>,
     /// `setup`: the setup scripts that are run before the tests.
     pub setup: Listing<ScriptId>,
@@ -91,13 +94,14 @@ impl Drop for PlacedScriptRule {
     }
 }
 
-/// The script rules of the profile of a name, by what stands under `scripts` in its table: a list of tables, or nothing. Every key of
-/// a rule may be left out, and other keys are read past; `setup` is the name of a script, or a list of names.
+/// The script rules of the profile of a name, by what stands under `scripts` in its table: a list
+/// of tables, or nothing. Every key of a rule may be left out, and other keys are read past;
+/// `setup` is the name of a script, or a list of names.
 ///
 /// # Errors
 ///
-/// `Refused` names the first value, by the places in the list and by the bytes of the keys, that is none: in the table `platform`
-/// before what comes behind it.
+/// `Refused` names the first value, by the places in the list and by the bytes of the keys, that is
+/// none: in the table `platform` before what comes behind it.
 pub fn deserialize_script_rules(
     alloc: Global,
     name: &str,

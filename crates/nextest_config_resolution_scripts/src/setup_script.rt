@@ -60,7 +60,8 @@ impl SetupScriptConfig {
 pub struct SetupScriptSlowTimeout {
     /// After how long it is slow, above 0 in every accepted configuration.
     pub period: ConfigDuration,
-    /// After how many periods it is ended, above 0 in an accepted configuration; `None` where it never is.
+    /// After how many periods it is ended, above 0 in an accepted configuration; `None` where it
+    /// never is.
     pub terminate_after: Option<u64>,
     /// How long it may go on once it is told to end.
     pub grace_period: ConfigDuration,

@@ -137,7 +137,8 @@ none_is_least Holds set_by rules held are = (
       (none_of_held Holds set_by rules held are (recursion_from_All (λ it. ¬ HoldsAndSets Holds set_by it) rules none))),
 )
 
--- of two divisions of a list, each at a rule that holds and sets a value, with none before it: they are one
+-- of two divisions of a list, each at a rule that holds and sets a value, with none before it: they
+-- are one
 one_of : {R V : Type 0} (Holds : R → Type 0) (set_by : R → Option V) (front other : List R) (rule second : R) (back behind : List R)
     → front ++ rule ∷ back ≡ other ++ second ∷ behind
     → AllByRecursion (λ it. ¬ HoldsAndSets Holds set_by it) front → AllByRecursion (λ it. ¬ HoldsAndSets Holds set_by it) other

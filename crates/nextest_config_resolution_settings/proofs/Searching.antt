@@ -54,7 +54,8 @@ nearest_is set_by layers place value layer n is =
     let inside : place < length layers = omega (arith, within n, length-map layers (λ it. it.now)) in
     sym (layer_at n layer.now ∙ lent_at layers place layer inside is)
 
--- the nearest rule that sets a value is the one that is lent at its place, and the value comes from there
+-- the nearest rule that sets a value is the one that is lent at its place, and the value comes from
+-- there
 pub of_rule_at : {R P V : Type 0} (id_of : R → OverrideId) (by_rule : R → Option V) (by_profile : P → Option V)
     (rules : List (Bor R)) (profiles : List P) (fallback value : V) (place : ℕ) (rule : Bor R) (from : Source)
     → IsNearest by_rule (lent_layers rules) place value → rule ≡ get_or rules place rule → from ≡ an_override (id_of rule.now)

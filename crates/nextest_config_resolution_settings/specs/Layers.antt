@@ -8,8 +8,8 @@ use Rattle.nextest_config_resolution_settings.specs.Nearest.{lent_layers}
 use Rattle.nextest_config_resolution_settings.specs.declared.tracking.TestLayers.{TestLayers}
 use Rattle.nextest_config_resolution_values.specs.declared.profile_config.ProfileConfig.{ProfileConfig}
 
--- the overrides and the script rules that hold on it, each in their order, the wrapper scripts that are defined, and the chain of its
--- profile
+-- the overrides and the script rules that hold on it, each in their order, the wrapper scripts that
+-- are defined, and the chain of its profile
 pub record Layers : Type 0 where
   pub overrides : List PlacedOverride
   pub scripts : List PlacedScriptRule

@@ -24,7 +24,8 @@ pub record IsNearest {L V : Type 0} (set_by : L → Option V) (layers : List L) 
   pub before : SetsNone set_by front
   pub sets : set_by layer ≡ Some value
 
--- where the value of a setting comes from: from an override, from a script rule, from a profile by its place in the chain, or from no layer
+-- where the value of a setting comes from: from an override, from a script rule, from a profile by
+-- its place in the chain, or from no layer
 pub data Source : Type 0 where
   an_override : OverrideId → Source
   a_script_rule : ScriptRuleId → Source

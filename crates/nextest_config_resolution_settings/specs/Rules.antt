@@ -1,4 +1,5 @@
--- The rules of a chain, and which of them hold: overrides and script rules, in the order in which they are asked.
+-- The rules of a chain, and which of them hold: overrides and script rules, in the order in which
+-- they are asked.
 use Rattle.std.specs.Prelude.{◌≡◌, ℕ, Bool, List, [], ◌∷◌, ◌++◌, Option, Some, All, filter, flat_map, bytes_eq}
 use Rattle.nextest_config_resolution_settings.specs.Nearest.{IsNearest}
 use Rattle.nextest_config_resolution_overrides.specs.declared.override_id.OverrideId.{OverrideId}

@@ -22,8 +22,8 @@ abbrev pub group_of : TestGroupRef → TestGroup
 group_of group_ref.Global = group.Global
 group_of (group_ref.Custom it) = group.Custom it.now
 
--- each is what the rules that hold on a test and the chain of its profile have, with what is kept of where it is taken from; script
--- rules alone set a wrapper script
+-- each is what the rules that hold on a test and the chain of its profile have, with what is kept
+-- of where it is taken from; script rules alone set a wrapper script
 pub record AreSettings {S : Type 0} (Tells : S → Source → Type 0) (mode : NextestRunMode) (layers : Layers)
     (settings : TestSettings S) : Type 0 where
   pub priority : IsTracked Tells id_of rule.priority key.priority layers.overrides layers.chain

@@ -3,7 +3,8 @@ use Rattle.std.specs.Prelude.{List, Option}
 use Rattle.nextest_config_resolution_overrides.specs.declared.override_id.OverrideId.{OverrideId}
 use Rattle.nextest_config_resolution_settings.specs.Nearest.{IsSetting, Source}
 
--- the value of a setting over rules that hold, then profiles, then a fallback, and what is kept of where it is taken from
+-- the value of a setting over rules that hold, then profiles, then a fallback, and what is kept of
+-- where it is taken from
 pub record IsTracked {R P V S : Type 0} (Tells : S → Source → Type 0)
     (id_of : R → OverrideId) (by_rule : R → Option V) (by_profile : P → Option V)
     (rules : List R) (profiles : List P) (fallback : V) (it : V × S) : Type 0 where

@@ -14,7 +14,8 @@ pub enum CompiledDefaultFilterSection {
     Override,
 }
 
-/// The filter of the tests that are run where none is asked for, as it was read, and where it is set.
+/// The filter of the tests that are run where none is asked for, as it was read, and where it is
+/// set.
 #[derive(Drop)]
 pub struct CompiledDefaultFilter<'c, F> {
     /// The filter.
@@ -26,8 +27,8 @@ pub struct CompiledDefaultFilter<'c, F> {
 }
 
 impl<'c, F> CompiledDefaultFilter<'c, F> {
-    /// Where it is set, as users are told: `profile.NAME.default-filter`, with ` (override)` behind it where an override sets it.
-    /// An `Err` says that there was no memory.
+    /// Where it is set, as users are told: `profile.NAME.default-filter`, with ` (override)` behind
+    /// it where an override sets it. An `Err` says that there was no memory.
     pub fn display_config(&self, alloc: Global) -> Result<Text, AllocError>
         ensures { IfOk result (λ text. text ≡ config_text self.now.profile.now self.now.section) }
     {

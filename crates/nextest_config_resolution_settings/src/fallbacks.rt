@@ -109,7 +109,8 @@ pub fn junit_report_name() -> &'static str
     "nextest-run"
 }
 
-/// `slow-timeout`: after a minute, and of benchmarks `bench.slow-timeout`, after thirty years; nothing is ended for that.
+/// `slow-timeout`: after a minute, and of benchmarks `bench.slow-timeout`, after thirty years;
+/// nothing is ended for that.
 pub fn slow_timeout(mode: NextestRunMode) -> SlowTimeout
     ensures { result ≡ fallback.slow_timeout mode }
 {

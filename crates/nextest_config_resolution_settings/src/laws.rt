@@ -10,7 +10,8 @@ pub fn one_setting<S: Setting, R: Sets<S> + Rule, P: Sets<S>>()
     ensures { OneSetting R.id R.value P.value }
 {}
 
-/// A test has settings, and the same ones whatever is kept of where they are taken from; and that is the same, too.
+/// A test has settings, and the same ones whatever is kept of where they are taken from; and that
+/// is the same, too.
 pub fn same_settings<'p, S: TrackSource<'p>, T: TrackSource<'p>>()
     ensures some { SomeSettings S.tells }
     ensures settings { SameSettings S.tells T.tells }
@@ -23,8 +24,8 @@ pub fn held_rules<R: Rule>()
     ensures one { OneHeld R }
 {}
 
-/// The nearest of the rules that hold is the least rule that holds and sets a value, and none of them sets one exactly if there
-/// is no such rule.
+/// The nearest of the rules that hold is the least rule that holds and sets a value, and none of
+/// them sets one exactly if there is no such rule.
 pub fn least_rule<S: Setting, R: Sets<S> + Rule>()
     ensures nearest { NearestIsLeast R.value }
     ensures least { LeastIsNearest R.value }

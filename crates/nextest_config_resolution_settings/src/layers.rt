@@ -24,8 +24,8 @@ pub trait Sets<S: Setting> {
         ensures { option_copied result ≡ value self.now };
 }
 
-/// The place of the nearest layer that sets a setting, and the value that it sets: of the first of a list. `None` where no
-/// layer sets it.
+/// The place of the nearest layer that sets a setting, and the value that it sets: of the first of
+/// a list. `None` where no layer sets it.
 pub fn nearest<'c, S: Setting, L: Sets<S>>(layers: &[&'c L]) -> Option<(usize, &'c S::Value)>
     ensures found { IfSome result
         (λ found. IsNearest L.value (lent_layers layers.now) found.0 found.1.now) }
@@ -62,8 +62,9 @@ pub trait Rule {
         ensures { result.now ≡ id self.now };
 }
 
-/// The value of a setting over rules, then profiles, and where it comes from: that of the nearest rule that sets it, else that
-/// of the nearest profile that does. `None` where no layer sets it, and then whatever the fallback is holds.
+/// The value of a setting over rules, then profiles, and where it comes from: that of the nearest
+/// rule that sets it, else that of the nearest profile that does. `None` where no layer sets it,
+/// and then whatever the fallback is holds.
 pub fn find_setting<'c, S: Setting, R: Sets<S> + Rule, P: Sets<S>>(
     rules: &[&'c R],
     profiles: &[&'c P],
@@ -85,8 +86,9 @@ fn source_of<'c, R: Rule>(rule: &'c R) -> SettingSource<'c>
     SettingSource::Override(rule.id())
 }
 
-/// The value of a setting over profiles, and where it comes from, where no rule sets it: that of the nearest profile that does.
-/// `None` where none of them sets it, and then whatever the fallback is holds.
+/// The value of a setting over profiles, and where it comes from, where no rule sets it: that of
+/// the nearest profile that does. `None` where none of them sets it, and then whatever the fallback
+/// is holds.
 pub fn find_in_profiles<'c, 'p, S: Setting, P: Sets<S>>(
     profiles: &[&'c P],
 ) -> (Option<&'c S::Value>, SettingSource<'p>)

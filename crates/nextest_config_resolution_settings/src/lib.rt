@@ -1,11 +1,13 @@
 //! Which value a setting has: that of the nearest layer that sets it, else a fallback.
 //!
-//! A layer says by `Sets` which value it sets for a setting: a rule, which is an override (`PlacedOverride`), or a profile
-//! (`ProfileConfig`). `nearest` finds the first of a list that sets one, and `find_setting` goes over two lists, rules and
-//! then profiles, and tells where the value comes from. `settings_by` finds the settings of a test so, each over the overrides
-//! that hold on it, in their order, and then the chain of its profile; and its wrapper script over the script rules that hold
-//! on it. Which rules hold is asked elsewhere; of those that do, the nearest that sets a value is the least of all rules that
-//! holds and sets one (`laws::least_rule`). What profiles alone have is found by `set_by`, `of_profiles` and `value_or`.
+//! A layer says by `Sets` which value it sets for a setting: a rule, which is an override
+//! (`PlacedOverride`), or a profile (`ProfileConfig`). `nearest` finds the first of a list that
+//! sets one, and `find_setting` goes over two lists, rules and then profiles, and tells where the
+//! value comes from. `settings_by` finds the settings of a test so, each over the overrides that
+//! hold on it, in their order, and then the chain of its profile; and its wrapper script over the
+//! script rules that hold on it. Which rules hold is asked elsewhere; of those that do, the nearest
+//! that sets a value is the least of all rules that holds and sets one (`laws::least_rule`). What
+//! profiles alone have is found by `set_by`, `of_profiles` and `value_or`.
 #![tactic(auto)]
 
 mod default_filter;

@@ -4,7 +4,8 @@ ghost use Rattle.std.specs.Option.{option_copied};
 
 use nextest_config_resolution_scripts::WrapperScriptConfig;
 
-/// The settings with which the tests of a binary are listed. With each stands what is kept of where it is taken from.
+/// The settings with which the tests of a binary are listed. With each stands what is kept of where
+/// it is taken from.
 #[derive(Drop)]
 pub struct ListSettings<'p, Source = ()> {
     /// `list-wrapper`: the script that the command is handed to, if there is one.

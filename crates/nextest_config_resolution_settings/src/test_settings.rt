@@ -19,7 +19,8 @@ pub enum TestGroupRef<'p> {
     Custom(&'p CustomTestGroup),
 }
 
-/// The settings of a test. With each stands what is kept of where it is taken from: nothing, or a `SettingSource`.
+/// The settings of a test. With each stands what is kept of where it is taken from: nothing, or a
+/// `SettingSource`.
 #[derive(Drop)]
 pub struct TestSettings<'p, Source = ()> {
     /// `priority`: before which tests it runs.

@@ -42,9 +42,10 @@ pub struct TestLayers<'l, 'c> {
     pub chain: &'l [&'c ProfileConfig],
 }
 
-/// The settings that these layers set for a test; with each stands what is kept of where it is taken from. Each is that of the
-/// nearest override that sets it, else that of the nearest profile of the chain that does, else the fallback; overrides alone
-/// set a priority and a group. The wrapper script is the one that the nearest script rule names that names one.
+/// The settings that these layers set for a test; with each stands what is kept of where it is
+/// taken from. Each is that of the nearest override that sets it, else that of the nearest profile
+/// of the chain that does, else the fallback; overrides alone set a priority and a group. The
+/// wrapper script is the one that the nearest script rule names that names one.
 pub fn settings_by<'l, 'c, T: TrackSource<'c>>(
     layers: TestLayers<'l, 'c>,
     mode: NextestRunMode,
@@ -82,8 +83,8 @@ pub fn settings_by<'l, 'c, T: TrackSource<'c>>(
     }
 }
 
-// The value of a setting over rules, then profiles, lent, and what is kept of where it is taken from. `None` where no layer
-// sets it, and then whatever the fallback is holds.
+// The value of a setting over rules, then profiles, lent, and what is kept of where it is taken
+// from. `None` where no layer sets it, and then whatever the fallback is holds.
 fn found_by<'c, S: Setting, R: Sets<S> + Rule, P: Sets<S>, T: TrackSource<'c>>(
     rules: &[&'c R],
     profiles: &[&'c P],
@@ -118,7 +119,8 @@ where
     }
 }
 
-// `slow-timeout`, and what is kept of where it is taken from; of benchmarks `bench.slow-timeout`, and that alone.
+// `slow-timeout`, and what is kept of where it is taken from; of benchmarks `bench.slow-timeout`,
+// and that alone.
 fn slow_timeout_by<'l, 'c, T: TrackSource<'c>>(
     layers: TestLayers<'l, 'c>,
     mode: NextestRunMode,

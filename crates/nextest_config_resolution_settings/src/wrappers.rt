@@ -42,7 +42,8 @@ impl Sets<ListWrapperKey> for PlacedScriptRule {
     }
 }
 
-// The wrapper script that the nearest of some script rules names which names one, and what is kept of where it is taken from.
+// The wrapper script that the nearest of some script rules names which names one, and what is kept
+// of where it is taken from.
 pub(crate) fn wrapper_by<'c, S: Setting<Value = ScriptId>, T: TrackSource<'c>>(
     rules: &[&'c PlacedScriptRule],
     wrappers: &'c [NamedScript<WrapperScriptConfig>],
@@ -61,8 +62,9 @@ where
     }
 }
 
-/// The settings with which the tests of a binary are listed on which these script rules hold, in their order: the wrapper
-/// script is the one that the nearest of them names that names one, and none where none does.
+/// The settings with which the tests of a binary are listed on which these script rules hold, in
+/// their order: the wrapper script is the one that the nearest of them names that names one, and
+/// none where none does.
 pub fn list_settings_by<'c>(
     rules: &[&'c PlacedScriptRule],
     wrappers: &'c [NamedScript<WrapperScriptConfig>],

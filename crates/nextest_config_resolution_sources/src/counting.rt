@@ -8,8 +8,9 @@ use crate::class::{Class, is_of};
 use crate::source::ConfigSource;
 use std::alloc::{AllocError, Global};
 
-/// The sources that count, lent, the lowest first: those of the tools, of which the first handed in is the highest, and above them
-/// one of the repository's, the first that was named, else the first that was looked for. It fails only on allocation.
+/// The sources that count, lent, the lowest first: those of the tools, of which the first handed in
+/// is the highest, and above them one of the repository's, the first that was named, else the first
+/// that was looked for. It fails only on allocation.
 #[tactic(auto, using(crate::proofs::Turning::turned_with))]
 pub fn counted<'s>(
     alloc: Global,

@@ -1,7 +1,9 @@
-//! The sources of a configuration: where each comes from and what came of reading it, and which of them count.
+//! The sources of a configuration: where each comes from and what came of reading it, and which of
+//! them count.
 //!
-//! Tools bring sources, and the repository has one: the file that was named, or the one that was looked for. The repository's
-//! is above those of the tools, and of these the first handed in is the highest.
+//! Tools bring sources, and the repository has one: the file that was named, or the one that was
+//! looked for. The repository's is above those of the tools, and of these the first handed in is
+//! the highest.
 #![tactic(auto)]
 
 mod class;

@@ -7,8 +7,8 @@ use nextest_text::Text;
 use std::alloc::{AllocError, Global};
 use std::marker::Model;
 
-/// Which file the repository's source is read from: the one that was named, where one was, else the one that is looked for. In a
-/// clause it is the path that was named, or `None`.
+/// Which file the repository's source is read from: the one that was named, where one was, else the
+/// one that is looked for. In a clause it is the path that was named, or `None`.
 #[derive(Clone, Debug, PartialEq, Eq, Drop)]
 pub struct ConfigFileSelection {
     explicit: Option<Text>,

@@ -1,7 +1,9 @@
-//! What the tables of a configuration say, key by key: the values of a profile, and the directory of the store.
+//! What the tables of a configuration say, key by key: the values of a profile, and the directory
+//! of the store.
 //!
-//! A reader is handed a table and where it stands. It looks at the keys that it knows by the order of their bytes, inside a
-//! table before what comes behind it, and reads past all others; the first value that is none is refused with its path.
+//! A reader is handed a table and where it stands. It looks at the keys that it knows by the order
+//! of their bytes, inside a table before what comes behind it, and reads past all others; the first
+//! value that is none is refused with its path.
 #![tactic(auto)]
 
 mod bench;

@@ -19,9 +19,10 @@ use nextest_config_elements_toml::{ValueError, refused};
 use std::alloc::Global;
 use toml::{Table, Value};
 
-/// What the table of a profile says, which stands at `profile` and its name. Every key may be left out, and other keys are
-/// read past. An `Err` names the first value, by the bytes of the keys, that is none: in the tables `bench` and `junit` before
-/// what comes behind them, and in a list the position.
+/// What the table of a profile says, which stands at `profile` and its name. Every key may be left
+/// out, and other keys are read past. An `Err` names the first value, by the bytes of the keys,
+/// that is none: in the tables `bench` and `junit` before what comes behind them, and in a list the
+/// position.
 #[tactic(auto, unfolding(crate::specs::Profile::profile_in))]
 pub fn deserialize_profile(
     alloc: Global,
@@ -39,7 +40,8 @@ pub fn deserialize_profile(
     Ok(config_of(bench, first, second, junit, third, last))
 }
 
-/// What stands under the name of a profile: a table, which is read as `deserialize_profile` does. An `Err` for everything else.
+/// What stands under the name of a profile: a table, which is read as `deserialize_profile` does.
+/// An `Err` for everything else.
 pub fn deserialize_profile_value(
     alloc: Global,
     name: &str,

@@ -10,8 +10,9 @@ use nextest_text::Text;
 use std::alloc::Global;
 use toml::Value;
 
-/// The directory of the store, by what stands under `store`: a table that may have a text `dir`; `None` where the one or the
-/// other is left out. An `Err` for everything else; other keys are read past.
+/// The directory of the store, by what stands under `store`: a table that may have a text `dir`;
+/// `None` where the one or the other is left out. An `Err` for everything else; other keys are read
+/// past.
 pub fn deserialize_store_dir(
     alloc: Global,
     store: Option<&Value>,

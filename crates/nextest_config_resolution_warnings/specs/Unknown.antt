@@ -12,7 +12,8 @@ use Rattle.nextest_config_resolution_warnings.specs.declared.place.Place.TheVari
 abbrev pub behind : List ℕ → List Path → List Path
 behind key paths = map (λ path. key ∷ path) paths
 
--- the paths of what may not stand in a value at a place; a value with no place is such itself, and isn't looked into
+-- the paths of what may not stand in a value at a place; a value with no place is such itself, and
+-- isn't looked into
 abbrev mutual
   pub unknown_in : Place → Data → List Path
   unknown_in place (table members) = unknown_members (keys_in place members) members

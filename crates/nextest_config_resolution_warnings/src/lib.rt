@@ -1,5 +1,5 @@
-//! What is warned of in a configuration file, and how that is told: unknown keys and reserved profiles, scripts where they
-//! stood before, and script rules that name none.
+//! What is warned of in a configuration file, and how that is told: unknown keys and reserved
+//! profiles, scripts where they stood before, and script rules that name none.
 #![tactic(auto)]
 
 mod config_warning;

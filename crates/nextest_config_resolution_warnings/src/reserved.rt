@@ -8,9 +8,9 @@ use nextest_text::{Listing, Text};
 use std::alloc::{AllocError, Global};
 use toml::{Table, Value};
 
-/// The names of the profiles of `file`, a configuration, that begin with `default-` as those of the runner's own do, and are
-/// none of them: all but `default-miri`, by their bytes. A file whose `profile` is left out or no table has none. It fails only
-/// on allocation.
+/// The names of the profiles of `file`, a configuration, that begin with `default-` as those of the
+/// runner's own do, and are none of them: all but `default-miri`, by their bytes. A file whose
+/// `profile` is left out or no table has none. It fails only on allocation.
 pub fn unknown_reserved_profiles(alloc: Global, file: &Table) -> Result<Listing<Text>, AllocError>
     ensures { IfOk result (λ names. names ≡ reserved.unknown_reserved (table_view file.now)) }
 {

@@ -4,7 +4,8 @@ ghost use Rattle.nextest_config_resolution_warnings.specs.Shown.{one_line_of, sh
 use nextest_text::Text;
 use std::fmt;
 
-/// A text, which prints on one line: a control character prints as `\u{h}`, `h` its number in hexadecimal digits.
+/// A text, which prints on one line: a control character prints as `\u{h}`, `h` its number in
+/// hexadecimal digits.
 #[derive(Clone, Copy, Debug)]
 pub struct Shown<'a>(pub &'a str);
 

@@ -9,9 +9,10 @@ use nextest_text::Listing;
 use std::alloc::{AllocError, Global};
 use toml::Table;
 
-/// The paths of the keys that `file`, a configuration, may not have, in order: tables by the bytes of their keys, lists by
-/// position, and what is in a value where the value stands. Nothing below such a key is looked at, nor a value with another
-/// type than its place has, which its reader refuses. It fails only on allocation.
+/// The paths of the keys that `file`, a configuration, may not have, in order: tables by the bytes
+/// of their keys, lists by position, and what is in a value where the value stands. Nothing below
+/// such a key is looked at, nor a value with another type than its place has, which its reader
+/// refuses. It fails only on allocation.
 pub fn unknown_keys(alloc: Global, file: &Table) -> Result<Listing<KeyPath>, AllocError>
     ensures { IfOk result (λ found. found ≡ unknown_keys (table_view file.now)) }
 {

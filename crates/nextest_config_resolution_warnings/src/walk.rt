@@ -56,7 +56,8 @@ fn walk_table<'a>(
     Ok(())
 }
 
-// Finds what may not stand in a value whose key its table may have; without it that is the value itself.
+// Finds what may not stand in a value whose key its table may have; without it that is the value
+// itself.
 #[cycle(walk)]
 fn walk_member<'a>(
     alloc: Global,

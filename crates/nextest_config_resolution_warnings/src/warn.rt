@@ -15,10 +15,12 @@ use nextest_text::Text;
 use std::alloc::{AllocError, Global};
 use toml::{Table, Value};
 
-/// Warns of `file`, a configuration at `path`, in this order: its unknown keys; its profiles with a name that is kept for the
-/// runner's own; that it defines scripts in the table `script`, which held them before; and, by the bytes of their names, its
-/// profiles with script rules that name no script, each with how many those are. Nothing is told of a value with another type
-/// than its place has, which its reader refuses. It fails only on allocation, and then a front of these was told.
+/// Warns of `file`, a configuration at `path`, in this order: its unknown keys; its profiles with a
+/// name that is kept for the runner's own; that it defines scripts in the table `script`, which
+/// held them before; and, by the bytes of their names, its profiles with script rules that name no
+/// script, each with how many those are. Nothing is told of a value with another type than its
+/// place has, which its reader refuses. It fails only on allocation, and then a front of these was
+/// told.
 pub fn warn_file<W: ConfigWarnings>(
     alloc: Global,
     warnings: &mut W,

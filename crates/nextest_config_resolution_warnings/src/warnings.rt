@@ -7,8 +7,8 @@ ghost use Rattle.nextest_config_resolution_warnings.specs.declared.config_warnin
 use nextest_config_elements_toml::KeyPath;
 use std::alloc::AllocError;
 
-/// Who is told of configuration files. Each call tells one warning, behind those that were told before. It fails only on
-/// allocation, and then nothing is told.
+/// Who is told of configuration files. Each call tells one warning, behind those that were told
+/// before. It fails only on allocation, and then nothing is told.
 pub trait ConfigWarnings {
     // These are the warnings that were told, in order.
     ghost has_warned: { Self → List ConfigWarning → Type 0 };
@@ -19,7 +19,8 @@ pub trait ConfigWarnings {
             (Warns has_warned self.old self.new (UnknownKey path.now key.now ∷ [])) }
         ensures err { OnErr result (Keeps has_warned self.old self.new) };
 
-    /// Warns that `profile` is kept for a profile of the runner's own, and that the file at `path` has one of that name.
+    /// Warns that `profile` is kept for a profile of the runner's own, and that the file at `path`
+    /// has one of that name.
     fn unknown_reserved_profile(&mut self, path: &str, profile: &str) -> Result<(), AllocError>
         ensures ok { OnOk result (Warns has_warned self.old self.new
             (UnknownReservedProfile path.now profile.now ∷ [])) }

@@ -1,9 +1,9 @@
-//! The filterset language: texts, trees and matchers, as they are parsed and printed; filtersets that are compiled for a
-//! workspace, and what they are on binaries and tests.
+//! The filterset language: texts, trees and matchers, as they are parsed and printed; filtersets
+//! that are compiled for a workspace, and what they are on binaries and tests.
 //!
-//! What the contracts of these speak of is handed on as `Rattle.nextest_filtering.specs`. A crate with a clause on a
-//! function that takes or gives a `ParsedExpr` itself also names `nextest_filtering_syntax` among the libraries that it
-//! stands on, since this type is recursive.
+//! What the contracts of these speak of is handed on as `Rattle.nextest_filtering.specs`. A crate
+//! with a clause on a function that takes or gives a `ParsedExpr` itself also names
+//! `nextest_filtering_syntax` among the libraries that it stands on, since this type is recursive.
 #![tactic(auto)]
 
 pub use nextest_filtering_arguments::{BannedPredicateReason, FiltersetKind, ParseSingleError};

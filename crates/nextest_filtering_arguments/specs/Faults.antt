@@ -53,9 +53,9 @@ RunsOut input span = span.offset + span.length ≡ length input
 abbrev pub BeginsBare : List ℕ → SourceSpan → Type 0
 BeginsBare input span = has_blank_front (drop span.offset input) ≡ false
 
--- where a fault may stand: an operator's span is the operator, a comma's the comma, an escape's a backslash with
--- the whole character behind it, or the one that is the input's last byte; what is missing is missing behind blanks;
--- faults of predicates aren't told of a text
+-- where a fault may stand: an operator's span is the operator, a comma's the comma, an escape's a
+-- backslash with the whole character behind it, or the one that is the input's last byte; what is
+-- missing is missing behind blanks; faults of predicates aren't told of a text
 abbrev pub IsFaultOf : List ℕ → ParseSingleError → Type 0
 IsFaultOf input (fault.InvalidGlob span) = Lies input span
 IsFaultOf input (fault.InvalidRegexWithoutMessage span) = Lies input span

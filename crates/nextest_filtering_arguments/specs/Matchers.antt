@@ -38,8 +38,9 @@ sign_of by.Equal = 61
 sign_of by.Contains = 126
 sign_of by.Glob = 35
 
--- An argument was read, as found and rest. It stands there where no fault was added; and where any such argument stands there, with a
--- `)` behind, then this is the one, and no fault was added. None was found only where a fault was added.
+-- An argument was read, as found and rest. It stands there where no fault was added; and where any
+-- such argument stands there, with a `)` behind, then this is the one, and no fault was added. None
+-- was found only where a fault was added.
 pub record IsArgument {F V : Type 0} (value_of : F → V) (Reads : V → List ℕ → List ℕ → Type 0) (text : List ℕ) (old new : ℕ) (found : Option F) (rest : List ℕ) : Type 0 where
   pub more : old ≤ new
   pub behind : IsSuffix rest text

@@ -2,8 +2,8 @@
 use crate::ban::{BannedPredicateReason, FiltersetKind};
 use nextest_filtering_ast::SourceSpan;
 
-/// A fault of a filterset, and where it stands: of its text, of a predicate that may not stand there, or of one that nothing
-/// can be.
+/// A fault of a filterset, and where it stands: of its text, of a predicate that may not stand
+/// there, or of one that nothing can be.
 #[derive(Clone, Copy, Debug, PartialEq, Eq)]
 pub enum ParseSingleError {
     /// The text is no glob.

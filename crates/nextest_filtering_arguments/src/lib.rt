@@ -1,4 +1,5 @@
-//! The arguments of predicates: texts, matchers, platforms, as they are read, and why they are refused.
+//! The arguments of predicates: texts, matchers, platforms, as they are read, and why they are
+//! refused.
 #![tactic(auto)]
 
 mod ban;

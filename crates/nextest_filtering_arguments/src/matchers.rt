@@ -46,7 +46,8 @@ fn bare(subject: Subject) -> Comparing
     }
 }
 
-// The matcher that compares so with the text; tells of a text that is no glob where it should be one.
+// The matcher that compares so with the text; tells of a text that is no glob where it should be
+// one.
 fn made(
     alloc: Global,
     faults: &mut Faults<'_>,
@@ -122,10 +123,11 @@ fn pattern<'i>(
     }
 }
 
-/// The matcher that comes next, of a predicate on that subject, and what follows it: a sign and a text, a regular
-/// expression between two `/`, or a text alone, which is compared with as the subject's default says. A text that
-/// should be a glob or a regular expression and is none is reported, and `None` stands for the matcher then. A missing
-/// second `/` is reported too, and gives `Err(NoTree)`; `Err(Memory)` says that there was no memory.
+/// The matcher that comes next, of a predicate on that subject, and what follows it: a sign and a
+/// text, a regular expression between two `/`, or a text alone, which is compared with as the
+/// subject's default says. A text that should be a glob or a regular expression and is none is
+/// reported, and `None` stands for the matcher then. A missing second `/` is reported too, and
+/// gives `Err(NoTree)`; `Err(Memory)` says that there was no memory.
 pub fn matcher<'i>(
     alloc: Global,
     faults: &mut Faults<'_>,

@@ -24,9 +24,9 @@ fn platform_of(text: &str) -> Option<BuildPlatform>
     }
 }
 
-/// The platform that comes next, `host` or `target`, and what follows it. Another text is reported as
-/// `InvalidPlatformArgument`, and so are the faults of a text; then `None` may stand for the platform. It fails
-/// only on allocation.
+/// The platform that comes next, `host` or `target`, and what follows it. Another text is reported
+/// as `InvalidPlatformArgument`, and so are the faults of a text; then `None` may stand for the
+/// platform. It fails only on allocation.
 pub fn platform<'i>(
     alloc: Global,
     faults: &mut Faults<'_>,

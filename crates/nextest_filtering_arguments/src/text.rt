@@ -59,8 +59,8 @@ fn report_escapes(
     report_spans(faults, ahead, read.bad.as_slice())
 }
 
-// What `raw` stands for, which is `whole` without the blanks at its end; `ahead` begins with both. Tells of bad escapes
-// and of a text that is empty.
+// What `raw` stands for, which is `whole` without the blanks at its end; `ahead` begins with both.
+// Tells of bad escapes and of a text that is empty.
 fn meaning_of(
     alloc: Global,
     faults: &mut Faults<'_>,
@@ -88,9 +88,9 @@ fn meaning_of(
     Ok(read.text)
 }
 
-/// The text that comes next, behind blanks: it runs to the first `)` or `,` that isn't escaped, blanks before that
-/// aside. An empty text is reported as `InvalidString`, each bad escape as `InvalidEscapeCharacter`; the text is then
-/// what is left. It fails only on allocation.
+/// The text that comes next, behind blanks: it runs to the first `)` or `,` that isn't escaped,
+/// blanks before that aside. An empty text is reported as `InvalidString`, each bad escape as
+/// `InvalidEscapeCharacter`; the text is then what is left. It fails only on allocation.
 pub fn text_argument<'i>(
     alloc: Global,
     faults: &mut Faults<'_>,

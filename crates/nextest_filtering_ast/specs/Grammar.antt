@@ -1,4 +1,5 @@
--- Which texts are filtersets, and which one each is: operators and parentheses, predicates, matchers. All is over bytes.
+-- Which texts are filtersets, and which one each is: operators and parentheses, predicates,
+-- matchers. All is over bytes.
 use Rattle.std.specs.Prelude.{◌≡◌, ◌≢◌, ◌⊎◌, ℕ, ◌==◌, Bool, true, false, ◌||◌, List, [], ◌∷◌, ◌++◌, if◌then◌else◌, codes}
 use Rattle.nextest_filtering_escapes.specs.Text.{is_blank, IsText}
 use Rattle.nextest_filtering_escapes.specs.Regex.{IsRegexText}

@@ -14,8 +14,8 @@ use Rattle.nextest_filtering_ast.specs.Tree.{Comparison, equal, contains, glob, 
 abbrev pub IsFoundIn : List ℕ → List ℕ → Type 0
 IsFoundIn text name = IsSomeAnd (read default_config (chars text)) (λ (it, names). is_some (find_str it.value name 0) ≡ true)
 
--- the name compares so with the text: it is the text, has it as a part, is matched whole by the glob, or in a part by the
--- regular expression
+-- the name compares so with the text: it is the text, has it as a part, is matched whole by the
+-- glob, or in a part by the regular expression
 abbrev pub Compares : Comparison → List ℕ → List ℕ → Type 0
 Compares equal text name = name ≡ text
 Compares contains text name = HasSubslice name text

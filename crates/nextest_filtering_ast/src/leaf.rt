@@ -19,7 +19,8 @@ pub enum BuildPlatform {
     Target,
 }
 
-/// A predicate with its argument, and where it stands. Two are the same with the same matcher at the same place.
+/// A predicate with its argument, and where it stands. Two are the same with the same matcher at
+/// the same place.
 #[derive(Debug, PartialEq, Eq)]
 pub enum ParsedLeaf {
     /// `package(..)`: the package's name.

@@ -1,5 +1,5 @@
-//! What trees of the filterset language are made of: operators, leaves and matchers as they are written, and how they
-//! print; and the grammar of trees.
+//! What trees of the filterset language are made of: operators, leaves and matchers as they are
+//! written, and how they print; and the grammar of trees.
 #![tactic(auto)]
 
 mod copying;

@@ -18,7 +18,8 @@ pub enum NameMatching<'m> {
     Contains(&'m str),
     /// The whole name matches this glob.
     Glob(GlobMatcher<'m>),
-    /// A part of the name matches this regular expression. It is large, so the others don't make room for it.
+    /// A part of the name matches this regular expression. It is large, so the others don't make
+    /// room for it.
     Regex(Box<PatternMatcher<'m>>),
 }
 
@@ -44,7 +45,8 @@ impl NameMatcher {
         }
     }
 
-    /// Whether it matches a name. It fails only on allocation. Who asks for many names makes a `NameMatching` and keeps it.
+    /// Whether it matches a name. It fails only on allocation. Who asks for many names makes a
+    /// `NameMatching` and keeps it.
     pub fn is_match(&self, alloc: Global, name: &str) -> Result<bool, AllocError>
         ensures { IfOk result
             (λ answer. (answer ≡ true) ↔ MatchesName (matcher_of self.now) name.now) }

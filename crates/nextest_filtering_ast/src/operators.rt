@@ -37,7 +37,8 @@ pub enum DifferenceOperator {
     Minus,
 }
 
-/// An operator between the operands of a conjunction: those of intersections and differences bind alike.
+/// An operator between the operands of a conjunction: those of intersections and differences bind
+/// alike.
 #[derive(Clone, Copy, Debug, PartialEq, Eq)]
 pub enum Joint {
     /// Of an intersection.

@@ -11,8 +11,8 @@ use std::marker::Model;
 use std::sync::Arc;
 use thiserror::Error;
 
-/// A regular expression that `regex` reads. In a clause it is the list of its text's bytes. It stands behind a shared
-/// pointer: trees are small, and copies share what was read.
+/// A regular expression that `regex` reads. In a clause it is the list of its text's bytes. It
+/// stands behind a shared pointer: trees are small, and copies share what was read.
 pub struct Pattern {
     regex: Arc<Regex>,
 }
@@ -92,8 +92,8 @@ impl Pattern {
     }
 }
 
-/// A regular expression, lent, with what it takes to look for it in texts one after another, without more memory. In a
-/// clause it is the list of its text's bytes.
+/// A regular expression, lent, with what it takes to look for it in texts one after another,
+/// without more memory. In a clause it is the list of its text's bytes.
 pub struct PatternMatcher<'p> {
     pattern: &'p Pattern,
     matcher: Matcher<'p>,

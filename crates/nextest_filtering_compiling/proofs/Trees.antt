@@ -37,7 +37,8 @@ with_as_compiled : (predicate : NameMatcher → SourceSpan → FiltersetLeaf) (m
 with_as_compiled predicate m x (copy, span, is, same) So Of exact =
     ((λ so. subst Of same ((exact copy span).0 (subst So is so))), (λ so. subst So (sym is) ((exact copy span).1 (subst Of (sym same) so))))
 
--- what a predicate is compiled to may be exactly what the predicate may be, where the default filter may be the same
+-- what a predicate is compiled to may be exactly what the predicate may be, where the default
+-- filter may be the same
 leaf_as_compiled : (graph : Graph) (binary : Binary) (Name Group : Matcher → Bool → Type 0) (Default Other : Bool → Type 0) → ((value : Bool) → Other value ↔ Default value) → (it : Leaf) (x : FiltersetLeaf)
     → IsCompiledLeaf graph it x → (value : Bool) → MayBe binary Name Group Other x value ↔ MayBeAs graph binary Name Group Default it value
 leaf_as_compiled graph binary Name Group Default Other same (matching package_name m) x is value = set_as_compiled graph package_name m x is binary Name Group Other value
@@ -112,7 +113,8 @@ alike_is May Might a c b is alike = subst (λ f. Alike May Might f b) (sym is) a
 
 -- ---- trees
 
--- what a tree is compiled to gives exactly what the tree gives, where the default filter may be the same
+-- what a tree is compiled to gives exactly what the tree gives, where the default filter may be the
+-- same
 pub gives_as_compiled : (graph : Graph) (binary : Binary) (Name Group : Matcher → Bool → Type 0) (Default Other : Bool → Type 0) → ((value : Bool) → Other value ↔ Default value) → (tree : Tree)
     (filter : Formula FiltersetLeaf) → IsCompiled graph tree filter → (value : Bool) → Gives (MayBe binary Name Group Other) filter value ↔ Gives (MayBeAs graph binary Name Group Default) (shape_of_tree tree) value
 gives_as_compiled graph binary Name Group Default Other same (negation op t) filter (inside, is, made) =

@@ -32,15 +32,17 @@ IsFree cx kind known (set it) = (ban_of kind it ≡ None) × LeafHas cx known (r
 abbrev pub IsAccepted : Context → FiltersetKind → KnownGroups → List ℕ → Tree → Type 0
 IsAccepted cx kind known text tree = IsFilterset text tree × IsFree cx kind known tree
 
--- A text is refused for faults of its own, else for the predicates that may not stand there, alone, else for those that nothing can be.
+-- A text is refused for faults of its own, else for the predicates that may not stand there, alone,
+-- else for those that nothing can be.
 abbrev pub IsRefusedFor : Context → FiltersetKind → KnownGroups → List ℕ → List ParseSingleError → Type 0
 IsRefusedFor cx kind known text faults =
     (((other : Tree) → IsFilterset text other → ⊥) × AreFaultsOf text faults)
     ⊎ ((parsed : ParsedExpr) × IsFilterset text (tree_of parsed) × StandsWhole text parsed
     × ((faults ≡ bans_of kind (leaves_of parsed)) ⊎ ((bans_of kind (leaves_of parsed) ≡ []) × Have cx known (leaves_of parsed) faults)))
 
--- what a text gives: its tree with the spans of its predicates, and the filter that the tree is compiled to, its predicates one by one; or the
--- faults for which it is refused, of which there are some; want of memory says nothing
+-- what a text gives: its tree with the spans of its predicates, and the filter that the tree is
+-- compiled to, its predicates one by one; or the faults for which it is refused, of which there are
+-- some; want of memory says nothing
 abbrev pub Parses : Context → FiltersetKind → KnownGroups → List ℕ → Result Filterset FiltersetError → Type 0
 Parses cx kind known text (Ok it) = (it.input ≡ text) × IsAccepted cx kind known text (tree_of it.parsed) × StandsWhole text it.parsed
     × IsCompiled cx.graph (tree_of it.parsed) (filter_of it.compiled) × AreCompiled cx.graph (leaves_of it.parsed) it.compiled.leaves

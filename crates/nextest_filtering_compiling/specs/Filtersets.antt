@@ -67,7 +67,8 @@ AsksAsWritten it = (question : Question) → asked_in question it ≡ any_leaf (
 abbrev pub IsParsedFilterset : Context → FiltersetKind → KnownGroups → List ℕ → Filterset → Type 0
 IsParsedFilterset cx kind known text it = Parses cx kind known text (Ok it)
 
--- the value on a binary whatever its tests are, none where tests tell; and the value on a test, which is in no group
+-- the value on a binary whatever its tests are, none where tests tell; and the value on a test,
+-- which is in no group
 abbrev pub HasOnBinary : Filterset → Filterset → Binary → Option Bool → Type 0
 HasOnBinary filter default binary value = IsValue (CanBeOn (filter_of filter.compiled) (filter_of default.compiled) binary) value
 

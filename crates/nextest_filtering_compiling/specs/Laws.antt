@@ -16,7 +16,8 @@ OneMeaning {G} Member =
     → ((binary : Binary) (value : Bool) → CanBeOn a default binary value ↔ CanBeOn b default binary value)
     × ((groups : G) (test : Test) (value : Bool) → IsOn a default test (Member groups test) value ↔ IsOn b default test (Member groups test) value)
 
--- a compiled tree, with a compiled default filter, is on every binary and on every test what the trees are
+-- a compiled tree, with a compiled default filter, is on every binary and on every test what the
+-- trees are
 abbrev pub KeepsMeaning : {G : Type 0} → (G → Test → Matcher → Type 0) → Type 0
 KeepsMeaning {G} Member =
     (groups : G) (graph : Graph) (tree default : Tree) (filter default_filter : Formula FiltersetLeaf) → IsCompiled graph tree filter → IsCompiled graph default default_filter

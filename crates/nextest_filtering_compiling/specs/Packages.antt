@@ -13,8 +13,9 @@ IsNamed graph m place = (it : List ℕ × List ℕ) × (slice_get graph.packages
 abbrev pub HasId : Graph → List ℕ → ℕ → Type 0
 HasId graph id place = (it : List ℕ × List ℕ) × (slice_get graph.packages place ≡ Some it) × (it.0 ≡ id)
 
--- a predicate asks for the package of an id: `package` for those with such a name, `deps` for those that one of these reaches by a path of
--- links, perhaps an empty one, `rdeps` for those that reach one of these
+-- a predicate asks for the package of an id: `package` for those with such a name, `deps` for those
+-- that one of these reaches by a path of links, perhaps an empty one, `rdeps` for those that reach
+-- one of these
 abbrev pub AsksFor : Graph → Subject → Matcher → List ℕ → Type 0
 AsksFor graph package_name m id = (place : ℕ) × IsNamed graph m place × HasId graph id place
 AsksFor graph dependencies m id = (from : ℕ) × (to : ℕ) × IsNamed graph m from × Reaches graph.links from to × HasId graph id to

@@ -7,8 +7,8 @@ use Rattle.nextest_filtering_compiling.specs.Leaves.{leaves_of, formula_of_tree}
 use Rattle.nextest_filtering_compiling.specs.declared.shape.Task.{Task}
 use Rattle.nextest_filtering_compiling.specs.declared.shape.Task.TheVariants as task
 
--- the formulas that wait once these tasks are done, the last one first, and the place of the predicate that would be added next; none where a task
--- finds too few of them
+-- the formulas that wait once these tasks are done, the last one first, and the place of the
+-- predicate that would be added next; none where a task finds too few of them
 abbrev pub done : List Task → List (Formula ℕ) → ℕ → Option (List (Formula ℕ) × ℕ)
 done [] waiting next = Some (waiting, next)
 done (task.Add t ∷ more) waiting next = done more (formula_of_tree next t.now ∷ waiting) (next + length (leaves_of t.now))

@@ -8,7 +8,8 @@ use Rattle.nextest_filtering_ast.specs.Meaning.{MatchesName}
 use Rattle.nextest_filtering_ast.specs.Tree.{Leaf, Matcher, Tree, matching, built_for, default_filter, everything, nothing, package_name, dependencies, dependents, kind, binary_name, binary_id, test_name, group, negation, union, intersection, difference, parens, set}
 use Rattle.nextest_filtering_compiling.specs.Packages.{AsksFor}
 
--- what a predicate may be on a binary, where this is what matchers of names and of groups, and the default filter, may be
+-- what a predicate may be on a binary, where this is what matchers of names and of groups, and the
+-- default filter, may be
 abbrev pub MayBeAs : Graph → Binary → (Matcher → Bool → Type 0) → (Matcher → Bool → Type 0) → (Bool → Type 0) → Leaf → Bool → Type 0
 MayBeAs graph binary Name Group Default (matching package_name m) value = Tells (AsksFor graph package_name m binary.package_id) value
 MayBeAs graph binary Name Group Default (matching dependencies m) value = Tells (AsksFor graph dependencies m binary.package_id) value
@@ -32,8 +33,8 @@ shape_of_tree (difference op a b) = both (shape_of_tree a) (negated (shape_of_tr
 shape_of_tree (parens t) = shape_of_tree t
 shape_of_tree (set predicate) = leaf predicate
 
--- what a filterset can be on a binary, for some answers to its questions for names and groups, each place apart from all
--- others; at each `default()` those of the default filter afresh
+-- what a filterset can be on a binary, for some answers to its questions for names and groups, each
+-- place apart from all others; at each `default()` those of the default filter afresh
 abbrev pub TreeCanBeOn : Graph → Tree → Tree → Binary → Bool → Type 0
 TreeCanBeOn graph tree default binary =
     Gives (MayBeAs graph binary Either Either (Gives (MayBeAs graph binary Either Either Never) (shape_of_tree default))) (shape_of_tree tree)

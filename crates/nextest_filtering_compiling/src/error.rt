@@ -9,8 +9,9 @@ use thiserror::Error;
 pub struct FiltersetParseErrors {
     /// The text.
     pub input: Text,
-    /// Its faults: those of the text in the order in which they were found, else the predicates that may not stand in a
-    /// filterset of its kind, else those that nothing can be, from the left.
+    /// Its faults: those of the text in the order in which they were found, else the predicates
+    /// that may not stand in a filterset of its kind, else those that nothing can be, from the
+    /// left.
     pub errors: Vec<ParseSingleError>,
 }
 

@@ -41,7 +41,8 @@ enum Filtered {
     Faults(Vec<ParseSingleError>),
 }
 
-// The filter that a tree is, or its faults: the predicates that may not stand there, else those that nothing can be.
+// The filter that a tree is, or its faults: the predicates that may not stand there, else those
+// that nothing can be.
 fn compile(
     alloc: Global,
     tree: &ParsedExpr,
@@ -67,10 +68,11 @@ fn compile(
 }
 
 impl Filterset {
-    /// The filterset of a text, for a workspace and a purpose, where these groups are known. An `Err` has the text with its
-    /// faults: those of the text itself; else the predicates that may not stand in a filterset of this kind; else
-    /// those that nothing in the workspace can be: no package has such a name, no group, and, where binaries are known,
-    /// none has such an id or name. Or there was no memory, which says nothing of the text.
+    /// The filterset of a text, for a workspace and a purpose, where these groups are known. An
+    /// `Err` has the text with its faults: those of the text itself; else the predicates that may
+    /// not stand in a filterset of this kind; else those that nothing in the workspace can be: no
+    /// package has such a name, no group, and, where binaries are known, none has such an id or
+    /// name. Or there was no memory, which says nothing of the text.
     pub fn parse(
         alloc: Global,
         input: Text,
@@ -125,7 +127,8 @@ impl Filterset {
         self.compiled.matches_binary(alloc, query, ecx)
     }
 
-    /// Whether its filter, which asks for no group, holds on a test, as `CompiledExpr::matches_test` tells it.
+    /// Whether its filter, which asks for no group, holds on a test, as
+    /// `CompiledExpr::matches_test` tells it.
     pub fn matches_test(
         &self,
         alloc: Global,
@@ -139,8 +142,8 @@ impl Filterset {
         self.compiled.matches_test(alloc, query, ecx)
     }
 
-    /// Whether its filter, which asks for no group, holds on each of some tests of a binary, as `CompiledExpr::matches_tests`
-    /// tells it.
+    /// Whether its filter, which asks for no group, holds on each of some tests of a binary, as
+    /// `CompiledExpr::matches_tests` tells it.
     pub fn matches_tests(
         &self,
         alloc: Global,

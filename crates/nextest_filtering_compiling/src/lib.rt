@@ -1,4 +1,5 @@
-//! Filtersets that are compiled for a workspace: which texts are accepted, and the filters that they are.
+//! Filtersets that are compiled for a workspace: which texts are accepted, and the filters that
+//! they are.
 #![tactic(auto)]
 
 mod as_filters;

@@ -7,8 +7,9 @@ use nextest_text::Text;
 use std::alloc::{AllocError, Global};
 use std::marker::Model;
 
-/// The workspace that filtersets are compiled for: packages, the links between them and what reaches what, and test
-/// binaries, each by its id and its name. In a clause it is the graph and the binaries.
+/// The workspace that filtersets are compiled for: packages, the links between them and what
+/// reaches what, and test binaries, each by its id and its name. In a clause it is the graph and
+/// the binaries.
 pub struct ParseContext {
     graph: PackageGraph,
     reachability: Reachability,
@@ -93,7 +94,8 @@ impl ParseContext {
         self.binaries.as_slice()
     }
 
-    // Whether the package at one place reaches that at another by a path of links, perhaps an empty one.
+    // Whether the package at one place reaches that at another by a path of links, perhaps an empty
+    // one.
     pub(crate) fn reaches(&self, from: usize, to: usize) -> bool
         requires from { from < length self.now.graph.packages }
         requires to { to < length self.now.graph.packages }

@@ -37,7 +37,8 @@ front_all input front i found past none known =
 
 -- ---- texts
 
--- what stands before the first end that isn't escaped; the first byte is escaped where a `\` came before it
+-- what stands before the first end that isn't escaped; the first byte is escaped where a `\` came
+-- before it
 abbrev pub text_front : Bool → List ℕ → List ℕ
 text_front escaped [] = []
 text_front true (byte ∷ rest) = byte ∷ text_front false rest

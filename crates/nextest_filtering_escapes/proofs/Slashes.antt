@@ -74,7 +74,8 @@ one_regex raw a b left right = slashed_same a b (sym left.0 ∙ right.0)
 
 -- ---- the end
 
--- what stands before the first `/` that isn't escaped; the first byte is escaped where a `\` came before it
+-- what stands before the first `/` that isn't escaped; the first byte is escaped where a `\` came
+-- before it
 abbrev pub regex_front : Bool → List ℕ → List ℕ
 regex_front escaped [] = []
 regex_front escaped (byte ∷ rest) = cond (eqb byte 47 && not escaped) [] (byte ∷ regex_front (eqb byte 92) rest)

@@ -7,7 +7,8 @@ abbrev pub Stops : List ℕ → Type 0
 Stops [] = ⊤
 Stops (byte ∷ rest) = is_end byte ≡ true
 
--- a reading from the left reaches no `)` or `,` that isn't escaped; the first byte is escaped where a `\` came before it
+-- a reading from the left reaches no `)` or `,` that isn't escaped; the first byte is escaped where
+-- a `\` came before it
 abbrev pub is_unended : Bool → List ℕ → Bool
 is_unended escaped [] = true
 is_unended true (byte ∷ rest) = is_unended false rest

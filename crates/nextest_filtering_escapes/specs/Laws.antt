@@ -17,7 +17,8 @@ OneText = (raw a b : List ℕ) → IsText raw a → IsText raw b → a ≡ b
 abbrev pub OneReading : Type 0
 OneReading = (raw a b : List ℕ) (s t : List EscapeSpan) → IsRead raw a s → IsRead raw b t → (a ≡ b) × (s ≡ t)
 
--- the bad escapes of the bytes before an end are bad escapes of all: a `\` that is told alone is the last byte
+-- the bad escapes of the bytes before an end are bad escapes of all: a `\` that is told alone is
+-- the last byte
 abbrev pub BadEscapesStay : Type 0
 BadEscapesStay = (raw behind text : List ℕ) (bad : List EscapeSpan) → IsUnended raw → IsEnded raw behind → IsRead raw text bad
     → AllByRecursion (IsSpanOf (raw ++ behind)) bad
@@ -39,7 +40,8 @@ abbrev pub HasNoBlankEnds : List ℕ → Type 0
 HasNoBlankEnds shown = ((first : ℕ) (rest : List ℕ) → shown ≡ first ∷ rest → is_blank first ≡ false)
     × ((front : List ℕ) (last : ℕ) → shown ≡ front ++ last ∷ [] → is_blank last ≡ false)
 
--- a text that was printed is empty just where the text is, begins as it or with a `\`, never with a `/`, and has no blank ends
+-- a text that was printed is empty just where the text is, begins as it or with a `\`, never with a
+-- `/`, and has no blank ends
 abbrev pub EscapedHasNoBlankEnds : Type 0
 EscapedHasNoBlankEnds = (text : List ℕ) → ((text_with_escapes text ≡ []) ↔ (text ≡ [])) × BeginsAs text (text_with_escapes text)
     × ((rest : List ℕ) → text_with_escapes text ≡ 47 ∷ rest → ⊥) × HasNoBlankEnds (text_with_escapes text)

@@ -10,7 +10,8 @@ use Rattle.nextest_filtering_escapes.specs.Spans.{IsBadEscape}
 abbrev pub IsShortHexadecimal : List ℕ → Type 0
 IsShortHexadecimal digits = (0 < length digits) × (length digits ≤ 6) × AllDigits 16 digits
 
--- what stands between braces in front and what follows them, which are all that digits in braces and what follows can be
+-- what stands between braces in front and what follows them, which are all that digits in braces
+-- and what follows can be
 abbrev pub SplitsBraces : List ℕ → Option (Bor (List ℕ) × Bor (List ℕ)) → Type 0
 SplitsBraces bytes (Some x) = (bytes ≡ 123 ∷ x.0.now ++ 125 ∷ x.1.now)
     × ((digits rest : List ℕ) → AllDigits 16 digits → bytes ≡ 123 ∷ digits ++ 125 ∷ rest → (digits ≡ x.0.now) × (rest ≡ x.1.now))

@@ -17,7 +17,8 @@ pub record IsSpanOf (raw : List ℕ) (span : EscapeSpan) : Type 0 where
   pub long : span.length ≡ length bytes
   pub bad : IsBadEscape bytes behind
 
--- each of the spans begins where the one before ends, or later, the first at low or later, and the last ends at high or earlier
+-- each of the spans begins where the one before ends, or later, the first at low or later, and the
+-- last ends at high or earlier
 abbrev pub Rise : ℕ → List EscapeSpan → ℕ → Type 0
 Rise low [] high = low ≤ high
 Rise low (span ∷ spans) high = (low ≤ span.offset) × Rise (span.offset + span.length) spans high

@@ -16,7 +16,8 @@ is_end byte = byte == 41 || byte == 44
 abbrev pub is_plain : ℕ → Bool
 is_plain byte = not (byte == 92) && not (is_end byte)
 
--- the byte that a letter stands for behind a `\`: `n`, `r`, `t`, `b`, `f`, and `\`, `/`, `)` and `,` for themselves
+-- the byte that a letter stands for behind a `\`: `n`, `r`, `t`, `b`, `f`, and `\`, `/`, `)` and
+-- `,` for themselves
 abbrev pub escape_of : ℕ → Option ℕ
 escape_of letter =
     if letter == 110 then Some 10

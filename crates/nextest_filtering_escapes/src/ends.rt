@@ -11,8 +11,9 @@ fn is_end(byte: u8) -> bool
     byte == b')' || byte == b','
 }
 
-/// The text at the start of `input`, blanks included, and what follows: it runs to the first `)` or `,` that isn't
-/// escaped, or to the end. A backslash escapes the character behind it, whatever it is.
+/// The text at the start of `input`, blanks included, and what follows: it runs to the first `)` or
+/// `,` that isn't escaped, or to the end. A backslash escapes the character behind it, whatever it
+/// is.
 pub fn split_text(input: &str) -> (&str, &str)
     ensures whole { input.now ≡ result.0.now ++ result.1.now }
     ensures stops { Stops result.1.now }
@@ -33,8 +34,8 @@ pub fn split_text(input: &str) -> (&str, &str)
     (input, "")
 }
 
-/// What stands before the first `/` with no backslash directly before it, and what follows that `/`. `None` where
-/// there is none.
+/// What stands before the first `/` with no backslash directly before it, and what follows that
+/// `/`. `None` where there is none.
 pub fn split_regex(input: &str) -> Option<(&str, &str)>
     ensures whole { IfSome result (λ parts. input.now ≡ parts.0.now ++ 47 ∷ parts.1.now) }
     ensures ends { IfSome result (λ parts. HasRegexText parts.0.now) }

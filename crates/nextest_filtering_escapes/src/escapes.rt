@@ -11,7 +11,8 @@ use super::hexadecimal::read_unicode;
 use nextest_text::{Listing, Text};
 use std::alloc::{AllocError, Global};
 
-/// Where a bad escape stands, in bytes: a backslash with the whole character behind it, or the one that ends a text.
+/// Where a bad escape stands, in bytes: a backslash with the whole character behind it, or the one
+/// that ends a text.
 #[derive(Clone, Copy, Debug, PartialEq, Eq)]
 pub struct EscapeSpan {
     /// How many bytes stand before the backslash.
@@ -53,8 +54,8 @@ fn split_first(text: &str) -> Option<(char, &str)>
     Some((first, characters.as_str()))
 }
 
-/// What stands behind a backslash: the character that the escape stands for, and what follows it. `None` for a bad
-/// escape, of at most one more character.
+/// What stands behind a backslash: the character that the escape stands for, and what follows it.
+/// `None` for a bad escape, of at most one more character.
 fn read_escape(behind: &str) -> (Option<char>, &str)
     ensures { ReadsEscape behind.now result.0 result.1.now }
 {
@@ -70,7 +71,8 @@ fn read_escape(behind: &str) -> (Option<char>, &str)
     }
 }
 
-/// Where the escape stands that begins before `behind` and ends before `ahead`, both of which end `raw`.
+/// Where the escape stands that begins before `behind` and ends before `ahead`, both of which end
+/// `raw`.
 fn span_of(raw: &str, behind: &str, ahead: &str) -> EscapeSpan
     requires within { length behind.now < length raw.now }
     requires ends { length ahead.now ≤ length behind.now }
@@ -83,7 +85,8 @@ fn span_of(raw: &str, behind: &str, ahead: &str) -> EscapeSpan
     }
 }
 
-/// What `raw` stands for, as `split_text` gives it, and its bad escapes. It fails only on allocation.
+/// What `raw` stands for, as `split_text` gives it, and its bad escapes. It fails only on
+/// allocation.
 pub fn unescape(alloc: Global, raw: &str) -> Result<Unescaped, AllocError>
     ensures text { IfOk result
         (λ read. read.bad ≡ [] → IsUnended raw.now → IsText raw.now read.text) }

@@ -13,15 +13,16 @@ fn number_of(digits: &str) -> Option<u32>
     u32::from_str_radix(digits, 16).ok()
 }
 
-/// What stands between the braces at the start of `behind`, and what follows them. `None` where there are none.
+/// What stands between the braces at the start of `behind`, and what follows them. `None` where
+/// there are none.
 fn split_braces(behind: &str) -> Option<(&str, &str)>
     ensures { SplitsBraces behind.now result }
 {
     behind.strip_prefix('{')?.split_once('}')
 }
 
-/// The character that `{digits}` at the start of `behind` stands for, and what follows. `None` where there is no
-/// such prefix, or its number is no character's.
+/// The character that `{digits}` at the start of `behind` stands for, and what follows. `None`
+/// where there is no such prefix, or its number is no character's.
 pub fn read_unicode(behind: &str) -> Option<(char, &str)>
     ensures { ReadsUnicode behind.now result }
 {

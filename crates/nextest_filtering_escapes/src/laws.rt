@@ -1,4 +1,5 @@
-//! What holds of every text, and of how it prints. Each function does nothing, and its contract is the law.
+//! What holds of every text, and of how it prints. Each function does nothing, and its contract is
+//! the law.
 ghost use Rattle.nextest_filtering_escapes.specs.Laws.{OneText, OneReading, OneRegex, BadEscapesStay, EscapedReadsBack, EscapedHasNoBlankEnds, PlainAround};
 
 /// Bytes stand for at most one text.
@@ -11,8 +12,8 @@ pub fn one_reading()
     ensures { OneReading }
 {}
 
-/// The bad escapes of bytes with the end of a text behind them are bad escapes of all: a backslash is told alone only
-/// where it is the last byte of all.
+/// The bad escapes of bytes with the end of a text behind them are bad escapes of all: a backslash
+/// is told alone only where it is the last byte of all.
 pub fn bad_escapes_stay()
     ensures { BadEscapesStay }
 {}
@@ -27,7 +28,8 @@ pub fn escaped_reads_back()
     ensures { EscapedReadsBack }
 {}
 
-/// What is printed of a text begins as the text or with a backslash, and neither begins nor ends with a blank.
+/// What is printed of a text begins as the text or with a backslash, and neither begins nor ends
+/// with a blank.
 pub fn escaped_has_no_blank_ends()
     ensures { EscapedHasNoBlankEnds }
 {}

@@ -1,5 +1,5 @@
-//! The texts and regular expressions that stand as arguments in a filterset: where each ends, what it stands for,
-//! and how it prints.
+//! The texts and regular expressions that stand as arguments in a filterset: where each ends, what
+//! it stands for, and how it prints.
 #![tactic(auto)]
 
 mod ends;

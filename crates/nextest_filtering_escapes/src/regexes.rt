@@ -5,8 +5,8 @@ ghost use Rattle.nextest_filtering_escapes.specs.Regex.{IsRegexText, HasRegexTex
 use nextest_text::Text;
 use std::alloc::{AllocError, Global};
 
-/// The regular expression that `raw` stands for, as `split_regex` gives it: `/` for each `\/`. It fails only on
-/// allocation.
+/// The regular expression that `raw` stands for, as `split_regex` gives it: `/` for each `\/`. It
+/// fails only on allocation.
 pub fn unslash(alloc: Global, raw: &str) -> Result<Text, AllocError>
     ensures { IfOk result (λ text. HasRegexText raw.now → IsRegexText raw.now text) }
 {

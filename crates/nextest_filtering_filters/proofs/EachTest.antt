@@ -144,8 +144,8 @@ both_taken May count it front middle old new left right one other now is at then
 
 -- ---- all steps
 
--- What a walk over steps has got to: the formulas that wait, as many columns, whose values are theirs at each place, and
--- what the steps that are left make of them.
+-- What a walk over steps has got to: the formulas that wait, as many columns, whose values are
+-- theirs at each place, and what the steps that are left make of them.
 pub record Reaches (May : ℕ → ℕ → Bool → Type 0) (steps : List FormulaStep) (at : ℕ) (formula : Formula ℕ) (count : ℕ) (waiting : List (Vec Bool)) : Type 0 where
   pub formulas : List (Formula ℕ)
   pub ahead : after (drop at steps) formulas ≡ Some (formula ∷ [])

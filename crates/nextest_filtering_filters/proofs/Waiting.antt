@@ -92,7 +92,8 @@ many_wait May (last ∷ formulas) waiting (front, (values, is, of, waits)) =
     let more = many_wait May formulas front waits in
     omega (arith, ap length is, length-append front (values ∷ []), more)
 
--- What a walk over steps has got to: the formulas that wait, their values, and what the steps that are left make of them.
+-- What a walk over steps has got to: the formulas that wait, their values, and what the steps that
+-- are left make of them.
 pub record GotTo (May : ℕ → Bool → Type 0) (steps : List FormulaStep) (place : ℕ) (formula : Formula ℕ) (waiting : List Values) : Type 0 where
   pub formulas : List (Formula ℕ)
   pub ahead : after (drop place steps) formulas ≡ Some (formula ∷ [])

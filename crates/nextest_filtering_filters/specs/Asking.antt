@@ -56,12 +56,14 @@ AreOn binary default it values = AreValues (MayBe binary Either Either (values_m
 abbrev pub AreLeafValues : Binary → List ℕ → (Matcher → Type 0) → Bool → FiltersetLeaf → Values → Type 0
 AreLeafValues binary name Member default it values = AreValues (IsLeafValue binary name Member default it) values × IsSome values
 
--- what a predicate is on each of some tests of a binary, whose groups nobody knows, where this is what the default filter is
+-- what a predicate is on each of some tests of a binary, whose groups nobody knows, where this is
+-- what the default filter is
 abbrev pub IsColumn : Binary → List (Bor (List ℕ)) → List Bool → FiltersetLeaf → Vec Bool → Type 0
 IsColumn binary names default it column = IsLong (length names) column
     × OnEach names (λ place name. IsLeafValue binary name (λ m. ⊥) (value_at default place) it (value_at column.items place))
 
--- what is kept of a default filter on a binary, beside a filter: nothing only where the filter doesn't ask for it
+-- what is kept of a default filter on a binary, beside a filter: nothing only where the filter
+-- doesn't ask for it
 abbrev pub IsKept : Compiled → Compiled → Binary → Option PartOf → Type 0
 IsKept filter default binary None = list_any is_default filter.leaves ≡ false
 IsKept filter default binary (Some part) = (part.filter ≡ default) × (part.binary ≡ binary)

@@ -16,7 +16,8 @@ with_leaves change (negated inside) = negated (with_leaves change inside)
 with_leaves change (either left right) = either (with_leaves change left) (with_leaves change right)
 with_leaves change (both left right) = both (with_leaves change left) (with_leaves change right)
 
--- it can be so where each leaf takes a value that it may take, apart from all other places, of the same leaf too
+-- it can be so where each leaf takes a value that it may take, apart from all other places, of the
+-- same leaf too
 pub data Gives {L : Type 0} (May : L → Bool → Type 0) : Formula L → Bool → Type 0 where
   leaf_gives : (it : L) (value : Bool) → May it value → Gives May (leaf it) value
   negated_gives : (inside : Formula L) (value : Bool) → Gives May inside value → Gives May (negated inside) (not value)

@@ -1,4 +1,5 @@
--- What holds of all filters, whoever is asked for groups: a look-up says whose group has a name that a matcher matches.
+-- What holds of all filters, whoever is asked for groups: a look-up says whose group has a name
+-- that a matcher matches.
 use Rattle.std.specs.Prelude.{◌≡◌, ◌↔◌, Bool, false, Some}
 use Rattle.std.specs.List.{list_any}
 use Rattle.nextest_filtering_filters.specs.Formula.{Formula, IsValue}
@@ -22,7 +23,8 @@ SameWithoutGroups {G} {H} Member Other =
     → IsOn (filter_of filter) (filter_of default) test (Member groups test) value
     → IsOn (filter_of filter) (filter_of default) test (Other others test) value
 
--- where nobody asks for groups, what a filter is by a look-up it is where nobody knows of a group, and the other way round
+-- where nobody asks for groups, what a filter is by a look-up it is where nobody knows of a group,
+-- and the other way round
 abbrev pub SameWithoutLookup : {G : Type 0} → (G → Test → Matcher → Type 0) → Type 0
 SameWithoutLookup {G} Member =
     (groups : G) (filter default : Compiled) (test : Test) (value : Bool)

@@ -12,7 +12,8 @@ use Rattle.nextest_filtering_filters.specs.Query.{Binary, Test}
 abbrev pub Tells : Type 0 → Bool → Type 0
 Tells So value = (value ≡ true) ↔ So
 
--- what a binary alone tells of a predicate; of a test's name, its group and the default filter nothing
+-- what a binary alone tells of a predicate; of a test's name, its group and the default filter
+-- nothing
 abbrev pub IsKnownOn : Binary → FiltersetLeaf → Bool → Type 0
 IsKnownOn binary (leaf.Packages set) value = value ≡ contains_text set binary.package_id
 IsKnownOn binary (leaf.Kind m span) value = Tells (MatchesName (matcher_of m) binary.kind) value
@@ -25,7 +26,8 @@ IsKnownOn binary leaf.Default value = ⊥
 IsKnownOn binary leaf.All value = value ≡ true
 IsKnownOn binary leaf.None value = value ≡ false
 
--- what a predicate may be on a binary, where this is what matchers of names and of groups, and the default filter, may be
+-- what a predicate may be on a binary, where this is what matchers of names and of groups, and the
+-- default filter, may be
 abbrev pub MayBe : Binary → (Matcher → Bool → Type 0) → (Matcher → Bool → Type 0) → (Bool → Type 0) → FiltersetLeaf → Bool → Type 0
 MayBe binary Name Group Default (leaf.Test m span) value = Name (matcher_of m) value
 MayBe binary Name Group Default (leaf.Group m span) value = Group (matcher_of m) value
@@ -40,8 +42,8 @@ Either m value = ⊤
 abbrev pub Never : Bool → Type 0
 Never value = ⊥
 
--- what a filter can be on a binary, for some answers to its questions for names and groups, each place apart from all
--- others; at each `default()` those of the default filter afresh
+-- what a filter can be on a binary, for some answers to its questions for names and groups, each
+-- place apart from all others; at each `default()` those of the default filter afresh
 abbrev pub CanBeOn : Formula FiltersetLeaf → Formula FiltersetLeaf → Binary → Bool → Type 0
 CanBeOn filter default binary = Gives (MayBe binary Either Either (Gives (MayBe binary Either Either Never) default)) filter
 

@@ -4,7 +4,8 @@ use Rattle.nextest_filtering_filters.specs.Formula.{Formula, leaf, negated, eith
 use Rattle.nextest_filtering_filters.specs.declared.step.FormulaStep.{FormulaStep}
 use Rattle.nextest_filtering_filters.specs.declared.step.FormulaStep.TheVariants as step
 
--- what a step makes of the formulas that wait, the last one first; none where there are too few of them
+-- what a step makes of the formulas that wait, the last one first; none where there are too few of
+-- them
 abbrev pub after_step : FormulaStep → List (Formula ℕ) → Option (List (Formula ℕ))
 after_step (step.Leaf number) waiting = Some (leaf number ∷ waiting)
 after_step step.Not [] = None

@@ -17,8 +17,8 @@ values_of_leaf zero = unknown
 values_of_leaf (suc zero) = everywhere
 values_of_leaf (suc (suc number)) = nowhere
 
--- `test(a) or all()` is true, `test(a) and none()` false; of `test(a)`, `not (test(a) and test(a))` and `test(a) or not test(a)` nothing is
--- known, since each place of a leaf is apart
+-- `test(a) or all()` is true, `test(a) and none()` false; of `test(a)`, `not (test(a) and test(a))`
+-- and `test(a) or not test(a)` nothing is known, since each place of a leaf is apart
 pub record WorkedRows : Type 0 where
   pub or_all : IsValue (Gives (may_by values_of_leaf) (either (leaf 0) (leaf 1))) (Some true)
   pub and_none : IsValue (Gives (may_by values_of_leaf) (both (leaf 0) (leaf 2))) (Some false)

@@ -78,7 +78,8 @@ impl<'f> Asked<'f> {
         }
     }
 
-    // The values that the predicate may have on the binary, where the default filter may have these.
+    // The values that the predicate may have on the binary, where the default filter may have
+    // these.
     pub(crate) fn on_binary(&self, default: Values) -> Values
         requires some { IsSome default }
         ensures values { (binary : Binary) (leaf : FiltersetLeaf) → IsFor binary leaf self.now
@@ -119,8 +120,8 @@ impl<'f> Asked<'f> {
         }
     }
 
-    // Whether the predicate is so on each of some tests, whose groups nobody knows, where this is whether the default filter
-    // holds on them.
+    // Whether the predicate is so on each of some tests, whose groups nobody knows, where this is
+    // whether the default filter holds on them.
     pub(crate) fn on_tests(
         &mut self,
         alloc: Global,

@@ -57,8 +57,8 @@ impl FormulaBuilder {
         Ok(self.steps.push(FormulaStep::Not)?)
     }
 
-    /// Joins the last two formulas to what is so where one of them is, or both. It fails only on allocation, and then nothing
-    /// changes.
+    /// Joins the last two formulas to what is so where one of them is, or both. It fails only on
+    /// allocation, and then nothing changes.
     pub fn either(&mut self) -> Result<(), AllocError>
         requires two { 2 ≤ length (waiting_of self.old) }
         ensures joined { IfOk result (λ _.
@@ -69,7 +69,8 @@ impl FormulaBuilder {
         Ok(self.steps.push(FormulaStep::Either)?)
     }
 
-    /// Joins the last two formulas to what is so where both are. It fails only on allocation, and then nothing changes.
+    /// Joins the last two formulas to what is so where both are. It fails only on allocation, and
+    /// then nothing changes.
     pub fn both(&mut self) -> Result<(), AllocError>
         requires two { 2 ≤ length (waiting_of self.old) }
         ensures joined { IfOk result (λ _.

@@ -105,8 +105,8 @@ fn take_step(
 }
 
 impl Formula {
-    // Whether the formula holds on each of so many tests, where its leaves have these columns, in the order of their
-    // numbers.
+    // Whether the formula holds on each of so many tests, where its leaves have these columns, in
+    // the order of their numbers.
     pub(crate) fn column(
         &self,
         alloc: Global,

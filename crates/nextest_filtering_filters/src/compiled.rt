@@ -11,8 +11,8 @@ use crate::leaf::FiltersetLeaf;
 use std::alloc::{AllocError, Global};
 use std::marker::Model;
 
-/// A filter that is compiled: predicates, and a formula over them by their places, in postfix order. What it is in a
-/// clause is `filter_of` it.
+/// A filter that is compiled: predicates, and a formula over them by their places, in postfix
+/// order. What it is in a clause is `filter_of` it.
 pub struct CompiledExpr {
     formula: Formula,
     leaves: Vec<FiltersetLeaf>,
@@ -49,7 +49,8 @@ impl Clone for CompiledExpr {
 }
 
 impl CompiledExpr {
-    /// A formula over predicates, each known by its place in the list. A place where none stands holds nowhere.
+    /// A formula over predicates, each known by its place in the list. A place where none stands
+    /// holds nowhere.
     pub fn new(formula: Formula, leaves: Vec<FiltersetLeaf>) -> CompiledExpr
         ensures steps { result.steps ≡ formula }
         ensures leaves { result.leaves ≡ leaves.items }

@@ -26,7 +26,8 @@ impl<'c> Model for EvalContext<'c> {
 }
 
 impl<'c> EvalContext<'c> {
-    /// What filters are asked with, where this is the default filter: a filter that has neither `default()` nor `group()`.
+    /// What filters are asked with, where this is the default filter: a filter that has neither
+    /// `default()` nor `group()`.
     pub fn new(default_filter: &'c CompiledExpr) -> EvalContext<'c>
         requires no_default { list_any is_default default_filter.now.leaves ≡ false }
         requires no_group { list_any is_group default_filter.now.leaves ≡ false }

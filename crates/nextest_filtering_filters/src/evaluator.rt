@@ -25,9 +25,9 @@ const NOWHERE: Values = Values {
     may_fail: true,
 };
 
-/// A filter on a binary, which is asked of as many of the binary's tests as wanted: what its regular expressions take is
-/// made once, and a test takes no memory but for a glob on a name longer than all before. In a clause it is the filter, the default filter and the
-/// binary.
+/// A filter on a binary, which is asked of as many of the binary's tests as wanted: what its
+/// regular expressions take is made once, and a test takes no memory but for a glob on a name
+/// longer than all before. In a clause it is the filter, the default filter and the binary.
 pub struct BinaryEvaluator<'f> {
     main: Part<'f>,
     // Nothing is kept of the default filter where the filter doesn't ask for it.
@@ -77,7 +77,8 @@ fn values_of(value: Option<bool>) -> Values
     }
 }
 
-// What is kept of a default filter on a binary, beside a filter: nothing where the filter doesn't ask for it.
+// What is kept of a default filter on a binary, beside a filter: nothing where the filter doesn't
+// ask for it.
 fn default_part<'f>(
     alloc: Global,
     filter: &CompiledExpr,
@@ -126,7 +127,8 @@ fn default_value<G: GroupLookup>(
     }
 }
 
-// Whether a default filter holds on each of some tests, whose groups nobody knows, where it is asked for.
+// Whether a default filter holds on each of some tests, whose groups nobody knows, where it is
+// asked for.
 fn default_column(
     alloc: Global,
     default: &mut Option<Part<'_>>,
@@ -168,8 +170,9 @@ impl<'f> BinaryEvaluator<'f> {
         })
     }
 
-    /// The value that the filter has on the binary whatever its tests are, each place that asks for a test's name or group
-    /// apart from all others; `None` where it can be true and can be false. It fails only on allocation.
+    /// The value that the filter has on the binary whatever its tests are, each place that asks for
+    /// a test's name or group apart from all others; `None` where it can be true and can be false.
+    /// It fails only on allocation.
     pub fn matches_binary(&mut self) -> Result<Option<bool>, AllocError>
         ensures value { IfOk result (IsValue
             (CanBeOn (filter_of self.old.filter) (filter_of self.old.default) self.old.binary)) }
@@ -179,7 +182,8 @@ impl<'f> BinaryEvaluator<'f> {
         self.main.on_binary(default)
     }
 
-    /// Whether the filter holds on a test of the binary, whose groups this look-up knows. It fails only on allocation.
+    /// Whether the filter holds on a test of the binary, whose groups this look-up knows. It fails
+    /// only on allocation.
     pub fn matches_test_with_groups<G: GroupLookup>(
         &mut self,
         test_name: &str,
@@ -200,8 +204,8 @@ impl<'f> BinaryEvaluator<'f> {
         self.main.on_test(&test, default, groups)
     }
 
-    // Whether the filter holds on each of some tests of the binary, whose groups nobody knows, by their names and in their
-    // order.
+    // Whether the filter holds on each of some tests of the binary, whose groups nobody knows, by
+    // their names and in their order.
     pub(crate) fn matches_tests(
         &mut self,
         alloc: Global,

@@ -10,7 +10,8 @@ use crate::values::Values;
 use std::alloc::AllocError;
 use std::marker::Model;
 
-/// A formula over leaves that are known by their numbers. In a clause it is its steps, and what they make is `formula_of` them.
+/// A formula over leaves that are known by their numbers. In a clause it is its steps, and what
+/// they make is `formula_of` them.
 #[derive(Drop)]
 pub struct Formula {
     pub(crate) steps: Vec<FormulaStep>,
@@ -95,10 +96,11 @@ fn take_step(
 }
 
 impl Formula {
-    /// The value that the formula has whatever its leaves are, each place of a leaf apart from all others; `None` where it
-    /// can be true and can be false. `leaves` are the values of the leaves, in the order of their numbers; a leaf that isn't
-    /// there holds nowhere. `waiting` is room for values: what it had is gone, and memory is asked for only where it has too
-    /// little. It fails only on allocation.
+    /// The value that the formula has whatever its leaves are, each place of a leaf apart from all
+    /// others; `None` where it can be true and can be false. `leaves` are the values of the leaves,
+    /// in the order of their numbers; a leaf that isn't there holds nowhere. `waiting` is room for
+    /// values: what it had is gone, and memory is asked for only where it has too little. It fails
+    /// only on allocation.
     pub fn value(
         &self,
         leaves: &[Values],

@@ -13,7 +13,8 @@ pub trait GroupLookup {
     /// The group of a test has a name that the matcher matches.
     ghost member: { Self → Test → Matcher → Type 0 };
 
-    /// Whether the group of a test has a name that the matcher matches. It fails only on allocation.
+    /// Whether the group of a test has a name that the matcher matches. It fails only on
+    /// allocation.
     fn is_member_test(
         &self,
         test: &TestQuery<'_>,

@@ -6,7 +6,8 @@ use nextest_filtering_ast::{BuildPlatform, NameMatcher, SourceSpan};
 use std::alloc::AllocError;
 use std::collections::BTreeSet;
 
-/// A predicate, as it is asked. Two are the same with the same packages, or the same matcher from the same place.
+/// A predicate, as it is asked. Two are the same with the same packages, or the same matcher from
+/// the same place.
 #[derive(PartialEq, Eq)]
 pub enum FiltersetLeaf {
     /// The binary's package is one of these, by their ids.
@@ -79,8 +80,8 @@ impl Clone for FiltersetLeaf {
 }
 
 impl FiltersetLeaf {
-    /// Whether only a test tells whether the predicate holds, and not its binary alone: test names, groups and the default
-    /// filter.
+    /// Whether only a test tells whether the predicate holds, and not its binary alone: test names,
+    /// groups and the default filter.
     pub fn is_runtime_only(&self) -> bool
         ensures { result ≡ is_runtime_only self.now }
     {

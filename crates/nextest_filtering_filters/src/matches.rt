@@ -27,8 +27,9 @@ impl GroupLookup for NoGroups {
 }
 
 impl CompiledExpr {
-    /// The value that the filter has on a binary whatever its tests are, each place that asks for a test's name or group apart
-    /// from all others; `None` where it can be true and can be false. It fails only on allocation.
+    /// The value that the filter has on a binary whatever its tests are, each place that asks for a
+    /// test's name or group apart from all others; `None` where it can be true and can be false. It
+    /// fails only on allocation.
     pub fn matches_binary(
         &self,
         alloc: Global,
@@ -42,8 +43,8 @@ impl CompiledExpr {
         evaluator.matches_binary()
     }
 
-    /// Whether the filter, which asks for no group, holds on a test. It fails only on allocation. Who asks for many tests makes a
-    /// `BinaryEvaluator` and keeps it.
+    /// Whether the filter, which asks for no group, holds on a test. It fails only on allocation.
+    /// Who asks for many tests makes a `BinaryEvaluator` and keeps it.
     pub fn matches_test(
         &self,
         alloc: Global,
@@ -57,8 +58,9 @@ impl CompiledExpr {
         self.matches_test_with_groups(alloc, query, ecx, &NoGroups)
     }
 
-    /// Whether the filter, which asks for no group, holds on each of some tests of a binary, by their names and in their
-    /// order: what its matchers take is made once. It fails only on allocation.
+    /// Whether the filter, which asks for no group, holds on each of some tests of a binary, by
+    /// their names and in their order: what its matchers take is made once. It fails only on
+    /// allocation.
     pub fn matches_tests(
         &self,
         alloc: Global,
@@ -82,8 +84,8 @@ impl CompiledExpr {
         }
     }
 
-    /// Whether the filter holds on a test, whose groups this look-up knows. It fails only on allocation. Who asks for many tests
-    /// makes a `BinaryEvaluator` and keeps it.
+    /// Whether the filter holds on a test, whose groups this look-up knows. It fails only on
+    /// allocation. Who asks for many tests makes a `BinaryEvaluator` and keeps it.
     pub fn matches_test_with_groups<G: GroupLookup>(
         &self,
         alloc: Global,

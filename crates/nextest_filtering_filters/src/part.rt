@@ -125,7 +125,8 @@ fn values_on_test<G: GroupLookup>(
     Ok(())
 }
 
-// What each predicate is on each of some tests, where this is whether the default filter holds on them.
+// What each predicate is on each of some tests, where this is whether the default filter holds on
+// them.
 fn columns_of(
     alloc: Global,
     asked: &mut [Asked<'_>],
@@ -211,8 +212,8 @@ impl<'f> Part<'f> {
         Ok(one_value(value))
     }
 
-    // Whether the filter holds on each of some tests of the binary, whose groups nobody knows, where this is whether the
-    // default filter does.
+    // Whether the filter holds on each of some tests of the binary, whose groups nobody knows,
+    // where this is whether the default filter does.
     pub(crate) fn on_tests(
         &mut self,
         alloc: Global,

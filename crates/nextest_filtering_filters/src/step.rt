@@ -1,7 +1,7 @@
 // The steps of a formula in postfix order.
 
-/// A step of a formula in postfix order: it takes the formulas that it is over off the end of those that wait, and puts
-/// what it makes of them there.
+/// A step of a formula in postfix order: it takes the formulas that it is over off the end of those
+/// that wait, and puts what it makes of them there.
 #[derive(Clone, Copy, Debug, PartialEq, Eq)]
 pub enum FormulaStep {
     /// The leaf of this number.

@@ -15,7 +15,8 @@ use Rattle.nextest_filtering_globs.proofs.Singles.{flat_empty, single, single_de
 never_empty : {A : Type 0} (xs : List A) (x : A) → xs ++ x ∷ [] ≡ [] → ⊥
 never_empty xs x e = omega (arith, ap length e, length-append xs (x ∷ []))
 
--- the last of two lists in a row is the last of the second, or of the first where the second has none
+-- the last of two lists in a row is the last of the second, or of the first where the second has
+-- none
 last_of : (xs ys more : List GlobToken) (t : GlobToken) → xs ++ ys ≡ more ++ t ∷ []
     → ((ys ≡ []) × (xs ≡ more ++ t ∷ [])) ⊎ ((left : List GlobToken) × (ys ≡ left ++ t ∷ []) × (more ≡ xs ++ left))
 last_of [] ys more t e = inr (more, e, refl)

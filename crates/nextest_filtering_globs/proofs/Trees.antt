@@ -9,7 +9,8 @@ use Rattle.nextest_filtering_globs.specs.Syntax.{Spells, SpellsFrom, depth_behin
 use Rattle.nextest_filtering_globs.specs.Inside.{ClosesFrom, HasBrace}
 use Rattle.nextest_filtering_globs.specs.Meaning.{Token, literal, any, zero_or_more, class, alternates, Tokens, no_tokens, next_token, Alternatives, last_alternative, next_alternative, flat_token, flat, flat_alternatives}
 
--- tokens with so many braces open: the rest of an alternative, the further ones, and what follows their brace
+-- tokens with so many braces open: the rest of an alternative, the further ones, and what follows
+-- their brace
 abbrev pub Pieces : ℕ → List GlobToken → Type 0
 Pieces zero tokens = (tree : Tokens) × (flat tree ≡ tokens)
 Pieces (suc depth) tokens = (all : Alternatives) × (behind : List GlobToken) × (tokens ≡ flat_alternatives all ++ behind)

@@ -8,7 +8,8 @@ use Rattle.nextest_filtering_globs.specs.Syntax.{depth_behind}
 use Rattle.nextest_filtering_globs.specs.Inside.{Level, state, step, run, Changes, ClosesFrom, HasRoom, IsBalanced, IsStack}
 use Rattle.nextest_filtering_globs.proofs.Loops.{from_here}
 
--- with the tokens that are left the same comes out as of all from the start, and they close the braces that are open
+-- with the tokens that are left the same comes out as of all from the start, and they close the
+-- braces that are open
 pub record Walked (text : List ℕ) (tokens : List GlobToken) (start : List Bool) (left : List GlobToken)
     (current stack : List Bool) : Type 0 where
   pub levels : List Level

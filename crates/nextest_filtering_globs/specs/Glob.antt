@@ -14,8 +14,8 @@ pub record Glob : Type 0 where
 abbrev pub glob : List ℕ → List GlobToken → Glob
 glob text tokens = record { text = text; tokens = tokens }
 
--- a glob of this text, as its tokens are spelled; a refusal as invalid says that it has none, and want of memory
--- says nothing
+-- a glob of this text, as its tokens are spelled; a refusal as invalid says that it has none, and
+-- want of memory says nothing
 abbrev pub Constructs : List ℕ → Result Glob GlobConstructError → Type 0
 Constructs text (Ok made) = (made.text ≡ text) × IsGlob text made.tokens
 Constructs text (Err fault.InvalidGlob) = (tokens : List GlobToken) → IsGlob text tokens → ⊥

@@ -1,5 +1,6 @@
--- Sets of places in a text, and what each token makes of them. A text of n characters has n + 1 places: in front of
--- each character, and at the end. A set has a `true` for each place that is in it.
+-- Sets of places in a text, and what each token makes of them. A text of n characters has n + 1
+-- places: in front of each character, and at the end. A set has a `true` for each place that is in
+-- it.
 use Rattle.std.specs.Prelude.{◌≡◌, ℕ, ◌*◌, ◌==◌, ◌≤◌, ⊤, Bool, true, false, not, ◌&&◌, ◌||◌, nat_le, nat_lt, ◌↔◌, IsTrue, List, [], ◌∷◌, ◌++◌, map, length}
 use Rattle.nextest_filtering_globs.specs.declared.token.ClassRange.{ClassRange}
 use Rattle.nextest_filtering_globs.specs.declared.token.GlobToken.{GlobToken}
@@ -24,7 +25,8 @@ fits token.Any c = true
 fits (token.Class negated ranges) c = is_of_class negated ranges c
 fits other c = false
 
--- each place goes on by one where its character fits; `carried` says whether one comes to the first place
+-- each place goes on by one where its character fits; `carried` says whether one comes to the first
+-- place
 abbrev pub next_places : (ℕ → Bool) → Bool → List ℕ → List Bool → List Bool
 next_places goes carried [] places = carried ∷ []
 next_places goes carried (c ∷ more) [] = []
@@ -100,7 +102,8 @@ IsStack width [] stack = stack ≡ []
 IsStack width (inner ∷ outer) stack = (below : List Bool) × (stack ≡ (below ++ inner.start) ++ inner.reached)
     × (length inner.start ≡ width) × (length inner.reached ≡ width) × IsStack width outer below
 
--- what becomes of the current set and of the stack is what the change says, whichever braces the stack has
+-- what becomes of the current set and of the stack is what the change says, whichever braces the
+-- stack has
 abbrev pub Changes : (State → State) → List Bool → List Bool → List Bool → List Bool → Type 0
 Changes change current stack current_after stack_after =
     (levels : List Level) → IsStack (length current) levels stack
@@ -135,8 +138,8 @@ ClosesFrom depth (first ∷ more) = HasBrace depth first × ClosesFrom (depth_be
 abbrev pub IsBalanced : List GlobToken → Type 0
 IsBalanced tokens = ClosesFrom 0 tokens
 
--- some tokens match a text exactly where what is left of them matches what is left of it; and where they close their
--- braces, what is left does
+-- some tokens match a text exactly where what is left of them matches what is left of it; and where
+-- they close their braces, what is left does
 abbrev pub Leaves : List GlobToken → List ℕ → List GlobToken → List ℕ → Type 0
 Leaves tokens text left rest =
     (IsBalanced tokens → IsBalanced left) × (Matches tokens text ↔ Matches left rest)
@@ -160,12 +163,14 @@ ArePlain (first ∷ more) = (is_plain first ≡ true) × ArePlain more
 abbrev pub in_braces : List GlobToken → List GlobToken
 in_braces tokens = token.Open ∷ (tokens ++ token.Close ∷ [])
 
--- the tokens have a word between two asterisks first, and from the second of these on they are `left`
+-- the tokens have a word between two asterisks first, and from the second of these on they are
+-- `left`
 abbrev pub IsWord : List GlobToken → List GlobToken → List GlobToken → Type 0
 IsWord tokens word left = (more : List GlobToken) × (left ≡ token.ZeroOrMore ∷ more)
     × (tokens ≡ token.ZeroOrMore ∷ (word ++ left)) × AreSingle word
 
--- a word matches the first characters of a text so far: whatever follows it, and be there an asterisk in front of it
+-- a word matches the first characters of a text so far: whatever follows it, and be there an
+-- asterisk in front of it
 abbrev pub GoesOn : List GlobToken → List ℕ → List GlobToken → List ℕ → Type 0
 GoesOn word text left rest = (more : List GlobToken) → (Matches (word ++ more) text ↔ Matches (left ++ more) rest)
     × (Matches (token.ZeroOrMore ∷ (word ++ more)) text → Matches (token.ZeroOrMore ∷ (left ++ more)) rest)

@@ -18,7 +18,8 @@ abbrev pub Reads : {A B : Type 0} → (A → B × List ℕ) → (B → List ℕ 
 Reads meant IsRead (Ok found) = IsRead (meant found).0 (meant found).1
 Reads meant IsRead (Err error) = Refuses IsRead error
 
--- the tokens that the whole text spells; a refusal as invalid says that it spells none, and want of memory says nothing
+-- the tokens that the whole text spells; a refusal as invalid says that it spells none, and want of
+-- memory says nothing
 abbrev pub ReadsWhole : List ℕ → Result (Vec GlobToken Global) GlobConstructError → Type 0
 ReadsWhole text (Ok tokens) = SpellsFrom 0 tokens.items text
 ReadsWhole text (Err fault.InvalidGlob) = (tokens : List GlobToken) → SpellsFrom 0 tokens text → ⊥
@@ -38,7 +39,8 @@ abbrev pub IsSigned : List ℕ → Bool → List ℕ → Type 0
 IsSigned text true inner = (sign : ℕ) × (text ≡ sign ∷ inner) × IsTrue (is_complement_sign sign)
 IsSigned text false inner = (begins_complement text ≡ false) × (inner ≡ text)
 
--- the ranges that the characters of a class are, none of which falls; a refusal as invalid says that one does
+-- the ranges that the characters of a class are, none of which falls; a refusal as invalid says
+-- that one does
 abbrev pub RangesRise : List ℕ → Result (Vec ClassRange Global) GlobConstructError → Type 0
 RangesRise body (Ok ranges) = (ranges.items ≡ class_ranges body) × AllRise (class_ranges body)
 RangesRise body (Err fault.InvalidGlob) = AllRise (class_ranges body) → ⊥

@@ -1,4 +1,5 @@
--- Which texts spell which tokens. Texts are lists of characters, `rest` is what follows in the text.
+-- Which texts spell which tokens. Texts are lists of characters, `rest` is what follows in the
+-- text.
 use Rattle.std.specs.Prelude.{◌≡◌, ◌≢◌, ℕ, ◌+◌, ◌-◌, ◌==◌, ◌≤◌, nat_lt, Bool, true, false, if◌then◌else◌, List, [], ◌∷◌, ◌++◌, ◌⊎◌, IsTrue}
 use Rattle.std.specs.List.{AllByRecursion}
 use Rattle.std.specs.Str.{chars}

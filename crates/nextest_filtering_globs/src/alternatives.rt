@@ -19,7 +19,8 @@ fn is_plain(token: &GlobToken) -> bool
     )
 }
 
-// The place from which on each token is one that matches one character, or stands between two alternatives.
+// The place from which on each token is one that matches one character, or stands between two
+// alternatives.
 fn plain_from(tokens: &[GlobToken]) -> usize
     ensures within { result ≤ length tokens.now }
     ensures plain { ArePlain (drop result tokens.now) }
@@ -32,8 +33,8 @@ fn plain_from(tokens: &[GlobToken]) -> usize
     0
 }
 
-/// The tokens in front of alternatives at the end, and those between their braces, where each of these matches one
-/// character, or stands between two alternatives.
+/// The tokens in front of alternatives at the end, and those between their braces, where each of
+/// these matches one character, or stands between two alternatives.
 pub fn split_alternatives(tokens: &[GlobToken]) -> Option<(&[GlobToken], &[GlobToken])>
     ensures { MatchOption result ⊤
         (λ split. (tokens.now ≡ split.0.now ++ in_braces split.1.now) × ArePlain split.1.now) }
@@ -82,7 +83,8 @@ pub fn before_word<'a>(word: &[GlobToken], text: &'a [char]) -> Option<&'a [char
     Some(rest)
 }
 
-/// Whether each token behind the first one matches one character. `false` promises nothing, and only time hangs on it.
+/// Whether each token behind the first one matches one character. `false` promises nothing, and
+/// only time hangs on it.
 pub fn has_single_end(tokens: &[GlobToken]) -> bool {
     for token in tokens.iter().skip(1) {
         if !is_single(token) {

@@ -83,7 +83,8 @@ fn class_sign(text: &[char]) -> (bool, &[char])
     }
 }
 
-/// A class behind its opening bracket: whether it is a complement, its ranges, and what stands behind its bracket.
+/// A class behind its opening bracket: whether it is a complement, its ranges, and what stands
+/// behind its bracket.
 pub fn read_class(
     alloc: Global,
     text: &[char],

@@ -1,4 +1,5 @@
-// Tokens at the beginning and the end of a glob that match one character each, and the characters there.
+// Tokens at the beginning and the end of a glob that match one character each, and the characters
+// there.
 ghost use Rattle.std.specs.Prelude.{◌≡◌, ℕ, List, [], ◌∷◌, ◌++◌, MatchOption, IsTrue};
 ghost use Rattle.nextest_filtering_globs.specs.Inside.{fits, Leaves};
 ghost use Rattle.nextest_filtering_globs.specs.Meaning.{Matches};
@@ -18,8 +19,9 @@ pub fn behind_first<'a>(token: &GlobToken, text: &'a [char]) -> Option<&'a [char
     }
 }
 
-/// What is left of the tokens and of the text behind the first tokens that match one character each, where these fit
-/// the first characters. `None` says that they don't, so the tokens don't match the text.
+/// What is left of the tokens and of the text behind the first tokens that match one character
+/// each, where these fit the first characters. `None` says that they don't, so the tokens don't
+/// match the text.
 pub fn behind_singles<'a>(
     tokens: &'a [GlobToken],
     text: &'a [char],
@@ -55,8 +57,9 @@ pub fn before_last<'a>(token: &GlobToken, text: &'a [char]) -> Option<&'a [char]
     }
 }
 
-/// What is left of the tokens and of the text in front of the last tokens that match one character each, where these
-/// fit the last characters. `None` says that they don't, so the tokens don't match the text.
+/// What is left of the tokens and of the text in front of the last tokens that match one character
+/// each, where these fit the last characters. `None` says that they don't, so the tokens don't
+/// match the text.
 pub fn before_singles<'a>(
     tokens: &'a [GlobToken],
     text: &'a [char],

@@ -40,8 +40,8 @@ impl Drop for GenericGlob {
 }
 
 impl GenericGlob {
-    /// The glob that `text` is. `InvalidGlob` says that it is none, and want of memory says nothing of the text.
-    /// The text is gone after either.
+    /// The glob that `text` is. `InvalidGlob` says that it is none, and want of memory says nothing
+    /// of the text. The text is gone after either.
     pub fn new(alloc: Global, text: Text) -> Result<GenericGlob, GlobConstructError>
         ensures { Constructs text result }
     {

@@ -1,4 +1,5 @@
-//! Glob patterns of a filterset language: their tokens, and exactly which texts are globs and what they match.
+//! Glob patterns of a filterset language: their tokens, and exactly which texts are globs and what
+//! they match.
 #![tactic(auto)]
 
 mod alternatives;

@@ -9,8 +9,8 @@ use super::places::read_characters;
 use std::alloc::{AllocError, Global};
 use std::marker::Model;
 
-/// A glob, lent, with memory of its own for matching texts one after another. It asks for more only where a text has
-/// too many characters for what it has. In a clause it is the glob.
+/// A glob, lent, with memory of its own for matching texts one after another. It asks for more only
+/// where a text has too many characters for what it has. In a clause it is the glob.
 #[derive(Debug, Drop)]
 pub struct GlobMatcher<'g> {
     glob: &'g GenericGlob,
@@ -40,8 +40,8 @@ impl<'g> GlobMatcher<'g> {
         }
     }
 
-    /// Whether the glob matches the whole text. It fails only on allocation. It takes at most about the time of the
-    /// text's characters times the glob's.
+    /// Whether the glob matches the whole text. It fails only on allocation. It takes at most about
+    /// the time of the text's characters times the glob's.
     pub fn is_match(&mut self, text: &str) -> Result<bool, AllocError>
         ensures exact { IfOk result
             (λ answer. IsTrue answer ↔ Matches self.old.tokens (chars text.now)) }
@@ -59,8 +59,8 @@ impl<'g> GlobMatcher<'g> {
 }
 
 impl GenericGlob {
-    /// Whether the glob matches the whole text. It fails only on allocation. Who asks for many texts makes a
-    /// `GlobMatcher` and keeps it.
+    /// Whether the glob matches the whole text. It fails only on allocation. Who asks for many
+    /// texts makes a `GlobMatcher` and keeps it.
     pub fn is_match(&self, alloc: Global, text: &str) -> Result<bool, AllocError>
         ensures { IfOk result (λ answer. IsTrue answer ↔ Matches self.now.tokens (chars text.now)) }
     {

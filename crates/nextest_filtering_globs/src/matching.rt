@@ -37,7 +37,8 @@ fn is_asterisk(tokens: &[GlobToken]) -> bool
     }
 }
 
-// Whether the tokens match the whole text. Where there is none, or just an asterisk, no set of places is made.
+// Whether the tokens match the whole text. Where there is none, or just an asterisk, no set of
+// places is made.
 fn is_left_matched(
     tokens: &[GlobToken],
     text: &[char],
@@ -104,8 +105,8 @@ fn is_some_matched(
     }
 }
 
-// Whether the tokens match the whole text. Alternatives at their end are tried one by one, where this takes no longer
-// than sets of places.
+// Whether the tokens match the whole text. Alternatives at their end are tried one by one, where
+// this takes no longer than sets of places.
 fn is_choice_matched(
     tokens: &[GlobToken],
     text: &[char],
@@ -123,8 +124,9 @@ fn is_choice_matched(
     }
 }
 
-/// Whether the tokens match the whole text. The first characters are compared with the first tokens one by one, so far
-/// as these match one character each, and so are the last ones. Then words between asterisks are looked for.
+/// Whether the tokens match the whole text. The first characters are compared with the first tokens
+/// one by one, so far as these match one character each, and so are the last ones. Then words
+/// between asterisks are looked for.
 pub fn is_matched(
     tokens: &[GlobToken],
     text: &[char],

@@ -1,4 +1,5 @@
-// Sets of places in a text. A set has a `bool` for the place in front of each character, and one for the end.
+// Sets of places in a text. A set has a `bool` for the place in front of each character, and one
+// for the end.
 ghost use Rattle.std.specs.Prelude.{◌≡◌, ◌+◌, ◌-◌, ◌≤◌, ◌==◌, ◌↔◌, true, false, ◌++◌, length, take, replicate, chars, IsTrue, OnOk};
 ghost use Rattle.nextest_filtering_globs.specs.Inside.{fits, next_places, later, either_of, none_of, start_of, has_last};
 
@@ -66,7 +67,8 @@ pub fn is_nowhere(places: &[bool]) -> bool
     !is_found
 }
 
-/// Moves each place on by one where the token fits the character behind it, and takes it away elsewhere.
+/// Moves each place on by one where the token fits the character behind it, and takes it away
+/// elsewhere.
 pub fn advance(token: &GlobToken, text: &[char], places: &mut [bool])
     requires { length places.old ≡ length text.now + 1 }
     ensures { places.new ≡ next_places (fits token.now) false text.now places.old }

@@ -10,7 +10,8 @@ pub struct ClassRange {
     pub last: char,
 }
 
-/// A part of a glob, which matches a run of characters; or a sign of the braces around alternatives.
+/// A part of a glob, which matches a run of characters; or a sign of the braces around
+/// alternatives.
 #[derive(Clone, Debug, PartialEq, Eq, Drop)]
 pub enum GlobToken {
     /// Just this character.

@@ -1,5 +1,6 @@
-// What the tokens of a glob make of a set of places. The opened braces wait in a stack, which has two sets for each:
-// the places in front of the brace, and those behind one of its alternatives so far.
+// What the tokens of a glob make of a set of places. The opened braces wait in a stack, which has
+// two sets for each: the places in front of the brace, and those behind one of its alternatives so
+// far.
 ghost use Rattle.std.specs.Prelude.{◌≡◌, ◌+◌, ◌*◌, ◌≤◌, ◌++◌, [], length, vec_len, IsTrue, OnOk};
 ghost use Rattle.nextest_filtering_globs.specs.Inside.{state_after_close, further, none_of, run, state, step, Changes, HasRoom, IsBalanced};
 
@@ -63,8 +64,9 @@ fn take_one(
     Ok(())
 }
 
-// No place is in the set, and no brace is open, so there won't be any more. This is asked behind tokens that match one
-// character alone, which may take the last place away: `false` promises nothing.
+// No place is in the set, and no brace is open, so there won't be any more. This is asked behind
+// tokens that match one character alone, which may take the last place away: `false` promises
+// nothing.
 fn is_over(token: &GlobToken, current: &[bool], stack: &[bool]) -> bool
     ensures { IsTrue result → (stack.now ≡ []) × (current.now ≡ none_of current.now) }
 {

@@ -22,8 +22,8 @@ fn word_len(tokens: &[GlobToken]) -> usize
     tokens.len()
 }
 
-// The word between two asterisks, and the tokens from the second one on; where the tokens begin with an asterisk, and
-// each that stands in front of the next one matches one character.
+// The word between two asterisks, and the tokens from the second one on; where the tokens begin
+// with an asterisk, and each that stands in front of the next one matches one character.
 fn split_word(tokens: &[GlobToken]) -> Option<(&[GlobToken], &[GlobToken])>
     ensures { MatchOption result ⊤ (λ split. IsWord tokens.now split.0.now split.1.now) }
 {
@@ -101,9 +101,9 @@ fn behind_found<'a>(word: &[GlobToken], text: &'a [char]) -> Option<&'a [char]>
     }
 }
 
-/// What is left of the tokens and of the text behind the first words between asterisks, each at the first place where
-/// it stands in the text: an asterisk takes up what lies before any later one. `None` says that some word stands
-/// nowhere, so the tokens don't match the text.
+/// What is left of the tokens and of the text behind the first words between asterisks, each at the
+/// first place where it stands in the text: an asterisk takes up what lies before any later one.
+/// `None` says that some word stands nowhere, so the tokens don't match the text.
 pub fn behind_words<'a>(
     tokens: &'a [GlobToken],
     text: &'a [char],

@@ -82,7 +82,8 @@ reorder false true m r = refl
 reorder false false true r = refl
 reorder false false false r = refl
 
--- an id stands twice in a list with one more at its end, if it did before or if the new one is there already
+-- an id stands twice in a list with one more at its end, if it did before or if the new one is
+-- there already
 pub has_repeat-push : (known : List (List ℕ)) (id : List ℕ) → has_repeat (known ++ id ∷ []) ≡ (list_any (bytes_eq id) known || has_repeat known)
 has_repeat-push [] id = refl
 has_repeat-push (first ∷ known) id =

@@ -4,7 +4,8 @@ use Rattle.std.specs.List.{list_any, position_from}
 use Rattle.std.specs.Str.{bytes_eq}
 use Rattle.std.specs.BTreeMap.{BTreeMap, get_by_text}
 
--- packages, each by its id and its name, and links, each from a package's place to a package's place
+-- packages, each by its id and its name, and links, each from a package's place to a package's
+-- place
 pub record Graph : Type 0 where
   pub packages : List (List ℕ × List ℕ)
   pub links : List (ℕ × ℕ)

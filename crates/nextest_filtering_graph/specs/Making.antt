@@ -31,15 +31,15 @@ Places items known links (Err (error.Refused refused.RepeatedPackage)) = ⊥
 Places items known links (Err (error.Refused refused.UnknownLink)) = has_unknown known links ≡ true
 Places items known links (Err error.OutOfMemory) = ⊤
 
--- the graph of packages with ids of their own and of links between them: the packages as they are given, and each
--- link by the places of its ends
+-- the graph of packages with ids of their own and of links between them: the packages as they are
+-- given, and each link by the places of its ends
 pub record IsGraphOf (packages links : List (List ℕ × List ℕ)) (graph : Graph) : Type 0 where
   pub distinct : has_repeat (ids packages) ≡ false
   pub packages_are : graph.packages ≡ packages
   pub links_are : map Some graph.links ≡ map (places_of_link (ids packages)) links
 
--- what packages and links give: their graph; else the reason, a repeated id before an unknown end; want of memory
--- says nothing
+-- what packages and links give: their graph; else the reason, a repeated id before an unknown end;
+-- want of memory says nothing
 abbrev pub Makes : List (List ℕ × List ℕ) → List (List ℕ × List ℕ) → Result Graph GraphError → Type 0
 Makes packages links (Ok graph) = IsGraphOf packages links graph
 Makes packages links (Err (error.Refused refused.RepeatedPackage)) = has_repeat (ids packages) ≡ true

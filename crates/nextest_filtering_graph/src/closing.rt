@@ -40,7 +40,8 @@ fn join_links(words: &mut [u64], width: usize, count: usize, links: &[(usize, us
     is_changed
 }
 
-// Joins to a row that of each place that it is known to reach, for each of these pairs of places in turn.
+// Joins to a row that of each place that it is known to reach, for each of these pairs of places in
+// turn.
 fn join_steps(words: &mut [u64], width: usize, count: usize, steps: &[(usize, usize)])
     requires sized { length words.old ≡ count * width }
     requires room { count ≤ 64 * width }
@@ -64,7 +65,8 @@ fn close(words: &mut [u64], width: usize, count: usize, links: &[(usize, usize)]
     while join_links(words, width, count, links) {}
 }
 
-// Joins rows along the links, then by these steps, and then along the links until no row changes any more.
+// Joins rows along the links, then by these steps, and then along the links until no row changes
+// any more.
 fn fill(
     words: &mut [u64],
     width: usize,

@@ -55,8 +55,9 @@ impl Clone for PackageGraph {
 }
 
 impl PackageGraph {
-    /// The graph of packages, each by its id and its name, and of links, each from an id to an id. It is refused where
-    /// two packages have one id, and else where a link has an end that is no package.
+    /// The graph of packages, each by its id and its name, and of links, each from an id to an id.
+    /// It is refused where two packages have one id, and else where a link has an end that is no
+    /// package.
     pub fn new(
         alloc: Global,
         packages: &[(&str, &str)],

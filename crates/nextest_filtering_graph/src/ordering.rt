@@ -1,11 +1,12 @@
-// In which order rows are joined so that a few joins are enough, whatever the links. Nothing is promised of the steps:
-// the rows come out right by any, and only time hangs on them.
+// In which order rows are joined so that a few joins are enough, whatever the links. Nothing is
+// promised of the steps: the rows come out right by any, and only time hangs on them.
 //
-// Places that reach each other are a group. A search against the links, begun with the places that a search along them
-// left last, finds group after group, and leads along links to the head of each. A search along the links that begins
-// with the heads, those of the groups found last first, leaves each place behind what is found from it. So the head of
-// a group knows all that the group reaches once each place, in that order, has got the rows of its links' ends and of
-// their heads; and then the others of the group get the head's row from one to the next.
+// Places that reach each other are a group. A search against the links, begun with the places that
+// a search along them left last, finds group after group, and leads along links to the head of
+// each. A search along the links that begins with the heads, those of the groups found last first,
+// leaves each place behind what is found from it. So the head of a group knows all that the group
+// reaches once each place, in that order, has got the rows of its links' ends and of their heads;
+// and then the others of the group get the head's row from one to the next.
 use crate::searching::{Search, search_lists};
 use std::alloc::{AllocError, Global};
 
@@ -33,7 +34,8 @@ fn searched_against(
     search_lists(alloc, starts.as_slice(), along.left.as_slice())
 }
 
-// The steps to the heads of the groups that a search against the links found, and from them back to the others.
+// The steps to the heads of the groups that a search against the links found, and from them back to
+// the others.
 fn steps_of(
     alloc: Global,
     ends: &[Vec<usize>],
@@ -46,7 +48,8 @@ fn steps_of(
     Ok(steps)
 }
 
-// Steps along the links, from the places in the order in which a search along them, begun with the heads, left them.
+// Steps along the links, from the places in the order in which a search along them, begun with the
+// heads, left them.
 fn push_along(
     alloc: Global,
     steps: &mut Vec<(usize, usize)>,

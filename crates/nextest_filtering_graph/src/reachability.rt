@@ -8,8 +8,8 @@ use crate::graph::PackageGraph;
 use std::alloc::{AllocError, Global};
 use std::marker::Model;
 
-/// For each package those that it reaches by links, itself among them. In a clause it is the number of the packages
-/// and the links between them.
+/// For each package those that it reaches by links, itself among them. In a clause it is the number
+/// of the packages and the links between them.
 pub struct Reachability {
     width: usize,
     count: usize,
@@ -70,7 +70,8 @@ impl Reachability {
         })
     }
 
-    /// Whether the package at one place reaches that at another by a path of links, perhaps an empty one.
+    /// Whether the package at one place reaches that at another by a path of links, perhaps an
+    /// empty one.
     pub fn reaches(&self, from: usize, to: usize) -> bool
         requires from { from < self.now.count }
         requires to { to < self.now.count }

@@ -1,9 +1,11 @@
-// Depth-first searches along lists of places. Nothing is promised of what they find: only time hangs on it.
+// Depth-first searches along lists of places. Nothing is promised of what they find: only time
+// hangs on it.
 use std::alloc::{AllocError, Global};
 
 // What a search found.
 pub(crate) struct Search {
-    // The places, by when they were left: the first comes first while the search goes on, the last once it is done.
+    // The places, by when they were left: the first comes first while the search goes on, the last
+    // once it is done.
     pub(crate) left: Vec<usize>,
     // For each place the one that it was found from, itself where a search began with it.
     pub(crate) parents: Vec<Option<usize>>,

@@ -59,7 +59,8 @@ expression_level = record {
   ends = conjunction_closes;
 }
 
--- What a loop over operands has read: the tree so far and its rest, from which every reading of the whole goes on.
+-- What a loop over operands has read: the tree so far and its rest, from which every reading of the
+-- whole goes on.
 pub record HasRead {Op : Type 0} (Reads : Op → List ℕ → List ℕ → Type 0) (Operand : List ℕ → Tree → List ℕ → Type 0) (join : Op → Tree → Tree → Tree)
     (Whole : List ℕ → Tree → List ℕ → Type 0) (Stops : List ℕ → Type 0) (text : List ℕ) (old now : ℕ) (tree : Tree) (rest : List ℕ) : Type 0 where
   pub more : old ≤ now

@@ -1,4 +1,5 @@
--- Where what is printed of a filterset is read as it, no text that was written without its sign begins with one.
+-- Where what is printed of a filterset is read as it, no text that was written without its sign
+-- begins with one.
 use Rattle.std.proofs.Common.{◌≡◌, refl, ℕ, eqb, Bool, false, List, [], ◌∷◌, ◌++◌, sym, ap, subst, ◌∙◌, inl, inr}
 use Rattle.std.specs.Prelude.{◌||◌, ◌↔◌, codes}
 use Rattle.std.proofs.lemmas.Bool.{or_from, false≢true, ne_eqb}

@@ -39,7 +39,8 @@ pub record IsWellFormed (tree : Tree) : Type 0 where
 abbrev pub ReadsBack : Type 0
 ReadsBack = (tree : Tree) → IsWellFormed tree → IsFilterset (text_of_tree tree) tree
 
--- and so it is of no other: what is printed of a tree is read as that tree exactly where the tree is well formed
+-- and so it is of no other: what is printed of a tree is read as that tree exactly where the tree
+-- is well formed
 abbrev pub ReadsBackExactly : Type 0
 ReadsBackExactly = (tree : Tree) → IsFilterset (text_of_tree tree) tree ↔ IsWellFormed tree
 

@@ -26,8 +26,9 @@ ClosesConjunction text = Closes text ⊎ ((op : OrOperator) × (rest : List ℕ)
 abbrev pub Anywhere : List ℕ → Type 0
 Anywhere text = Unit {0}
 
--- A part of the text was read, as found and rest; it is read so where no fault was added to those of old, and where the text begins with
--- such a part, and Stops holds behind it, then this is the one, and no fault was added.
+-- A part of the text was read, as found and rest; it is read so where no fault was added to those
+-- of old, and where the text begins with such a part, and Stops holds behind it, then this is the
+-- one, and no fault was added.
 pub record IsPart (Reads : List ℕ → Tree → List ℕ → Type 0) (Stops : List ℕ → Type 0) (text : List ℕ) (old new : ℕ) (found : Tree) (rest : List ℕ) : Type 0 where
   pub more : old ≤ new
   pub behind : IsSuffix rest text
@@ -46,8 +47,9 @@ Finds Reads Stops text old new (Ok found) = IsPart Reads Stops text old new (tre
 Finds Reads Stops text old new (Err NoTree) = IsNoPart Reads Stops text old new
 Finds Reads Stops text old new (Err Memory) = Unit {0}
 
--- An operator comes next, where the operand behind it may begin: it is read so where no fault was added, and what is such an operator with an
--- operand behind it is this one, and no fault was added.
+-- An operator comes next, where the operand behind it may begin: it is read so where no fault was
+-- added, and what is such an operator with an operand behind it is this one, and no fault was
+-- added.
 pub record IsOperator {Op : Type 0} (Reads : Op → List ℕ → List ℕ → Type 0) (Operand : List ℕ → Tree → List ℕ → Type 0) (Stops : List ℕ → Type 0) (text : List ℕ) (old new : ℕ) (found : Op) (rest : List ℕ) : Type 0 where
   pub more : old ≤ new
   pub behind : IsSuffix rest text
@@ -85,8 +87,9 @@ HasName name.Default it = it ≡ default_filter
 HasName name.All it = it ≡ everything
 HasName name.None it = it ≡ nothing
 
--- The argument of a predicate of that name was read, and the `)` behind it: it is read so where no fault was added, and where such an argument and a `)`
--- stand, they are these, and no fault was added.
+-- The argument of a predicate of that name was read, and the `)` behind it: it is read so where no
+-- fault was added, and where such an argument and a `)` stand, they are these, and no fault was
+-- added.
 pub record IsArgued (name : Name) (text : List ℕ) (old new : ℕ) (found : Tree) (rest : List ℕ) : Type 0 where
   pub more : old ≤ new
   pub behind : IsSuffix rest text

@@ -55,8 +55,8 @@ IsSpanned input start rest (tree.Difference' op p a q b) = ⊥
 IsSpanned input start rest (tree.Parens' p t) = ⊥
 IsSpanned input start rest (tree.Set it) = Spans input start rest it
 
--- The text begins with what the tree says, part by part, and rest follows: each predicate's span goes from its name's first byte to behind
--- its `)`.
+-- The text begins with what the tree says, part by part, and rest follows: each predicate's span
+-- goes from its name's first byte to behind its `)`.
 abbrev pub Stands : List ℕ → ParsedExpr → List ℕ → List ℕ → Type 0
 Stands input (tree.Not' op p t) text rest = (inside : List ℕ) × ReadsNot op text inside × Stands input t inside rest
 Stands input (tree.Union' op p a q b) text rest = (middle behind : List ℕ) × Stands input a text middle × ReadsOr op middle behind × Stands input b behind rest

@@ -18,16 +18,17 @@ ReadsWhole text count (Ok tree) = (count ≡ 0 → IsFilterset text (tree_of tre
 ReadsWhole text count (Err NoTree) = (0 < count) × ((other : Tree) → IsFilterset text other → ⊥)
 ReadsWhole text count (Err Memory) = Unit {0}
 
--- The text is a filterset exactly where no fault was found, and then the tree is the one that it is, each predicate with the span from its name's
--- first byte to behind its `)`. Each fault stands in the text, and each predicate of a tree, recovered or not.
+-- The text is a filterset exactly where no fault was found, and then the tree is the one that it
+-- is, each predicate with the span from its name's first byte to behind its `)`. Each fault stands
+-- in the text, and each predicate of a tree, recovered or not.
 pub record IsReadingOf (text : List ℕ) (reading : Reading) : Type 0 where
   pub accepts : reading.faults.items ≡ [] → (t : ParsedExpr) × (reading.tree ≡ Some t) × IsFilterset text (tree_of t) × StandsWhole text t
   pub only : (other : Tree) → IsFilterset text other → (reading.faults.items ≡ []) × ((t : ParsedExpr) × (reading.tree ≡ Some t) × (other ≡ tree_of t))
   pub faithful : AreFaultsOf text reading.faults.items
   pub placed : IfSome reading.tree (ArePlaced text)
 
--- Where the text is a filterset, this is its tree, with the spans of its predicates, each of which stands in it; where it gets no tree, it is none, for the faults, which
--- stand in it.
+-- Where the text is a filterset, this is its tree, with the spans of its predicates, each of which
+-- stands in it; where it gets no tree, it is none, for the faults, which stand in it.
 abbrev pub Parses : List ℕ → Result ParsedExpr ParseError → Type 0
 Parses text (Ok tree) = ((other : Tree) → IsFilterset text other → (other ≡ tree_of tree) × StandsWhole text tree) × ArePlaced text tree
 Parses text (Err (Faults list)) = (list.items ≢ []) × AreFaultsOf text list.items × ((other : Tree) → IsFilterset text other → ⊥)

@@ -109,7 +109,8 @@ FromOperand operand GoesOn = GoesOn
 FromOperand conjunction GoesOn = λ t rest. ⊥
 FromOperand expression GoesOn = λ t rest. ⊥
 
--- The part was read behind what waits, rest follows it, and from there a whole filterset is read, up to its end.
+-- The part was read behind what waits, rest follows it, and from there a whole filterset is read,
+-- up to its end.
 abbrev pub GoesOn : Tree → List ℕ → List Waiting → Part → Tree → List ℕ → Type 0
 GoesOn whole end [] part = FromPart part (λ t rest. (whole ≡ t) × (end ≡ rest))
 GoesOn whole end (waits.Not op ∷ more) part = FromOperand part (λ t. GoesOn whole end more operand (negation op t))
@@ -135,8 +136,8 @@ EndsExpression whole end (waits.Union left op ∷ more) t rest = ⊥
 
 -- ---- from one place to the next
 
--- Reading on from one place is reading on from another, where no fault was added; and where it can be read on from the one to
--- a good end, none was.
+-- Reading on from one place is reading on from another, where no fault was added; and where it can
+-- be read on from the one to a good end, none was.
 pub record Becomes (From To : Tree → List ℕ → Type 0) (old new : ℕ) : Type 0 where
   pub more : old ≤ new
   pub reads : new ≡ old → (whole : Tree) (end : List ℕ) → To whole end → From whole end
@@ -224,7 +225,8 @@ pub record EndsWhole (old : List Waiting) (tree : ParsedExpr) (text : List ℕ) 
   pub placed : (input : List ℕ) → WaitPlaced input old → ArePlaced input tree → WaitPlaced input new × ArePlaced input found
   pub stands : after ≡ before → (input start : List ℕ) → TreeStands input old tree start text → TreeStands input new found start text
 
--- behind an operand nothing follows that belongs to it, and nothing waits: it is the whole text's expression
+-- behind an operand nothing follows that belongs to it, and nothing waits: it is the whole text's
+-- expression
 pub record EndsAll (old : List Waiting) (tree : ParsedExpr) (text : List ℕ) (found : ParsedExpr) (rest : List ℕ) (before after : ℕ) : Type 0 where
   pub behind : IsSuffix rest text
   pub becomes : Becomes (Has operand old (tree_of tree) text) (HasExpression [] (tree_of found) rest) before after

@@ -19,7 +19,8 @@ abbrev pub IsPutOff : Boxed → Option Boxed → Boxed → Type 0
 IsPutOff right None behind = behind.value ≡ right.value
 IsPutOff right (Some waiting) behind = behind.value ≡ tree.Union Pipe right waiting
 
--- more than the steps that it takes to walk a tree; a left operand counts twice, since its box is used once more
+-- more than the steps that it takes to walk a tree; a left operand counts twice, since its box is
+-- used once more
 abbrev pub weight : ParsedExpr → ℕ
 weight (tree.Not' op p t) = weight t + 1
 weight (tree.Union' op p a q b) = 2 * weight a + weight b + 1

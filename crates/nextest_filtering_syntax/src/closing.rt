@@ -7,7 +7,8 @@ ghost use Rattle.nextest_filtering_syntax.specs.Parsing.{IsClosed};
 use nextest_filtering_arguments::{Faults, ParseSingleError, behind, skip_blanks};
 use std::alloc::AllocError;
 
-/// What follows the `)` that comes next; where none does, a fault says so, and the text goes on as if it stood.
+/// What follows the `)` that comes next; where none does, a fault says so, and the text goes on as
+/// if it stood.
 pub(crate) fn close<'i>(faults: &mut Faults<'_>, text: &'i str) -> Result<&'i str, AllocError>
     requires suffix { IsSuffix text.now faults.old.input }
     ensures input { faults.new.input ≡ faults.old.input }
@@ -23,7 +24,8 @@ pub(crate) fn close<'i>(faults: &mut Faults<'_>, text: &'i str) -> Result<&'i st
     Ok(text)
 }
 
-/// What stands before the first `)`, and what begins with it; all, and nothing, where there is none.
+/// What stands before the first `)`, and what begins with it; all, and nothing, where there is
+/// none.
 pub(crate) fn split_close(text: &str) -> (&str, &str)
     ensures { text.now ≡ result.0.now ++ result.1.now }
 {
@@ -33,7 +35,8 @@ pub(crate) fn split_close(text: &str) -> (&str, &str)
     }
 }
 
-/// What follows the `)` behind an argument; a comma before it is told as a fault, and all up to the `)` is passed over.
+/// What follows the `)` behind an argument; a comma before it is told as a fault, and all up to the
+/// `)` is passed over.
 pub(crate) fn close_argument<'i>(
     faults: &mut Faults<'_>,
     text: &'i str,

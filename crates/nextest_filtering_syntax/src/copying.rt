@@ -111,7 +111,8 @@ fn take_last(made: &mut Vec<ParsedExpr>) -> ParsedExpr
     }
 }
 
-// Makes a filterset of its first symbol and its operands, which were made last, the left one after the right one.
+// Makes a filterset of its first symbol and its operands, which were made last, the left one after
+// the right one.
 fn make(alloc: Global, symbol: LentSymbol<'_>, made: &mut Vec<ParsedExpr>) -> Result<(), AllocError>
     requires enough { operands_of (symbol_of symbol) ≤ vec_len made.old }
     ensures { OnOk result

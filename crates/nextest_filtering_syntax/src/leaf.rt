@@ -36,8 +36,8 @@ fn leaf(subject: Subject, matcher: NameMatcher, span: SourceSpan) -> ParsedLeaf
     }
 }
 
-// The argument of a predicate on a subject, which begins at `start`, and what follows its `)`. Where the argument is no
-// matcher, another predicate stands in its place.
+// The argument of a predicate on a subject, which begins at `start`, and what follows its `)`.
+// Where the argument is no matcher, another predicate stands in its place.
 fn about<'i>(
     alloc: Global,
     faults: &mut Faults<'_>,
@@ -89,7 +89,8 @@ fn built_for<'i>(
     Ok((ParsedExpr::Set(ParsedLeaf::Platform(platform, span)), rest))
 }
 
-// What follows the `)` of a predicate without an argument; what stands before it is told as a fault.
+// What follows the `)` of a predicate without an argument; what stands before it is told as a
+// fault.
 fn no_argument<'i>(faults: &mut Faults<'_>, text: &'i str) -> Result<&'i str, AllocError>
     requires suffix { IsSuffix text.now faults.old.input }
     ensures input { faults.new.input ≡ faults.old.input }
@@ -144,7 +145,8 @@ fn argument<'i>(
     }
 }
 
-// The predicate of that name without a `(`, which a fault tells: it stands where it takes no argument.
+// The predicate of that name without a `(`, which a fault tells: it stands where it takes no
+// argument.
 fn unopened<'i>(
     faults: &mut Faults<'_>,
     name: Name,

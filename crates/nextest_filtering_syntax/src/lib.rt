@@ -1,4 +1,5 @@
-//! The filterset language: trees as they are parsed and printed, and reading texts as trees, with recovery from faults.
+//! The filterset language: trees as they are parsed and printed, and reading texts as trees, with
+//! recovery from faults.
 #![tactic(auto)]
 
 mod ahead;

@@ -83,7 +83,8 @@ fn wrong_or(text: &str) -> Option<&str>
     }
 }
 
-/// The operator of a union that comes next, and what follows it; `||` and `OR` are told as faults and taken for `|`.
+/// The operator of a union that comes next, and what follows it; `||` and `OR` are told as faults
+/// and taken for `|`.
 pub(crate) fn or_operator<'i>(
     faults: &mut Faults<'_>,
     text: &'i str,
@@ -134,8 +135,8 @@ fn wrong_and(text: &str) -> Option<(usize, &str)>
     }
 }
 
-/// The operator of a conjunction that comes next, and what follows it; `&&` and `AND` are told as faults and taken for
-/// `&`.
+/// The operator of a conjunction that comes next, and what follows it; `&&` and `AND` are told as
+/// faults and taken for `&`.
 pub(crate) fn joint_operator<'i>(
     faults: &mut Faults<'_>,
     text: &'i str,

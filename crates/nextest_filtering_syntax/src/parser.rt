@@ -121,7 +121,8 @@ fn negated(alloc: Global, stack: &mut Stack, tree: ParsedExpr) -> Result<ParsedE
     Ok(operand)
 }
 
-// An operand with the left operand of an intersection or a difference that waits for it, if one does.
+// An operand with the left operand of an intersection or a difference that waits for it, if one
+// does.
 fn with_joint(alloc: Global, stack: &mut Stack, tree: ParsedExpr) -> Result<ParsedExpr, AllocError>
     requires takes { TakesOperands stack.old }
     ensures makes { IfOk result
@@ -203,7 +204,8 @@ fn ascend<'i>(
     }
 }
 
-/// An expression: conjunctions, and the operators of unions between them. What is nested takes memory, and no stack.
+/// An expression: conjunctions, and the operators of unions between them. What is nested takes
+/// memory, and no stack.
 pub(crate) fn expression<'i>(
     alloc: Global,
     faults: &mut Faults<'_>,

@@ -4,8 +4,9 @@ use nextest_filtering_arguments::ParseSingleError;
 use std::alloc::AllocError;
 use thiserror::Error;
 
-/// What a text was read as: the tree, where one was made, and its faults, in the order in which they were found. A text
-/// without faults is its tree; with faults the tree is what was made of the text all the same.
+/// What a text was read as: the tree, where one was made, and its faults, in the order in which
+/// they were found. A text without faults is its tree; with faults the tree is what was made of the
+/// text all the same.
 #[derive(Drop)]
 pub struct Reading {
     /// The tree, where one was made.

@@ -9,8 +9,8 @@ use nextest_filtering_ast::ParsedLeaf;
 use std::alloc::{AllocError, Global};
 
 impl ParsedExpr {
-    /// The predicates that only a test answers, from left to right, in linear time and constant stack. It fails only on
-    /// allocation.
+    /// The predicates that only a test answers, from left to right, in linear time and constant
+    /// stack. It fails only on allocation.
     pub fn runtime_only_leaves(&self, alloc: Global) -> Result<Vec<&ParsedLeaf>, AllocError>
         ensures { IfOk result
             (λ found. map leaf_behind found.items ≡ runtime_leaves (tree_of self.now)) }
@@ -25,7 +25,8 @@ impl ParsedExpr {
     }
 }
 
-// Adds a predicate that only a test answers, or lets the operands of a tree wait, the left one on top.
+// Adds a predicate that only a test answers, or lets the operands of a tree wait, the left one on
+// top.
 #[tactic(auto, using(crate::proofs::Walking::waiting_leaves_more, crate::proofs::Walking::waiting_weight_more, std::proofs::lemmas::Grind::common_steps))]
 fn visit<'t>(
     tree: &'t ParsedExpr,

@@ -33,7 +33,8 @@ impl ParsedExpr {
     }
 }
 
-// Adds a piece to the text: of a tree what stands ahead of its operands, which wait, the left one on top.
+// Adds a piece to the text: of a tree what stands ahead of its operands, which wait, the left one
+// on top.
 #[tactic(auto, using(crate::proofs::Pieces::waiting_text_append, crate::proofs::Pieces::pieces_weight_append, std::proofs::lemmas::Grind::common_steps))]
 fn print<'t>(
     piece: Piece<'t>,

@@ -5,8 +5,8 @@ ghost use Rattle.nextest_filtering_syntax.specs.Walking.{IsPutOff};
 use nextest_filtering_ast::{AndOperator, DifferenceOperator, NotOperator, OrOperator, ParsedLeaf};
 use std::fmt;
 
-/// A filterset as it was written, blanks aside. It prints as it was written, with one space on both sides of an operator
-/// and behind `not`.
+/// A filterset as it was written, blanks aside. It prints as it was written, with one space on both
+/// sides of an operator and behind `not`.
 pub enum ParsedExpr {
     /// `not a`
     Not(NotOperator, Box<ParsedExpr>),
@@ -22,7 +22,8 @@ pub enum ParsedExpr {
     Set(ParsedLeaf),
 }
 
-// It takes linear time, constant stack and no memory: what waits stands in boxes whose own trees are gone.
+// It takes linear time, constant stack and no memory: what waits stands in boxes whose own trees
+// are gone.
 impl Drop for ParsedExpr {
     fn drop(mut self) {
         let mut waiting = None;
@@ -50,8 +51,8 @@ impl Drop for ParsedExpr {
     }
 }
 
-// The left operand, and what waits behind it: the right one, joined in the left one's box with what waited before.
-// Which operator joins them doesn't matter.
+// The left operand, and what waits behind it: the right one, joined in the left one's box with what
+// waited before. Which operator joins them doesn't matter.
 fn put_off(
     mut left: Box<ParsedExpr>,
     right: Box<ParsedExpr>,
@@ -69,7 +70,8 @@ fn put_off(
     }
 }
 
-/// The filterset as it was written. Printing it takes stack by the tree's depth; `to_text` takes constant stack.
+/// The filterset as it was written. Printing it takes stack by the tree's depth; `to_text` takes
+/// constant stack.
 impl fmt::Display for ParsedExpr {
     ghost use Rattle.std.specs.Prelude.{Some};
     ghost use Rattle.nextest_filtering_syntax.specs.Parsed.{tree_of};

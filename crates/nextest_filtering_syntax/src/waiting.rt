@@ -23,8 +23,8 @@ pub(crate) enum Waiting {
     Union(Box<ParsedExpr>, OrOperator),
 }
 
-/// What waits, each part for an operand behind it. In a clause it is a list, the last one first. No left operand stands
-/// directly within one that binds as much.
+/// What waits, each part for an operand behind it. In a clause it is a list, the last one first. No
+/// left operand stands directly within one that binds as much.
 #[derive(Drop)]
 pub(crate) struct Stack {
     items: Vec<Waiting>,

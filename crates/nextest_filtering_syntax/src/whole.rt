@@ -28,10 +28,10 @@ fn whole(alloc: Global, faults: &mut Faults<'_>, text: &str) -> Result<ParsedExp
     Ok(tree)
 }
 
-/// Reads a filterset, with recovery: its tree, where one could be made, and all faults. The text is a filterset exactly
-/// where there is no fault, and then each predicate of the tree has the span from its name's first byte to behind its `)`.
-/// With faults it has a span of the text that begins with its name. `all` and `none` have none. It fails only on
-/// allocation.
+/// Reads a filterset, with recovery: its tree, where one could be made, and all faults. The text is
+/// a filterset exactly where there is no fault, and then each predicate of the tree has the span
+/// from its name's first byte to behind its `)`. With faults it has a span of the text that begins
+/// with its name. `all` and `none` have none. It fails only on allocation.
 pub fn read(alloc: Global, text: &str) -> Result<Reading, AllocError>
     ensures { IfOk result (λ it. IsReadingOf text.now it) }
 {
@@ -58,8 +58,9 @@ pub fn read(alloc: Global, text: &str) -> Result<Reading, AllocError>
 }
 
 impl ParsedExpr {
-    /// Parses a filterset: its tree, or, where none could be made, its faults. It is lenient: a tree that could be made in
-    /// spite of faults is answered without them, so use `read` where they matter.
+    /// Parses a filterset: its tree, or, where none could be made, its faults. It is lenient: a
+    /// tree that could be made in spite of faults is answered without them, so use `read` where
+    /// they matter.
     pub fn parse(alloc: Global, text: &str) -> Result<ParsedExpr, ParseError>
         ensures { Parses text.now result }
     {

@@ -8,7 +8,8 @@ use Rattle.serde_json.specs.Read.{number_of}
 abbrev pub one_deeper : ℕ → Option ℕ
 one_deeper opened = if nat_lt opened 127 then Some (opened + 1) else None
 
--- how many lists and objects are open behind a token; none where they nest too deep, or a number is out of range
+-- how many lists and objects are open behind a token; none where they nest too deep, or a number is
+-- out of range
 abbrev pub opened_behind : ℕ → Token → Option ℕ
 opened_behind opened begin_object = one_deeper opened
 opened_behind opened end_object = Some (opened - 1)

@@ -1,4 +1,5 @@
--- How parts are read: in the written order, up to the first that is missing, ill-typed or not allowed.
+-- How parts are read: in the written order, up to the first that is missing, ill-typed or not
+-- allowed.
 use Rattle.std.specs.Prelude.{ℕ, ◌+◌, List, [], ◌∷◌, Option, None, Some, Result, Ok, Err, decimal, is_some, if◌then◌else◌}
 use Rattle.std.specs.Option.{option_map_or}
 use Rattle.serde_json.specs.Data.{Data}

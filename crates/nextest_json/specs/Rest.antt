@@ -8,7 +8,8 @@ use Rattle.nextest_json.specs.Listed.{items}
 use Rattle.nextest_json.specs.declared.items.Rest.{Rest}
 use Rattle.nextest_json.specs.declared.items.Rest.TheVariants.{Places, Trees}
 
--- the items that tokens begin with, up to the end of their list: those of the list that began just before
+-- the items that tokens begin with, up to the end of their list: those of the list that began just
+-- before
 abbrev pub items_at : List Token → Option (List Data)
 items_at tokens = option_and_then items (found_at (begin_array ∷ tokens))
 

@@ -12,11 +12,13 @@ use std::alloc::Global;
 pub enum DocumentError {
     /// It is no JSON, nests deeper than 127, or has a number that is too large for a float.
     Syntax,
-    /// There was no memory, or the text is longer than 4,294,967,040 bytes, which says nothing of what stands in it.
+    /// There was no memory, or the text is longer than 4,294,967,040 bytes, which says nothing of
+    /// what stands in it.
     OutOfMemory,
 }
 
-/// The memory that a document is read into: up to 5 bytes for each byte of text. One serves one document.
+/// The memory that a document is read into: up to 5 bytes for each byte of text. One serves one
+/// document.
 #[derive(Drop)]
 pub struct JsonMemory {
     scratch: Scratch,

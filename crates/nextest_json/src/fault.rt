@@ -45,7 +45,8 @@ impl Fault {
         Fault::At(Steps::new(alloc))
     }
 
-    /// The same fault, told from one step further out; where there is no memory for that, want of memory.
+    /// The same fault, told from one step further out; where there is no memory for that, want of
+    /// memory.
     pub fn below(self, step: PathStep) -> Fault
         ensures { IsBelow self (step_text step) result }
     {

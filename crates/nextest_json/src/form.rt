@@ -16,14 +16,14 @@ use crate::value::JsonValue;
 use nextest_text::{Listing, Text};
 use std::alloc::Global;
 
-/// What has a form in the JSON of a `Whole`: it is a part of one, or one itself. A type may have another form in another
-/// whole.
+/// What has a form in the JSON of a `Whole`: it is a part of one, or one itself. A type may have
+/// another form in another whole.
 pub trait Form<Whole>: Drop {
     // What reading gives.
     ghost reading: { Data → read.Reading Self };
 
-    /// What is read of a value. An `Err` says where the first thing stands, in the written order, that is missing,
-    /// ill-typed or not allowed, or that there was no memory.
+    /// What is read of a value. An `Err` says where the first thing stands, in the written order,
+    /// that is missing, ill-typed or not allowed, or that there was no memory.
     fn from_value(alloc: Global, value: &JsonValue<'_, '_>) -> Result<Self, Fault>
         ensures { Gives result (reading (data_of value.now)) };
 }

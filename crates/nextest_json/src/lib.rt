@@ -1,5 +1,5 @@
-//! JSON, read with little memory: a text as one flat list of places, of which values are asked, and how the parts of
-//! a value are read, each fault with its path.
+//! JSON, read with little memory: a text as one flat list of places, of which values are asked, and
+//! how the parts of a value are read, each fault with its path.
 #![tactic(auto)]
 
 mod document;

@@ -1,4 +1,5 @@
-//! What holds of reasons, outcomes, JSON forms, slices of outputs and what is shown. Each function does nothing, and its contract is the law.
+//! What holds of reasons, outcomes, JSON forms, slices of outputs and what is shown. Each function
+//! does nothing, and its contract is the law.
 
 pub use nextest_run_events_json::laws::{
     abort_read_back, error_read_back, failure_read_back, result_read_back,

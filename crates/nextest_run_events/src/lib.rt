@@ -1,10 +1,11 @@
-//! What happens in a run of tests: how attempts end, what a test's attempts come to, what is counted, and what a run comes
-//! to.
+//! What happens in a run of tests: how attempts end, what a test's attempts come to, what is
+//! counted, and what a run comes to.
 //!
-//! A runner describes how a process ended by `ExecutionResultDescription`, keeps a test's attempts as `ExecutionStatuses`,
-//! and counts each test and setup script that finishes in `RunStats`. A reporter asks attempts for their
-//! `ExecutionDescription`, counters for their `FinalRunStats`, `StatusLevels` for what is shown of a test that finishes, and
-//! `UnitErrorDescription` for what went wrong with an attempt. What it is told while a run goes on are `ReporterEvent`s.
+//! A runner describes how a process ended by `ExecutionResultDescription`, keeps a test's attempts
+//! as `ExecutionStatuses`, and counts each test and setup script that finishes in `RunStats`. A
+//! reporter asks attempts for their `ExecutionDescription`, counters for their `FinalRunStats`,
+//! `StatusLevels` for what is shown of a test that finishes, and `UnitErrorDescription` for what
+//! went wrong with an attempt. What it is told while a run goes on are `ReporterEvent`s.
 #![tactic(auto)]
 
 pub mod laws;

@@ -7,7 +7,8 @@ pub record Roomy (Item : Type 0) : Type 0 where
   pub items : List Item
   pub room : ℕ
 
--- the attempts in their order, what becomes of a test that passes late, and for how many more attempts there is room
+-- the attempts in their order, what becomes of a test that passes late, and for how many more
+-- attempts there is room
 pub record Attempts (Status : Type 0) : Type 0 where
   pub statuses : List Status
   pub flaky_result : FlakyResult

@@ -17,7 +17,8 @@ use Rattle.nextest_run_events_outputs.specs.declared.execute_status.ExecuteStatu
 use Rattle.nextest_run_events_counters.specs.declared.execution_description.ExecutionDescription.{ExecutionDescription}
 use Rattle.nextest_run_events_counters.specs.declared.execution_description.ExecutionDescription.TheVariants as described
 
--- what the attempts of a test come to: a lone success, a success after other attempts, or no success at the end
+-- what the attempts of a test come to: a lone success, a success after other attempts, or no
+-- success at the end
 pub data Description (S O : Type 0) : Type 0 where
   Success : ExecuteStatus S O → Description S O
   Flaky : ExecuteStatus S O → List (ExecuteStatus S O) → FlakyResult → Description S O

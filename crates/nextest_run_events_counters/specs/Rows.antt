@@ -60,8 +60,8 @@ script_timed_out = is_timeout
 abbrev pub fails_script : ExecutionResultDescription → Bool
 fails_script result = script_failed result || script_exec_failed result || script_timed_out result
 
--- a finished test: the result and slowness of its last attempt, whether it is late, which means that it took more
--- than one attempt, and its flaky rule
+-- a finished test: the result and slowness of its last attempt, whether it is late, which means
+-- that it took more than one attempt, and its flaky rule
 pub record Finished : Type 0 where
   pub result : ExecutionResultDescription
   pub slow : Bool

@@ -31,8 +31,8 @@ is_own reason = option_map_or is_inner reason true
 abbrev pub failure_at : RunStats → RunStatsFailureKind → FinalRunStats
 failure_at stats kind = if is_own stats.cancel_reason then summed.Failed kind else summed.Cancelled stats.cancel_reason kind
 
--- the first case that holds: a failing script, an unfinished script, a failing test, an unfinished test, nothing
--- finished, success
+-- the first case that holds: a failing script, an unfinished script, a failing test, an unfinished
+-- test, nothing finished, success
 abbrev pub summary_of : RunStats → FinalRunStats
 summary_of stats =
     if nat_lt 0 (failed_setup_script_count stats) then failure_at stats at.SetupScript

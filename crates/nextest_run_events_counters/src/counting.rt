@@ -9,7 +9,8 @@ use nextest_run_events_outputs::{OutputSpec, SetupScriptExecuteStatus};
 use nextest_run_events_results::ExecutionResultDescription;
 
 impl RunStats {
-    /// Counts a setup script that finished. One that took too long counts as that, however it is judged.
+    /// Counts a setup script that finished. One that took too long counts as that, however it is
+    /// judged.
     pub fn on_setup_script_finished<S: OutputSpec>(&mut self, status: &SetupScriptExecuteStatus<S>)
         requires below_maximum { CanCountScript self.old }
         ensures { self.new ≡ with_script status.now.result self.old }
@@ -29,7 +30,8 @@ impl RunStats {
         }
     }
 
-    /// Counts a test that finished with these attempts: by the last one, and by whether there were others before it.
+    /// Counts a test that finished with these attempts: by the last one, and by whether there were
+    /// others before it.
     pub fn on_test_finished<S: OutputSpec>(&mut self, run_statuses: &ExecutionStatuses<S>)
         requires below_maximum { CanCountTest self.old }
         ensures { self.new ≡ with_attempts run_statuses.now self.old }
@@ -44,8 +46,8 @@ impl RunStats {
         );
     }
 
-    /// Counts a test that finished, under this flaky rule, whose last attempt ended with this result, slow or not, and was
-    /// late where others came before it.
+    /// Counts a test that finished, under this flaky rule, whose last attempt ended with this
+    /// result, slow or not, and was late where others came before it.
     pub fn count_test(
         &mut self,
         last_result: &ExecutionResultDescription,
@@ -90,7 +92,8 @@ impl RunStats {
         }
     }
 
-    // An attempt that didn't take too long was a success: a pass, but where it came late against the flaky rule.
+    // An attempt that didn't take too long was a success: a pass, but where it came late against
+    // the flaky rule.
     fn count_success(&mut self, slow: bool, late: bool, late_fails: bool)
         requires passed { self.old.passed + 1 < 2 ^ 64 }
         requires passed_slow { self.old.passed_slow + 1 < 2 ^ 64 }

@@ -86,7 +86,8 @@ impl<'a, S: OutputSpec> ExecutionDescription<'a, S> {
         }
     }
 
-    /// Whether the last attempt's output is that of a success, also where the test fails since it passed late.
+    /// Whether the last attempt's output is that of a success, also where the test fails since it
+    /// passed late.
     pub fn is_success_for_output(&self) -> bool
         ensures { result ≡ ends_in_success (description_in self.now) }
     {

@@ -13,8 +13,8 @@ use std::alloc::AllocError;
 use std::marker::Model;
 use thiserror::Error;
 
-/// The attempts of a test in their order, at least one, and what becomes of the test if it passes late. In a clause
-/// it is those, and for how many more attempts there is room.
+/// The attempts of a test in their order, at least one, and what becomes of the test if it passes
+/// late. In a clause it is those, and for how many more attempts there is room.
 #[derive(Drop)]
 #[derive_where(Clone, Debug, PartialEq, Eq; S::ChildOutputDesc)]
 pub struct ExecutionStatuses<S: OutputSpec> {

@@ -1,7 +1,8 @@
 //! The attempts of a test, what they come to, and the counters of a run with their summary.
 //!
-//! The types stand here with the rows that say what each finished script and test counts as, and with the summary
-//! of a record of counters and the calls that take it. Scripts and tests are counted as they finish.
+//! The types stand here with the rows that say what each finished script and test counts as, and
+//! with the summary of a record of counters and the calls that take it. Scripts and tests are
+//! counted as they finish.
 #![tactic(auto)]
 
 mod counting;

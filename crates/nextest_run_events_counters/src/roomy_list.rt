@@ -10,8 +10,8 @@ use std::alloc::AllocError;
 use std::fmt;
 use std::marker::Model;
 
-// A list with room for more elements. In a clause it is the list, and for how many more elements there is room. Lists
-// compare by their elements alone.
+// A list with room for more elements. In a clause it is the list, and for how many more elements
+// there is room. Lists compare by their elements alone.
 #[derive(Drop)]
 pub(crate) struct RoomyList<T> {
     elements: Vec<T>,

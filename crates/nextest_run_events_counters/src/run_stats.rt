@@ -7,7 +7,8 @@ use nextest_run_events_results::CancelReason;
 /// The counters of a run. Each counts finished scripts or tests; a test counts by its last attempt.
 #[derive(Clone, Copy, Debug, Default, PartialEq, Eq)]
 pub struct RunStats {
-    /// How many tests were to run. More than `finished_count` at the end of a run that was cut short.
+    /// How many tests were to run. More than `finished_count` at the end of a run that was cut
+    /// short.
     pub initial_run_count: usize,
     /// How many tests finished.
     pub finished_count: usize,
@@ -31,7 +32,8 @@ pub struct RunStats {
     pub passed_timed_out: usize,
     /// Tests that passed on a later attempt than their first.
     pub flaky: usize,
-    /// Tests that failed, also by passing late against their flaky rule. `leaky_failed` ones are among them.
+    /// Tests that failed, also by passing late against their flaky rule. `leaky_failed` ones are
+    /// among them.
     pub failed: usize,
     /// Slow tests that failed.
     pub failed_slow: usize,
@@ -78,8 +80,8 @@ impl RunStats {
         self.failed + self.exec_failed + self.failed_timed_out
     }
 
-    /// What the counters come to at the end of a run: scripts are looked at before tests, failures before what did
-    /// not finish.
+    /// What the counters come to at the end of a run: scripts are looked at before tests, failures
+    /// before what did not finish.
     pub fn summarize_final(&self) -> FinalRunStats
         requires scripts_fit { failed_setup_script_count self.now < 2 ^ 64 }
         requires tests_fit { failed_count self.now < 2 ^ 64 }

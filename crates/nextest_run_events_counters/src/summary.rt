@@ -31,7 +31,8 @@ impl RunStatsFailureKind {
     }
 }
 
-/// The step at which a run failed or was cut short. Where several come together the later one here counts.
+/// The step at which a run failed or was cut short. Where several come together the later one here
+/// counts.
 #[derive(Clone, Copy, Debug, PartialEq, Eq, PartialOrd, Ord)]
 pub enum RunFailureStep {
     /// The tests.
@@ -47,7 +48,8 @@ pub enum FinalRunStats {
     Success,
     /// No test was to run.
     NoTestsRun,
-    /// The run was cut short from outside, with no failure of its own or under a reason of the outside.
+    /// The run was cut short from outside, with no failure of its own or under a reason of the
+    /// outside.
     Cancelled {
         /// Why, if a reason stands.
         reason: Option<CancelReason>,

@@ -13,7 +13,8 @@ pub record Aborted : Type 0 where
   pub how : AbortDescription
   pub leaked : Bool
 
--- one thing that went wrong: a start error, an output error, an abort, or the slice that tells of the error
+-- one thing that went wrong: a start error, an output error, an abort, or the slice that tells of
+-- the error
 pub data Described : Type 0 where
   of_start : ChildStartErrorDescription → Described
   of_output : ChildErrorDescription → Described

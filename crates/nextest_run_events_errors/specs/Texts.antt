@@ -12,7 +12,8 @@ use Rattle.nextest_run_events_errors.specs.declared.described.DescribedError.The
 abbrev pub text_of_unit_abort : UnitAbortDescription → List ℕ
 text_of_unit_abort abort = codes "process " ++ text_of_abort abort.description.now ++ (if abort.leaked then codes " (leaked handles)" else [])
 
--- of an abort that text, of a slice its bytes as text; nothing is said of what a start error or an output error writes
+-- of an abort that text, of a slice its bytes as text; nothing is said of what a start error or an
+-- output error writes
 abbrev pub text_of_error : DescribedError → Option (List ℕ)
 text_of_error (error.Start why) = None
 text_of_error (error.Output why) = None

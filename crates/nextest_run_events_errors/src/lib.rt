@@ -1,5 +1,6 @@
-//! What went wrong with an attempt of a test or a setup script, collected: that it could not be started, what went wrong around
-//! its process, that it was ended, and the part of its output that tells of its error.
+//! What went wrong with an attempt of a test or a setup script, collected: that it could not be
+//! started, what went wrong around its process, that it was ended, and the part of its output that
+//! tells of its error.
 #![tactic(auto)]
 
 mod described;

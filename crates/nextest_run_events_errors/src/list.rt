@@ -9,7 +9,8 @@ use nextest_run_events_slices::TestOutputErrorSlice;
 use std::alloc::AllocError;
 use std::marker::Model;
 
-/// What went wrong, in the order in which it is told. In a clause it is the list of those that are left.
+/// What went wrong, in the order in which it is told. In a clause it is the list of those that are
+/// left.
 #[derive(Debug, Drop)]
 pub struct DescribedErrors<'a> {
     pub(crate) start: Option<&'a ChildStartErrorDescription>,

@@ -16,7 +16,8 @@ use nextest_run_events_outputs::{
 use nextest_run_events_results::{ExecutionResultDescription, FailureDescription};
 use nextest_run_events_slices::TestOutputErrorSlice;
 
-/// What went wrong with an attempt of a test or a setup script, collected from what its process left, which it borrows.
+/// What went wrong with an attempt of a test or a setup script, collected from what its process
+/// left, which it borrows.
 #[derive(Clone, Copy, Debug)]
 pub struct UnitErrorDescription<'a> {
     kind: UnitKind,
@@ -27,8 +28,9 @@ pub struct UnitErrorDescription<'a> {
 }
 
 impl<'a> UnitErrorDescription<'a> {
-    /// Collects what went wrong with a test or a script from what its process left. For a test whose result is known and no
-    /// success it looks for the part of the output that tells of its error, in time in proportion to the output.
+    /// Collects what went wrong with a test or a script from what its process left. For a test
+    /// whose result is known and no success it looks for the part of the output that tells of its
+    /// error, in time in proportion to the output.
     pub fn new(kind: UnitKind, output: &'a ChildExecutionOutputDescription<LiveSpec>) -> Self
         requires { IsLoaded output.now }
         ensures kind { (collection_of result).kind ≡ kind }

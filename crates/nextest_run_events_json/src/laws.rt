@@ -1,4 +1,5 @@
-//! What holds of every value that is written and read. Each function does nothing, and its contract is the law.
+//! What holds of every value that is written and read. Each function does nothing, and its contract
+//! is the law.
 ghost use Rattle.nextest_run_events_json.specs.Laws.{AbortReadBack, ErrorReadBack, FailureReadBack, ResultReadBack};
 
 /// A written abort is read as itself.

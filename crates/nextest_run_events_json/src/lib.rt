@@ -1,4 +1,5 @@
-//! The JSON of how an attempt ended, and of errors with their causes, as other programs read and write it.
+//! The JSON of how an attempt ended, and of errors with their causes, as other programs read and
+//! write it.
 #![tactic(auto)]
 
 mod errors;

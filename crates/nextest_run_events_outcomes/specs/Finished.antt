@@ -9,7 +9,8 @@ use Rattle.nextest_run_events_outcomes.specs.declared.stress_stats.StressFinalRu
 use Rattle.nextest_run_events_outcomes.specs.declared.finished_stats.RunFinishedStats.{RunFinishedStats}
 use Rattle.nextest_run_events_outcomes.specs.declared.finished_stats.RunFinishedStats.TheVariants.{Single, Stress}
 
--- where no sub-run is counted as failed: by the summary of the last, in which a failure changes nothing
+-- where no sub-run is counted as failed: by the summary of the last, in which a failure changes
+-- nothing
 abbrev pub by_last : FinalRunStats → StressFinalRunStats
 by_last summed.Success = stressed.Success
 by_last summed.NoTestsRun = stressed.NoTestsRun

@@ -1,7 +1,7 @@
 //! What a run came to, by itself or over all sub-runs of a stress run, and how far a stress run is.
 //!
-//! A `RunOutcome` is a summary of counters without its numbers. Of several sub-runs the highest outcome counts, which
-//! is the same in any order; `laws` says so.
+//! A `RunOutcome` is a summary of counters without its numbers. Of several sub-runs the highest
+//! outcome counts, which is the same in any order; `laws` says so.
 #![tactic(auto)]
 
 mod finished_stats;

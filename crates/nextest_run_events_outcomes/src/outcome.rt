@@ -3,8 +3,9 @@ ghost use Rattle.std.specs.Prelude.{◌≡◌};
 
 use nextest_run_events_counters::{FinalRunStats, RunFailureStep};
 
-/// What a run came to, or all sub-runs of a stress run. Of several outcomes the highest counts: `NoTestsRun` is below
-/// `Success`, that below `Cancelled`, that below `Failed`, and within the last two the tests are below the scripts.
+/// What a run came to, or all sub-runs of a stress run. Of several outcomes the highest counts:
+/// `NoTestsRun` is below `Success`, that below `Cancelled`, that below `Failed`, and within the
+/// last two the tests are below the scripts.
 #[derive(Clone, Copy, Debug, PartialEq, Eq)]
 pub enum RunOutcome {
     /// All that was to run passed.

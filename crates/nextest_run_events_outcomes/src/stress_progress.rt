@@ -46,7 +46,8 @@ pub enum StressRemaining {
 impl StressProgress {
     ghost use Rattle.nextest_run_events_outcomes.specs.Progress.{amount_of, remaining_of, completed_of, sub_run_id};
 
-    /// What is still to do: the total less what is completed or elapsed, `None` where that isn't above 0.
+    /// What is still to do: the total less what is completed or elapsed, `None` where that isn't
+    /// above 0.
     pub fn remaining(&self) -> Option<StressRemaining>
         ensures { option_map amount_of result ≡ remaining_of self.now }
     {
@@ -71,7 +72,8 @@ impl StressProgress {
         }
     }
 
-    /// The id of the next sub-run of the run `run_id`: `RUN:@stress-N`, N being how many were completed.
+    /// The id of the next sub-run of the run `run_id`: `RUN:@stress-N`, N being how many were
+    /// completed.
     pub fn unique_id(&self, alloc: Global, run_id: &Uuid) -> Result<Text, AllocError>
         ensures { IfOk result (λ text. text ≡ sub_run_id run_id.now self.now) }
     {

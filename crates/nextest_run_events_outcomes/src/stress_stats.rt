@@ -20,7 +20,8 @@ pub struct StressRunStats {
 impl StressRunStats {
     ghost use Rattle.nextest_run_events_outcomes.specs.Finished.{stress_summary_of};
 
-    /// What the counters come to at the end. A last sub-run that failed counts only by `failed_count`.
+    /// What the counters come to at the end. A last sub-run that failed counts only by
+    /// `failed_count`.
     pub fn summarize_final(&self) -> StressFinalRunStats
         ensures { result ≡ stress_summary_of self.now }
     {

@@ -58,8 +58,8 @@ pub enum UnitState {
 }
 
 impl UnitState {
-    /// Whether there is output of the attempt that the state tells of: always, but while the next attempt is waited
-    /// for.
+    /// Whether there is output of the attempt that the state tells of: always, but while the next
+    /// attempt is waited for.
     pub fn has_valid_output(&self) -> bool
         ensures { result ≡ has_valid_output self.now }
     {

@@ -1,4 +1,5 @@
--- How what a process that runs gives is described. Nothing of it is lost, and each error is told as its own kind.
+-- How what a process that runs gives is described. Nothing of it is lost, and each error is told as
+-- its own kind.
 use Rattle.std.specs.Prelude.{map}
 use Rattle.std.specs.Option.{option_map}
 use Rattle.nextest_run_events_results.specs.Described.{result_description_of}

@@ -1,4 +1,5 @@
-//! What one attempt of a test, or one run of a setup script, left: its output, its errors and how it ended.
+//! What one attempt of a test, or one run of a setup script, left: its output, its errors and how
+//! it ended.
 #![tactic(auto)]
 
 mod boxed;

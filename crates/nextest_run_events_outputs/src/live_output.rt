@@ -14,7 +14,8 @@ use nextest_run_events_results::{ExecutionResult, ExecutionResultDescription};
 use nextest_text::Listing;
 use std::alloc::{AllocError, Global};
 
-/// What a child process wrote to two streams, each on its own. A stream that wasn't captured is `None`.
+/// What a child process wrote to two streams, each on its own. A stream that wasn't captured is
+/// `None`.
 #[derive(Clone, Debug, Drop, PartialEq, Eq)]
 pub struct ChildSplitOutput {
     /// Standard output.
@@ -114,8 +115,8 @@ fn told_errors_if_any(
 }
 
 impl ChildExecutionOutputDescription<LiveSpec> {
-    /// The same, told by texts: what was written is moved, and the texts of errors are copied. It fails only
-    /// on allocation, and then what was passed is lost.
+    /// The same, told by texts: what was written is moved, and the texts of errors are copied. It
+    /// fails only on allocation, and then what was passed is lost.
     pub fn from_output(alloc: Global, output: ChildExecutionOutput) -> Result<Self, AllocError>
         ensures { IfOk result (λ told. told ≡ described_run output) }
     {

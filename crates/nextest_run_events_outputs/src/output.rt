@@ -63,7 +63,8 @@ impl From<Listing<u8>> for ChildSingleOutput {
     }
 }
 
-/// What a child process wrote. A stream that wasn't captured is `None`, one that was and stayed empty isn't.
+/// What a child process wrote. A stream that wasn't captured is `None`, one that was and stayed
+/// empty isn't.
 #[derive(Clone, Debug)]
 pub enum ChildOutputDescription {
     /// Two streams, each on its own.
@@ -97,8 +98,8 @@ impl Drop for ChildOutputDescription {
 }
 
 impl ChildOutputDescription {
-    /// How many bytes standard output and standard error have, each `None` where it wasn't captured. Both streams
-    /// in one count as standard output.
+    /// How many bytes standard output and standard error have, each `None` where it wasn't
+    /// captured. Both streams in one count as standard output.
     pub fn stdout_stderr_len(&self) -> (Option<u64>, Option<u64>)
         requires { self.now ≢ ChildOutputDescription.NotLoaded }
         ensures { result ≡ stream_lengths self.now }
@@ -152,7 +153,8 @@ impl<S: OutputSpec> Drop for ChildExecutionOutputDescription<S> {
 }
 
 impl<S: OutputSpec> ChildExecutionOutputDescription<S> {
-    /// Whether something went wrong: it could not be started, errors are listed, or it ended without success.
+    /// Whether something went wrong: it could not be started, errors are listed, or it ended
+    /// without success.
     pub fn has_errors(&self) -> bool
         ensures { result ≡ has_errors self.now }
     {

@@ -28,7 +28,8 @@ impl Drop for ErrorChain {
     }
 }
 
-/// An error that can be kept and sent: what it says, and what its causes say. In a clause it is that chain.
+/// An error that can be kept and sent: what it says, and what its causes say. In a clause it is
+/// that chain.
 #[derive(Clone, Debug, PartialEq, Eq)]
 pub struct SerializableError {
     message: Text,

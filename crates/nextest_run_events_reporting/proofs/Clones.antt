@@ -1,4 +1,5 @@
--- Clones of what runs left: derived clones say of each part that it is a clone, so the whole is again what it was made of.
+-- Clones of what runs left: derived clones say of each part that it is a clone, so the whole is
+-- again what it was made of.
 use Rattle.std.proofs.Common.{rules, Option, None, Some, ◌≡◌, refl, ap, option_map}
 use Rattle.std.proofs.lemmas.List.Elements.{same_from_all_zip}
 use Rattle.std.specs.contracts.prelude.OptionClone.TheImpl as options

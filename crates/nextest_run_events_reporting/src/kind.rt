@@ -411,7 +411,8 @@ impl Drop for TestEventKind<'_> {
     }
 }
 
-// The copy equals the event, but for the room of a test's attempts, and for how a script's variables lie in memory.
+// The copy equals the event, but for the room of a test's attempts, and for how a script's
+// variables lie in memory.
 impl Clone for TestEventKind<'_> {
     ghost use Rattle.nextest_run_events_reporting.specs.Kinds.{IsEventCopy};
 

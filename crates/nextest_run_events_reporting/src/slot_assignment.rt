@@ -1,7 +1,8 @@
 // Where a test runs.
 use nextest_config_elements_identifiers::TestGroup;
 
-/// Where a test runs: the places that it has among the tests that run beside it, through all of its attempts.
+/// Where a test runs: the places that it has among the tests that run beside it, through all of its
+/// attempts.
 #[derive(Clone, Debug, PartialEq, Eq)]
 pub struct TestSlotAssignment {
     /// Its place among all of them, the least that was free.

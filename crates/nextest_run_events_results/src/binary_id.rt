@@ -13,8 +13,8 @@ use std::hash::{Hash, Hasher};
 use std::marker::Model;
 use std::sync::ArcStr;
 
-/// The id of a test binary: its copies share their memory, since each test of the binary has one. In a clause it is the list
-/// of its bytes.
+/// The id of a test binary: its copies share their memory, since each test of the binary has one.
+/// In a clause it is the list of its bytes.
 pub struct RustBinaryId {
     id: ArcStr,
 }

@@ -3,8 +3,8 @@ ghost use Rattle.std.specs.Prelude.{◌≡◌};
 ghost use Rattle.nextest_run_events_results.specs.Cancel.{is_inner};
 ghost use Rattle.nextest_run_events_results.specs.Texts.{reason_name};
 
-/// Why a run was cancelled. The order of the variants is that of their gravity: a graver reason takes the place
-/// of a lesser one.
+/// Why a run was cancelled. The order of the variants is that of their gravity: a graver reason
+/// takes the place of a lesser one.
 #[derive(Clone, Copy, Debug, PartialEq, Eq, PartialOrd, Ord, Hash)]
 pub enum CancelReason {
     /// A setup script failed.

@@ -49,7 +49,8 @@ pub enum FailureStatus {
 }
 
 impl FailureStatus {
-    /// The failure of a process with this exit status: what ended it, or its code where it ended by itself.
+    /// The failure of a process with this exit status: what ended it, or its code where it ended by
+    /// itself.
     pub fn extract(exit_status: ExitStatus) -> FailureStatus
         ensures { result ≡ failure_of exit_status }
     {
@@ -151,7 +152,8 @@ impl FailureDescription {
 }
 
 impl ExecutionResultDescription {
-    /// The same end of an attempt, with the name of its signal where one ended it. It fails only on allocation.
+    /// The same end of an attempt, with the name of its signal where one ended it. It fails only on
+    /// allocation.
     pub fn from_result(alloc: Global, ended: ExecutionResult) -> Result<Self, AllocError>
         ensures { IfOk result (λ description. description ≡ result_description_of ended) }
     {

@@ -14,7 +14,8 @@ pub struct TestInstanceId<'a> {
     pub test_name: &'a str,
 }
 
-/// Which test of which binary. They rise by the binary's id, and then by the test's name, each by its bytes.
+/// Which test of which binary. They rise by the binary's id, and then by the test's name, each by
+/// its bytes.
 #[derive(Clone, Debug, PartialEq, Eq, PartialOrd, Ord, Hash, Drop)]
 pub struct OwnedTestInstanceId {
     /// The binary's id.

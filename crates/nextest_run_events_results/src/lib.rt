@@ -1,5 +1,5 @@
-//! How an attempt ended, and why a run was cancelled: the plain results that events, counters and logs share; which test it
-//! was, and what a log tells of its end.
+//! How an attempt ended, and why a run was cancelled: the plain results that events, counters and
+//! logs share; which test it was, and what a log tells of its end.
 #![tactic(auto)]
 
 mod binary_id;

@@ -5,7 +5,8 @@ use nextest_text::{Listing, Text};
 /// What a script or an attempt wrote, or why it could not be started.
 #[derive(Clone, Debug, PartialEq, Eq, Drop)]
 pub enum RecordOutput {
-    /// What it wrote: `None` for a stream that was not captured, no bytes for one that was and stayed empty.
+    /// What it wrote: `None` for a stream that was not captured, no bytes for one that was and
+    /// stayed empty.
     Streams {
         /// Its standard output.
         out: Option<Listing<u8>>,

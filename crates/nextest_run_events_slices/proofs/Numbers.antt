@@ -71,7 +71,8 @@ plain_number : (number : List ℕ) → IsNumber number → All (λ byte. is_end 
 plain_number number is = subst (All (λ byte. is_end byte ≡ false)) (sym is.written) (plain_digits is.digits is.decimal)
 
 module _ (text : List ℕ) where
-  -- where the first end of a number is a closing parenthesis, a number that stands before it is the text up to it
+  -- where the first end of a number is a closing parenthesis, a number that stands before it is the
+  -- text up to it
   number_there : (k : ℕ) (rest : List ℕ) → IsFirstByte is_end text (Some k) → IsNumber (take k text) → drop k text ≡ 41 ∷ 32 ∷ rest → BeginsWith IsNumber text (41 ∷ 32 ∷ rest)
   number_there k rest h is e = (take k text, is, sym (take-append-drop k text) ∙ ap (λ left. take k text ++ left) e)
 

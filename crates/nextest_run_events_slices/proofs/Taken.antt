@@ -156,7 +156,8 @@ module _ (bytes : List ℕ) (limit : ℕ) (taken : List Span) (before : AreTaken
           ];
         }
 
--- the walk goes on from a line's start, past its panic message or without one, to the next line's start
+-- the walk goes on from a line's start, past its panic message or without one, to the next line's
+-- start
 module _ (bytes : List ℕ) (at : ℕ) (last : Option ℕ) (walked : IsWalked bytes at last) where
   pub walk_past : ((span : Span) → IsPanic bytes span → span.start ≢ at) → IsWalked bytes (at + 1) last
   walk_past none = (walked.0, passed bytes at walked.0 walked.1 none, walked.2)

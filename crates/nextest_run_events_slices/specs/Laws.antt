@@ -30,6 +30,7 @@ IsSameSlice _ _ = ⊥
 abbrev pub HasOneSlice : Type 0
 HasOneSlice = (stdout stderr : List ℕ) (one other : Option TestOutputErrorSlice) → IsSlice stdout stderr one → IsSlice stdout stderr other → IsSameSlice one other
 
--- It can't be that they have none. No law decides where a line starts that tells of an error, so it is said in this form.
+-- It can't be that they have none. No law decides where a line starts that tells of an error, so it
+-- is said in this form.
 abbrev pub HasSomeSlice : Type 0
 HasSomeSlice = (stdout stderr : List ℕ) → ¬ ¬ ((slice : Option TestOutputErrorSlice) × IsSlice stdout stderr slice)

@@ -72,7 +72,8 @@ IsLastStart taken result = MatchOption result (taken ≡ []) (λ at. (before : L
 abbrev pub IsLastPanic : List ℕ → Option ℕ → Type 0
 IsLastPanic bytes result = (taken : List Span) × AreTaken bytes taken × IsLastStart taken result
 
--- behind a line feed stands `Error:`; its line goes on without a line feed to `stop`, and line ends alone from there to the place
+-- behind a line feed stands `Error:`; its line goes on without a line feed to `stop`, and line ends
+-- alone from there to the place
 pub record IsErrorLineAbove (bytes : List ℕ) (at start : ℕ) : Type 0 where
   pub behind : 0 < start
   pub feed : slice_index bytes (start - 1) ≡ 10
@@ -83,7 +84,8 @@ pub record IsErrorLineAbove (bytes : List ℕ) (at start : ℕ) : Type 0 where
   pub line : (k : ℕ) → start ≤ k → k < stop → slice_index bytes k ≢ 10
   pub ends : (k : ℕ) → stop ≤ k → k < at → (slice_index bytes k ≡ 10) ⊎ (slice_index bytes k ≡ 13)
 
--- where the slice of the panic message at a place begins: at the error's line above it, or else at the place
+-- where the slice of the panic message at a place begins: at the error's line above it, or else at
+-- the place
 abbrev pub IsPanicStart : List ℕ → ℕ → ℕ → Type 0
 IsPanicStart bytes at start = IsErrorLineAbove bytes at start ⊎ ((start ≡ at) × ((other : ℕ) → ¬ (IsErrorLineAbove bytes at other)))
 

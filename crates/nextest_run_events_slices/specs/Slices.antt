@@ -43,7 +43,8 @@ pub record IsErrorSlice (stderr : List ℕ) (part : ByteSubslice) : Type 0 where
 abbrev pub IsNoteSlice : List ℕ → ByteSubslice → Type 0
 IsNoteSlice stdout part = IsNote stdout part.start part.slice.now
 
--- the last panic of standard error comes first, then its first error, then the note on standard output
+-- the last panic of standard error comes first, then its first error, then the note on standard
+-- output
 abbrev pub IsSlice : List ℕ → List ℕ → Option TestOutputErrorSlice → Type 0
 IsSlice stdout stderr (Some (PanicMessage part)) = IsPanicSlice stderr part
 IsSlice stdout stderr (Some (ErrorStr part)) = HasNoPanic stderr × IsErrorSlice stderr part

@@ -1,4 +1,5 @@
-//! The head of a panic message: `thread '`, a name, `' `, perhaps a number in parentheses, and `panicked at `.
+//! The head of a panic message: `thread '`, a name, `' `, perhaps a number in parentheses, and
+//! `panicked at `.
 ghost use Rattle.std.specs.Prelude.{◌≡◌, ◌≢◌, ◌↔◌, ◌++◌, ◌∷◌, [], IsTrue, List, ℕ, MatchOption, codes};
 ghost use Rattle.std.specs.List.{All};
 ghost use Rattle.std.specs.Str.{chars};
@@ -66,8 +67,8 @@ fn is_number(text: &[u8]) -> bool
     }
 }
 
-/// What stands behind a number, `)` and a space, if `text` begins with them. A line feed ends the search, so that no line is
-/// searched from each panic message before it.
+/// What stands behind a number, `)` and a space, if `text` begins with them. A line feed ends the
+/// search, so that no line is searched from each panic message before it.
 fn behind_number(text: &[u8]) -> Option<&[u8]>
     ensures { MatchOption result
         ((rest : List ℕ) → ¬ (BeginsWith IsNumber text.now (codes ") " ++ rest)))
@@ -80,7 +81,8 @@ fn behind_number(text: &[u8]) -> Option<&[u8]>
     None
 }
 
-/// What stands behind `panicked at `, if `text` begins with it, perhaps with a number in parentheses before it.
+/// What stands behind `panicked at `, if `text` begins with it, perhaps with a number in
+/// parentheses before it.
 fn behind_verb(text: &[u8]) -> Option<&[u8]>
     ensures { MatchOption result
         ((rest : List ℕ) → ¬ (BeginsWith IsId text.now (codes "panicked at " ++ rest)))

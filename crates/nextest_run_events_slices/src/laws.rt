@@ -11,7 +11,8 @@ pub fn one_taken()
     ensures { HasOneTaken }
 {}
 
-/// The outputs of a test have one answer: of one kind, from one place on, with the same bytes; and it can't be that they have none.
+/// The outputs of a test have one answer: of one kind, from one place on, with the same bytes; and
+/// it can't be that they have none.
 pub fn one_slice()
     ensures one { HasOneSlice }
     ensures some { HasSomeSlice }

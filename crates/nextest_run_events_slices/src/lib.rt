@@ -1,4 +1,5 @@
-//! Which part of a failed test's output tells of its error: its last panic, its first error, or that it should have panicked.
+//! Which part of a failed test's output tells of its error: its last panic, its first error, or
+//! that it should have panicked.
 #![tactic(auto)]
 
 mod errors;

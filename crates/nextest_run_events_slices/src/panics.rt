@@ -51,7 +51,8 @@ pub fn last_panic(output: &[u8]) -> Option<usize>
     }
 }
 
-/// Where the line above `at` begins, if it begins with `Error:`. Line ends between it and `at` are passed over.
+/// Where the line above `at` begins, if it begins with `Error:`. Line ends between it and `at` are
+/// passed over.
 fn error_line_above(output: &[u8], at: usize) -> Option<usize>
     requires { at ≤ length output.now }
     ensures { MatchOption result ((start : ℕ) → ¬ (IsErrorLineAbove output.now at start))
@@ -68,7 +69,8 @@ fn error_line_above(output: &[u8], at: usize) -> Option<usize>
     None
 }
 
-/// Where the slice of the panic message at `at` begins: at the line above it if that begins with `Error:`, or else at `at`.
+/// Where the slice of the panic message at `at` begins: at the line above it if that begins with
+/// `Error:`, or else at `at`.
 pub fn panic_slice_start(output: &[u8], at: usize) -> usize
     requires { at ≤ length output.now }
     ensures { IsPanicStart output.now at result }

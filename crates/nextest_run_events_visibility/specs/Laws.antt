@@ -28,7 +28,8 @@ pub record ShowsNoMore (fewer more : OutputOnTestFinished) : Type 0 where
   pub stored : IsTrue (is_kept fewer.store_final) → IsTrue (is_kept more.store_final)
   pub at_end : IsTrue (is_shown_at_end fewer.store_final) → IsTrue (is_shown_at_end more.store_final)
 
--- under a greater reason no more is shown than under a lesser one under which the run did not end the test
+-- under a greater reason no more is shown than under a lesser one under which the run did not end
+-- the test
 abbrev pub GraverHides : Type 0
 GraverHides =
     (levels : StatusLevels) (display : TestOutputDisplay) (lesser greater : Option CancelReason) (level : StatusLevel) (final_level : FinalStatusLevel) (came : ExecutionResultDescription) →

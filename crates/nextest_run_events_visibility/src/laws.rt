@@ -13,14 +13,15 @@ pub fn reasons_weigh()
         → ⟦<Option<CancelReason> as Ord>⟧.cmp one other ≡ nat_cmp (weight one) (weight other) }
 {}
 
-/// A graver reason only ever hides: where the run did not end a test under the lesser of two reasons, no reason being the
-/// least, nothing is shown of the test under the greater one that is not shown under the lesser. The status line is the same.
+/// A graver reason only ever hides: where the run did not end a test under the lesser of two
+/// reasons, no reason being the least, nothing is shown of the test under the greater one that is
+/// not shown under the lesser. The status line is the same.
 pub fn graver_reasons_hide()
     ensures { GraverHides }
 {}
 
-/// Whatever a run was cancelled for, nothing is shown of a test that is not shown where the run goes on. The status line is the
-/// same.
+/// Whatever a run was cancelled for, nothing is shown of a test that is not shown where the run
+/// goes on. The status line is the same.
 pub fn no_reason_shows_most()
     ensures { NoneShowsMost }
 {}

@@ -38,9 +38,10 @@ pub enum OutputStoreFinal {
 }
 
 impl StatusLevels {
-    /// What is shown of a test that ended by `execution_result`, where its output is displayed as `display` says and the run
-    /// was cancelled for `cancel_status`, or goes on where that is `None`. `test_status_level` and
-    /// `test_final_status_level` are the lowest levels that show the test's status.
+    /// What is shown of a test that ended by `execution_result`, where its output is displayed as
+    /// `display` says and the run was cancelled for `cancel_status`, or goes on where that is
+    /// `None`. `test_status_level` and `test_final_status_level` are the lowest levels that show
+    /// the test's status.
     pub fn compute_output_on_test_finished(
         &self,
         display: TestOutputDisplay,

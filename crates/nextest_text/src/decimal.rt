@@ -5,8 +5,8 @@ ghost use Rattle.std.specs.Int.{w32};
 
 use itoa::Buffer;
 
-/// The number that `text` is in shortest decimal: digits, no sign, and no leading zero before another digit.
-/// `None` for every other text, and above `u64::MAX`.
+/// The number that `text` is in shortest decimal: digits, no sign, and no leading zero before
+/// another digit. `None` for every other text, and above `u64::MAX`.
 pub fn u64_of_decimal(text: &str) -> Option<u64>
     ensures found { IfSome result (λ number. text.now ≡ decimal number) }
     ensures none { IfNone result ((number : ℕ) → number < 2 ^ 64 → text.now ≢ decimal number) }
@@ -22,8 +22,8 @@ pub fn u64_of_decimal(text: &str) -> Option<u64>
     }
 }
 
-/// The number that `text` is in shortest decimal, with a `-` before the digits of one below 0. `None` for every
-/// other text, and outside the range of `i32`.
+/// The number that `text` is in shortest decimal, with a `-` before the digits of one below 0.
+/// `None` for every other text, and outside the range of `i32`.
 pub fn i32_of_decimal(text: &str) -> Option<i32>
     ensures found { IfSome result (λ number. text.now ≡ signed_decimal number) }
     ensures none { IfNone result

@@ -57,7 +57,8 @@ impl<T> Listing<T> {
         self.items.is_empty()
     }
 
-    /// Adds an element at the end. Where there is no memory the list stays and the element comes back.
+    /// Adds an element at the end. Where there is no memory the list stays and the element comes
+    /// back.
     pub fn push(&mut self, item: T) -> Result<(), AllocFailed<T>>
         ensures ok { OnOk result (self.new ≡ self.old ++ item ∷ []) }
         ensures err { OnErr result (self.new ≡ self.old) }

@@ -1,5 +1,5 @@
-//! The program `test-runner`: the first line of standard input is the JSON inputs, the rest is the log; the report
-//! goes to standard output and the status is the exit status.
+//! The program `test-runner`: the first line of standard input is the JSON inputs, the rest is the
+//! log; the report goes to standard output and the status is the exit status.
 #![tactic(auto)]
 
 use std::process::ExitCode;

@@ -1,4 +1,5 @@
--- Plans that are the same but for their warnings have the same runs, and report the same behind the warnings.
+-- Plans that are the same but for their warnings have the same runs, and report the same behind the
+-- warnings.
 use Rattle.std.proofs.Common.{◌≡◌, ℕ, ◌+◌, List, [], ◌∷◌, ◌++◌, map, length, Option, None, Some, Result, Ok, Err, refl, sym, ap, ◌∙◌, inl, inr, append_assoc}
 use Rattle.std.specs.Prelude.{slice_get}
 use Rattle.test_runner_core_line_syntax.specs.declared.log_line.LogLine.{LogLine}
@@ -93,7 +94,8 @@ ending_aside warnings plan last (Some found) = refl
 
 -- ---- reports
 
--- what is reported behind the warnings of a plan, and that it is the same of the plan with other ones
+-- what is reported behind the warnings of a plan, and that it is the same of the plan with other
+-- ones
 pub record ReportsAlike (warnings : List (List ℕ)) (plan : Plan) (log : List Item) (parts : List Part) (code : ℕ) : Type 0 where
   pub behind : List Part
   pub whole : parts ≡ opening (with_warnings warnings plan) ++ behind

@@ -70,7 +70,8 @@ stops_where_due answer inputs assigned log whole =
 
 -- ---- what a call wrote
 
--- a report of a log that runs the inputs to their end is written with the final text that is due at its end
+-- a report of a log that runs the inputs to their end is written with the final text that is due at
+-- its end
 pub ends_as_due : (answer : Binary → Answer) (inputs : Inputs) (log : List Item) (parts : List Part) (code : ℕ) (before after : Option (List ℕ))
     → Composed answer inputs log parts code → IsWritten parts before after → EndsAsDue answer inputs log before after
 ends_as_due answer inputs log parts code before after composed (text, is, appends) assigned whole free =

@@ -45,7 +45,8 @@ pub nothing_ahead : (begin : Cursor) (known : Option (List ℕ)) → LeavesAhead
 nothing_ahead begin None = tt
 nothing_ahead begin (Some log) = refl
 
--- where the judging of a log is: these lines are judged, what they report is reported, and what a report needs is kept of their run
+-- where the judging of a log is: these lines are judged, what they report is reported, and what a
+-- report needs is kept of their run
 pub record Where (plan : Plan) (begin : Cursor) (known before : Option (List ℕ)) (session : SessionState) (cursor : Cursor) (left after : Option (List ℕ)) (waits : List ℕ) (number : ℕ) : Type 0 where
   pub front : List (List ℕ)
   pub parts : List Part

@@ -19,7 +19,8 @@ IsReading bytes (Some (refused.Step refusal)) = ⊥
 IsReading bytes (Some refused.NotUtf8) = ReadsLine bytes (Err unread.NotUtf8)
 IsReading bytes (Some refused.BadLine) = ReadsLine bytes (Err unread.BadLine)
 
--- the first refused line of these items, the first of which has this number: each line before it is accepted
+-- the first refused line of these items, the first of which has this number: each line before it is
+-- accepted
 abbrev pub FirstRefused : ℕ → List Item → Option RefusedLine → Type 0
 FirstRefused number [] None = ⊤
 FirstRefused number [] (Some found) = ⊥

@@ -15,7 +15,8 @@ abbrev pub fault_of_reporting : ReportFault → JudgeFault
 fault_of_reporting told.Memory = fault.Memory
 fault_of_reporting (told.Write cause) = fault.Write cause
 
--- the reader's failed calls rose by one exactly where its failure is answered, and then its last call failed
+-- the reader's failed calls rose by one exactly where its failure is answered, and then its last
+-- call failed
 abbrev pub CountsReadFailures : {A : Type 0} → Result A JudgeFault → ℕ → ℕ → Bool → Type 0
 CountsReadFailures (Err (fault.Read cause)) before after last = (after ≡ before + 1) × (last ≡ true)
 CountsReadFailures result before after last = after ≡ before

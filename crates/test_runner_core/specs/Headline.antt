@@ -1,4 +1,5 @@
--- The headline: what is promised of each call that answers an exit status, whatever the order of the tests and wherever the log ends.
+-- The headline: what is promised of each call that answers an exit status, whatever the order of
+-- the tests and wherever the log ends.
 use Rattle.std.specs.Prelude.{◌≡◌, ◌↔◌, ℕ, List, map, Option, Result, Ok, Err}
 use Rattle.std.specs.List.{Contains}
 use Rattle.nextest_run_events_results.specs.declared.instance.OwnedTestInstanceId.{OwnedTestInstanceId}
@@ -28,23 +29,27 @@ pub record Filters (inputs : Inputs) : Type 0 where
   pub force : InForce
   pub in_force : AreInForce inputs choice.run force
 
--- there are filters in force, and whichever are, a plan selects exactly the tests on which they hold
+-- there are filters in force, and whichever are, a plan selects exactly the tests on which they
+-- hold
 pub record SelectsExactly (answer : Binary → Answer) (inputs : Inputs) (plan : Plan) : Type 0 where
   pub some : Filters inputs
   pub exactly : (by : Filters inputs) (test : OwnedTestInstanceId)
       → Contains (map (λ (t : PlanTest). t.instance) plan.tests) test ↔ IsWanted answer inputs by.choice by.force test
 
--- it lists exactly the binaries that some answers select: those on which each filter in force can hold
+-- it lists exactly the binaries that some answers select: those on which each filter in force can
+-- hold
 pub record ListsExactly (inputs : Inputs) (plan : Plan) : Type 0 where
   pub some : Filters inputs
   pub exactly : (by : Filters inputs) (binary : Binary)
       → Contains inputs.workspace.binaries binary → Contains plan.listed binary.id ↔ AllCanHold inputs.workspace by.force binary
 
--- The promises, in the order of the headline. Inputs are refused exactly for the first check that they break, by one line and by its status;
--- all others have a plan. The plan selects and lists exactly what it is to. What is written is the report of the plan's run by the log, up to
--- its first refused line, or its end. The status of each log that runs the inputs to their end by an assignment is that assignment's due
--- status; where the assignment is unstopped, the report ends with the one final text that is due to it. Wherever the log is cut, and whoever
--- stopped the run, the status is no milder.
+-- The promises, in the order of the headline. Inputs are refused exactly for the first check that
+-- they break, by one line and by its status; all others have a plan. The plan selects and lists
+-- exactly what it is to. What is written is the report of the plan's run by the log, up to its
+-- first refused line, or its end. The status of each log that runs the inputs to their end by an
+-- assignment is that assignment's due status; where the assignment is unstopped, the report ends
+-- with the one final text that is due to it. Wherever the log is cut, and whoever stopped the run,
+-- the status is no milder.
 pub record Headline (answer : Binary → Answer) (inputs : Inputs) (log : List Item) (code : ℕ) (before after : Option (List ℕ)) : Type 0 where
   pub refuses : (refusal : PlanFault) → Plans answer inputs (Err refusal) → IsWritten (refused_plan refusal) before after × (code ≡ status_of refusal)
   pub plans : ((refusal : PlanFault) → ¬ Plans answer inputs (Err refusal)) → (plan : Plan) × Builds answer inputs (Ok plan)

@@ -66,7 +66,8 @@ JudgesLine (Ok (Some refusal)) old bytes new before waited after waits =
 JudgesLine (Err fault) old bytes new before waited after waits =
     (line : LogLine) × Spells line bytes × StepsLine (Err fault) old line new before waited after waits
 
--- what looking for the next line hands out, and what is written: all that was reported, where a read fails
+-- what looking for the next line hands out, and what is written: all that was reported, where a
+-- read fails
 abbrev pub HandsNext : Result Next JudgeFault → Cursor → Option (List ℕ) → Cursor → Option (List ℕ) → Option (List ℕ) → List ℕ → Option (List ℕ) → List ℕ → Type 0
 HandsNext (Ok next) old left new rest before waited after waits =
     Hands old left new rest (Ok next) × HandsAhead old left new rest (Ok next) × HandsBytes (Ok next) old new × WritesAll [] before waited after waits

@@ -46,7 +46,8 @@ line_refusal_of faults.LineTooLong = refused.LineTooLong
 line_refusal_of faults.LogTooLong = refused.LogTooLong
 line_refusal_of faults.NoLineEnd = refused.NoLineEnd
 
--- the bytes of a whole line are refused: as no UTF-8, as a bad line, or as the step of its event is, where this is a line's event
+-- the bytes of a whole line are refused: as no UTF-8, as a bad line, or as the step of its event
+-- is, where this is a line's event
 abbrev pub RefusesBy : (LogLine → Event) → State → List ℕ → LineRefusal → Type 0
 RefusesBy event state bytes refused.LineTooLong = ⊥
 RefusesBy event state bytes refused.LogTooLong = ⊥
@@ -59,7 +60,8 @@ RefusesBy event state bytes (refused.Step refusal) = (line : LogLine) × Spells 
 abbrev pub Refuses : Plan → State → List ℕ → LineRefusal → Type 0
 Refuses plan = RefusesBy (event_of plan)
 
--- the line with this number is the first of these items, and refused; nothing is, where there are none
+-- the line with this number is the first of these items, and refused; nothing is, where there are
+-- none
 abbrev pub Finds : Plan → State → ℕ → List Item → Option RefusedLine → Type 0
 Finds plan state number [] found = found ≡ None
 Finds plan state number (Line bytes ∷ more) found =

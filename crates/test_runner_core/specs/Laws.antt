@@ -33,7 +33,8 @@ pub record Reported (answer : Binary → Answer) (inputs : Inputs) (log : List I
   pub composed : Composed answer inputs log parts code
   pub told : IsTextOf parts text
 
--- It can't be that they have none. No law decides whether a text is a filterset, so it is said in this form.
+-- It can't be that they have none. No law decides whether a text is a filterset, so it is said in
+-- this form.
 abbrev pub EndsWithSomeText : Type 0
 EndsWithSomeText = (answer : Binary → Answer) (inputs : Inputs) (log : List Item) → ¬ ¬ Reported answer inputs log
 
@@ -64,8 +65,8 @@ EndsNoMilder =
     (answer : Binary → Answer) (inputs : Inputs) (log : List Item) (parts : List Part) (code : ℕ) → Composed answer inputs log parts code
     → IsNoMilderThanDue answer inputs log code
 
--- two logs that run the same inputs to their end by one unstopped assignment, in whatever order, have reports that end with one
--- text, the final text that is due
+-- two logs that run the same inputs to their end by one unstopped assignment, in whatever order,
+-- have reports that end with one text, the final text that is due
 abbrev pub HasOneReport : Type 0
 HasOneReport =
     (answer : Binary → Answer) (inputs : Inputs) (assigned : Assignment) (log other : List Item)
@@ -74,20 +75,22 @@ HasOneReport =
     → Composed answer inputs log parts code → IsTextOf parts text → Composed answer inputs other other_parts other_code → IsTextOf other_parts other_text
     → (final told other_told : List ℕ) × IsTextOf (due_parts whole.run.plan assigned) final × (text ≡ told ++ final) × (other_text ≡ other_told ++ final)
 
--- no reason stands at the end of a log that runs the inputs to their end exactly where the assignment is unstopped
+-- no reason stands at the end of a log that runs the inputs to their end exactly where the
+-- assignment is unstopped
 abbrev pub StopsWhereDue : Type 0
 StopsWhereDue =
     (answer : Binary → Answer) (inputs : Inputs) (assigned : Assignment) (log : List Item) (whole : IsWholeRun answer inputs log assigned)
     → (whole.run.last.reason ≡ None) ↔ IsUnstopped (run_plan whole.run.plan) assigned
 
--- a report with status 0 is that of a log without a refused line whose run ended all scripts of the plan and finished all tests
+-- a report with status 0 is that of a log without a refused line whose run ended all scripts of the
+-- plan and finished all tests
 abbrev pub SucceedsWhole : Type 0
 SucceedsWhole =
     (answer : Binary → Answer) (inputs : Inputs) (log : List Item) (parts : List Part) → Composed answer inputs log parts 0
     → (run : IsRun answer inputs log) × EndedWhole (run_plan run.plan) run.last
 
--- a plan that was built is one in the sense of the laws over runs: each test has a try, a limit is one at least, and no script
--- is to run without a test
+-- a plan that was built is one in the sense of the laws over runs: each test has a try, a limit is
+-- one at least, and no script is to run without a test
 abbrev pub BuiltIsPlan : Type 0
 BuiltIsPlan = (answer : Binary → Answer) (inputs : Inputs) (plan : Plan) → Builds answer inputs (Ok plan) → IsPlan (run_plan plan)
 

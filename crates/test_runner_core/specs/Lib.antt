@@ -49,7 +49,8 @@ pub use Rattle.test_runner_core_settings.specs.Holding
 pub use Rattle.test_runner_core_settings.specs.Sets
 pub use Rattle.test_runner_core_settings.specs.Settings
 pub use Rattle.test_runner_core_settings.specs.Laws as SettingsLaws
--- the version pass: which sources count, how it takes them, what comes of what they ask for, and how a warning reads
+-- the version pass: which sources count, how it takes them, what comes of what they ask for, and
+-- how a warning reads
 pub use Rattle.nextest_config_resolution_sources.specs.Counting
 pub use Rattle.test_runner_core_settings.specs.Sources as PassSources
 pub use Rattle.test_runner_core_settings.specs.Pass

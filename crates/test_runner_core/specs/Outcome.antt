@@ -38,27 +38,30 @@ pub record IsRun (answer : Binary → Answer) (inputs : Inputs) (log : List Item
 abbrev pub RunAgrees : {answer : Binary → Answer} {inputs : Inputs} {log : List Item} → IsRun answer inputs log → Assignment → Type 0
 RunAgrees run assigned = Agrees assigned (initial (run_plan run.plan)) run.events
 
--- a log runs these inputs to their end as it is assigned: no line is refused, the run agrees with the assignment, it is
--- complete, and nobody asks it to stop
+-- a log runs these inputs to their end as it is assigned: no line is refused, the run agrees with
+-- the assignment, it is complete, and nobody asks it to stop
 pub record IsWholeRun (answer : Binary → Answer) (inputs : Inputs) (log : List Item) (assigned : Assignment) : Type 0 where
   pub run : IsRun answer inputs log
   pub agrees : RunAgrees run assigned
   pub complete : is_complete run.last ≡ true
   pub no_stop : AllByRecursion IsNoStop run.events
 
--- an exit status is due: of a log that runs the inputs to their end it is the status that is due to the assignment
+-- an exit status is due: of a log that runs the inputs to their end it is the status that is due to
+-- the assignment
 abbrev pub IsDue : (Binary → Answer) → Inputs → List Item → ℕ → Type 0
 IsDue answer inputs log code =
     (assigned : Assignment) (whole : IsWholeRun answer inputs log assigned) → code ≡ due_status (run_plan whole.run.plan) assigned
 
--- an exit status is no milder than what is due: wherever the log is cut and whoever asked the run to stop, it is the status that
--- is due to the assignment or a graver one, and 4 exactly where 4 is due
+-- an exit status is no milder than what is due: wherever the log is cut and whoever asked the run
+-- to stop, it is the status that is due to the assignment or a graver one, and 4 exactly where 4 is
+-- due
 abbrev pub IsNoMilderThanDue : (Binary → Answer) → Inputs → List Item → ℕ → Type 0
 IsNoMilderThanDue answer inputs log code =
     (assigned : Assignment) (run : IsRun answer inputs log) → RunAgrees run assigned
     → IsNoMilder code (due_status (run_plan run.plan) assigned) × ((code ≡ 4) ↔ (due_status (run_plan run.plan) assigned ≡ 4))
 
--- the final text that is due to an unstopped assignment: that of the state in which everything ended as it was assigned
+-- the final text that is due to an unstopped assignment: that of the state in which everything
+-- ended as it was assigned
 abbrev pub due_parts : Plan → Assignment → List Part
 due_parts plan assigned = final_parts plan (final_state (run_plan plan) assigned)
 
@@ -66,7 +69,8 @@ due_parts plan assigned = final_parts plan (final_state (run_plan plan) assigned
 abbrev pub EndsWith : List Part → Option (List ℕ) → Option (List ℕ) → Type 0
 EndsWith parts before after = (told : List ℕ) × ((text : List ℕ) × IsTextOf parts text × Appends before after (told ++ text))
 
--- what was written of a log that runs the inputs to their end ends with the final text that is due, if the assignment is unstopped
+-- what was written of a log that runs the inputs to their end ends with the final text that is due,
+-- if the assignment is unstopped
 abbrev pub EndsAsDue : (Binary → Answer) → Inputs → List Item → Option (List ℕ) → Option (List ℕ) → Type 0
 EndsAsDue answer inputs log before after =
     (assigned : Assignment) (whole : IsWholeRun answer inputs log assigned) → IsUnstopped (run_plan whole.run.plan) assigned
@@ -90,15 +94,16 @@ abbrev pub HasNoPlan : Result Inputs InputsRefusal → Type 0
 HasNoPlan (Ok inputs) = (refusal : PlanFault) × Plans (table_of inputs) inputs (Err refusal)
 HasNoPlan (Err refusal) = ⊤
 
--- the report of a stream: the bytes before its first line feed are the inputs, those behind it the log
+-- the report of a stream: the bytes before its first line feed are the inputs, those behind it the
+-- log
 abbrev pub StreamComposed : List ℕ → List Part → ℕ → Type 0
 StreamComposed bytes = LineComposed (read_inputs (before_feed bytes)) (items 0 (behind_feed bytes))
 
 abbrev pub StreamBegun : List ℕ → List Part → Type 0
 StreamBegun bytes = LineBegun (read_inputs (before_feed bytes)) (items 0 (behind_feed bytes))
 
--- what the bytes that were got of a stream report: nothing while the first line isn't whole, and then its plan's warnings and the whole
--- lines behind it
+-- what the bytes that were got of a stream report: nothing while the first line isn't whole, and
+-- then its plan's warnings and the whole lines behind it
 abbrev pub StreamHasSoFar : List ℕ → List Part → Type 0
 StreamHasSoFar got parts =
     (IsPlain got × (parts ≡ []))
@@ -107,7 +112,8 @@ StreamHasSoFar got parts =
 abbrev pub StreamGotTo : List ℕ → List ℕ → List Part → Type 0
 StreamGotTo bytes rest parts = (got : List ℕ) × (bytes ≡ got ++ rest) × StreamHasSoFar got parts
 
--- of a stream, of which these bytes are left to be read before the call and after it, what is written
+-- of a stream, of which these bytes are left to be read before the call and after it, what is
+-- written
 abbrev pub ReportsStream : Result ℕ JudgeFault → Option (List ℕ) → Option (List ℕ) → Option (List ℕ) → Option (List ℕ) → Type 0
 ReportsStream result left rest before after =
     Reports result (λ parts code. IfSome left (λ bytes. StreamComposed bytes parts code))

@@ -60,7 +60,8 @@ pub record SoFar (plan : Plan) (front : List (List ℕ)) (last : State) (parts :
   pub leads : Leads plan front events last
   pub told : parts ≡ opening plan ++ progress plan (Ok (initial (run_plan plan))) events
 
--- the report of a planned run and its exit status: the warnings and the progress up to the first refused line, or the log's end, and the ending
+-- the report of a planned run and its exit status: the warnings and the progress up to the first
+-- refused line, or the log's end, and the ending
 pub record Judged (plan : Plan) (log : List Item) (parts : List Part) (code : ℕ) : Type 0 where
   pub front : List (List ℕ)
   pub rest : List Item
@@ -73,7 +74,8 @@ pub record Judged (plan : Plan) (log : List Item) (parts : List Part) (code : �
   pub composed : parts ≡ told ++ ending plan last found
   pub status : code ≡ exit_status last found
 
--- the report of inputs and a log and its exit status: the inputs have no plan, or their run is judged
+-- the report of inputs and a log and its exit status: the inputs have no plan, or their run is
+-- judged
 abbrev pub Composed : (Binary → Answer) → Inputs → List Item → List Part → ℕ → Type 0
 Composed answer inputs log parts code =
     ((refusal : PlanFault) × Plans answer inputs (Err refusal) × (parts ≡ refused_plan refusal) × (code ≡ status_of refusal))
@@ -98,15 +100,17 @@ GotTo answer inputs bytes rest parts = (got : List ℕ) × (bytes ≡ got ++ res
 abbrev pub IsWritten : List Part → Option (List ℕ) → Option (List ℕ) → Type 0
 IsWritten parts before after = (text : List ℕ) × IsTextOf parts text × Appends before after text
 
--- a whole report is written, and its exit status answered; where reading fails, what was begun by the whole lines got is
--- written, and where writing fails or there is no memory a prefix of what was begun
+-- a whole report is written, and its exit status answered; where reading fails, what was begun by
+-- the whole lines got is written, and where writing fails or there is no memory a prefix of what
+-- was begun
 abbrev pub Reports : Result ℕ JudgeFault → (List Part → ℕ → Type 0) → (List Part → Type 0) → (List Part → Type 0) → Option (List ℕ) → Option (List ℕ) → Type 0
 Reports (Ok code) IsReport IsGot IsBegun before after = (parts : List Part) × IsReport parts code × IsWritten parts before after
 Reports (Err (fault.Read cause)) IsReport IsGot IsBegun before after = (parts : List Part) × IsGot parts × IsBegun parts × IsWritten parts before after
 Reports (Err (fault.Write cause)) IsReport IsGot IsBegun before after = (parts : List Part) × IsBegun parts × WritesPrefix parts before [] after
 Reports (Err fault.Memory) IsReport IsGot IsBegun before after = (parts : List Part) × IsBegun parts × WritesPrefix parts before [] after
 
--- of inputs and a log, of whose bytes these are left to be read before the call and after it, what is written
+-- of inputs and a log, of whose bytes these are left to be read before the call and after it, what
+-- is written
 abbrev pub ReportsLog : (Binary → Answer) → Inputs → Result ℕ JudgeFault → Option (List ℕ) → Option (List ℕ) → Option (List ℕ) → Option (List ℕ) → Type 0
 ReportsLog answer inputs result left rest before after =
     Reports result (λ parts code. IfSome left (λ bytes. Composed answer inputs (items 0 bytes) parts code))

@@ -11,8 +11,9 @@ use test_runner_core_line_syntax::{LentLine, SpellingError};
 use test_runner_core_log_reader::{LogFault, LogLines, Next};
 use test_runner_core_streams::LogReader;
 
-/// Finds the first line of a log that is refused whatever the plan; `None` where every line is empty or spells an
-/// event. Fails where the reader fails or there is no memory for a line; what was read until then is lost.
+/// Finds the first line of a log that is refused whatever the plan; `None` where every line is
+/// empty or spells an event. Fails where the reader fails or there is no memory for a line; what
+/// was read until then is lost.
 pub fn first_refused<R: LogReader>(
     alloc: Global,
     reader: &mut R,

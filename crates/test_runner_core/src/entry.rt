@@ -24,16 +24,18 @@ use test_runner_core_planning::{BuildPlan, PlanError};
 use test_runner_core_streams::{LogReader, ReportWriter};
 use test_runner_core_workspace::{Lister, TableLister};
 
-/// Judges the run of inputs by a log, writes its report and answers its exit status. The lister is asked once for each
-/// listed binary, in the workspace's order, up to the first whose answer is refused, and for none where the inputs are
-/// refused before; nothing of the log is read where the inputs have no plan. Whenever the log is asked for more, all is
-/// written that the whole lines so far come to. A failed read or write is never tried again. Where no line is refused, the
-/// log agrees with an assignment and has no stop, and the run is complete, the status is that assignment's due
-/// status, and where no script of the assignment stops the run and its failing tests don't reach the limit the report
-/// ends with the final text of plan and assignment, in whatever order the tests ran; where the log is cut, or has a
-/// stop, the status is that or a more severe one. After a failed read the report has what the whole lines come to that were
-/// got; after a failed write, or where there is no memory, a prefix of what it would have been. Where there is no memory
-/// the lister was asked for a prefix of the listed binaries.
+/// Judges the run of inputs by a log, writes its report and answers its exit status. The lister is
+/// asked once for each listed binary, in the workspace's order, up to the first whose answer is
+/// refused, and for none where the inputs are refused before; nothing of the log is read where the
+/// inputs have no plan. Whenever the log is asked for more, all is written that the whole lines so
+/// far come to. A failed read or write is never tried again. Where no line is refused, the log
+/// agrees with an assignment and has no stop, and the run is complete, the status is that
+/// assignment's due status, and where no script of the assignment stops the run and its failing
+/// tests don't reach the limit the report ends with the final text of plan and assignment, in
+/// whatever order the tests ran; where the log is cut, or has a stop, the status is that or a more
+/// severe one. After a failed read the report has what the whole lines come to that were got; after
+/// a failed write, or where there is no memory, a prefix of what it would have been. Where there is
+/// no memory the lister was asked for a prefix of the listed binaries.
 pub fn judge<L: Lister, R: LogReader, W: ReportWriter>(
     alloc: Global,
     inputs: &Inputs,
@@ -94,9 +96,10 @@ fn reported<L: Lister, R: LogReader, W: ReportWriter>(
     }
 }
 
-/// Judges the run of one stream: its bytes up to the first line feed, or to its end, are the JSON inputs, with
-/// the tests of each binary, and the rest is the log. A first line of more than 16,777,216 bytes is no inputs. Where the
-/// first line is no inputs or they have no plan, the reader is called for that line alone.
+/// Judges the run of one stream: its bytes up to the first line feed, or to its end, are the JSON
+/// inputs, with the tests of each binary, and the rest is the log. A first line of more than
+/// 16,777,216 bytes is no inputs. Where the first line is no inputs or they have no plan, the
+/// reader is called for that line alone.
 pub fn judge_stream<R: LogReader, W: ReportWriter>(
     alloc: Global,
     input: &mut R,
@@ -149,7 +152,8 @@ fn stream_reported<R: LogReader, W: ReportWriter>(
     }
 }
 
-// Judges the run of inputs by the lines of a log, where each binary answers by the inputs' own table.
+// Judges the run of inputs by the lines of a log, where each binary answers by the inputs' own
+// table.
 fn judge_by_table<R: LogReader, W: ReportWriter>(
     alloc: Global,
     inputs: Inputs,

@@ -16,9 +16,10 @@ use test_runner_core_reporter::{ReportFault, report_opening, write_waiting};
 use test_runner_core_session::RecordSession;
 use test_runner_core_streams::{LogReader, ReportWriter};
 
-// Takes the run of a plan from its beginning by the lines of a log, as `lines` cuts them from the reader, up to the first
-// that is refused, which changes nothing and is answered; `None` where all are accepted. The plan's warnings are reported first, and
-// then what the steps finish; all that is reported is written before the reader is asked for more.
+// Takes the run of a plan from its beginning by the lines of a log, as `lines` cuts them from the
+// reader, up to the first that is refused, which changes nothing and is answered; `None` where all
+// are accepted. The plan's warnings are reported first, and then what the steps finish; all that is
+// reported is written before the reader is asked for more.
 pub(crate) fn judge_lines<R: LogReader, W: ReportWriter>(
     alloc: Global,
     session: &mut RecordSession<'_>,

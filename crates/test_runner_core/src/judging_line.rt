@@ -27,7 +27,8 @@ pub(crate) enum LineStep {
     Refused(StepRefusal),
 }
 
-// Judges the bytes of one line, and reports what its step finishes: why they are refused, if they are.
+// Judges the bytes of one line, and reports what its step finishes: why they are refused, if they
+// are.
 pub(crate) fn judge_line<W: ReportWriter>(
     alloc: Global,
     session: &mut RecordSession<'_>,

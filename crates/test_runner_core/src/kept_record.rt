@@ -13,7 +13,8 @@ use std::alloc::{AllocError, Global};
 use test_runner_core_line_syntax::{LentOutput, LentRecord, LentStream};
 use test_runner_core_session::RecordSession;
 
-// The record of an attempt of a test, as far as a report can show it: without what was written in a success that is never shown.
+// The record of an attempt of a test, as far as a report can show it: without what was written in a
+// success that is never shown.
 pub(crate) fn record_to_keep(
     alloc: Global,
     session: &RecordSession<'_>,

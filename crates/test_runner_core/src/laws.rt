@@ -1,5 +1,5 @@
-//! What holds of every run of a log. Each function does nothing, and its contract is the law. The laws over runs
-//! hold of the run of each plan that is built (`built_plan`).
+//! What holds of every run of a log. Each function does nothing, and its contract is the law. The
+//! laws over runs hold of the run of each plan that is built (`built_plan`).
 ghost use Rattle.test_runner_core.specs.Laws.{BuiltIsPlan, EndsNoMilder, EndsWithDueStatus, EndsWithOneText, EndsWithSomeText, HasOneReport, IsolatesReports, StopsWhereDue, SucceedsWhole, NothingTakenBack, WrittenFirst};
 ghost use Rattle.test_runner_core_planning.specs.Laws.{IsolatesPlans};
 
@@ -9,7 +9,8 @@ pub use test_runner_core_planning::laws::{
 };
 pub use test_runner_core_run_model::laws::{after_a_reason, no_dead_end, reasons_first};
 
-/// Whatever the lister answers, inputs and a log have one report at most: one text and one exit status.
+/// Whatever the lister answers, inputs and a log have one report at most: one text and one exit
+/// status.
 pub fn one_text()
     ensures { EndsWithOneText }
 {}
@@ -19,38 +20,43 @@ pub fn some_report()
     ensures { EndsWithSomeText }
 {}
 
-/// What is written of a report that was begun, wherever it breaks off, is a prefix of the whole report of the same inputs and
-/// log: nothing that is written early is ever taken back.
+/// What is written of a report that was begun, wherever it breaks off, is a prefix of the whole
+/// report of the same inputs and log: nothing that is written early is ever taken back.
 pub fn nothing_taken_back()
     ensures { NothingTakenBack }
 {}
 
-/// Whatever a call answers, and wherever it failed, what it wrote is a prefix of the whole report of its inputs and its log.
+/// Whatever a call answers, and wherever it failed, what it wrote is a prefix of the whole report
+/// of its inputs and its log.
 pub fn written_first()
     ensures { WrittenFirst }
 {}
 
-/// Whatever the inputs: where no line of a log is refused, the log agrees with an assignment and has no stop, and the
-/// run is complete, the exit status of the report is that assignment's due status.
+/// Whatever the inputs: where no line of a log is refused, the log agrees with an assignment and
+/// has no stop, and the run is complete, the exit status of the report is that assignment's due
+/// status.
 pub fn due_status()
     ensures { EndsWithDueStatus }
 {}
 
-/// Whatever the inputs: where no line of a log is refused and the log agrees with an assignment, cut after any line and with stops
-/// anywhere, the exit status of the report is that assignment's due status or a graver one, and 4 exactly where 4 is due.
+/// Whatever the inputs: where no line of a log is refused and the log agrees with an assignment,
+/// cut after any line and with stops anywhere, the exit status of the report is that assignment's
+/// due status or a graver one, and 4 exactly where 4 is due.
 pub fn cut_or_stopped()
     ensures { EndsNoMilder }
 {}
 
-/// The tests of a run may come in any order: for an assignment of which no script stops the run and whose failing tests
-/// don't reach the limit, all logs that run the inputs to their end have reports that end with the same final text, byte
-/// for byte. Whatever the assignment, a reason stands at the end of such a log exactly where the assignment isn't such a one.
+/// The tests of a run may come in any order: for an assignment of which no script stops the run and
+/// whose failing tests don't reach the limit, all logs that run the inputs to their end have
+/// reports that end with the same final text, byte for byte. Whatever the assignment, a reason
+/// stands at the end of such a log exactly where the assignment isn't such a one.
 pub fn one_report()
     ensures final_text { HasOneReport }
     ensures reason { StopsWhereDue }
 {}
 
-/// A report with status 0 has no refused line, and all planned scripts and all selected tests finished.
+/// A report with status 0 has no refused line, and all planned scripts and all selected tests
+/// finished.
 pub fn status_zero()
     ensures { SucceedsWhole }
 {}
@@ -60,9 +66,10 @@ pub fn built_plan()
     ensures { BuiltIsPlan }
 {}
 
-/// Profiles outside of the chosen one's chain change nothing: where two inputs ask for the same tests of one workspace, choose one
-/// profile, for the same platforms, and their files agree but in profiles other than the chosen one, its parents and `default`, and both
-/// have a plan, then it is one plan, and a log has one exit status and one report, warnings aside.
+/// Profiles outside of the chosen one's chain change nothing: where two inputs ask for the same
+/// tests of one workspace, choose one profile, for the same platforms, and their files agree but in
+/// profiles other than the chosen one, its parents and `default`, and both have a plan, then it is
+/// one plan, and a log has one exit status and one report, warnings aside.
 pub fn isolated()
     ensures plan { IsolatesPlans }
     ensures report { IsolatesReports }

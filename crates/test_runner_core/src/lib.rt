@@ -1,9 +1,10 @@
 //! The deciding core of a test runner.
 //!
-//! `judge` takes inputs, a lister of each binary's tests, a log and a writer of the report, and answers the exit status
-//! of the log's run; `judge_stream` takes inputs and log from one stream. A runner that goes along with its
-//! tests builds a `Plan` and keeps a `Session`; what reads logs takes a `LogLine` from each line, or a `LentLine`
-//! without memory, and `first_refused` checks a log without a plan.
+//! `judge` takes inputs, a lister of each binary's tests, a log and a writer of the report, and
+//! answers the exit status of the log's run; `judge_stream` takes inputs and log from one stream. A
+//! runner that goes along with its tests builds a `Plan` and keeps a `Session`; what reads logs
+//! takes a `LogLine` from each line, or a `LentLine` without memory, and `first_refused` checks a
+//! log without a plan.
 #![tactic(auto)]
 
 mod check;

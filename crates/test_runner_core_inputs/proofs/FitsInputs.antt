@@ -1,4 +1,5 @@
--- Sources, platforms and the whole are read as their shapes say, and their first fault is the refusal.
+-- Sources, platforms and the whole are read as their shapes say, and their first fault is the
+-- refusal.
 use Rattle.std.proofs.Common.{◌≡◌, ◌⊎◌, inl, inr, ℕ, suc, ◌∷◌, ◌++◌, [], List, Bool, true, false, codes, decimal, Option, None, Some, Ok, Err, refl, ap, sym, ◌∙◌, subst, is_some, cond, length, option_and_then, append_assoc}
 use Rattle.serde_json.specs.Data.{Data}
 use Rattle.serde_json.specs.Find.{as_object}

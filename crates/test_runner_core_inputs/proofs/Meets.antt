@@ -8,7 +8,8 @@ use Rattle.test_runner_core_inputs.specs.Reading.{Path, Reading, ◌>>=◌, unde
 use Rattle.test_runner_core_inputs.specs.Shape.{Is, Has, MayHave, HasOr, AreEach, IsListOf}
 use Rattle.test_runner_core_inputs.specs.Faults.{Faults, none, itself, all_of, within, unless, is, has, may_have, each_of, is_list, is_object}
 
--- what is read has no fault and has the shape, a refusal is the first fault, and what has the shape is read
+-- what is read has no fault and has the shape, a refusal is the first fault, and what has the shape
+-- is read
 pub record Meets {A : Type 0} (read : Reading A) (faults : Faults) (IsShape : A → Type 0) : Type 0 where
   pub ok : (x : A) → read ≡ Ok x → (faults ≡ []) × IsShape x
   pub err : (path : Path) → read ≡ Err path → (more : Faults) × (faults ≡ path ∷ more)

@@ -1,5 +1,5 @@
--- All that is missing, ill-typed or not allowed in inputs, in the written order: nothing that is wrong hides what is
--- wrong behind it.
+-- All that is missing, ill-typed or not allowed in inputs, in the written order: nothing that is
+-- wrong hides what is wrong behind it.
 use Rattle.std.specs.Prelude.{ℕ, Bool, true, false, List, [], ◌∷◌, ◌++◌, codes, decimal, map, Option, None, Some, is_some, if◌then◌else◌, option_and_then}
 use Rattle.std.specs.List.{enumerate_from, flat_map}
 use Rattle.std.specs.Option.{option_map_or}

@@ -1,4 +1,5 @@
--- How inputs are read: part by part in the written order, up to the first that is missing, ill-typed or not allowed.
+-- How inputs are read: part by part in the written order, up to the first that is missing,
+-- ill-typed or not allowed.
 use Rattle.std.specs.Prelude.{ℕ, Bool, true, false, List, [], ◌∷◌, None, Some, Result, Ok, Err, codes, is_some, if◌then◌else◌}
 use Rattle.std.specs.List.{join_with_byte}
 use Rattle.std.specs.Option.{option_map_or}

@@ -28,7 +28,8 @@ pub const MAX_INPUTS_LEN: usize = 1 << 24;
 pub struct Inputs {
     /// The packages and test binaries, not yet checked.
     pub workspace: WorkspaceRecord,
-    /// The sources of the configuration; `from_json` takes no path of one with a tab, a line feed or a carriage return in it.
+    /// The sources of the configuration; `from_json` takes no path of one with a tab, a line feed
+    /// or a carriage return in it.
     pub sources: Listing<ConfigSource>,
     /// The version that the configuration's demands are judged by.
     pub current_version: PlainVersion,
@@ -107,10 +108,11 @@ fn profile_of(alloc: Global, inputs: &JsonValue<'_, '_>) -> Result<Text, Fault>
 }
 
 impl Inputs {
-    /// The inputs that `bytes` are: one JSON object in UTF-8, at most 16,777,216 bytes. Null is absent, other fields
-    /// are read past, and of repeated fields the last counts. An `Err` says that the bytes are no JSON, or where the
-    /// first thing stands, in the written order, that is missing, ill-typed or not allowed, or that there was no
-    /// memory, which says nothing of the bytes.
+    /// The inputs that `bytes` are: one JSON object in UTF-8, at most 16,777,216 bytes. Null is
+    /// absent, other fields are read past, and of repeated fields the last counts. An `Err` says
+    /// that the bytes are no JSON, or where the first thing stands, in the written order, that is
+    /// missing, ill-typed or not allowed, or that there was no memory, which says nothing of the
+    /// bytes.
     pub fn from_json(alloc: Global, bytes: &[u8]) -> Result<Inputs, InputsError>
         ensures exact { Reads bytes.now result }
     {

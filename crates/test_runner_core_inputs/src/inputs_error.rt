@@ -20,8 +20,8 @@ pub enum InputsRefusal {
     /// They are no JSON in UTF-8, or more than 16,777,216.
     #[error("the inputs are no JSON, or too long")]
     Syntax,
-    /// The first thing, in the written order, that is missing, ill-typed or not allowed: its path, which is names and
-    /// list positions from 0, joined by dots.
+    /// The first thing, in the written order, that is missing, ill-typed or not allowed: its path,
+    /// which is names and list positions from 0, joined by dots.
     #[error("the inputs have at {0} what is missing, ill-typed or not allowed")]
     Field(Text),
 }

@@ -1,5 +1,5 @@
-//! The inputs of a run: a JSON text that is read as plain records, or refused with the path of the first thing that is
-//! missing, ill-typed or not allowed.
+//! The inputs of a run: a JSON text that is read as plain records, or refused with the path of the
+//! first thing that is missing, ill-typed or not allowed.
 #![tactic(auto)]
 
 mod inputs;

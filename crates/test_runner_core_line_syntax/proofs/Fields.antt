@@ -1,4 +1,5 @@
--- The fields of a line are its parts between tabs: to join them gives the line, and to part a line gives its fields.
+-- The fields of a line are its parts between tabs: to join them gives the line, and to part a line
+-- gives its fields.
 use Rattle.std.proofs.Common.{◌≡◌, ◌≢◌, ℕ, ◌<◌, Bool, false, nat_eq, List, [], ◌∷◌, ◌++◌, length, take, drop, get_or, add-one, ◌+◌, zero, suc, refl, sym, ap, ◌∙◌, arith, inl, inr}
 use Rattle.std.specs.List.{AllByRecursion, onto_first}
 use Rattle.std.proofs.lemmas.Bool.{eqb-true, eqb-false, ne_eqb, cases_Bool, false_from_ne_true}

@@ -1,4 +1,5 @@
--- A line spells an event just where its fields do, it has no line feed and is UTF-8. So it spells one event at most.
+-- A line spells an event just where its fields do, it has no line feed and is UTF-8. So it spells
+-- one event at most.
 use Rattle.std.proofs.Common.{◌≡◌, ◌≢◌, ℕ, false, nat_eq, length, List, [], ◌∷◌, Option, Some, None, Result, Ok, Err, refl, sym, ap, subst, ◌∙◌}
 use Rattle.std.specs.Prelude.{IfOk}
 use Rattle.std.specs.List.{AllByRecursion}

@@ -6,7 +6,8 @@ use Rattle.std.specs.List.{slice_split}
 abbrev pub fields_of : List ℕ → List (List ℕ)
 fields_of bytes = slice_split (λ byte. byte == 9) bytes
 
--- what is read means something that is spelled so, and nothing is read only where nothing is spelled so
+-- what is read means something that is spelled so, and nothing is read only where nothing is
+-- spelled so
 abbrev pub Reads : {X Y : Type 0} → (X → Y) → (Y → Type 0) → Option X → Type 0
 Reads meant IsSpelled (Some found) = IsSpelled (meant found)
 Reads {X} {Y} meant IsSpelled None = (other : Y) → IsSpelled other → ⊥

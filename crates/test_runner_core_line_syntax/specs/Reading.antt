@@ -11,8 +11,9 @@ use Rattle.test_runner_core_line_syntax.specs.declared.parse_line_error.ParseLin
 use Rattle.test_runner_core_line_syntax.specs.declared.parse_line_error.ParseLineError.TheVariants as fault
 use Rattle.test_runner_core_line_syntax.specs.declared.spelling_error.SpellingError.{SpellingError}
 
--- an empty line is no event, any other is the event that it spells. A line that isn't UTF-8 is refused as that, and
--- else as bad where it isn't empty and spells no event. Running out of memory says nothing
+-- an empty line is no event, any other is the event that it spells. A line that isn't UTF-8 is
+-- refused as that, and else as bad where it isn't empty and spells no event. Running out of memory
+-- says nothing
 abbrev pub ReadsLine : List ℕ → Result (Option LogLine) ParseLineError → Type 0
 ReadsLine bytes (Ok None) = bytes ≡ []
 ReadsLine bytes (Ok (Some line)) = Spells line bytes

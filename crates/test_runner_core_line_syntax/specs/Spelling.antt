@@ -41,7 +41,8 @@ leaked_suffix false = []
 abbrev pub IsSignal : ℤ → Type 0
 IsSignal signal = (number : ℕ) × (signal ≡ pos number) × (0 < number) × (number < 128)
 
--- `fail:CODE` with a code of 32 bits that isn't 0, `abort:SIG` of a signal with the name that it has
+-- `fail:CODE` with a code of 32 bits that isn't 0, `abort:SIG` of a signal with the name that it
+-- has
 abbrev pub SpellsFailure : FailureDescription → List ℕ → Type 0
 SpellsFailure (failed_by.ExitCode code) text = FitsSigned w32 code × (code ≢ pos 0) × (text ≡ codes "fail:" ++ signed_decimal code)
 SpellsFailure (failed_by.Abort (aborted_by.UnixSignal signal name)) text =
@@ -49,7 +50,8 @@ SpellsFailure (failed_by.Abort (aborted_by.UnixSignal signal name)) text =
 SpellsFailure (failed_by.Abort (aborted_by.WindowsNtStatus code message)) text = ⊥
 SpellsFailure (failed_by.Abort aborted_by.WindowsJobObject) text = ⊥
 
--- RESULT: `pass`, a leak or a timeout as it is judged, a failure, with `:leaked` where handles were left open too, or `exec-fail`
+-- RESULT: `pass`, a leak or a timeout as it is judged, a failure, with `:leaked` where handles were
+-- left open too, or `exec-fail`
 abbrev pub SpellsResult : ExecutionResultDescription → List ℕ → Type 0
 SpellsResult ended.Pass field = field ≡ codes "pass"
 SpellsResult (ended.Leak judged) field = field ≡ codes "leak:" ++ leak_word judged
@@ -117,7 +119,8 @@ reason_word why.SecondSignal = codes "second-signal"
 abbrev pub SpellsReason : CancelReason → List ℕ → Type 0
 SpellsReason reason field = (is_inner reason ≡ false) × (field ≡ reason_word reason)
 
--- the fields of an event: `script` ID and its record, `start` BINARY NAME, `end` BINARY NAME and its record, `stop` REASON
+-- the fields of an event: `script` ID and its record, `start` BINARY NAME, `end` BINARY NAME and
+-- its record, `stop` REASON
 abbrev pub SpellsFields : LogLine → List (List ℕ) → Type 0
 SpellsFields (line.Script id ending) (word ∷ first ∷ rest) = (word ≡ codes "script") × (first ≡ id) × SpellsRecord ending rest
 SpellsFields (line.Start binary name) (word ∷ first ∷ second ∷ []) = (word ≡ codes "start") × (first ≡ binary) × (second ≡ name)

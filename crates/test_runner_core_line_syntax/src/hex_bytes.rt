@@ -30,7 +30,8 @@ fn is_digit(digit: u8) -> bool
     value_of(digit).is_some()
 }
 
-// Whether they are digits. They are all looked at: without a way out of the loop it takes many at once.
+// Whether they are digits. They are all looked at: without a way out of the loop it takes many at
+// once.
 fn are_digits(bytes: &[u8]) -> bool
     ensures { IsTrue result ↔ All IsDigit bytes.now }
 {

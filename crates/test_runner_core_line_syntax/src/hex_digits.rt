@@ -22,8 +22,8 @@ impl<'a> HexDigits<'a> {
     ghost use Rattle.test_runner_core_line_syntax.specs.Fields.{Reads};
     ghost use Rattle.test_runner_core_line_syntax.specs.Lent.{digits_meant};
 
-    /// The bytes that the field spells, without memory; `None` where it spells none: for an odd number of digits, and
-    /// for any other character, an upper-case digit too.
+    /// The bytes that the field spells, without memory; `None` where it spells none: for an odd
+    /// number of digits, and for any other character, an upper-case digit too.
     pub fn parse(field: &'a str) -> Option<HexDigits<'a>>
         ensures { Reads digits_meant (λ bytes. SpellsHex bytes field.now) result }
     {

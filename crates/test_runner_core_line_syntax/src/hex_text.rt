@@ -24,8 +24,8 @@ impl<'a> HexText<'a> {
     ghost use Rattle.test_runner_core_line_syntax.specs.Fields.{Reads};
     ghost use Rattle.test_runner_core_line_syntax.specs.Lent.{text_meant};
 
-    /// The text that the field spells, without memory; `None` where it is no hex, or the hex of bytes that aren't
-    /// UTF-8.
+    /// The text that the field spells, without memory; `None` where it is no hex, or the hex of
+    /// bytes that aren't UTF-8.
     pub fn parse(field: &'a str) -> Option<HexText<'a>>
         ensures { Reads text_meant (λ text. IsUtf8 text × SpellsHex text field.now) result }
     {

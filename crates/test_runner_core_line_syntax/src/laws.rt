@@ -1,4 +1,5 @@
-//! What holds of every spelling and every reading. Each function does nothing, and its contract is the law.
+//! What holds of every spelling and every reading. Each function does nothing, and its contract is
+//! the law.
 ghost use Rattle.test_runner_core_line_syntax.specs.Laws.{OneEvent, OneSpelling, OneReading};
 
 /// No line spells two events.

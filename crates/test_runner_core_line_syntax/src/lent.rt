@@ -125,15 +125,17 @@ impl LentRecord<'_> {
 }
 
 impl<'a> LentLine<'a> {
-    /// Reads a line, its line feed left aside, without memory: the event that it spells, or `None` for the empty line.
-    /// A line that isn't UTF-8 is refused as that, and any other that spells no event as bad.
+    /// Reads a line, its line feed left aside, without memory: the event that it spells, or `None`
+    /// for the empty line. A line that isn't UTF-8 is refused as that, and any other that spells no
+    /// event as bad.
     pub fn parse(bytes: &'a [u8]) -> Result<Option<LentLine<'a>>, SpellingError>
         ensures { LendsLine bytes.now result }
     {
         lent_of(bytes)
     }
 
-    /// The event that is meant, with texts of its own. It fails only on allocation, and not where the event has no texts.
+    /// The event that is meant, with texts of its own. It fails only on allocation, and not where
+    /// the event has no texts.
     pub fn own(self, alloc: Global) -> Result<LogLine, AllocError>
         ensures meant { IfOk result (λ line. line ≡ line_meant self.entry) }
         ensures memory { IsErr result → HasTexts (line_meant self.entry) }

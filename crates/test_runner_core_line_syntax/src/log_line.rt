@@ -61,10 +61,12 @@ impl Drop for LogLine {
 }
 
 impl LogLine {
-    /// Reads a line, its line feed left aside: the event that it spells, or `None` for the empty line.
+    /// Reads a line, its line feed left aside: the event that it spells, or `None` for the empty
+    /// line.
     ///
-    /// A line that isn't UTF-8 is refused as that, whatever else is wrong with it, and any other that spells no
-    /// event as bad. Memory is needed only for the texts of an event that is spelled, and so not for a stop.
+    /// A line that isn't UTF-8 is refused as that, whatever else is wrong with it, and any other
+    /// that spells no event as bad. Memory is needed only for the texts of an event that is
+    /// spelled, and so not for a stop.
     pub fn parse(alloc: Global, bytes: &[u8]) -> Result<Option<LogLine>, ParseLineError>
         ensures exact { ReadsLine bytes.now result }
 

@@ -17,7 +17,8 @@ use Rattle.test_runner_core_listing.specs.declared.listing_fault.ListingFault.{L
 abbrev pub behind : Selection → Result Found ListingFault → Result Found ListingFault
 behind found read = read >>= λ rest. Ok (record { tests = tests_in found.tests.items ++ rest.tests; skipped = found.skipped ++ rest.skipped })
 
--- a walk over the listed binaries has these still ahead: what the others give was found, and they alone were asked
+-- a walk over the listed binaries has these still ahead: what the others give was found, and they
+-- alone were asked
 pub record Walked (answer : Binary → Answer) (chosen : Answers) (all rest : List Binary) (found : Selection) (initial asked : List (List ℕ)) : Type 0 where
   pub given : behind found (listing answer chosen rest) ≡ listing answer chosen all
   pub listed : found.listed ++ ids_of rest ≡ ids_of all

@@ -1,4 +1,5 @@
--- Binaries are listed where each one's answer is accepted, and else refused by the first whose answer isn't.
+-- Binaries are listed where each one's answer is accepted, and else refused by the first whose
+-- answer isn't.
 use Rattle.std.proofs.Common.{◌≡◌, ◌↔◌, ℕ, List, [], ◌∷◌, ◌++◌, Option, Some, None, Result, Ok, Err, refl, sym, ap, ◌∙◌, subst, ◌⊎◌, inl, inr}
 use Rattle.std.specs.List.{AllByRecursion, flat_map}
 use Rattle.std.proofs.lemmas.List.Elements.{All-from_recursion, recursion_from_All}

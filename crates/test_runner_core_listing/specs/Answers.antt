@@ -64,8 +64,8 @@ pub record Answers : Type 0 where
   pub lists : Binary → Bool
   pub selects : Binary → List ℕ → Bool
 
--- those of filters in force: they list the binaries on which each of them can hold, by answers of its own to what it asks of the
--- tests, and select the tests on which all of them hold
+-- those of filters in force: they list the binaries on which each of them can hold, by answers of
+-- its own to what it asks of the tests, and select the tests on which all of them hold
 pub record AreAnswers (filters : List (Formula FiltersetLeaf)) (default : Formula FiltersetLeaf) (Member : query.Test → Matcher → Type 0) (it : Answers) : Type 0 where
   pub lists : (binary : Binary) → Tells (All (λ filter. CanBeOn filter default (query_of binary) true) filters) (it.lists binary)
   pub selects : (binary : Binary) (name : List ℕ) → Tells (All (λ filter. IsOn filter default (seen_test binary name) (Member (seen_test binary name)) true) filters) (it.selects binary name)

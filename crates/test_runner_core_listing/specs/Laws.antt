@@ -1,4 +1,5 @@
--- What holds of all filters in force: they have answers, and these are one. And what names and binaries are refused for, and what is found.
+-- What holds of all filters in force: they have answers, and these are one. And what names and
+-- binaries are refused for, and what is found.
 use Rattle.std.specs.Prelude.{◌≡◌, ◌↔◌, ◌==◌, ℕ, Bool, false, List, [], ◌∷◌, ◌++◌, Option, None, Some, Ok, Err, length, All, flat_map, if◌then◌else◌}
 use Rattle.nextest_filtering_filters.specs.Deciding.{AllLeaves, AreReadable, IsReadable}
 use Rattle.nextest_filtering_filters.specs.Filter.{Compiled, filter_of, is_default}
@@ -15,8 +16,9 @@ use Rattle.test_runner_core_listing.specs.Listing.{Found, accepted_answer, listi
 use Rattle.test_runner_core_listing.specs.declared.listing_fault.ListingFault.{ListingFault}
 use Rattle.test_runner_core_listing.specs.declared.listing_fault.ListingFault.TheVariants as refused
 
--- filters and a default filter have answers, where the globs of their matchers are globs, the default filter has no `default()`
--- in it, and it is decided whether a group has a name that a matcher matches
+-- filters and a default filter have answers, where the globs of their matchers are globs, the
+-- default filter has no `default()` in it, and it is decided whether a group has a name that a
+-- matcher matches
 abbrev pub HasAnswers : {G : Type 0} → (G → query.Test → Matcher → Type 0) → Type 0
 HasAnswers {G} Member =
     (groups : G) (filters : List Compiled) (default : Compiled) → ((test : query.Test) (m : Matcher) → IsReadable m → (b : Bool) × Tells (Member groups test m) b)
@@ -29,7 +31,8 @@ AnswersOnce {G} Member =
     (groups : G) (filters : List (Formula FiltersetLeaf)) (default : Formula FiltersetLeaf) (a b : Answers)
     → AreAnswers filters default (Member groups) a → AreAnswers filters default (Member groups) b → a ≡ b
 
--- what is wrong with a name behind others: it is empty, has a separator in it, or is one of them; the first of these that is so
+-- what is wrong with a name behind others: it is empty, has a separator in it, or is one of them;
+-- the first of these that is so
 abbrev pub fault_behind : List (List ℕ) → List ℕ → Option ListingFault
 fault_behind before name =
     if length name == 0 then Some refused.EmptyTestName
@@ -65,7 +68,8 @@ names_in (Err cause) = []
 abbrev pub IsAccepted : (Binary → Answer) → Binary → Type 0
 IsAccepted answer binary = accepted_answer (answer binary) ≡ Ok (names_in (answer binary))
 
--- what is found in binaries, whose answers are all accepted: the tests that are selected in each, one binary after another, and the others
+-- what is found in binaries, whose answers are all accepted: the tests that are selected in each,
+-- one binary after another, and the others
 pub record IsFoundIn (answer : Binary → Answer) (chosen : Answers) (binaries : List Binary) (found : Found) : Type 0 where
   pub acceptance : All (IsAccepted answer) binaries
   pub tests : found.tests ≡ flat_map (λ binary. selected_in chosen binary (names_in (answer binary))) binaries

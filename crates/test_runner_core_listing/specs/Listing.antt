@@ -13,7 +13,8 @@ use Rattle.test_runner_core_listing.specs.declared.listing_fault.ListingFault.{L
 use Rattle.test_runner_core_listing.specs.declared.listing_fault.ListingFault.TheVariants as refused
 use Rattle.test_runner_core_listing.specs.declared.selection.Selection.{Selection}
 
--- the first name of a binary that is refused, and as what: each name is looked at whole before the next
+-- the first name of a binary that is refused, and as what: each name is looked at whole before the
+-- next
 abbrev pub refused_name : List (List ℕ) → List (List ℕ) → Option ListingFault
 refused_name before [] = None
 refused_name before (name ∷ names) =

@@ -17,8 +17,8 @@ pub(crate) struct Hashed<'n> {
     name: &'n str,
 }
 
-// Whether it is found that no name stands twice among these: by their order where they rise, as mostly they do, else by
-// their hashes.
+// Whether it is found that no name stands twice among these: by their order where they rise, as
+// mostly they do, else by their hashes.
 pub(crate) fn differ(alloc: Global, names: &[Text]) -> Result<bool, AllocError>
     ensures { IfOk result (λ found. IsTrue found → IsDistinct bytes_eq names.now) }
 {

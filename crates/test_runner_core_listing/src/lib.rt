@@ -1,4 +1,5 @@
-//! Which tests a run selects: the binaries on which each of the filters in force can hold are asked for their tests, and all of them are tried on each.
+//! Which tests a run selects: the binaries on which each of the filters in force can hold are asked
+//! for their tests, and all of them are tried on each.
 #![tactic(auto)]
 
 mod distinct;

@@ -83,7 +83,8 @@ first_too_long waiting more (Some at) size feed all long = feed_too_far waiting 
 abbrev pub beginning : Cursor
 beginning = record { line = []; waiting = []; handed = 0 }
 
--- what is ahead is the whole stream, each call brought a byte and none failed; there is no call past the limit
+-- what is ahead is the whole stream, each call brought a byte and none failed; there is no call
+-- past the limit
 pub record ReadingFirst (stream : Option (List ℕ)) (first_calls first_failures : ℕ) (lines : Cursor) (rest : Option (List ℕ)) (calls failures : ℕ) : Type 0 where
   pub ahead : KeepsAhead beginning stream lines rest
   pub handed : lines.handed ≡ 0

@@ -1,4 +1,5 @@
--- What stays true while lines are looked for and the reader is asked for more, and what a call hands out by it.
+-- What stays true while lines are looked for and the reader is asked for more, and what a call
+-- hands out by it.
 use Rattle.std.proofs.Common.{◌≡◌, ℕ, ◌+◌, ◌≤◌, Bool, true, false, cond, ltb, leb, eqb, ◌&&◌, ◌||◌, List, [], ◌∷◌, ◌++◌, length, Option, Some, None, Ok, refl, sym, ap, ◌∙◌, subst, arith, append_assoc, append-nil}
 use Rattle.std.specs.Option.{option_map_or}
 use Rattle.std.specs.Io.KnownBytes.{IsAtEnd}
@@ -15,8 +16,8 @@ use Rattle.test_runner_core_log_reader.specs.Cursor.{Cursor, bytes_received, ite
 use Rattle.test_runner_core_log_reader.specs.Calls.{KeepsAhead, Hands, HandsItem, Scanned, WaitsMore, idle_reads, end_of}
 use Rattle.test_runner_core_log_reader.proofs.Items.{items_line, items_end}
 
--- what is ahead is what was ahead, each call brought a byte, none failed, and the log's limit holds; there was no call
--- where the bytes that waited told what is next
+-- what is ahead is what was ahead, each call brought a byte, none failed, and the log's limit
+-- holds; there was no call where the bytes that waited told what is next
 pub record Reading (old : Cursor) (left : Option (List ℕ)) (old_calls old_failures : ℕ) (new : Cursor) (rest : Option (List ℕ)) (calls failures : ℕ) : Type 0 where
   pub ahead : KeepsAhead old left new rest
   pub handed : new.handed ≡ old.handed

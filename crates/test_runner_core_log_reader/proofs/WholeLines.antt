@@ -48,8 +48,8 @@ pub plain_more : (front : List (List ℕ)) (line : List ℕ) → ArePlain front 
 plain_more [] line lines plain = (plain, tt)
 plain_more (first ∷ front) line lines plain = (lines.0, plain_more front line lines.1 plain)
 
--- lines and their line feeds are the first bytes that were ahead, and the others still are, where the reader's bytes are
--- known
+-- lines and their line feeds are the first bytes that were ahead, and the others still are, where
+-- the reader's bytes are known
 abbrev pub TakesLines : Cursor → Option (List ℕ) → List (List ℕ) → Cursor → Option (List ℕ) → Type 0
 TakesLines old None front new rest = Unit {0}
 TakesLines old (Some left) front new None = ⊥

@@ -14,8 +14,8 @@ use Rattle.test_runner_core_log_reader.specs.declared.next.Next.TheVariants as f
 use Rattle.test_runner_core_log_reader.specs.declared.next.Scan.{Scan}
 use Rattle.test_runner_core_log_reader.specs.declared.next.Scan.TheVariants as scanned
 
--- a line is the first item that was ahead, and the others still are; a refusal is all that was and is ahead; at the
--- end nothing is. A call that fails leaves what is ahead
+-- a line is the first item that was ahead, and the others still are; a refusal is all that was and
+-- is ahead; at the end nothing is. A call that fails leaves what is ahead
 abbrev pub HandsItem : Result Next LogFault → Cursor → List Item → List Item → Type 0
 HandsItem (Ok found.Line) new before after = before ≡ Line new.line ∷ after
 HandsItem (Ok (found.Refused fault)) new before after = (before ≡ Refused fault ∷ []) × (after ≡ before)
@@ -28,14 +28,15 @@ Hands old None new rest result = ⊤
 Hands old (Some left) new None result = ⊥
 Hands old (Some left) new (Some rest) result = HandsItem result new (items_ahead old left) (items_ahead new rest)
 
--- what is ahead, the bytes that wait and those that the reader has left, stays, where the latter are known
+-- what is ahead, the bytes that wait and those that the reader has left, stays, where the latter
+-- are known
 abbrev pub KeepsAhead : Cursor → Option (List ℕ) → Cursor → Option (List ℕ) → Type 0
 KeepsAhead old None new rest = ⊤
 KeepsAhead old (Some left) new None = ⊥
 KeepsAhead old (Some left) new (Some rest) = new.waiting ++ rest ≡ old.waiting ++ left
 
--- a line and its line feed are the first bytes that were ahead, and the others still are, where the reader's bytes are
--- known
+-- a line and its line feed are the first bytes that were ahead, and the others still are, where the
+-- reader's bytes are known
 abbrev pub TakesLine : Cursor → Option (List ℕ) → Cursor → Option (List ℕ) → Type 0
 TakesLine old None new rest = ⊤
 TakesLine old (Some left) new None = ⊥
@@ -55,7 +56,8 @@ HandsBytes (Ok (found.Refused fault)) old new = new.handed ≡ old.handed
 HandsBytes (Ok found.End) old new = new.handed ≡ old.handed
 HandsBytes (Err fault) old new = new.handed ≡ old.handed
 
--- the calls of the reader that brought no byte: one where the log's end was seen or a call failed, else none
+-- the calls of the reader that brought no byte: one where the log's end was seen or a call failed,
+-- else none
 abbrev pub idle_reads : Result Next LogFault → ℕ
 idle_reads (Ok found.Line) = 0
 idle_reads (Ok (found.Refused faults.LineTooLong)) = 0
@@ -73,13 +75,15 @@ IsUnread (Err fault) before after = ⊥
 abbrev pub GetsPlain : Option (List ℕ) → Option (List ℕ) → Type 0
 GetsPlain left rest = (got : List ℕ) × Consumes left rest got × IsPlain got
 
--- the reader's failed calls rose by one exactly where its failure is answered, and then its last call failed
+-- the reader's failed calls rose by one exactly where its failure is answered, and then its last
+-- call failed
 abbrev pub TellsFailure : {T : Type 0} → Result T LogFault → ℕ → ℕ → Bool → Type 0
 TellsFailure (Ok value) before after last = after ≡ before
 TellsFailure (Err (stopped_by.Read cause)) before after last = (after ≡ before + 1) × (last ≡ true)
 TellsFailure (Err stopped_by.Memory) before after last = after ≡ before
 
--- what the bytes that wait tell: their first line, or that whatever follows there is none, or nothing yet
+-- what the bytes that wait tell: their first line, or that whatever follows there is none, or
+-- nothing yet
 abbrev pub Scanned : Scan → Cursor → Cursor → Type 0
 Scanned scanned.Line old new =
     (old.waiting ≡ new.line ++ 10 ∷ new.waiting) × IsPlain new.line × (line_fault old.handed (length new.line) true ≡ None)
@@ -94,14 +98,15 @@ pub record Cut (count : ℕ) (old new : Cursor) : Type 0 where
   pub size : length new.line ≡ count
   pub handed : new.handed ≡ old.handed
 
--- what the bytes that wait tell of a stream's first line: it, or that it is too long whatever follows, or nothing yet
+-- what the bytes that wait tell of a stream's first line: it, or that it is too long whatever
+-- follows, or nothing yet
 abbrev pub ScannedFirst : Scan → Cursor → Cursor → Type 0
 ScannedFirst scanned.Line old new = Cut (length new.line) old new × (length new.line ≤ FIRST_LINE_LIMIT)
 ScannedFirst (scanned.Refused fault) old new = (rest : List ℕ) → FIRST_LINE_LIMIT < length (before_feed (old.waiting ++ rest))
 ScannedFirst scanned.Waits old new = Unmoved old new × IsPlain old.waiting × (length old.waiting ≤ FIRST_LINE_LIMIT)
 
--- a stream is parted at its first line, which isn't too long: it is the line, and what is behind it is ahead. Nothing is
--- said of the parts where it is too long
+-- a stream is parted at its first line, which isn't too long: it is the line, and what is behind it
+-- is ahead. Nothing is said of the parts where it is too long
 abbrev pub PartsAtFirst : List ℕ → Option Cursor → Option (List ℕ) → Type 0
 PartsAtFirst bytes None rest = FIRST_LINE_LIMIT < length (before_feed bytes)
 PartsAtFirst bytes (Some lines) None = ⊥

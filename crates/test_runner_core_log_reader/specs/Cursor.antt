@@ -4,8 +4,8 @@ use Rattle.test_runner_core_log_reader.specs.Feeds.{has_feed}
 use Rattle.test_runner_core_log_reader.specs.Items.{Item, items}
 use Rattle.test_runner_core_log_reader.specs.declared.limits.TheConstants.{LINE_LIMIT, LOG_LIMIT}
 
--- the line that the last call found, or no bytes; the bytes that were read and not handed out yet; and how many bytes
--- of the log were handed out, line feeds among them
+-- the line that the last call found, or no bytes; the bytes that were read and not handed out yet;
+-- and how many bytes of the log were handed out, line feeds among them
 pub record Cursor : Type 0 where
   pub line : List ℕ
   pub waiting : List ℕ
@@ -15,7 +15,8 @@ pub record Cursor : Type 0 where
 abbrev pub bytes_received : Cursor → ℕ
 bytes_received cursor = cursor.handed + length cursor.waiting
 
--- the bytes that wait tell what is next: there is a line feed among them, or they are too many whatever follows
+-- the bytes that wait tell what is next: there is a line feed among them, or they are too many
+-- whatever follows
 abbrev pub tells_next : Cursor → Bool
 tells_next cursor = has_feed cursor.waiting || nat_lt LINE_LIMIT (length cursor.waiting) || nat_lt LOG_LIMIT (bytes_received cursor)
 

@@ -15,7 +15,8 @@ abbrev pub IsFirstFeed : List ℕ → Option ℕ → Type 0
 IsFirstFeed bytes None = IsPlain bytes
 IsFirstFeed bytes (Some at) = (at < length bytes) × IsPlain (take at bytes) × (drop at bytes ≡ 10 ∷ drop (at + 1) bytes)
 
--- what stands before the first line feed, which is all where there is none, and what stands behind it
+-- what stands before the first line feed, which is all where there is none, and what stands behind
+-- it
 abbrev pub before_feed : List ℕ → List ℕ
 before_feed = before_first (λ byte. byte == 10)
 

@@ -15,8 +15,8 @@ cursor_of inside =
       handed = inside.handed;
     }
 
--- the line lies before the bytes that wait, of which those up to `scanned` have no line feed; and no more of the log was
--- read than its limit and one byte
+-- the line lies before the bytes that wait, of which those up to `scanned` have no line feed; and
+-- no more of the log was read than its limit and one byte
 pub record IsInOrder (inside : Inside) : Type 0 where
   pub line : inside.line_start ≤ inside.line_end
   pub before : inside.line_end ≤ inside.start

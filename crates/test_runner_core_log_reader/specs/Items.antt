@@ -11,9 +11,10 @@ pub data Item : Type 0 where
   Line : List ℕ → Item
   Refused : LineFault → Item
 
--- what is wrong with a line of so many bytes behind so many of the log, which a line feed ends or the log's end. The
--- line is too long at its first byte past the line's limit, the log at its first byte past the log's limit, a line feed
--- among them; the byte that comes first counts, and the line's limit at the same byte
+-- what is wrong with a line of so many bytes behind so many of the log, which a line feed ends or
+-- the log's end. The line is too long at its first byte past the line's limit, the log at its first
+-- byte past the log's limit, a line feed among them; the byte that comes first counts, and the
+-- line's limit at the same byte
 abbrev pub line_fault : ℕ → ℕ → Bool → Option LineFault
 line_fault before size ended =
     if nat_lt LINE_LIMIT size && nat_le (before + LINE_LIMIT) LOG_LIMIT then Some faults.LineTooLong
@@ -21,7 +22,8 @@ line_fault before size ended =
     else if ended || size == 0 then None
     else Some faults.NoLineEnd
 
--- the items of the parts between line feeds, behind so many bytes of the log. No line feed ends the last part
+-- the items of the parts between line feeds, behind so many bytes of the log. No line feed ends the
+-- last part
 abbrev pub items_of : ℕ → List (List ℕ) → List Item
 items_of before [] = []
 items_of before (last ∷ []) = option_map_or (λ fault. Refused fault ∷ []) (line_fault before (length last) false) []

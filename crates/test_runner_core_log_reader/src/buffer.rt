@@ -11,12 +11,13 @@ use test_runner_core_streams::LogReader;
 // How long the buffer is at first.
 const CHUNK: usize = 65_536;
 
-// How long the lines of a log make the buffer at most: what waits is at most a line, and the buffer is made twice as long
-// only where that fills half of it. Only the line before a log makes it longer.
+// How long the lines of a log make the buffer at most: what waits is at most a line, and the buffer
+// is made twice as long only where that fills half of it. Only the line before a log makes it
+// longer.
 pub(super) const LONGEST: usize = 4_194_304;
 
-// Makes room behind the bytes from `start` to `end`, if there is none, and answers where they begin now. An `Err`
-// leaves the buffer as it was.
+// Makes room behind the bytes from `start` to `end`, if there is none, and answers where they begin
+// now. An `Err` leaves the buffer as it was.
 pub(super) fn with_room(buffer: &mut Vec<u8>, start: usize, end: usize) -> Result<usize, AllocError>
     requires order { start ≤ end }
     requires filled { end ≤ vec_len buffer.old }
@@ -31,8 +32,8 @@ pub(super) fn with_room(buffer: &mut Vec<u8>, start: usize, end: usize) -> Resul
     make_room(buffer, start)
 }
 
-// Moves the bytes from `start` to `end` to the beginning of the buffer and gives back the memory that they don't need,
-// if memory can be given back.
+// Moves the bytes from `start` to `end` to the beginning of the buffer and gives back the memory
+// that they don't need, if memory can be given back.
 pub(super) fn shorten(buffer: &mut Vec<u8>, start: usize, end: usize)
     requires order { start ≤ end }
     requires filled { end ≤ vec_len buffer.old }
@@ -48,8 +49,9 @@ pub(super) fn shorten(buffer: &mut Vec<u8>, start: usize, end: usize)
     buffer.shrink_to_fit();
 }
 
-// Makes room behind the bytes from `start` to the end of a full buffer: at the front where they fit before
-// themselves, so that no byte is moved more often than others are read; else the buffer is made twice as long.
+// Makes room behind the bytes from `start` to the end of a full buffer: at the front where they fit
+// before themselves, so that no byte is moved more often than others are read; else the buffer is
+// made twice as long.
 fn make_room(buffer: &mut Vec<u8>, start: usize) -> Result<usize, AllocError>
     requires { start ≤ vec_len buffer.old }
     ensures bytes { IfOk result (λ begin. slice_range buffer.new.items begin (begin

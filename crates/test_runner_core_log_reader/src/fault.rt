@@ -54,7 +54,8 @@ impl From<AllocError> for LogFault {
     }
 }
 
-// What is wrong with a line of so many bytes behind so many of the log, which a line feed ends or the log's end.
+// What is wrong with a line of so many bytes behind so many of the log, which a line feed ends or
+// the log's end.
 pub(super) fn fault_of(before: usize, length: usize, ended: bool) -> Option<LineFault>
     requires { before + length < 2 ^ 63 }
     ensures { result ≡ line_fault before length ended }

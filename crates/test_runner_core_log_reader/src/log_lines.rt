@@ -16,7 +16,8 @@ use std::alloc::Global;
 use std::marker::Model;
 use test_runner_core_streams::LogReader;
 
-/// Cuts the bytes of a reader into lines. The reader is passed to each call; it has to be the same one.
+/// Cuts the bytes of a reader into lines. The reader is passed to each call; it has to be the same
+/// one.
 #[derive(Drop)]
 pub struct LogLines {
     buffer: Vec<u8>,
@@ -57,10 +58,11 @@ impl LogLines {
         }
     }
 
-    /// At the beginning of a log that stands behind a first line in a stream. It takes that line, up to the first line
-    /// feed or the stream's end, off the front, and `line` lends it until the first call of `next`; its memory is given
-    /// back as the log is read on. `None` where it has more than `FIRST_LINE_LIMIT` bytes. Where the reader fails or
-    /// there is no memory for the line, what was read is lost; no line feed was among it.
+    /// At the beginning of a log that stands behind a first line in a stream. It takes that line,
+    /// up to the first line feed or the stream's end, off the front, and `line` lends it until the
+    /// first call of `next`; its memory is given back as the log is read on. `None` where it has
+    /// more than `FIRST_LINE_LIMIT` bytes. Where the reader fails or there is no memory for the
+    /// line, what was read is lost; no line feed was among it.
     pub fn behind_first_line<R: LogReader>(
         alloc: Global,
         reader: &mut R,
@@ -90,15 +92,16 @@ impl LogLines {
         }
     }
 
-    /// The line that the last call of `next` found, without its line feed; no bytes where it found none.
+    /// The line that the last call of `next` found, without its line feed; no bytes where it found
+    /// none.
     pub fn line(&self) -> &[u8]
         ensures { result.now ≡ self.now.line }
     {
         &self.buffer[self.line_start..self.line_end]
     }
 
-    /// Whether the next call of `next` needs no read: the bytes that were read tell a line, or that one or the log is
-    /// too long. It forgets the line before.
+    /// Whether the next call of `next` needs no read: the bytes that were read tell a line, or that
+    /// one or the log is too long. It forgets the line before.
     pub fn is_waiting(&mut self) -> bool
         ensures exact { result ≡ tells_next self.old }
         ensures unmoved { Unmoved self.old self.new }
@@ -109,10 +112,11 @@ impl LogLines {
         is_over_limit(self.handed, self.end - self.start)
     }
 
-    /// Finds the next line, and reads as far as that needs: not at all where `is_waiting` answers `true`. `Line` hands
-    /// it out, and `line` lends it until the next call. A refusal or the end stays ahead, and so does all else where the
-    /// reader fails or there is no memory for the line; no whole line was read then. The reader is never asked past the
-    /// first byte that is over the log's limit.
+    /// Finds the next line, and reads as far as that needs: not at all where `is_waiting` answers
+    /// `true`. `Line` hands it out, and `line` lends it until the next call. A refusal or the end
+    /// stays ahead, and so does all else where the reader fails or there is no memory for the line;
+    /// no whole line was read then. The reader is never asked past the first byte that is over the
+    /// log's limit.
     pub fn next<R: LogReader>(&mut self, reader: &mut R) -> Result<Next, LogFault>
         requires calls_fit { R.calls reader.old + 2 ^ 31 ≤ 2 ^ 63 }
         requires failures_fit { R.failures reader.old < 2 ^ 63 }
@@ -144,8 +148,9 @@ impl LogLines {
         }
     }
 
-    // Gives back the memory of what was handed out, where that is more than half of a long buffer; the line before is
-    // forgotten then. So the memory of a stream's first line is free once the log is read on.
+    // Gives back the memory of what was handed out, where that is more than half of a long buffer;
+    // the line before is forgotten then. So the memory of a stream's first line is free once the
+    // log is read on.
     fn give_back(&mut self)
         ensures { Unmoved self.old self.new }
     {
@@ -190,8 +195,9 @@ impl LogLines {
         Scan::Line
     }
 
-    // Where the first line feed stands in the bytes that wait. It is looked for from where the last look ended, which
-    // is where it found the line feed, so that a second look costs nothing; the line before is forgotten.
+    // Where the first line feed stands in the bytes that wait. It is looked for from where the last
+    // look ended, which is where it found the line feed, so that a second look costs nothing; the
+    // line before is forgotten.
     fn find_feed(&mut self) -> Option<usize>
         ensures feed { IsFirstFeed self.old.waiting result }
         ensures unmoved { Unmoved self.old self.new }

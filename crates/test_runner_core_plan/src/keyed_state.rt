@@ -30,9 +30,9 @@ impl TextsDigest {
     }
 }
 
-/// Builds hashers for texts that come from the inputs. Each has hashed the SHA-256 of all those texts before its first
-/// byte, so whoever chooses texts that would collide changes by it how they are hashed. The same texts in the same order
-/// hash alike in each run.
+/// Builds hashers for texts that come from the inputs. Each has hashed the SHA-256 of all those
+/// texts before its first byte, so whoever chooses texts that would collide changes by it how they
+/// are hashed. The same texts in the same order hash alike in each run.
 #[derive(Clone, Copy)]
 pub struct KeyedState {
     keyed: DefaultHasher,

@@ -1,5 +1,5 @@
-//! What a plan is: the tests that a run runs, in which order and with which settings. How plans are made stands in
-//! `test_runner_core_planning`; a session and a report stand on the type alone.
+//! What a plan is: the tests that a run runs, in which order and with which settings. How plans are
+//! made stands in `test_runner_core_planning`; a session and a report stand on the type alone.
 #![tactic(auto)]
 
 mod keyed_state;

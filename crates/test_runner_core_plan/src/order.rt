@@ -30,8 +30,9 @@ pub fn in_order(mut tests: Vec<PlanTest>) -> Listing<PlanTest>
     Listing::from(tests)
 }
 
-// Puts tests in the order of their keys, and leaves those of one key in their order. So mostly they are in the order of a plan then,
-// and few names were compared, which lie far apart. Where there is no memory, all stay as they were.
+// Puts tests in the order of their keys, and leaves those of one key in their order. So mostly they
+// are in the order of a plan then, and few names were compared, which lie far apart. Where there is
+// no memory, all stay as they were.
 fn sort_by_keys(tests: &mut Vec<PlanTest>)
     ensures { IsPermutation tests.old.items tests.new.items }
 {
@@ -68,8 +69,8 @@ fn shared(one: &str, other: &str) -> usize {
         .count()
 }
 
-// What a test is sorted by first: its priority, and of its binary id and name as many bytes as a number has, behind those that all
-// tests begin with.
+// What a test is sorted by first: its priority, and of its binary id and name as many bytes as a
+// number has, behind those that all tests begin with.
 fn key_of(test: &PlanTest, skip: (usize, usize)) -> (TestPriority, u128, u128) {
     (
         test.settings.priority,

@@ -34,7 +34,8 @@ pub struct Plan {
     pub tests: Listing<PlanTest>,
     /// The ids of the listed binaries, in the workspace's order.
     pub listed: Listing<Text>,
-    /// The tests that are listed and not selected: the binaries' in their order, each as it lists them.
+    /// The tests that are listed and not selected: the binaries' in their order, each as it lists
+    /// them.
     pub skipped: Listing<OwnedTestInstanceId>,
     /// How many failing tests stop the run.
     pub limit: MaxFail,

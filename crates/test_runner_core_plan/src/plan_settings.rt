@@ -34,7 +34,8 @@ pub struct PlanSettings {
     pub success_output: TestOutputDisplay,
     /// `failure-output`: when its output is shown where it fails.
     pub failure_output: TestOutputDisplay,
-    /// `junit.store-success-output`: whether the report in JUnit's form has its outputs where it passes.
+    /// `junit.store-success-output`: whether the report in JUnit's form has its outputs where it
+    /// passes.
     pub junit_store_success_output: bool,
     /// `junit.store-failure-output`: whether that report has its outputs where it fails.
     pub junit_store_failure_output: bool,

@@ -41,7 +41,8 @@ zip_append R [] (y ∷ ys) more others all rest = absurd all
 zip_append R (x ∷ xs) [] more others all rest = absurd all
 zip_append R (x ∷ xs) (y ∷ ys) more others all rest = (all.0, zip_append R xs ys more others all.1 rest)
 
--- something holds of each of the one list exactly if it does of each of the other, where those side by side are alike
+-- something holds of each of the one list exactly if it does of each of the other, where those side
+-- by side are alike
 all_alike : {A B : Type 0} (R : A → B → Type 0) (P : A → Type 0) (Q : B → Type 0) → ((x : A) (y : B) → R x y → Q y ↔ P x) → (xs : List A) (ys : List B)
     → AllZip R xs ys → All Q ys ↔ All P xs
 all_alike R P Q each [] [] zipped = ((λ all. All-nil P), (λ all. All-nil Q))

@@ -1,4 +1,5 @@
--- A filterset stays what it is where more text follows; so it may stand in parentheses, with `and default()` behind it.
+-- A filterset stays what it is where more text follows; so it may stand in parentheses, with `and
+-- default()` behind it.
 use Rattle.std.proofs.Common.{◌≡◌, inl, inr, ℕ, Bool, true, false, cond, List, [], ◌∷◌, ◌++◌, codes, refl, ap, ◌∙◌, append_assoc}
 use Rattle.std.specs.Prelude.{◌≢◌}
 use Rattle.nextest_filtering_escapes.specs.Text.{is_blank}

@@ -1,4 +1,5 @@
--- Lists: those of some texts of which something is so, which can't fail to be; lists in order; and names that rise.
+-- Lists: those of some texts of which something is so, which can't fail to be; lists in order; and
+-- names that rise.
 use Rattle.std.proofs.Common.{◌≡◌, ◌↔◌, ◌⊎◌, inl, inr, ℕ, zero, suc, ◌+◌, Bool, true, false, cond, List, [], ◌∷◌, refl, sym, ap, ◌∙◌, subst, arith}
 use Rattle.std.specs.Cmp.{IsTotalOrder, eq_by_cmp_equiv}
 use Rattle.std.specs.Cmp.Lexicographic.{nat_list_cmp_total, slice_cmp}

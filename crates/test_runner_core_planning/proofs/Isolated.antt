@@ -1,4 +1,5 @@
--- Profiles outside of the chosen one's chain change nothing of a plan, its warnings aside; and inputs ask for something.
+-- Profiles outside of the chosen one's chain change nothing of a plan, its warnings aside; and
+-- inputs ask for something.
 use Rattle.std.proofs.Common.{◌≡◌, ℕ, Bool, List, ◌++◌, map, Option, Ok, refl, sym, ap, ◌∙◌, subst}
 use Rattle.nextest_config_resolution_profiles.specs.Enabled.{AreNamesOf}
 use Rattle.nextest_config_resolution_profiles.proofs.Enabling.{one_names, same_names}

@@ -1,4 +1,5 @@
--- Where a filterset holds on a test, it can hold on the test's binary; and it is the same where the same groups are matched.
+-- Where a filterset holds on a test, it can hold on the test's binary; and it is the same where the
+-- same groups are matched.
 use Rattle.std.proofs.Common.{◌↔◌, Bool}
 use Rattle.nextest_filtering_compiling.specs.Trees.{MayBeAs, TreeCanBeOn, TreeIsOn, shape_of_tree}
 use Rattle.nextest_filtering_filters.proofs.Giving.{gives_less}

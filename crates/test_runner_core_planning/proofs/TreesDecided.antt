@@ -1,4 +1,5 @@
--- What trees of filtersets answer: something, where it is known which packages their predicates ask for; and it can't be that this isn't known.
+-- What trees of filtersets answer: something, where it is known which packages their predicates ask
+-- for; and it can't be that this isn't known.
 use Rattle.std.proofs.Common.{◌≡◌, ◌⊎◌, inl, inr, ℕ, zero, suc, Bool, true, false, true≢false, not, ◌&&◌, ◌||◌, List, [], ◌∷◌, map, Some, refl, sym, subst}
 use Rattle.std.specs.Prelude.{⊤}
 use Rattle.std.specs.List.{All, Contains, list_any, slice_get}

@@ -1,4 +1,5 @@
--- What is checked of inputs, in the written order: they are refused by the first check that they break.
+-- What is checked of inputs, in the written order: they are refused by the first check that they
+-- break.
 use Rattle.std.specs.Prelude.{◌≡◌, ◌⊎◌, ◌+◌, Bool, true, List, [], ◌∷◌, ◌++◌, Some, Ok, Err, ⊤, nat_lt}
 use Rattle.std.specs.List.{list_any}
 use Rattle.nextest_config_elements_values.specs.Retries.{count_of}
@@ -43,7 +44,8 @@ pub record Planned : Type 0 where
 abbrev pub listed_in : Inputs → Answers → List Binary
 listed_in inputs answers = listed_of answers inputs.workspace.binaries
 
--- inputs set this, their filters in force answer so, and these tests of the listed binaries are selected
+-- inputs set this, their filters in force answer so, and these tests of the listed binaries are
+-- selected
 pub record IsFound (answer : Binary → Answer) (inputs : Inputs) (it : Planned) : Type 0 where
   pub answers : AnswerFor inputs it.choice it.answers
   pub found : listing answer it.answers (listed_in inputs it.answers) ≡ Ok it.found
@@ -81,8 +83,9 @@ pub record HasTooMany (answer : Binary → Answer) (inputs : Inputs) : Type 0 wh
   pub found : IsFound answer inputs it
   pub many : has_too_many it.choice.of_test it.found.tests ≡ true
 
--- A check is broken, and this is the refusal. The workspace has repeated or unknown ids. The sources ask for a version or for features that
--- aren't there. They have no configuration, or the chosen profile isn't there, or facts repeat. The filterset isn't accepted.
+-- A check is broken, and this is the refusal. The workspace has repeated or unknown ids. The
+-- sources ask for a version or for features that aren't there. They have no configuration, or the
+-- chosen profile isn't there, or facts repeat. The filterset isn't accepted.
 abbrev pub Breaks : (Binary → Answer) → Inputs → Check → PlanFault → Type 0
 Breaks answer inputs workspace refusal = (fault : WorkspaceFault) × (refusal_of inputs.workspace ≡ Some fault) × (refusal ≡ of_workspace fault)
 Breaks answer inputs versions refusal = (fault : VersionPassFault) × (pass_of inputs ≡ Err fault) × (refusal ≡ of_pass fault)

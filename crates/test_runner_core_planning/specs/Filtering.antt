@@ -1,4 +1,5 @@
--- The filters in force: the filterset, where one is given, and the default filter of the chosen profile, unless it is left aside.
+-- The filters in force: the filterset, where one is given, and the default filter of the chosen
+-- profile, unless it is left aside.
 use Rattle.std.specs.Prelude.{◌≡◌, ℕ, Bool, true, false, List, [], ◌∷◌, ◌++◌, All, Option, None, Some, Result, Ok, Err, filter_map, map}
 use Rattle.nextest_config_elements_identifiers.specs.Groups.{text_of}
 use Rattle.nextest_filtering_arguments.specs.declared.ban.FiltersetKind.TheVariants as purpose
@@ -52,7 +53,8 @@ pub record Choice : Type 0 where
   pub run : RunSettings
   pub of_test : query.Test → PlanSettings
 
--- the workspace accepts a text as a filterset that chooses tests, where these groups are known, and it is this tree
+-- the workspace accepts a text as a filterset that chooses tests, where these groups are known, and
+-- it is this tree
 abbrev pub IsTaken : WorkspaceRecord → KnownGroups → List ℕ → Tree → Type 0
 IsTaken workspace known = IsAccepted (context_of workspace) purpose.Test known
 
@@ -102,7 +104,8 @@ abbrev pub AllHold : WorkspaceRecord → (query.Test → PlanSettings) → InFor
 AllHold workspace of_test it binary name =
     All (λ filter. TreeIsOn (graph_of workspace) filter it.default (seen_test binary name) (IsOfGroup of_test (seen_test binary name)) true) it.filters
 
--- they list the binaries on which each of them can hold, and select the tests on which all of them hold
+-- they list the binaries on which each of them can hold, and select the tests on which all of them
+-- hold
 pub record AreAnswersOf (workspace : WorkspaceRecord) (of_test : query.Test → PlanSettings) (it : InForce) (answers : Answers) : Type 0 where
   pub lists : (binary : Binary) → Tells (AllCanHold workspace it binary) (answers.lists binary)
   pub selects : (binary : Binary) (name : List ℕ) → Tells (AllHold workspace of_test it binary name) (answers.selects binary name)

@@ -1,4 +1,5 @@
--- What calls inside of this crate give: the filters in force as they are compiled, and all that inputs ask for.
+-- What calls inside of this crate give: the filters in force as they are compiled, and all that
+-- inputs ask for.
 use Rattle.std.specs.Prelude.{◌≡◌, ℕ, Bool, List, Option, None, Some, Result, Ok, Err, ⊤}
 use Rattle.std.specs.List.{cons_option}
 use Rattle.nextest_config_elements_identifiers.specs.Groups.{text_of}
@@ -66,13 +67,15 @@ pub record IsConfigured (inputs : Inputs) (config : Whole Filterset PlatformSpec
   pub passed : IsPassed inputs
   pub reads : Reads (context_of inputs.workspace) inputs config
 
--- a call gives the configuration of inputs, with all warnings, and their workspace as filtersets take it, or refuses them
+-- a call gives the configuration of inputs, with all warnings, and their workspace as filtersets
+-- take it, or refuses them
 abbrev pub AreSettled : Inputs → Result Settled PlanError → Type 0
 AreSettled inputs (Ok it) = IsConfigured inputs it.config × (it.warnings ≡ warnings_of inputs) × (it.cx ≡ context_of inputs.workspace)
 AreSettled inputs (Err (error.Refused refusal)) = IsRefusedEarly inputs refusal
 AreSettled inputs (Err error.OutOfMemory) = ⊤
 
--- what inputs ask for, as it is read: the chosen profile, what it sets for the run, and the filterset
+-- what inputs ask for, as it is read: the chosen profile, what it sets for the run, and the
+-- filterset
 pub record HasWanted (inputs : Inputs) (wanted : Wanted) : Type 0 where
   pub passed : IsPassed inputs
   pub chooses : ChoosesRun (context_of inputs.workspace) inputs wanted.run

@@ -17,7 +17,8 @@ use Rattle.test_runner_core_planning.specs.Plan.{Builds}
 use Rattle.test_runner_core_planning.specs.declared.plan_error.PlanError.TheVariants.{Refused}
 use Rattle.test_runner_core_planning.specs.declared.plan_fault.PlanFault.{PlanFault}
 
--- a test is wanted: a binary of the workspace has its binary's id and answered its name, and all filters in force hold on it
+-- a test is wanted: a binary of the workspace has its binary's id and answered its name, and all
+-- filters in force hold on it
 pub record IsWanted (answer : Binary → Answer) (inputs : Inputs) (choice : Choice) (force : InForce) (test : OwnedTestInstanceId) : Type 0 where
   pub binary : Binary
   pub among : Contains inputs.workspace.binaries binary
@@ -46,8 +47,8 @@ pub record IsTestOn (inputs : Inputs) (names : Binary → List (List ℕ)) (choi
 abbrev pub AllAnswer : (Binary → Answer) → Inputs → (Binary → List (List ℕ)) → Type 0
 AllAnswer answer inputs names = (binary : Binary) → Contains inputs.workspace.binaries binary → accepted_answer (answer binary) ≡ Ok (names binary)
 
--- Two roads lead to the selected tests: where each binary answers names that are accepted, they are those tests of all binaries, whether
--- listed or not, on which the filters in force hold.
+-- Two roads lead to the selected tests: where each binary answers names that are accepted, they are
+-- those tests of all binaries, whether listed or not, on which the filters in force hold.
 abbrev pub Roads : Type 0
 Roads =
     (answer : Binary → Answer) (inputs : Inputs) (names : Binary → List (List ℕ)) (plan : Plan) (choice : Choice) (force : InForce)
@@ -62,13 +63,15 @@ and_default text = codes "(" ++ text ++ codes ") and default()"
 abbrev pub with_filterset : Option (List ℕ) → Inputs → Inputs
 with_filterset filterset inputs = record inputs { filterset = filterset }
 
--- where the default filter is in force, it may stand in the filterset too: the plan stays what it is
+-- where the default filter is in force, it may stand in the filterset too: the plan stays what it
+-- is
 abbrev pub DefaultTwice : Type 0
 DefaultTwice =
     (answer : Binary → Answer) (inputs : Inputs) (text : List ℕ) (plan : Plan) → inputs.filterset ≡ Some text → inputs.ignore_default_filter ≡ false
     → Builds answer inputs (Ok plan) → Builds answer (with_filterset (Some (and_default text)) inputs) (Ok plan)
 
--- a test of a plan has the settings that are set for it in its binary, and one try more than these have retries
+-- a test of a plan has the settings that are set for it in its binary, and one try more than these
+-- have retries
 pub record HasItsSettings (inputs : Inputs) (choice : Choice) (test : PlanTest) : Type 0 where
   pub binary : Binary
   pub among : Contains inputs.workspace.binaries binary
@@ -82,7 +85,8 @@ HaveTheirSettings =
     (answer : Binary → Answer) (inputs : Inputs) (plan : Plan) (choice : Choice) → Builds answer inputs (Ok plan) → SetsAll inputs choice
     → (test : PlanTest) → Contains plan.tests test → HasItsSettings inputs choice test
 
--- a plan lists exactly the binaries on which each filter in force can hold, by answers of its own to what it asks of their tests
+-- a plan lists exactly the binaries on which each filter in force can hold, by answers of its own
+-- to what it asks of their tests
 abbrev pub ListsExactly : Type 0
 ListsExactly =
     (answer : Binary → Answer) (inputs : Inputs) (plan : Plan) (choice : Choice) (force : InForce)
@@ -95,8 +99,9 @@ HasNoneTwice =
     (answer : Binary → Answer) (inputs : Inputs) (plan : Plan) → Builds answer inputs (Ok plan)
     → AllPairs (λ one other. one ≢ other) (map (λ (t : PlanTest). t.instance) plan.tests)
 
--- Two inputs ask for the same tests of one workspace, and agree in their files but in profiles outside of the chosen one's chain. They may
--- differ in what is asked of versions, where that lets both be loaded.
+-- Two inputs ask for the same tests of one workspace, and agree in their files but in profiles
+-- outside of the chosen one's chain. They may differ in what is asked of versions, where that lets
+-- both be loaded.
 pub record DifferOutside (inputs other : Inputs) : Type 0 where
   pub workspace : other.workspace ≡ inputs.workspace
   pub filterset : other.filterset ≡ inputs.filterset
@@ -109,7 +114,8 @@ IsolatesPlans =
     (answer : Binary → Answer) (inputs other : Inputs) (one second : Plan) → DifferOutside inputs other
     → Builds answer inputs (Ok one) → Builds answer other (Ok second) → second ≡ record one { warnings = second.warnings }
 
--- It can't be that inputs have neither a plan nor a refusal. No law decides whether a text is a filterset, so it is said in this form.
+-- It can't be that inputs have neither a plan nor a refusal. No law decides whether a text is a
+-- filterset, so it is said in this form.
 abbrev pub Decided : Type 0
 Decided = (answer : Binary → Answer) (inputs : Inputs)
     → ¬ ¬ (((plan : Plan) × Builds answer inputs (Ok plan)) ⊎ ((refusal : PlanFault) × Builds answer inputs (Err (Refused refusal))))

@@ -47,8 +47,9 @@ abbrev pub Plans : (Binary → Answer) → Inputs → Result Planned PlanFault �
 Plans answer inputs (Ok it) = IsPlanned answer inputs it
 Plans answer inputs (Err refusal) = BreaksFirst answer inputs all_checks refusal
 
--- What the lister is asked for: for nothing, where inputs are refused before; else once for each binary that the filters in force list, in
--- the workspace's order, up to the first whose answer is refused, or where there was no memory for some of these, from the first on.
+-- What the lister is asked for: for nothing, where inputs are refused before; else once for each
+-- binary that the filters in force list, in the workspace's order, up to the first whose answer is
+-- refused, or where there was no memory for some of these, from the first on.
 pub record AsksWith (answer : Binary → Answer) (inputs : Inputs) (lacks : Bool) (old new : List (List ℕ)) : Type 0 where
   pub none : (refusal : PlanFault) → BreaksFirst answer inputs before_listing refusal → new ≡ old
   pub listed : (choice : Choice) (answers : Answers) → KeepsAll answer inputs before_listing → AnswerFor inputs choice answers
@@ -92,7 +93,8 @@ lacks_memory (Ok done) = false
 lacks_memory (Err (error.Refused refusal)) = false
 lacks_memory (Err error.OutOfMemory) = true
 
--- the list of ids asked for grows by those that the lister is asked for; where there was no memory by a front of them
+-- the list of ids asked for grows by those that the lister is asked for; where there was no memory
+-- by a front of them
 abbrev pub Asks : {A : Type 0} → Result A PlanError → List (List ℕ) → List (List ℕ) → List (List ℕ) → Type 0
 Asks result = AsksFor (lacks_memory result)
 

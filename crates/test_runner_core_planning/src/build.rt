@@ -30,10 +30,10 @@ use test_runner_core_workspace::{Binary, Lister};
 
 /// How a plan is built.
 pub trait BuildPlan {
-    /// The plan of inputs. An `Err` tells the first reason, in the written order, why they have none, or that there
-    /// was no memory, which says nothing of the inputs. The lister is asked once for each listed binary, in the workspace's
-    /// order, and for no other: for none where the inputs are refused before, and else up to the first binary whose
-    /// answer is refused.
+    /// The plan of inputs. An `Err` tells the first reason, in the written order, why they have
+    /// none, or that there was no memory, which says nothing of the inputs. The lister is asked
+    /// once for each listed binary, in the workspace's order, and for no other: for none where the
+    /// inputs are refused before, and else up to the first binary whose answer is refused.
     fn build<L: Lister>(alloc: Global, inputs: &Inputs, lister: &mut L) -> Result<Plan, PlanError>
         ensures builds { words.Builds (L.answer lister.old) inputs.now result }
         ensures stays { (other : Binary) → L.answer lister.new other ≡ L.answer lister.old other }

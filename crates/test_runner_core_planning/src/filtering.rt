@@ -80,7 +80,8 @@ pub(crate) fn context_of(
     Ok(ParseContext::new(alloc, graph)?.with_binaries(binaries))
 }
 
-// The filter that a filterset is in a workspace, which is `cx` to filtersets, where these groups are known.
+// The filter that a filterset is in a workspace, which is `cx` to filtersets, where these groups
+// are known.
 fn parsed(
     alloc: Global,
     workspace: &WorkspaceRecord,
@@ -121,7 +122,8 @@ pub(crate) fn filterset_in(
     }
 }
 
-// The filters in force: the filterset, where one is given, and the default filter, unless it is left aside.
+// The filters in force: the filterset, where one is given, and the default filter, unless it is
+// left aside.
 pub(crate) fn filters_in_force<'f>(
     alloc: Global,
     filterset: Option<&'f CompiledExpr>,

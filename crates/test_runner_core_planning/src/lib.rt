@@ -1,4 +1,5 @@
-//! The plan of a run: which tests it selects of which binaries, with which settings, or why inputs have no plan.
+//! The plan of a run: which tests it selects of which binaries, with which settings, or why inputs
+//! have no plan.
 #![tactic(auto)]
 
 mod build;

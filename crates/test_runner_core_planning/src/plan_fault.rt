@@ -34,8 +34,8 @@ pub enum PlanFault {
     /// A binary's id is empty, or has a tab, a line feed or a carriage return in it.
     #[error("BadId")]
     BadId,
-    /// A source's text is no TOML, what it asks for of versions and features has not their forms, or a tool asks for a
-    /// feature.
+    /// A source's text is no TOML, what it asks for of versions and features has not their forms,
+    /// or a tool asks for a feature.
     #[error("VersionSource")]
     VersionSource,
     /// A version is required that is above the current one.

@@ -29,7 +29,8 @@ use test_runner_core_platforms::PlatformSpec;
 use test_runner_core_settings::owned_settings;
 use test_runner_core_workspace::Binary;
 
-// The selected tests, each with its settings, and the names of the setup scripts that are enabled for them.
+// The selected tests, each with its settings, and the names of the setup scripts that are enabled
+// for them.
 #[derive(Drop)]
 pub(crate) struct SettledTests {
     pub(crate) tests: Vec<PlanTest>,
@@ -55,8 +56,8 @@ impl Drop for RowSettings {
 // Settings that tests share, by a number of the row.
 type SettingsByRow = BTreeMap<u64, RowSettings>;
 
-// The selected tests, each with the settings that a profile has for it, and the setup scripts that the profile enables for them.
-// Tests on which the same rules hold share their settings.
+// The selected tests, each with the settings that a profile has for it, and the setup scripts that
+// the profile enables for them. Tests on which the same rules hold share their settings.
 pub(crate) fn settled_tests(
     alloc: Global,
     profile: &EvaluatableProfile<'_, Filterset, PlatformSpec>,
@@ -96,8 +97,8 @@ fn count_of(selected: &[SelectedTests<'_>]) -> usize {
     count
 }
 
-// Adds the selected tests of a binary, the names of the setup scripts that are enabled for them, and to what is shared the
-// settings of each row of rules that is new there.
+// Adds the selected tests of a binary, the names of the setup scripts that are enabled for them,
+// and to what is shared the settings of each row of rules that is new there.
 fn push_tests(
     alloc: Global,
     profile: &EvaluatableProfile<'_, Filterset, PlatformSpec>,
@@ -129,7 +130,8 @@ fn push_tests(
     Ok(())
 }
 
-// Which rules of a profile hold on the tests of a binary with these names, found at once for all of them.
+// Which rules of a profile hold on the tests of a binary with these names, found at once for all of
+// them.
 fn held_rules_of(
     alloc: Global,
     profile: &EvaluatableProfile<'_, Filterset, PlatformSpec>,
@@ -153,7 +155,8 @@ fn texts_of<'n>(alloc: Global, names: &'n [Text]) -> Result<Vec<&'n str>, AllocE
     Ok(texts)
 }
 
-// The settings of each test on which just the rules of a row hold: what is shared has them, or gets them.
+// The settings of each test on which just the rules of a row hold: what is shared has them, or gets
+// them.
 fn settings_of_row(
     alloc: Global,
     profile: &EvaluatableProfile<'_, Filterset, PlatformSpec>,
@@ -172,7 +175,8 @@ fn settings_of_row(
     }
 }
 
-// A number of a row. Up to 64 rules each row has its own; of more rules rows may have one number, which costs time and memory.
+// A number of a row. Up to 64 rules each row has its own; of more rules rows may have one number,
+// which costs time and memory.
 fn number_of(row: &[bool]) -> u64 {
     let mut number: u64 = 0;
     for holds in row {
@@ -200,8 +204,8 @@ fn shared_under(
     Ok(Some(found.settings.clone()?))
 }
 
-// The settings of each test on which just the rules of a row hold, found now, and added to what is shared. They take the place of those
-// of another row with its number.
+// The settings of each test on which just the rules of a row hold, found now, and added to what is
+// shared. They take the place of those of another row with its number.
 fn new_settings(
     alloc: Global,
     profile: &EvaluatableProfile<'_, Filterset, PlatformSpec>,

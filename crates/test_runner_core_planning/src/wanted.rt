@@ -21,7 +21,8 @@ pub(crate) struct Wanted<'c> {
     pub(crate) filterset: Option<CompiledExpr>,
 }
 
-// The configuration of inputs, with all warnings, and their workspace as filtersets are compiled for it.
+// The configuration of inputs, with all warnings, and their workspace as filtersets are compiled
+// for it.
 #[derive(Drop)]
 pub(crate) struct Settled {
     pub(crate) config: RunConfig,

@@ -213,7 +213,8 @@ down_known known parts rest outcomes value whole down is at = at ∙ (ap (outcom
 
 -- ---- all conditions but one
 
--- so far, the conditions behind the rest come to this, joined with what the largest of them comes to
+-- so far, the conditions behind the rest come to this, joined with what the largest of them comes
+-- to
 pub record Apart (joint : Joint) (known : List Fact) (parts rest : List Part) (found : Option Bool) (largest : List Part) : Type 0 where
   pub rest_flat : AreFlat rest
   pub rest_within : length rest ≤ length parts

@@ -31,7 +31,8 @@ abbrev pub has_repeat : List Fact → Bool
 has_repeat [] = false
 has_repeat (it ∷ rest) = list_any (is_of it.name it.value) rest || has_repeat rest
 
--- The platform of that triple with these facts, or two of them repeat. Want of memory says nothing of them.
+-- The platform of that triple with these facts, or two of them repeat. Want of memory says nothing
+-- of them.
 abbrev pub MakesFacts : List ℕ → List Fact → Result Facts PlatformFactsError → Type 0
 MakesFacts triple facts (Ok it) = (it.triple ≡ triple) × (it.known ≡ facts) × (has_repeat facts ≡ false)
 MakesFacts triple facts (Err RepeatedFact) = has_repeat facts ≡ true

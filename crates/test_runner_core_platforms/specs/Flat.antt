@@ -42,7 +42,8 @@ inside_of (part.Joined joint inside) = inside
 
 -- ---- the condition of parts
 
--- the last conditions, which have that many parts, in front of these; and those before them, the last one first
+-- the last conditions, which have that many parts, in front of these; and those before them, the
+-- last one first
 abbrev pub last_conditions : ℕ → List Condition → Conditions → Conditions × List Condition
 last_conditions count [] each = (each, [])
 last_conditions count (it ∷ more) each = if count == 0 then (each, it ∷ more) else last_conditions (count - length (flat it)) more (with_first it each)

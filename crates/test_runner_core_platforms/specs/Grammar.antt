@@ -1,4 +1,5 @@
--- Which texts are platform specs, and which one each is. All is over bytes; blanks are free between what stands here.
+-- Which texts are platform specs, and which one each is. All is over bytes; blanks are free between
+-- what stands here.
 use Rattle.std.specs.Prelude.{◌≡◌, ◌≢◌, ℕ, ◌==◌, Bool, true, false, ◌||◌, ◌&&◌, List, [], ◌∷◌, ◌++◌, codes, nat_le, not}
 use Rattle.std.specs.List.{AllByRecursion}
 use Rattle.nextest_filtering_ast.specs.Grammar.{Behind, after_blanks}
@@ -70,7 +71,8 @@ mutual
     is_all : (text r s rest : List ℕ) (each : Conditions) → ReadsName text (codes "all") r → Behind (codes "(") r s → AreConditions s each rest → IsCondition text (all_of each) rest
     is_any : (text r s rest : List ℕ) (each : Conditions) → ReadsName text (codes "any") r → Behind (codes "(") r s → AreConditions s each rest → IsCondition text (any_of each) rest
 
-  -- a text begins with conditions up to `)`, with a comma between each two, and perhaps one behind the last
+  -- a text begins with conditions up to `)`, with a comma between each two, and perhaps one behind
+  -- the last
   pub data AreConditions : List ℕ → Conditions → List ℕ → Type 0 where
     no_more : (text rest : List ℕ) → Behind (codes ")") text rest → AreConditions text no_conditions rest
     last_one : (text r rest : List ℕ) (it : Condition) → IsCondition text it r → Behind (codes ")") r rest → AreConditions text (with_first it no_conditions) rest

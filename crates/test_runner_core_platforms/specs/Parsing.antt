@@ -63,7 +63,8 @@ FindsCondition Reads (Ok found) = Reads (condition_of found.0) found.1.now
 FindsCondition Reads (Err (Bad left)) = (it : Condition) (rest : List ℕ) → Reads it rest → ⊥
 FindsCondition Reads (Err Memory) = ⊤
 
--- the fact of that name with the value that the text begins with was read, or the text begins with none
+-- the fact of that name with the value that the text begins with was read, or the text begins with
+-- none
 abbrev pub FindsFact : List ℕ → List ℕ → Result (Start × Bor (List ℕ)) Stop → Type 0
 FindsFact name text (Ok found) = (value : List ℕ) × (found.0 ≡ begins.Whole (part.FactValue name value)) × ReadsValue text value found.1.now
 FindsFact name text (Err (Bad left)) = (value rest : List ℕ) → ReadsValue text value rest → ⊥
@@ -89,7 +90,8 @@ FindsStart text (Ok found) = Begins text found.0 found.1.now
 FindsStart text (Err (Bad left)) = (it : Condition) (rest : List ℕ) → IsCondition text it rest → ⊥
 FindsStart text (Err Memory) = ⊤
 
--- From where some text was read to, it was read on up to another place; or it begins with no condition.
+-- From where some text was read to, it was read on up to another place; or it begins with no
+-- condition.
 abbrev pub Goes : (List ℕ → List Opened → List Part → List ℕ → Type 0) → Reading → List ℕ → Reading → Result Place Stop → Type 0
 Goes Is old text new (Ok place) = (length (text_of place) < length text) × ((whole : List ℕ) → Is whole old.opened old.parts.items text → IsAt whole new place)
 Goes Is old text new (Err (Bad left)) = (whole : List ℕ) → Is whole old.opened old.parts.items text → (it : Condition) (end : List ℕ) → IsCondition whole it end → ⊥

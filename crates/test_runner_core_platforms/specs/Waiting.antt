@@ -27,7 +27,8 @@ pub data AreBehind : List ℕ → Conditions → List ℕ → Type 0 where
   no_others : (text rest : List ℕ) → Behind (codes ")") text rest → AreBehind text no_conditions rest
   more_others : (text next rest : List ℕ) (each : Conditions) → Behind (codes ",") text next → AreConditions next each rest → AreBehind text each rest
 
--- A condition was read within these, the innermost one first, and rest follows it: from there the whole condition is read, up to its end.
+-- A condition was read within these, the innermost one first, and rest follows it: from there the
+-- whole condition is read, up to its end.
 abbrev pub GoesOn : List Level → Condition → List ℕ → Condition → List ℕ → Type 0
 GoesOn [] it rest whole end = (whole ≡ it) × (end ≡ rest)
 GoesOn (in_negation ∷ more) it rest whole end = (last : List ℕ) × Behind (codes ")") rest last × GoesOn more (negation it) last whole end
@@ -101,7 +102,8 @@ Closes old new =
     (innermost : Opened) (more : List Opened) → old.opened ≡ innermost ∷ more
     → (new.opened ≡ more) × (new.parts.items ≡ old.parts.items ++ part_of innermost.operation (length old.parts.items - innermost.before) ∷ [])
 
--- the sign comes next, and an `all` or an `any` is the innermost operation; or one of these isn't so
+-- the sign comes next, and an `all` or an `any` is the innermost operation; or one of these isn't
+-- so
 abbrev pub FindsSign : List Opened → List ℕ → List ℕ → Option (Bor (List ℕ)) → Type 0
 FindsSign opens sign text (Some rest) = (more_go opens ≡ true) × Behind sign text rest.now
 FindsSign opens sign text None = more_go opens ≡ true → (rest : List ℕ) → Behind sign text rest → ⊥

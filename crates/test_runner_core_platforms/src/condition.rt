@@ -9,8 +9,9 @@ use crate::outcomes::Outcomes;
 use crate::part::{Joint, Part, split_child, split_last};
 use std::marker::Model;
 
-/// What holds on a platform or doesn't. In a clause it is its parts, and what they make up is `condition_of` them. No part
-/// holds another, so to drop it takes no more stack where it is nested deeper.
+/// What holds on a platform or doesn't. In a clause it is its parts, and what they make up is
+/// `condition_of` them. No part holds another, so to drop it takes no more stack where it is nested
+/// deeper.
 #[derive(Drop)]
 pub(crate) struct Condition {
     parts: Vec<Part>,
@@ -53,9 +54,9 @@ enum Way<'p> {
     Inside(Outcomes, &'p [Part]),
 }
 
-// The value of a condition. It is called again for the conditions of an `all` or an `any`, but for one with the most parts,
-// with which the loop goes on. Each of the others has at most half of the parts, so no more than 64 such calls are open at
-// a time, however deep the condition is nested.
+// The value of a condition. It is called again for the conditions of an `all` or an `any`, but for
+// one with the most parts, with which the loop goes on. Each of the others has at most half of the
+// parts, so no more than 64 such calls are open at a time, however deep the condition is nested.
 #[cycle(value)]
 fn value(parts: &[Part], facts: &PlatformFacts) -> Option<bool>
     requires flat { IsFlat parts.now }
@@ -108,7 +109,8 @@ fn by_len<'p>(one: &'p [Part], other: &'p [Part]) -> (&'p [Part], &'p [Part])
     }
 }
 
-// What the conditions of an `all` or an `any` come to but one with the most parts, and the parts of that one.
+// What the conditions of an `all` or an `any` come to but one with the most parts, and the parts of
+// that one.
 #[cycle(value)]
 fn apart<'p>(joint: Joint, parts: &'p [Part], facts: &PlatformFacts) -> (Option<bool>, &'p [Part])
     requires some { 0 < length parts.now }

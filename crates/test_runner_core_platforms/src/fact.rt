@@ -19,7 +19,8 @@ pub struct Fact {
     pub holds: bool,
 }
 
-/// What is known of a platform: its triple, and facts, no two of which have the same name and the same value.
+/// What is known of a platform: its triple, and facts, no two of which have the same name and the
+/// same value.
 pub struct PlatformFacts {
     triple: Text,
     known: Listing<Fact>,
@@ -111,8 +112,9 @@ fn has_repeat(alloc: Global, facts: &[Fact]) -> Result<bool, AllocError>
 }
 
 impl PlatformFacts {
-    /// The platform of that triple, on which these facts are known. Refused where two facts have the same name and the
-    /// same value, with the same answer too. Or there was no memory, which says nothing of the facts.
+    /// The platform of that triple, on which these facts are known. Refused where two facts have
+    /// the same name and the same value, with the same answer too. Or there was no memory, which
+    /// says nothing of the facts.
     pub fn new(
         alloc: Global,
         triple: Text,

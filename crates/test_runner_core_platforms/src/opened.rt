@@ -36,7 +36,8 @@ pub(crate) struct Opened {
     pub(crate) before: usize,
 }
 
-/// Operations whose `)` wasn't read yet, one within another. In a clause they are a list, the innermost one first.
+/// Operations whose `)` wasn't read yet, one within another. In a clause they are a list, the
+/// innermost one first.
 #[derive(Drop)]
 pub(crate) struct OpenedStack {
     items: Vec<Opened>,

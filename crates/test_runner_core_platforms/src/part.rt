@@ -13,8 +13,8 @@ pub(crate) enum Joint {
     Any,
 }
 
-/// A part of a condition. The parts of a condition stand one after another, each operation right behind what it is over,
-/// so that none holds another.
+/// A part of a condition. The parts of a condition stand one after another, each operation right
+/// behind what it is over, so that none holds another.
 pub(crate) enum Part {
     /// A name.
     Fact(Text),

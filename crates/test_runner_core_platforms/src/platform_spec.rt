@@ -87,8 +87,8 @@ fn read(alloc: Global, text: &str) -> Result<PlatformSpec, Stop>
 }
 
 impl PlatformSpec {
-    /// The spec that the text is. Refused where the text is none, with a place in the text, in bytes. Or there was no
-    /// memory, which says nothing of the text.
+    /// The spec that the text is. Refused where the text is none, with a place in the text, in
+    /// bytes. Or there was no memory, which says nothing of the text.
     pub fn parse(alloc: Global, text: &str) -> Result<PlatformSpec, PlatformSpecError>
         ensures { Parses text.now result }
     {
@@ -101,8 +101,8 @@ impl PlatformSpec {
         }
     }
 
-    /// Whether it holds on a platform of which these facts are known; `None` where they don't tell. A triple is always
-    /// known. It takes no memory.
+    /// Whether it holds on a platform of which these facts are known; `None` where they don't tell.
+    /// A triple is always known. It takes no memory.
     pub fn eval(&self, facts: &PlatformFacts) -> Option<bool>
         ensures only { HasValue facts.now (spec_of self.now) result }
         ensures value { result ≡ value_of facts.now (spec_of self.now) }

@@ -9,7 +9,8 @@ use crate::part::Part;
 use crate::span::token;
 use std::alloc::{AllocError, Global};
 
-/// What was read of a condition so far: the parts of whole conditions, and the operations whose `)` wasn't read yet.
+/// What was read of a condition so far: the parts of whole conditions, and the operations whose `)`
+/// wasn't read yet.
 #[derive(Drop)]
 pub(crate) struct Reading {
     opened: OpenedStack,
@@ -64,8 +65,8 @@ impl Reading {
         self.opened.innermost().is_none()
     }
 
-    /// What follows a sign that comes next and may stand only between the parentheses of an `all` or an `any`; `None` where
-    /// neither of these is the innermost operation.
+    /// What follows a sign that comes next and may stand only between the parentheses of an `all`
+    /// or an `any`; `None` where neither of these is the innermost operation.
     pub(crate) fn sign<'i>(&self, text: &'i str, sign: &str) -> Option<&'i str>
         ensures { FindsSign self.now.opened sign.now text.now result }
     {

@@ -23,7 +23,8 @@ ResultIsSpelled = (result : ExecutionResultDescription) (field : List ℕ) → S
 abbrev pub EndIsSpelled : Type 0
 EndIsSpelled = (ending : Record) (result slow nanos out err : List ℕ) → SpellsRecord ending (result ∷ slow ∷ nanos ∷ out ∷ err ∷ []) → end_text ending ≡ line_of_fields (result ∷ slow ∷ nanos ∷ [])
 
--- the levels of a finished test, and whether its last attempt is a success, by the description of its attempts
+-- the levels of a finished test, and whether its last attempt is a success, by the description of
+-- its attempts
 pub record IsDescribed (attempts : Attempts Status) (final : Status) (description : Description LiveSpec ChildOutputDescription) : Type 0 where
   pub level : level_of description ≡ level_of_test (finished_as attempts final)
   pub final_level : final_level_of description ≡ final_level_of_test (finished_as attempts final)

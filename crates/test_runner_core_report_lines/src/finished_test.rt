@@ -10,7 +10,8 @@ use nextest_config_elements_choices::{FinalStatusLevel, FlakyResult, StatusLevel
 use nextest_run_events_counters::{final_level_of_result, level_of_result};
 use nextest_run_events_results::ExecutionResultDescription;
 
-// A finished test: the result and slowness of its last attempt, whether others came before it, and its flaky rule.
+// A finished test: the result and slowness of its last attempt, whether others came before it, and
+// its flaky rule.
 #[derive(Clone, Copy)]
 pub(crate) struct FinishedTest<'s> {
     pub(crate) result: &'s ExecutionResultDescription,

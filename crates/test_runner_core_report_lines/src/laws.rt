@@ -6,12 +6,14 @@ pub fn result_is_spelled()
     ensures { ResultIsSpelled }
 {}
 
-/// Result, slowness and time of an attempt whose end a log line spells are reported as that line spells them.
+/// Result, slowness and time of an attempt whose end a log line spells are reported as that line
+/// spells them.
 pub fn end_is_spelled()
     ensures { EndIsSpelled }
 {}
 
-/// The levels by which what is due of a finished test is reported are those of the description of its attempts.
+/// The levels by which what is due of a finished test is reported are those of the description of
+/// its attempts.
 pub fn levels_are_described()
     ensures { HasLevels }
 {}

@@ -1,5 +1,5 @@
-//! What a report says of tests: the lines that are written as a test finishes, and its lines in the final text; and of
-//! scripts, which have lines in the final text alone.
+//! What a report says of tests: the lines that are written as a test finishes, and its lines in the
+//! final text; and of scripts, which have lines in the final text alone.
 #![tactic(auto)]
 
 mod fate;

@@ -134,7 +134,8 @@ fn push_try(text: &mut String, number: usize, ended: &KeptRecord) -> Result<(), 
     push_feed(text)
 }
 
-// Adds a tab, and how an attempt or a script ended: with this result, slow or not, after so many nanoseconds.
+// Adds a tab, and how an attempt or a script ended: with this result, slow or not, after so many
+// nanoseconds.
 fn push_end(
     text: &mut String,
     told: &ExecutionResultDescription,

@@ -36,7 +36,8 @@ fn push_written(text: &mut String, written: Written<'_>) -> Result<(), AllocErro
     push_message(text, written)
 }
 
-// Adds what a script wrote, or why it could not be started; nothing of a success, or of one that didn't end.
+// Adds what a script wrote, or why it could not be started; nothing of a success, or of one that
+// didn't end.
 pub(crate) fn push_script_outputs(
     text: &mut String,
     status: Option<&SetupScriptExecuteStatus<LiveSpec>>,

@@ -17,9 +17,9 @@ use nextest_run_events_outputs::{LiveSpec, SetupScriptExecuteStatus};
 use nextest_run_events_visibility::{OutputOnTestFinished, OutputStoreFinal};
 use std::alloc::AllocError;
 
-/// Adds what is written as a test finishes: its line, if the line or its outputs are due at once, and then its
-/// outputs, if they are. It adds nothing where nothing is due, or where the test isn't finished. It fails only on
-/// allocation, and then the text stays as it was.
+/// Adds what is written as a test finishes: its line, if the line or its outputs are due at once,
+/// and then its outputs, if they are. It adds nothing where nothing is due, or where the test isn't
+/// finished. It fails only on allocation, and then the text stays as it was.
 pub fn push_done(
     text: &mut String,
     shows: &Shows,
@@ -34,9 +34,9 @@ pub fn push_done(
     all_or_nothing(text, length, added)
 }
 
-/// Adds the part of a test in the final text: its line, a line for each of its ended attempts and then its outputs,
-/// if they are to stand there. Of a finished test of which nothing is kept it adds nothing. It fails only on
-/// allocation, and then the text stays as it was.
+/// Adds the part of a test in the final text: its line, a line for each of its ended attempts and
+/// then its outputs, if they are to stand there. Of a finished test of which nothing is kept it
+/// adds nothing. It fails only on allocation, and then the text stays as it was.
 pub fn push_shown(
     text: &mut String,
     shows: &Shows,
@@ -51,8 +51,9 @@ pub fn push_shown(
     all_or_nothing(text, length, added)
 }
 
-/// Adds what the final text says of the script with this id: its line, and its outputs where it ended and is no
-/// success. `None` is the status of one that didn't end. It fails only on allocation, and then the text stays as it was.
+/// Adds what the final text says of the script with this id: its line, and its outputs where it
+/// ended and is no success. `None` is the status of one that didn't end. It fails only on
+/// allocation, and then the text stays as it was.
 pub fn push_script(
     text: &mut String,
     id: &str,

@@ -90,7 +90,8 @@ impl<'a> ReportedTest<'a> {
         self.records
     }
 
-    /// What is due of it, where it is finished: by the reason under which it finished, whatever reason stands now.
+    /// What is due of it, where it is finished: by the reason under which it finished, whatever
+    /// reason stands now.
     pub fn due(&self, shows: &Shows) -> Option<OutputOnTestFinished>
         ensures { result ≡ due_of shows.now self.now.state }
     {
@@ -139,7 +140,8 @@ impl<'a> ReportedTest<'a> {
     }
 }
 
-// How an attempt ended: by its record, or by the pass that is handed in where the record is kept short.
+// How an attempt ended: by its record, or by the pass that is handed in where the record is kept
+// short.
 fn result_in<'b>(
     ended: &'b KeptRecord,
     pass: &'b ExecutionResultDescription,

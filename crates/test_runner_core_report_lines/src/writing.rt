@@ -68,7 +68,8 @@ fn push_chunk(text: &mut String, bytes: &[u8]) -> Result<(), AllocError>
     }
 }
 
-// The answer `added` of what added to a text that had so many bytes. Where that failed, the text has these alone again.
+// The answer `added` of what added to a text that had so many bytes. Where that failed, the text
+// has these alone again.
 pub(crate) fn all_or_nothing(
     text: &mut String,
     length: usize,

@@ -12,7 +12,8 @@ use nextest_run_events_results::RecordOutput;
 use nextest_text::Listing;
 use test_runner_core_run_state::KeptRecord;
 
-// What an attempt or a script wrote, or why it could not be started, as a record or a status lends it.
+// What an attempt or a script wrote, or why it could not be started, as a record or a status lends
+// it.
 #[derive(Clone, Copy)]
 pub(crate) enum Written<'s> {
     // What it wrote, of each stream that was captured.

@@ -86,7 +86,8 @@ past_run plan state place past =
     ap (λ (found : Option TestState). all_done plan state (cond (option_map_or (λ test. is_stopped_mark test.mark) found false) (place ∷ []) []))
     (slice_get_past state.tests place past)
 
--- so of the tests that are over under a reason as much is reported by the places of the plan as by those of the run
+-- so of the tests that are over under a reason as much is reported by the places of the plan as by
+-- those of the run
 pub stopped_told : (plan : Plan) (state : State) → all_done plan state (places_among (is_stopped_at state.tests) (length plan.tests)) ≡ all_done plan state (stopped_places state)
 stopped_told plan state =
     elim (cases_lt (length plan.tests) (length state.tests)) [

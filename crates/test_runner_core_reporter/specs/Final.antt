@@ -37,8 +37,8 @@ abbrev pub part_of_shown : Option ShownTest → List Part
 part_of_shown None = []
 part_of_shown (Some named) = shown_part named ∷ []
 
--- the texts of scripts with these ids, in their order: of those that ended with these records, and behind them of those
--- that didn't end
+-- the texts of scripts with these ids, in their order: of those that ended with these records, and
+-- behind them of those that didn't end
 abbrev pub script_texts : List (List ℕ) → List Record → List (List ℕ)
 script_texts [] records = []
 script_texts (id ∷ ids) [] = script_text id None ∷ script_texts ids []

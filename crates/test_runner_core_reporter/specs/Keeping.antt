@@ -56,8 +56,8 @@ is_settled plan state place =
 abbrev pub AllSettled : (ℕ → Bool) → Plan → State → Type 0
 AllSettled forgotten plan state = (place : ℕ) → forgotten place ≡ true → is_settled plan state place ≡ true
 
--- what is kept of a run of a plan: all of it but what was written by successes that are never shown, and the outputs of some
--- settled tests
+-- what is kept of a run of a plan: all of it but what was written by successes that are never
+-- shown, and the outputs of some settled tests
 abbrev pub IsKeptOf : Plan → State → State → Type 0
 IsKeptOf plan state kept =
     (forgotten : ℕ → Bool) × AllSettled forgotten plan state × (kept ≡ state_with (record_left forgotten plan.tests) state)

@@ -13,7 +13,8 @@ use Rattle.test_runner_core_reporter.specs.Keeping.{IsKeptOf, event_to_keep, is_
 use Rattle.test_runner_core_reporter.specs.Parts.{IsTextOf, Part}
 use Rattle.test_runner_core_reporter.specs.Steps.{step_parts}
 
--- the run takes the step too, what is kept after the step is kept of the run after it, and a text of what is kept is one of the run
+-- the run takes the step too, what is kept after the step is kept of the run after it, and a text
+-- of what is kept is one of the run
 pub record GoesAlike (plan : Plan) (event : Event) (real old now : State) : Type 0 where
   pub next : State
   pub taken : step real event ≡ Ok next

@@ -22,7 +22,8 @@ LF = 10
 abbrev pub end_of : State → RunEnd
 end_of state = record { outcome = summary state; stats = counters state }
 
--- where a run failed or was cut short: at the scripts, or at the tests with how many were to run and how many did not
+-- where a run failed or was cut short: at the scripts, or at the tests with how many were to run
+-- and how many did not
 abbrev pub step_words : RunStatsFailureKind → List ℕ
 step_words at.SetupScript = codes "setup-script"
 step_words (at.Test initial_run_count not_run) = codes "test " ++ decimal initial_run_count ++ codes " " ++ decimal not_run

@@ -1,4 +1,5 @@
--- What a call that reports parts of a report does to its writer and to the text that waits to be written.
+-- What a call that reports parts of a report does to its writer and to the text that waits to be
+-- written.
 use Rattle.std.specs.Prelude.{◌≡◌, ℕ, ◌+◌, Bool, true, List, ◌++◌, Option, Result, Ok, Err}
 use Rattle.std.specs.Io.KnownBytes.{Appends}
 use Rattle.test_runner_core_reporter.specs.Parts.{Part, IsTextOf}
@@ -32,7 +33,8 @@ abbrev pub WritesParts : {T E : Type 0} → Result T E → List Part → Option 
 WritesParts (Ok value) parts before waited after waits = WritesAll parts before waited after waits
 WritesParts (Err fault) parts before waited after waits = WritesPrefix parts before waited after
 
--- the writer's failed calls rose by one exactly where its failure is answered, and then its last call failed
+-- the writer's failed calls rose by one exactly where its failure is answered, and then its last
+-- call failed
 abbrev pub CountsWriteFailures : {T : Type 0} → Result T ReportFault → ℕ → ℕ → Bool → Type 0
 CountsWriteFailures (Err (fault.Write cause)) before after last = (after ≡ before + 1) × (last ≡ true)
 CountsWriteFailures result before after last = after ≡ before

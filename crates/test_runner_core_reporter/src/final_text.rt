@@ -56,7 +56,8 @@ pub(crate) fn shown_test_at<'s>(
     })
 }
 
-/// Whether the test at a place is finished, and the final text won't have its outputs: so no report needs them any more.
+/// Whether the test at a place is finished, and the final text won't have its outputs: so no report
+/// needs them any more.
 pub fn is_settled(session: &RecordSession<'_>, place: usize) -> bool
     ensures { result ≡ is_settled session.now.plan session.now.run place }
 {

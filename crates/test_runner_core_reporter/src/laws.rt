@@ -7,9 +7,10 @@ pub fn one_text()
     ensures some { HaveSomeText }
 {}
 
-/// What `judge` keeps of a run is enough: without what was written by successes that are never shown, and by tests that are
-/// finished and whose outputs the final text won't have, it takes and refuses the steps of the run, each step and the final
-/// text have the same texts, and the exit status is the same.
+/// What `judge` keeps of a run is enough: without what was written by successes that are never
+/// shown, and by tests that are finished and whose outputs the final text won't have, it takes and
+/// refuses the steps of the run, each step and the final text have the same texts, and the exit
+/// status is the same.
 pub fn kept_is_enough()
     ensures begin { KeepsBegin }
     ensures progress { KeepsProgress }

@@ -95,7 +95,8 @@ pub fn report_shown<W: ReportWriter>(
     write_if_long(text, report)
 }
 
-/// Reports what the final text says of the script with this id. `None` is the status of one that didn't end.
+/// Reports what the final text says of the script with this id. `None` is the status of one that
+/// didn't end.
 pub fn report_script<W: ReportWriter>(
     text: &mut String,
     report: &mut W,

@@ -5,8 +5,8 @@ use std::fmt;
 use test_runner_core_line_syntax::reason_word;
 use test_runner_core_run_model::exit_status;
 
-/// Where a run ended. It prints as its part of the report: the exit status, the outcome, the counters, and why the run
-/// was stopped.
+/// Where a run ended. It prints as its part of the report: the exit status, the outcome, the
+/// counters, and why the run was stopped.
 #[derive(Clone, Copy, Debug, PartialEq, Eq)]
 pub struct RunEnd {
     /// What the counters come to.

@@ -12,8 +12,8 @@ use test_runner_core_run_model::{Finished, Mark};
 use test_runner_core_session::RecordSession;
 use test_runner_core_streams::ReportWriter;
 
-/// Reports what the step that a run took last finished: the test of its attempt, and then, in the plan's order, those that
-/// its stop finished.
+/// Reports what the step that a run took last finished: the test of its attempt, and then, in the
+/// plan's order, those that its stop finished.
 pub fn report_step<W: ReportWriter>(
     text: &mut String,
     report: &mut W,

@@ -1,5 +1,5 @@
--- Which tests a step finishes: that whose attempt ended, and where it stops the run also those that it finds between two
--- attempts, which from then on are all that are over under a reason.
+-- Which tests a step finishes: that whose attempt ended, and where it stops the run also those that
+-- it finds between two attempts, which from then on are all that are over under a reason.
 use Rattle.std.proofs.Common.{suc, zero, ◌≡◌, ℕ, ◌+◌, ◌<◌, ◌≤◌, Bool, true, false, cond, eqb, not, ◌&&◌, List, [], ◌∷◌, ◌++◌, length, Option, Some, None, Ok, map, refl, sym, ap, ◌∙◌, subst, arith, inl, inr}
 use Rattle.std.specs.Prelude.{slice_get, slice_set, is_some}
 use Rattle.std.specs.List.{filter, range_with_len}
@@ -167,7 +167,8 @@ stop_of_test : (reason : CancelReason) (o : Option TestState) → option_map_or 
 stop_of_test reason None none = refl
 stop_of_test reason (Some test) none = stop_of_mark reason test.mark none
 
--- a stop finishes the tests that are over under a reason from then on, of those that are as they were
+-- a stop finishes the tests that are over under a reason from then on, of those that are as they
+-- were
 stop_at : (reason : CancelReason) (old mid : List TestState) (place : ℕ) → slice_get mid place ≡ slice_get old place → is_stopped_at old place ≡ false
     → newly_finished_at old (map (finished_by reason) mid) place ≡ is_stopped_at (map (finished_by reason) mid) place
 stop_at reason old mid place same none =
@@ -186,7 +187,8 @@ ended_first (events.Started test) new = []
 ended_first (events.Ended test ending) new = cond (finished_at new.tests test) (test ∷ []) []
 ended_first (events.Stopped reason) new = []
 
--- where the step doesn't stop the run, that of the attempt that ended; else also those that are over under a reason from then on
+-- where the step doesn't stop the run, that of the attempt that ended; else also those that are
+-- over under a reason from then on
 pub record Splits (event : Event) (old new : State) : Type 0 where
   pub going : stops_run old new ≡ false → finishing event old new ≡ ended_first event new
   pub stopping : KeepsReasons old → stops_run old new ≡ true → finishing event old new ≡ ended_first event new ++ stopped_places new
@@ -363,7 +365,8 @@ step_splits old new (events.Started test) happens = splits_start old new test ha
 step_splits old new (events.Ended test ending) happens = splits_end old new test ending happens
 step_splits old new (events.Stopped reason) happens = splits_stop old new reason happens
 
--- a step that doesn't stop the run, or finds it stopped, finishes no test but that whose attempt ended
+-- a step that doesn't stop the run, or finds it stopped, finishes no test but that whose attempt
+-- ended
 pub finishes_going : (old new : State) (event : Event) → step old event ≡ Ok new → stops_run old new ≡ false → finishing event old new ≡ ended_first event new
 finishes_going old new event happens going = (step_splits old new event happens).going going
 
@@ -381,7 +384,8 @@ finishes_all old new event keeps happens = by_test (stops_run old new) refl
     by_test true e = finishes_stopping old new event keeps happens e
     by_test false e = finishes_going old new event happens e ∙ sym (append-nil (ended_first event new))
 
--- so an answer that says which attempt's test is over, and whether the run was stopped, says what the step finished
+-- so an answer that says which attempt's test is over, and whether the run was stopped, says what
+-- the step finished
 pub finishes_as : (old new : State) (event : Event) (finished : Finished) → KeepsReasons old → step old event ≡ Ok new
     → option_map_or (λ place. place ∷ []) finished.ended [] ≡ ended_first event new → finished.stops ≡ stops_run old new
     → finishing event old new ≡ finished_places finished new

@@ -68,7 +68,8 @@ test_starts assigned state place test mark going ended found marked may =
     (record { planned_scripts = refl; ended_scripts = refl; reason = ap is_some going }) (record { test = test; found = found; marked = marked }) refl ended may in
     record { event = events.Started place; next = taken.0; plain = tt; taken = taken.1; agrees = tt }
 
--- what isn't complete shows, where no reason stands and all scripts ended, and where a reason stands
+-- what isn't complete shows, where no reason stands and all scripts ended, and where a reason
+-- stands
 unfinished_left : (state : State) → length state.scripts ≡ state.planned_scripts → is_complete state ≡ false → list_all is_finished state.tests ≡ false
 unfinished_left state ended open_still =
     by_tests (eqb (length state.scripts) state.planned_scripts) (list_all is_finished state.tests) _ (grind (arith, nat_tests)) open_still

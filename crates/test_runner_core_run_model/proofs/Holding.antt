@@ -26,7 +26,8 @@ use Rattle.test_runner_core_run_model.proofs.TestStates.{AllBeside, beside_at, b
 use Rattle.test_runner_core_run_model.proofs.Scripts.{guard_ok, ok_is}
 use Rattle.test_runner_core_run_model.proofs.Keeping.{Keeps, keeps_initial, keeps_stopped, keeps_script, keeps_set, script_shows, start_shows, end_shows}
 
--- a test of any run: its records are those of its first tries and it is as far as they say, or it counts as failing
+-- a test of any run: its records are those of its first tries and it is as far as they say, or it
+-- counts as failing
 abbrev pub Fares : (ℕ → Record) → TestState → Type 0
 Fares attempt test = Fits attempt test ⊎ (counts fails_test test ≡ true)
 
@@ -108,7 +109,8 @@ fares_after attempt state test ending fits running agrees = by_reason state.reas
         by_success true s = inl (fits_after attempt state test ending fits running (inr s) same)
         by_success false s = inr (lost_fails state test ending (ap is_some e) s)
 
--- what holds after each event of a run that agrees: its scripts, its plan, and each test beside its assignment
+-- what holds after each event of a run that agrees: its scripts, its plan, and each test beside its
+-- assignment
 pub record Holds (plan : RunPlan) (assigned : Assignment) (state : State) : Type 0 where
   pub keeps : Keeps plan assigned state
   pub fare : AllBeside Fares state.tests assigned.attempt

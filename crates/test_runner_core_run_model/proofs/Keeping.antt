@@ -1,4 +1,5 @@
--- What the steps that are taken show, and what every run keeps of its plan and of the assignment's scripts.
+-- What the steps that are taken show, and what every run keeps of its plan and of the assignment's
+-- scripts.
 use Rattle.std.proofs.Common.{suc, ◌≡◌, ℕ, ◌<◌, ◌≤◌, Bool, true, false, cond, ltb, leb, eqb, not, List, [], ◌∷◌, ◌++◌, length, Option, Some, None, Ok, map, refl, sym, ap, ◌∙◌, arith, length-append}
 use Rattle.std.specs.Prelude.{slice_get, is_some}
 use Rattle.std.proofs.lemmas.Bool.Decides.{nat_tests}
@@ -85,7 +86,8 @@ end_shows old new place ending happens =
     by_mark test at marks.Between m happens' = cc
     by_mark test at (marks.Finished kept) m happens' = cc
 
--- what a run keeps: its plan, and that its scripts' records are those of the first scripts of the assignment
+-- what a run keeps: its plan, and that its scripts' records are those of the first scripts of the
+-- assignment
 pub record Keeps (plan : RunPlan) (assigned : Assignment) (state : State) : Type 0 where
   pub plans : map plan_of state.tests ≡ plan.tests
   pub planned : state.planned_scripts ≡ plan.scripts

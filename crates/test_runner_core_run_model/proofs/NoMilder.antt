@@ -1,4 +1,5 @@
--- The status of a run that agrees with an assignment is the due one or a graver one, wherever the run is.
+-- The status of a run that agrees with an assignment is the due one or a graver one, wherever the
+-- run is.
 use Rattle.std.proofs.Common.{suc, ◌≡◌, ◌↔◌, ℕ, Bool, true, false, ltb, eqb, ◌||◌, ◌&&◌, List, [], ◌∷◌, length, map, refl, sym, ap, ◌∙◌, subst, arith, inl, inr, count_by}
 use Rattle.std.specs.List.{list_any, list_all}
 use Rattle.std.proofs.lemmas.List.{length-map}

@@ -1,4 +1,5 @@
--- When a run that agrees with an assignment is stopped, and that it ends in one state where it isn't.
+-- When a run that agrees with an assignment is stopped, and that it ends in one state where it
+-- isn't.
 use Rattle.std.proofs.Common.{suc, zero, ◌≡◌, ℕ, ◌+◌, ◌<◌, ◌≤◌, Bool, true, false, cond, leb, not, ◌||◌, ◌&&◌, List, [], ◌∷◌, ◌++◌, length, Option, Some, None, Ok, map, refl, sym, ap, ◌∙◌, subst, arith, ◌⊎◌, inl, inr}
 use Rattle.std.specs.Prelude.{slice_get, slice_set, is_some, unwrap_or}
 use Rattle.std.specs.Option.{option_map_or}

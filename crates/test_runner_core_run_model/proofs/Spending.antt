@@ -171,7 +171,8 @@ room_limited finished state all = by_test (finished && not (is_some state.reason
     by_test true None = all
     by_test true (Some mode) = room_stopped (limit_reason mode) state.tests all
 
--- an attempt that ended took the try that was left, and where it doesn't finish its test there is another
+-- an attempt that ended took the try that was left, and where it doesn't finish its test there is
+-- another
 room_after : (state : State) (test : TestState) (ending : Record) → HasRoom test → is_finished test ≡ false → HasRoom (after_attempt state test ending)
 room_after state test ending room unfinished =
     by_tests (is_success ending.result) (leb test.plan.tries (length test.records + 1)) (is_some state.reason) refl

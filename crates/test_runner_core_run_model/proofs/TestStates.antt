@@ -156,7 +156,8 @@ mark_after attempt tries number ending reason same regular less none =
         (grind (arith, nat_tests), ap (λ (o : Option ℕ). found_or o (is_success (attempt (suc number)).result) (suc number)) none ∙ ap (λ (b : Bool). found_or None b (suc number)) s, omega arith)
     by_tests (Some given) false last s l regular = elim regular [ inl e ↦ cc | inr e ↦ cc ]
 
--- an attempt that ran as it was assigned leaves the test fitting, where it is a success or no reason stands
+-- an attempt that ran as it was assigned leaves the test fitting, where it is a success or no
+-- reason stands
 pub fits_after : (attempt : ℕ → Record) (state : State) (test : TestState) (ending : Record)
     → Fits attempt test → test.mark ≡ marks.Running → (state.reason ≡ None) ⊎ (is_success ending.result ≡ true) → ending ≡ attempt (length test.records + 1)
     → Fits attempt (after_attempt state test ending)

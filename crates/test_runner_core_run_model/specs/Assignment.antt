@@ -8,8 +8,8 @@ use Rattle.nextest_run_events_results.specs.declared.record.Record.{Record}
 use Rattle.test_runner_core_run_model.specs.RunPlan.{RunPlan, weight}
 use Rattle.test_runner_core_run_model.specs.declared.run_test.RunTest.{RunTest}
 
--- how each script ends, by its place, and each attempt of each test, by the test's place and the number of the try,
--- from 1. What the plan doesn't have doesn't matter
+-- how each script ends, by its place, and each attempt of each test, by the test's place and the
+-- number of the try, from 1. What the plan doesn't have doesn't matter
 pub record Assignment : Type 0 where
   pub script : ℕ → Record
   pub attempt : ℕ → ℕ → Record
@@ -48,7 +48,8 @@ abbrev pub some_script : (Record → Bool) → (ℕ → Record) → ℕ → Bool
 some_script test script zero = false
 some_script test script (suc scripts) = some_script test script scripts || test (script scripts)
 
--- the status that is due: 4 where nothing is selected, 105 where a script counts as failing, 100 where a test fails, 0
+-- the status that is due: 4 where nothing is selected, 105 where a script counts as failing, 100
+-- where a test fails, 0
 abbrev pub due_status : RunPlan → Assignment → ℕ
 due_status plan assigned =
     if length plan.tests == 0 then 4

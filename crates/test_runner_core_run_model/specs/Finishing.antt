@@ -21,7 +21,8 @@ finished_at tests place = option_map_or is_finished (slice_get tests place) fals
 abbrev pub newly_finished_at : List TestState → List TestState → ℕ → Bool
 newly_finished_at old new place = finished_at new place && not (finished_at old place)
 
--- the places of the tests that a step finishes, in plan order: they weren't finished before and are now
+-- the places of the tests that a step finishes, in plan order: they weren't finished before and are
+-- now
 abbrev pub newly_finished : State → State → List ℕ
 newly_finished old new = places_among (newly_finished_at old.tests new.tests) (length new.tests)
 
@@ -52,8 +53,9 @@ is_stopped_at tests place = option_map_or (λ test. is_stopped_mark test.mark) (
 abbrev pub stopped_places : State → List ℕ
 stopped_places state = places_among (is_stopped_at state.tests) (length state.tests)
 
--- the places of the tests that a step finished, as it answers: that of the attempt that ended first, and behind it, where the step
--- stopped the run, those of the tests that are over under a reason in the state after it
+-- the places of the tests that a step finished, as it answers: that of the attempt that ended
+-- first, and behind it, where the step stopped the run, those of the tests that are over under a
+-- reason in the state after it
 abbrev pub finished_places : Finished → State → List ℕ
 finished_places finished new =
     option_map_or (λ place. place ∷ []) finished.ended [] ++ (if finished.stops then stopped_places new else [])

@@ -17,7 +17,8 @@ use Rattle.test_runner_core_run_model.specs.declared.event.Event.{Event}
 use Rattle.test_runner_core_run_model.specs.declared.event.Event.TheVariants.{ScriptEnded, Started}
 use Rattle.test_runner_core_run_model.specs.declared.step_refusal.StepRefusal.TheVariants as refused
 
--- any complete run that agrees with an assignment and that nobody told to stop ends with the due status
+-- any complete run that agrees with an assignment and that nobody told to stop ends with the due
+-- status
 abbrev pub EndsWithDueStatus : Type 0
 EndsWithDueStatus =
     (plan : RunPlan) (assigned : Assignment) (events : List Event) (last : State)
@@ -25,7 +26,8 @@ EndsWithDueStatus =
     → AllByRecursion IsNoStop events → is_complete last ≡ true
     → status last ≡ due_status plan assigned
 
--- any run that agrees with an assignment, cut wherever it is and whoever told it to stop, has the due status or a graver one
+-- any run that agrees with an assignment, cut wherever it is and whoever told it to stop, has the
+-- due status or a graver one
 abbrev pub EndsNoMilder : Type 0
 EndsNoMilder =
     (plan : RunPlan) (assigned : Assignment) (events : List Event) (last : State)
@@ -39,7 +41,8 @@ HasFourExactlyWhereDue =
     → IsPlan plan → Run (initial plan) events last → Agrees assigned (initial plan) events
     → (status last ≡ 4) ↔ (due_status plan assigned ≡ 4)
 
--- in a stopped run no script ends any more: one that the plan has is refused since the run is stopped, another as unknown
+-- in a stopped run no script ends any more: one that the plan has is refused since the run is
+-- stopped, another as unknown
 abbrev pub RefusesScripts : Type 0
 RefusesScripts =
     (state : State) (script : ℕ) (ending : Record)
@@ -60,11 +63,13 @@ KeepsAReason =
     → old.reason ≡ Some reason → Run old events new
     → (kept : CancelReason) × (new.reason ≡ Some kept) × (gravity reason ≤ gravity kept)
 
--- any run that has status 0 ended all scripts of its plan and finished all tests: none was cut short or left out
+-- any run that has status 0 ended all scripts of its plan and finished all tests: none was cut
+-- short or left out
 abbrev pub SucceedsWhole : Type 0
 SucceedsWhole = (plan : RunPlan) (events : List Event) (last : State) → Run (initial plan) events last → status last ≡ 0 → EndedWhole plan last
 
--- any complete run that agrees with an unstopped assignment and that nobody told to stop ends in one state, whatever its order
+-- any complete run that agrees with an unstopped assignment and that nobody told to stop ends in
+-- one state, whatever its order
 abbrev pub EndsInOneState : Type 0
 EndsInOneState =
     (plan : RunPlan) (assigned : Assignment) (events : List Event) (last : State)
@@ -80,8 +85,8 @@ ReachesTheOneState =
     → (events : List Event) × Run (initial plan) events (final_state plan assigned) × Agrees assigned (initial plan) events
     × AllByRecursion IsNoStop events × (is_complete (final_state plan assigned) ≡ true)
 
--- whatever the assignment, no reason stands at the end of a complete run that agrees with it and that nobody told to stop exactly
--- where the assignment is unstopped
+-- whatever the assignment, no reason stands at the end of a complete run that agrees with it and
+-- that nobody told to stop exactly where the assignment is unstopped
 abbrev pub StopsWhereDue : Type 0
 StopsWhereDue =
     (plan : RunPlan) (assigned : Assignment) (events : List Event) (last : State)
@@ -89,8 +94,8 @@ StopsWhereDue =
     → AllByRecursion IsNoStop events → is_complete last ≡ true
     → (last.reason ≡ None) ↔ IsUnstopped plan assigned
 
--- a run that agrees with an assignment and isn't complete goes on: an event other than a stop is taken and agrees, so that
--- with it the run still is one that agrees
+-- a run that agrees with an assignment and isn't complete goes on: an event other than a stop is
+-- taken and agrees, so that with it the run still is one that agrees
 abbrev pub HasNext : Type 0
 HasNext =
     (plan : RunPlan) (assigned : Assignment) (events : List Event) (last : State)
@@ -98,11 +103,13 @@ HasNext =
     → (event : Event) × (next : State) × IsNoStop event × (step last event ≡ Ok next)
     × Run (initial plan) (events ++ event ∷ []) next × Agrees assigned (initial plan) (events ++ event ∷ [])
 
--- whoever stops a run and when, its other events are no more than one for each script and two for each try
+-- whoever stops a run and when, its other events are no more than one for each script and two for
+-- each try
 abbrev pub HasAtMost : Type 0
 HasAtMost = (plan : RunPlan) (events : List Event) (last : State) → IsPlan plan → Run (initial plan) events last → count_by is_no_stop events ≤ most_events plan
 
--- so any run that agrees with an assignment is the front of a complete one that agrees, with no more stops
+-- so any run that agrees with an assignment is the front of a complete one that agrees, with no
+-- more stops
 abbrev pub ReachesAnEnd : Type 0
 ReachesAnEnd =
     (plan : RunPlan) (assigned : Assignment) (events : List Event) (last : State)
@@ -118,7 +125,8 @@ HasReasonsFirst = (plan : RunPlan) (events : List Event) (last : State) → Run 
 abbrev pub is_success_at : (ℕ → Record) → ℕ → Bool
 is_success_at attempt number = is_success (attempt number).result
 
--- the number of the first success among so many tries, which go from 1: a try that succeeds, none before it; or none at all
+-- the number of the first success among so many tries, which go from 1: a try that succeeds, none
+-- before it; or none at all
 abbrev pub IsFirstSuccess : (ℕ → Record) → ℕ → Option ℕ → Type 0
 IsFirstSuccess attempt tries (Some number) =
     (1 ≤ number) × (number ≤ tries) × (is_success_at attempt number ≡ true)

@@ -5,8 +5,8 @@ use Rattle.nextest_config_elements_choices.specs.declared.max_fail.MaxFail.{MaxF
 use Rattle.nextest_config_elements_choices.specs.declared.max_fail.MaxFail.TheVariants as limits
 use Rattle.test_runner_core_run_model.specs.declared.run_test.RunTest.{RunTest}
 
--- how many scripts are to run, the selected tests in their order, how many failing tests stop the run, and how many
--- tests were skipped
+-- how many scripts are to run, the selected tests in their order, how many failing tests stop the
+-- run, and how many tests were skipped
 pub record RunPlan : Type 0 where
   pub scripts : ℕ
   pub tests : List RunTest
@@ -22,7 +22,8 @@ abbrev pub IsPositiveLimit : MaxFail → Type 0
 IsPositiveLimit (limits.Count max_fail terminate) = 0 < max_fail
 IsPositiveLimit limits.All = ⊤
 
--- what each plan keeps: where no test is selected no script is to run, each test has an attempt, the limit is one
+-- what each plan keeps: where no test is selected no script is to run, each test has an attempt,
+-- the limit is one
 pub record IsPlan (plan : RunPlan) : Type 0 where
   pub no_lone_script : plan.tests ≡ [] → plan.scripts ≡ 0
   pub tries : AllByRecursion (λ test. 0 < test.tries) plan.tests

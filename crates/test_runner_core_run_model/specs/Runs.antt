@@ -58,7 +58,8 @@ is_no_stop (events.Started test) = true
 is_no_stop (events.Ended test ending) = true
 is_no_stop (events.Stopped reason) = false
 
--- so many events other than stops a run has at most: one for each script, and two for each try of a test
+-- so many events other than stops a run has at most: one for each script, and two for each try of a
+-- test
 abbrev pub most_events : RunPlan → ℕ
 most_events plan = plan.scripts + 2 * sum_by (λ test. test.tries) plan.tests
 

@@ -16,8 +16,9 @@ pub record TestState : Type 0 where
   pub records : List Record
   pub mark : Mark
 
--- a run: how many scripts are to run and the records of those that ended, in their order; the tests by their places;
--- the limit and the number of skipped tests of the plan; and the reason for which the run is stopped, if it is
+-- a run: how many scripts are to run and the records of those that ended, in their order; the tests
+-- by their places; the limit and the number of skipped tests of the plan; and the reason for which
+-- the run is stopped, if it is
 pub record State : Type 0 where
   pub planned_scripts : ℕ
   pub scripts : List Record

@@ -1,4 +1,5 @@
--- Worked rows: small runs of two tests, a and b, and where they end, with the reason that stands and each counter.
+-- Worked rows: small runs of two tests, a and b, and where they end, with the reason that stands
+-- and each counter.
 use Rattle.std.specs.Prelude.{◌≡◌, ℕ, false, pos, List, [], ◌∷◌, ◌++◌, None, Some, Result, Ok, Err}
 use Rattle.nextest_config_elements_choices.specs.declared.timeouts.FlakyResult.{FlakyResult}
 use Rattle.nextest_config_elements_choices.specs.declared.timeouts.FlakyResult.TheVariants as flaky_rule

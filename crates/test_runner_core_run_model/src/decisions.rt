@@ -1,4 +1,5 @@
-// Which steps of tests, and which stops, are refused. Each answers by what a run shows of itself, the first reason in the written order.
+// Which steps of tests, and which stops, are refused. Each answers by what a run shows of itself,
+// the first reason in the written order.
 ghost use Rattle.std.specs.Prelude.{ℕ};
 ghost use Rattle.test_runner_core_run_model.specs.State.{State};
 ghost use Rattle.test_runner_core_run_model.specs.Decisions.{Decides, ShowsScripts, ShowsTest};
@@ -9,8 +10,8 @@ use super::mark::Mark;
 use super::step_refusal::StepRefusal;
 use nextest_run_events_results::CancelReason;
 
-/// Why an attempt of a test with this mark can't start now, where so many scripts are planned and ended; `None`
-/// where it can.
+/// Why an attempt of a test with this mark can't start now, where so many scripts are planned and
+/// ended; `None` where it can.
 pub fn start_refusal(
     mark: Mark,
     planned: usize,

@@ -1,8 +1,8 @@
 // What happens in a run.
 use nextest_run_events_results::{CancelReason, Record};
 
-/// What happens in a run. Scripts and tests are named by their places in the plan, from 0; a place past its end
-/// stands for one that the plan doesn't have.
+/// What happens in a run. Scripts and tests are named by their places in the plan, from 0; a place
+/// past its end stands for one that the plan doesn't have.
 #[derive(Clone, Debug, PartialEq, Eq)]
 pub enum Event {
     /// A setup script ended.

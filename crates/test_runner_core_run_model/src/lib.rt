@@ -1,8 +1,9 @@
 //! What a run is: the definitions that a session, a report and their laws speak of.
 //!
 //! `specs/` has the plan as a run sees it, the assignment with the due status, the state of a run
-//! with its counters, the step that each event takes, and what whole runs are. All of them speak of places in the
-//! plan, counted from 0; ids and names come in above. `laws` has what is proved of them.
+//! with its counters, the step that each event takes, and what whole runs are. All of them speak of
+//! places in the plan, counted from 0; ids and names come in above. `laws` has what is proved of
+//! them.
 #![tactic(auto)]
 
 mod decisions;

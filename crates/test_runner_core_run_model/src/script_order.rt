@@ -6,7 +6,8 @@ ghost use Rattle.nextest_run_events_results.specs.declared.record.Record.{Record
 
 use super::step_refusal::StepRefusal;
 
-/// Why the script at a place can't end now, where so many are planned and ended; `None` where it can.
+/// Why the script at a place can't end now, where so many are planned and ended; `None` where it
+/// can.
 pub fn script_refusal(
     script: usize,
     planned: usize,

@@ -41,7 +41,8 @@ guard_ok : {Y E : Type 0} (b : Bool) (e : E) (more : Result Y E) (y : Y) → con
 guard_ok true e more y h = cc
 guard_ok false e more y h = (refl, h)
 
--- what a step answers that is taken: whether the test of its attempt is over, and whether it stops the run
+-- what a step answers that is taken: whether the test of its attempt is over, and whether it stops
+-- the run
 pub takes_step : (old new : State) (event : Event) (finished : Finished) → step old event ≡ Ok new
     → option_map_or (λ place. place ∷ []) finished.ended [] ≡ ended_first event new → finished.stops ≡ stops_run old new → TakesStep old event finished new
 takes_step old new event finished happens ended stops =

@@ -9,7 +9,8 @@ use Rattle.test_runner_core_run_state.specs.declared.kept_records.RecordsSlot.Th
 use Rattle.test_runner_core_run_state.specs.declared.kept_statuses.SlotAttempts.{SlotAttempts}
 use Rattle.test_runner_core_run_state.specs.declared.kept_statuses.SlotAttempts.TheVariants as slots
 
--- as statuses: the attempts, for how many there is room, and the flaky rule, once there is an attempt
+-- as statuses: the attempts, for how many there is room, and the flaky rule, once there is an
+-- attempt
 pub record StatusesState : Type 0 where
   pub statuses : List Status
   pub room : ℕ

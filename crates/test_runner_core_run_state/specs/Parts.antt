@@ -16,7 +16,8 @@ pub record ScriptState : Type 0 where
   pub planned : ℕ
   pub ended : List Record
 
--- scripts that ended have the statuses of their records; they are no more than are to run, which have room
+-- scripts that ended have the statuses of their records; they are no more than are to run, which
+-- have room
 pub record KeepsScripts (records : List Record) (statuses : List ScriptStatus) (planned room : ℕ) : Type 0 where
   pub made : AreScriptStatuses records statuses
   pub within : length statuses ≤ planned
@@ -29,8 +30,8 @@ is_over_once marks.Running = false
 is_over_once marks.Between = true
 is_over_once (marks.Finished reason) = true
 
--- a test keeps its attempts as those of its plan, at most as many as it has tries; where one runs there is room for its end, and
--- where one ended and none runs there is one
+-- a test keeps its attempts as those of its plan, at most as many as it has tries; where one runs
+-- there is room for its end, and where one ended and none runs there is one
 pub record KeepsTest {Kept : Type 0} (are_of : RunTest → Kept → Type 0) (records : Kept → List Record) (room : Kept → ℕ) (plan : RunTest) (kept : Kept) (mark : Mark) : Type 0 where
   pub of : are_of plan kept
   pub room_left : is_running_mark mark ≡ true → 0 < room kept
@@ -44,7 +45,8 @@ HasAttempts are_of records None (Some kept) = ⊥
 HasAttempts are_of records (Some test) None = ⊥
 HasAttempts are_of records (Some test) (Some kept) = are_of test.plan kept.now × (records kept.now ≡ test.records)
 
--- the state of a run that is kept in these parts; why it is stopped and how many tests were skipped is kept with the counters
+-- the state of a run that is kept in these parts; why it is stopped and how many tests were skipped
+-- is kept with the counters
 abbrev pub state_of : ScriptState → List TestState → RunStats → MaxFail → State
 state_of scripts tests stats limit =
     record { planned_scripts = scripts.planned; scripts = scripts.ended; tests = tests; limit = limit; skipped = stats.skipped; reason = stats.cancel_reason }

@@ -20,7 +20,8 @@ use std::alloc::{AllocError, Global};
 use std::marker::Model;
 use test_runner_core_run_model::{Mark, RunTest};
 
-// How far the tests of a run are, and how many run. In a clause they are the states of the tests, by their places.
+// How far the tests of a run are, and how many run. In a clause they are the states of the tests,
+// by their places.
 pub(crate) struct AllTests<A: KeepAttempts> {
     tests: Vec<TestProgress<A>>,
     running: usize,
@@ -109,7 +110,8 @@ impl<A: KeepAttempts> AllTests<A> {
         Ok(())
     }
 
-    // The attempt of the test at a place that runs ends in a run with this reason: whether that finishes the test.
+    // The attempt of the test at a place that runs ends in a run with this reason: whether that
+    // finishes the test.
     pub(crate) fn end(
         &mut self,
         alloc: Global,

@@ -3,8 +3,8 @@ use nextest_run_events_counters::RunStats;
 use std::alloc::{AllocError, Global};
 use test_runner_core_run_model::RunTest;
 
-/// How the ended attempts of a test are kept: as statuses for who looks at them (`KeptStatuses`), or as records, in less
-/// memory (`KeptRecords`).
+/// How the ended attempts of a test are kept: as statuses for who looks at them (`KeptStatuses`),
+/// or as records, in less memory (`KeptRecords`).
 pub trait KeepAttempts: Drop {
     ghost use Rattle.std.specs.Prelude.{◌≡◌, ℕ, ◌+◌, ◌<◌, ◌≤◌, List, [], ◌∷◌, ◌++◌, OnOk, length};
     ghost use Rattle.nextest_run_events_counters.specs.Counting.{CanCountTest};
@@ -44,7 +44,8 @@ pub trait KeepAttempts: Drop {
         ensures records { records self.new ≡ records self.old }
         ensures of { (plan : RunTest) → are_of plan self.old → are_of plan self.new };
 
-    /// The attempt of this number, which is the next one, of a test with this plan ended so. Takes no memory.
+    /// The attempt of this number, which is the next one, of a test with this plan ended so. Takes
+    /// no memory.
     fn push(&mut self, alloc: Global, plan: RunTest, attempt: u32, ending: Self::Ending)
         requires room { 0 < room self.old }
         requires of { are_of plan self.old }

@@ -11,7 +11,8 @@ use nextest_run_events_results::{ExecutionResultDescription, Record, RecordOutpu
 use std::alloc::{AllocError, Global};
 use std::marker::Model;
 
-/// A record in less memory: that of a pass without outputs is its slowness and its time. In a clause it is the record.
+/// A record in less memory: that of a pass without outputs is its slowness and its time. In a
+/// clause it is the record.
 #[derive(Drop)]
 pub struct KeptRecord {
     record: ShortRecord,

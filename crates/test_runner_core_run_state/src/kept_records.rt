@@ -13,8 +13,8 @@ use std::marker::Model;
 use std::{mem, slice};
 use test_runner_core_run_model::RunTest;
 
-/// Ended attempts, kept as their records, and the room of the one that runs: that of the first is in place. In a clause it is
-/// those, and for how many there is room.
+/// Ended attempts, kept as their records, and the room of the one that runs: that of the first is
+/// in place. In a clause it is those, and for how many there is room.
 #[derive(Drop)]
 pub struct KeptRecords {
     records: RecordsSlot,

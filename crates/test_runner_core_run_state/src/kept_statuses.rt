@@ -16,8 +16,8 @@ use std::marker::Model;
 use std::mem;
 use test_runner_core_run_model::RunTest;
 
-/// Ended attempts, kept as statuses, and the room of the one that runs. In a clause it is those, for how many there is room,
-/// and the flaky rule once an attempt ended.
+/// Ended attempts, kept as statuses, and the room of the one that runs. In a clause it is those,
+/// for how many there is room, and the flaky rule once an attempt ended.
 #[derive(Drop)]
 pub struct KeptStatuses {
     attempts: SlotAttempts,

@@ -34,7 +34,8 @@ use test_runner_core_run_model::{
     stop_refusal,
 };
 
-/// How far a run is. The ended attempts of its tests are kept as `A` keeps them. In a clause it is the state of the run.
+/// How far a run is. The ended attempts of its tests are kept as `A` keeps them. In a clause it is
+/// the state of the run.
 ///
 /// Each event takes constant time, but the one that stops the run goes over all tests.
 pub struct Progress<A: KeepAttempts> {
@@ -73,8 +74,9 @@ impl<A: KeepAttempts> Model for Progress<A> {
 }
 
 impl<A: KeepAttempts> Progress<A> {
-    /// The run in which nothing ended, of so many scripts and of these tests, where `skipped` others were skipped.
-    /// Makes the room for each script's status and each test's state, and only want of memory refuses it.
+    /// The run in which nothing ended, of so many scripts and of these tests, where `skipped`
+    /// others were skipped. Makes the room for each script's status and each test's state, and only
+    /// want of memory refuses it.
     pub fn new(
         alloc: Global,
         scripts: usize,
@@ -99,8 +101,8 @@ impl<A: KeepAttempts> Progress<A> {
         })
     }
 
-    /// An attempt of the test at a place starts: reserves the room of its status. An `Err` says why it can't start
-    /// now, or that there was no memory, and leaves everything as it was.
+    /// An attempt of the test at a place starts: reserves the room of its status. An `Err` says why
+    /// it can't start now, or that there was no memory, and leaves everything as it was.
     pub fn start(&mut self, test: usize) -> Result<(), StartFault>
         ensures { Starts self.old test result self.new }
     {
@@ -116,8 +118,8 @@ impl<A: KeepAttempts> Progress<A> {
         Ok(())
     }
 
-    /// What the step finished: the attempt of the test at a place that runs ended so. Takes no memory. An `Err` says why
-    /// that can't be, and leaves everything as it was.
+    /// What the step finished: the attempt of the test at a place that runs ended so. Takes no
+    /// memory. An `Err` says why that can't be, and leaves everything as it was.
     pub fn attempt_finished(
         &mut self,
         test: usize,
@@ -149,7 +151,8 @@ impl<A: KeepAttempts> Progress<A> {
         finished
     }
 
-    // What the step finished by which an attempt of the test at a place ended, in a run that was stopped before or not.
+    // What the step finished by which an attempt of the test at a place ended, in a run that was
+    // stopped before or not.
     fn finished(&self, test: usize, was_stopped: bool) -> Finished
         ensures ended { result.ended
             ≡ (if finished_at self.now.tests test then Some test else None) }
@@ -165,8 +168,8 @@ impl<A: KeepAttempts> Progress<A> {
         }
     }
 
-    /// What the step finished: the script at a place ended. Takes no memory. An `Err` says why that can't be, and leaves
-    /// everything as it was.
+    /// What the step finished: the script at a place ended. Takes no memory. An `Err` says why that
+    /// can't be, and leaves everything as it was.
     pub fn script_finished(
         &mut self,
         script: usize,
@@ -198,8 +201,8 @@ impl<A: KeepAttempts> Progress<A> {
         self.scripts.end(status);
     }
 
-    /// What the step finished: the run was told to stop. Takes no memory. An `Err` says why that can't be, and leaves
-    /// everything as it was.
+    /// What the step finished: the run was told to stop. Takes no memory. An `Err` says why that
+    /// can't be, and leaves everything as it was.
     pub fn stop(&mut self, reason: CancelReason) -> Result<Finished, StepRefusal>
         ensures { Takes self.old (events.Stopped reason) result self.new }
     {
@@ -227,7 +230,8 @@ impl<A: KeepAttempts> Progress<A> {
         }
     }
 
-    // Why a run that isn't stopped is stopped now that a test finished, if it is: what failed reaches the limit.
+    // Why a run that isn't stopped is stopped now that a test finished, if it is: what failed
+    // reaches the limit.
     fn limit_stop(&self, finished: bool) -> Option<CancelReason>
         ensures { after_limit finished self.now
             ≡ option_map_or (λ new. stopped_by new self.now) result self.now }
@@ -244,7 +248,8 @@ impl<A: KeepAttempts> Progress<A> {
         }
     }
 
-    /// Whether the run is complete: all scripts and tests finished, or it is stopped and nothing runs.
+    /// Whether the run is complete: all scripts and tests finished, or it is stopped and nothing
+    /// runs.
     pub fn is_complete(&self) -> bool
         ensures { result ≡ is_complete self.now }
     {
@@ -298,7 +303,8 @@ impl<A: KeepAttempts> Progress<A> {
         self.stats.cancel_reason.is_some()
     }
 
-    /// How many attempts the test at a place has at most, and its flaky rule; `None` where the plan has no such place.
+    /// How many attempts the test at a place has at most, and its flaky rule; `None` where the plan
+    /// has no such place.
     pub fn planned(&self, test: usize) -> Option<RunTest>
         ensures { result ≡ option_map (λ t. t.plan) (slice_get self.now.tests test) }
     {
@@ -312,14 +318,16 @@ impl<A: KeepAttempts> Progress<A> {
         self.tests.mark(test)
     }
 
-    /// What is kept of the ended attempts of the test at a place; `None` where the plan has no such place.
+    /// What is kept of the ended attempts of the test at a place; `None` where the plan has no such
+    /// place.
     pub fn attempts(&self, test: usize) -> Option<&A>
         ensures { HasAttempts A.are_of A.records (slice_get self.now.tests test) result }
     {
         self.tests.attempts(test)
     }
 
-    /// The status of the script at a place; `None` where the plan has no such place, or it didn't end.
+    /// The status of the script at a place; `None` where the plan has no such place, or it didn't
+    /// end.
     pub fn ended_script(&self, script: usize) -> Option<&SetupScriptExecuteStatus<LiveSpec>>
         ensures { IsScriptStatus (slice_get self.now.scripts script) result }
     {
@@ -328,7 +336,8 @@ impl<A: KeepAttempts> Progress<A> {
 }
 
 impl Progress<KeptRecords> {
-    /// Forgets the outputs of the attempts of the test at a place, if the plan has such a place. Takes no memory.
+    /// Forgets the outputs of the attempts of the test at a place, if the plan has such a place.
+    /// Takes no memory.
     pub fn forget_outputs(&mut self, test: usize)
         ensures { self.new ≡ state_with (unwritten_at test) self.old }
     {

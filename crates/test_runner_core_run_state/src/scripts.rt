@@ -6,7 +6,8 @@ use nextest_run_events_outputs::{LiveSpec, SetupScriptExecuteStatus};
 use std::alloc::{AllocError, Global};
 use std::marker::Model;
 
-// The setup scripts of a run. In a clause it is how many are to run, and the records of those that ended.
+// The setup scripts of a run. In a clause it is how many are to run, and the records of those that
+// ended.
 #[derive(Drop)]
 pub(crate) struct Scripts {
     planned: usize,

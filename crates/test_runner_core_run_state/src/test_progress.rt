@@ -139,8 +139,8 @@ impl TestProgress<KeptRecords> {
     }
 }
 
-// Whether an attempt of this number, of so many, finishes its test: it is a success or the last one, or the run is
-// stopped.
+// Whether an attempt of this number, of so many, finishes its test: it is a success or the last
+// one, or the run is stopped.
 fn is_finishing(success: bool, tries: u32, attempt: u32, reason: Option<CancelReason>) -> bool
     ensures { result ≡ (success || nat_le tries attempt || is_some reason) }
 {

@@ -41,15 +41,16 @@ session_of plan = record { plan = plan; run = initial (run_plan plan) }
 abbrev pub test_of : SessionState → List ℕ → List ℕ → Option TestState
 test_of session id name = slice_get session.run.tests (place_in session.plan id name)
 
--- what is kept of a test is how far it is, what is planned of it, and its ended attempts; nothing where there is no such test
+-- what is kept of a test is how far it is, what is planned of it, and its ended attempts; nothing
+-- where there is no such test
 abbrev pub IsKeptTest : {Kept : Type 0} → (RunTest → Kept → Type 0) → (Kept → List Record) → Option TestState → Option (KeptTest Kept) → Type 0
 IsKeptTest are_of records None None = ⊤
 IsKeptTest are_of records None (Some kept) = ⊥
 IsKeptTest are_of records (Some test) None = ⊥
 IsKeptTest are_of records (Some test) (Some kept) = (kept.mark ≡ test.mark) × (kept.plan ≡ test.plan) × HasAttempts are_of records (Some test) (Some kept.attempts)
 
--- what is told of a test is how far it is, what is planned of it, and its ended attempts; nothing where there is no such
--- test
+-- what is told of a test is how far it is, what is planned of it, and its ended attempts; nothing
+-- where there is no such test
 abbrev pub IsFate : Option TestState → Option Fate → Type 0
 IsFate None None = ⊤
 IsFate None (Some fate) = ⊥

@@ -1,4 +1,5 @@
-// Where tests may stand, by a hash of their names: a guess costs time where it is wrong, and nothing else.
+// Where tests may stand, by a hash of their names: a guess costs time where it is wrong, and
+// nothing else.
 ghost use Rattle.std.specs.Prelude.{◌≡◌, false, true, IfSome, slice_get};
 ghost use Rattle.std.specs.Option.{option_map_or};
 ghost use Rattle.test_runner_core_session.specs.Names.{is_named};
@@ -22,8 +23,8 @@ struct Slot {
     place: u32,
 }
 
-// The places of tests in the slots of a table, twice as many as tests, by a hash of their names. Where a hash is shared by more names
-// than have slots, those left over have none.
+// The places of tests in the slots of a table, twice as many as tests, by a hash of their names.
+// Where a hash is shared by more names than have slots, those left over have none.
 #[derive(Drop)]
 pub(crate) struct Guesses {
     slots: Vec<Slot>,

@@ -82,8 +82,9 @@ impl<'a> Places<'a> {
         })
     }
 
-    // The place of the first test of this name, or one past the end where there is none: mostly it is that of the look-up
-    // before, or the next while tests come in turn, or where the guesses have it.
+    // The place of the first test of this name, or one past the end where there is none: mostly it
+    // is that of the look-up before, or the next while tests come in turn, or where the guesses
+    // have it.
     pub(crate) fn place(&self, test: TestInstanceId<'_>) -> usize
         ensures { result ≡ place_of self.now test.entry.binary_id.now test.entry.test_name.now }
     {
@@ -167,8 +168,8 @@ pub(crate) fn is_at(tests: &[PlanTest], place: usize, test: TestInstanceId<'_>) 
     }
 }
 
-// The place of the first test of this name, by the names of tests in order, or one past the end: of one name the least
-// place comes first.
+// The place of the first test of this name, by the names of tests in order, or one past the end: of
+// one name the least place comes first.
 fn place_by_name(by_name: &[Named<'_>], tests: &[PlanTest], test: TestInstanceId<'_>) -> usize
     requires { AreByName by_name.now (names tests.now) }
     ensures { result ≡ place_among_tests tests.now test.entry }

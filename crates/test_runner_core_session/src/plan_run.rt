@@ -30,8 +30,8 @@ pub struct KeptTest<'s, A> {
     pub attempts: &'s A,
 }
 
-/// A run of a plan, which is lent, whose tests' ended attempts are kept as `A` keeps them. In a clause it is the plan, and the
-/// state of the run.
+/// A run of a plan, which is lent, whose tests' ended attempts are kept as `A` keeps them. In a
+/// clause it is the plan, and the state of the run.
 pub struct PlanRun<'a, A: KeepAttempts> {
     plan: &'a Plan,
     places: Places<'a>,
@@ -61,8 +61,8 @@ impl<'a, A: KeepAttempts> Model for PlanRun<'a, A> {
 }
 
 impl<'a, A: KeepAttempts> PlanRun<'a, A> {
-    /// The run in which nothing ended. Makes the room for each script's record and each test's state, and only want of
-    /// memory refuses it.
+    /// The run in which nothing ended. Makes the room for each script's record and each test's
+    /// state, and only want of memory refuses it.
     pub fn new(alloc: Global, plan: &'a Plan) -> Result<PlanRun<'a, A>, AllocError>
         ensures { IfOk result (λ session. session ≡ session_of plan.now) }
     {
@@ -81,8 +81,8 @@ impl<'a, A: KeepAttempts> PlanRun<'a, A> {
         })
     }
 
-    /// An attempt of a test starts: reserves the room of its record. An `Err` says why it can't start now, or that there
-    /// was no memory, and leaves everything as it was.
+    /// An attempt of a test starts: reserves the room of its record. An `Err` says why it can't
+    /// start now, or that there was no memory, and leaves everything as it was.
     pub fn start(&mut self, test: TestInstanceId<'_>) -> Result<(), StartFault>
         ensures plan { self.new.plan ≡ self.old.plan }
         ensures step { Starts self.old.run (place_in self.old.plan test.entry.binary_id.now
@@ -92,8 +92,8 @@ impl<'a, A: KeepAttempts> PlanRun<'a, A> {
         self.progress.start(place)
     }
 
-    /// What the step finished: the attempt of a test that runs ended so. Takes no memory. An `Err` says why that can't be,
-    /// and leaves everything as it was.
+    /// What the step finished: the attempt of a test that runs ended so. Takes no memory. An `Err`
+    /// says why that can't be, and leaves everything as it was.
     pub fn attempt_finished(
         &mut self,
         test: TestInstanceId<'_>,
@@ -108,8 +108,8 @@ impl<'a, A: KeepAttempts> PlanRun<'a, A> {
         self.progress.attempt_finished(place, ending)
     }
 
-    /// What the step finished: a script ended. Takes no memory. An `Err` says why that can't be, and leaves everything as
-    /// it was.
+    /// What the step finished: a script ended. Takes no memory. An `Err` says why that can't be,
+    /// and leaves everything as it was.
     pub fn script_finished(&mut self, id: &str, record: Record) -> Result<Finished, StepRefusal>
         ensures plan { self.new.plan ≡ self.old.plan }
         ensures step { Takes self.old.run (events.ScriptEnded
@@ -119,8 +119,8 @@ impl<'a, A: KeepAttempts> PlanRun<'a, A> {
         self.progress.script_finished(place, record)
     }
 
-    /// What the step finished: the run was told to stop. Takes no memory. An `Err` says why that can't be, and leaves
-    /// everything as it was.
+    /// What the step finished: the run was told to stop. Takes no memory. An `Err` says why that
+    /// can't be, and leaves everything as it was.
     pub fn stop(&mut self, reason: CancelReason) -> Result<Finished, StepRefusal>
         ensures plan { self.new.plan ≡ self.old.plan }
         ensures step { Takes self.old.run (events.Stopped reason) result self.new.run }
@@ -142,7 +142,8 @@ impl<'a, A: KeepAttempts> PlanRun<'a, A> {
         self.progress.is_stopped()
     }
 
-    /// Whether the run is complete: all scripts and tests finished, or it is stopped and nothing runs.
+    /// Whether the run is complete: all scripts and tests finished, or it is stopped and nothing
+    /// runs.
     pub fn is_complete(&self) -> bool
         ensures { result ≡ runs.is_complete self.now.run }
     {
@@ -170,8 +171,8 @@ impl<'a, A: KeepAttempts> PlanRun<'a, A> {
         self.progress.status()
     }
 
-    /// The place of a test in the plan, or the number of its tests where the plan doesn't have it. The test of the last
-    /// event, or the one behind it, is found at once.
+    /// The place of a test in the plan, or the number of its tests where the plan doesn't have it.
+    /// The test of the last event, or the one behind it, is found at once.
     pub fn place(&self, test: TestInstanceId<'_>) -> usize
         ensures { result
             ≡ place_in self.now.plan test.entry.binary_id.now test.entry.test_name.now }
@@ -179,7 +180,8 @@ impl<'a, A: KeepAttempts> PlanRun<'a, A> {
         self.places.place(test)
     }
 
-    /// How far the test at a place is, with what is kept of its ended attempts; `None` where the plan has no such place.
+    /// How far the test at a place is, with what is kept of its ended attempts; `None` where the
+    /// plan has no such place.
     pub fn kept_at(&self, place: usize) -> Option<KeptTest<'_, A>>
         ensures { IsKeptTest A.are_of A.records (slice_get self.now.run.tests place) result }
     {
@@ -193,7 +195,8 @@ impl<'a, A: KeepAttempts> PlanRun<'a, A> {
         })
     }
 
-    /// The status of the script at a place; `None` where the plan has no such place, or it didn't end.
+    /// The status of the script at a place; `None` where the plan has no such place, or it didn't
+    /// end.
     pub fn ended_script(&self, place: usize) -> Option<&SetupScriptExecuteStatus<LiveSpec>>
         ensures { IsScriptStatus (slice_get self.now.run.scripts place) result }
     {

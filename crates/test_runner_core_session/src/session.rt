@@ -21,8 +21,8 @@ pub struct Fate<'s> {
     pub attempts: Option<&'s ExecutionStatuses<LiveSpec>>,
 }
 
-/// A run of a plan, which is lent, that keeps the ended attempts of its tests as statuses. In a clause it is the plan, and the
-/// state of the run.
+/// A run of a plan, which is lent, that keeps the ended attempts of its tests as statuses. In a
+/// clause it is the plan, and the state of the run.
 pub type Session<'a> = PlanRun<'a, KeptStatuses>;
 
 /// The same, but attempts are kept as records, in less memory: what `judge` does.
@@ -51,7 +51,8 @@ impl<'a> Session<'a> {
 }
 
 impl<'a> RecordSession<'a> {
-    /// Forgets the outputs of the attempts of the test at a place, if the plan has such a place. Takes no memory.
+    /// Forgets the outputs of the attempts of the test at a place, if the plan has such a place.
+    /// Takes no memory.
     pub fn forget_outputs(&mut self, place: usize)
         ensures plan { self.new.plan ≡ self.old.plan }
         ensures run { self.new.run ≡ state_with (unwritten_at place) self.old.run }

@@ -1,4 +1,5 @@
--- A rule of a profile holds on a test exactly if the override or script rule that it was read from does.
+-- A rule of a profile holds on a test exactly if the override or script rule that it was read from
+-- does.
 use Rattle.std.proofs.Common.{◌≡◌, ◌↔◌, ℕ, Bool, true, false, ◌&&◌, List, [], ◌∷◌, map, Option, None, Some, refl, ap, ◌∙◌, subst}
 use Rattle.std.specs.List.{AllByRecursion}
 use Rattle.std.specs.Option.{IfSome, unwrap_or}

@@ -142,7 +142,8 @@ module _ (cx : Context) (inputs : Inputs) (config : Whole Filterset PlatformSpec
   put_each [] each = tt
   put_each (rule ∷ rules) each = (each.0, put_each rules each.1)
 
-  -- where a rule is the first that holds for the target and sets one, so is its override, with the text of that filter
+  -- where a rule is the first that holds for the target and sets one, so is its override, with the
+  -- text of that filter
   pub least_placed : (names : List Name) (rule : OverrideOn Filterset PlatformSpec) (filter : Filterset) → chain_rules.IsLeast ForTarget on_platforms.default_set (put_own names) rule filter
       → chain_rules.IsLeast (HoldsForTarget (platforms_of inputs)) default_set (rules_in inputs names) (placed_of rule) filter.input × IsDefault cx filter.input filter
   least_placed names rule filter least =

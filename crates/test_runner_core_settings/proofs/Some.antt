@@ -1,4 +1,5 @@
--- Inputs set something, or there is a reason why they set nothing; and where they do, they set something for each test.
+-- Inputs set something, or there is a reason why they set nothing; and where they do, they set
+-- something for each test.
 use Rattle.std.specs.List.{AllZip, Contains}
 use Rattle.std.proofs.Common.{◌≡◌, ◌⊎◌, inl, inr, ℕ, Bool, true, false, cond, List, [], ◌∷◌, ◌++◌, map, Option, None, Some, Result, Ok, Err, find, refl, sym, ap, ◌∙◌, subst}
 use Rattle.std.specs.Option.{option_map}

@@ -44,7 +44,8 @@ abbrev pub error_of_facts : PlatformFactsError → SettingsError
 error_of_facts facts_error.RepeatedFact = error.Refused fault.RepeatedFact
 error_of_facts facts_error.OutOfMemory = error.OutOfMemory
 
--- a call gives what is known of a platform, or refuses it since two facts repeat; want of memory says nothing
+-- a call gives what is known of a platform, or refuses it since two facts repeat; want of memory
+-- says nothing
 abbrev pub KnowsPlatform : PlatformRecord → Result Facts PlatformFactsError → Type 0
 KnowsPlatform platform (Ok it) = (it ≡ facts_of platform) × (repeats platform ≡ false)
 KnowsPlatform platform (Err facts_error.RepeatedFact) = repeats platform ≡ true
@@ -70,7 +71,8 @@ pub record AnswersTests (cx : Context) (inputs : Inputs) (profile : Evaluatable 
   pub some_group : (test : Test) → (it : TestGroup) × IsGroupFor HasOnTest profile test it
   pub enabled : (tests : List Test) (id : List ℕ) → enabled_by.IsEnabled HasOnTest profile tests id ↔ IsEnabled cx inputs tests id
 
--- a call gives what the chosen profile sets, and the profile, with the default filter of that text, or refuses the inputs
+-- a call gives what the chosen profile sets, and the profile, with the default filter of that text,
+-- or refuses the inputs
 pub record ChoosesRun (cx : Context) (inputs : Inputs) (it : ChosenRun) : Type 0 where
   pub sets : Sets cx inputs (Ok it.settings)
   pub default : IsDefault cx it.settings.default_filter it.profile.default_filter.filter.now

@@ -7,8 +7,9 @@ use Rattle.nextest_config_resolution_scripts.specs.declared.wrapper_script.Wrapp
 use Rattle.nextest_config_resolution_settings.specs.Layers.{Layers}
 use Rattle.nextest_config_resolution_values.specs.declared.profile_config.ProfileConfig.{ProfileConfig}
 
--- its overrides and its script rules, each in the order in which they are asked; the wrapper scripts that are defined; and its chain: its
--- own values and those of its parents, and those of `default`
+-- its overrides and its script rules, each in the order in which they are asked; the wrapper
+-- scripts that are defined; and its chain: its own values and those of its parents, and those of
+-- `default`
 pub record Chosen : Type 0 where
   pub rules : List PlacedOverride
   pub script_rules : List PlacedScriptRule

@@ -19,13 +19,15 @@ use Rattle.test_runner_core_settings.specs.Platforms.{HoldsFor, Platforms}
 
 -- ---- tests
 
--- the filter of a rule holds on a test, beside the default filter; it may ask for no group. One that isn't there holds.
+-- the filter of a rule holds on a test, beside the default filter; it may ask for no group. One
+-- that isn't there holds.
 abbrev pub FilterHolds : Context → Tree → Test → Option (List ℕ) → Type 0
 FilterHolds cx default test None = ⊤
 FilterHolds cx default test (Some text) =
     (tree : Tree) × IsAccepted cx purpose.OverrideFilter groups.Unavailable text tree × TreeIsOn cx.graph tree default test (λ m. ⊥) true
 
--- a rule with these texts holds on a test: for the platform that the test's binary is built for, and by its filter
+-- a rule with these texts holds on a test: for the platform that the test's binary is built for,
+-- and by its filter
 abbrev pub TextsHold : Context → Platforms → Tree → Test → Conditions → Type 0
 TextsHold cx platforms default test it = HoldsFor platforms test.binary.platform it × FilterHolds cx default test it.filter
 
@@ -46,8 +48,8 @@ HoldsForTarget platforms rule = HoldsFor platforms built_for.Target (conditions_
 abbrev pub default_set : PlacedOverride → Option (List ℕ)
 default_set rule = rule.config.default_filter
 
--- the text of the default filter: that of the first of some overrides that holds for the target and sets one, else that of the nearest
--- of some profiles that does
+-- the text of the default filter: that of the first of some overrides that holds for the target and
+-- sets one, else that of the nearest of some profiles that does
 abbrev pub IsDefaultText : Platforms → List PlacedOverride → List ProfileConfig → List ℕ → Type 0
 IsDefaultText platforms rules chain text =
     ((rule : PlacedOverride) × IsLeast (HoldsForTarget platforms) default_set rules rule text)

@@ -40,7 +40,8 @@ AreSame one other = ⊥
 abbrev pub OneSettings : Type 0
 OneSettings = (cx : Context) (inputs : Inputs) (one other : Result RunSettings SettingsFault) → Sets cx inputs one → Sets cx inputs other → AreSame one other
 
--- It can't be that inputs set nothing and there is no reason for it. No law decides whether a text is a filterset, so it is said in this form.
+-- It can't be that inputs set nothing and there is no reason for it. No law decides whether a text
+-- is a filterset, so it is said in this form.
 abbrev pub SomeSettings : Type 0
 SomeSettings = (cx : Context) (inputs : Inputs) → ¬ ¬ ((given : Result RunSettings SettingsFault) × Sets cx inputs given)
 
@@ -52,9 +53,10 @@ SomeTest = (cx : Context) (inputs : Inputs) (run : RunSettings) (test : Test) �
 abbrev pub OneTest : Type 0
 OneTest = (cx : Context) (inputs : Inputs) (test : Test) (one other : PlanSettings) → SetsTest cx inputs test one → SetsTest cx inputs test other → one ≡ other
 
--- The same profile is chosen in two inputs, for the same mode and on the same platforms, and the configurations of both say the same in
--- each profile of its chain, in itself, in its parents and in `default`, with the same overrides and script rules, and define the same
--- groups and wrapper scripts. Other profiles may be others, and so may their rules.
+-- The same profile is chosen in two inputs, for the same mode and on the same platforms, and the
+-- configurations of both say the same in each profile of its chain, in itself, in its parents and
+-- in `default`, with the same overrides and script rules, and define the same groups and wrapper
+-- scripts. Other profiles may be others, and so may their rules.
 pub record AgreeOnChain (cx : Context) (inputs other : Inputs) : Type 0 where
   pub profile : other.profile ≡ inputs.profile
   pub mode : other.mode ≡ inputs.mode
@@ -72,8 +74,9 @@ pub record AgreeOnChain (cx : Context) (inputs other : Inputs) : Type 0 where
   pub groups : groups_in second ≡ groups_in config
   pub wrappers : second.loaded.scripts.wrapper ≡ config.loaded.scripts.wrapper
 
--- Two inputs choose one profile, for one mode and the same platforms, and each of their sources has a like: one of the same kind and path
--- whose file says the same everywhere but in profiles outside of the chosen one's chain. Both have a configuration.
+-- Two inputs choose one profile, for one mode and the same platforms, and each of their sources has
+-- a like: one of the same kind and path whose file says the same everywhere but in profiles outside
+-- of the chosen one's chain. Both have a configuration.
 pub record AgreeInFiles (cx : Context) (inputs other : Inputs) : Type 0 where
   pub profile : other.profile ≡ inputs.profile
   pub mode : other.mode ≡ inputs.mode
@@ -91,7 +94,8 @@ pub record AgreeInFiles (cx : Context) (inputs other : Inputs) : Type 0 where
 abbrev pub AgreesOnChain : Type 0
 AgreesOnChain = (cx : Context) (inputs other : Inputs) → AgreeInFiles cx inputs other → AgreeOnChain cx inputs other
 
--- profiles outside of the chosen one's chain, and their overrides, change nothing of what is set for a run
+-- profiles outside of the chosen one's chain, and their overrides, change nothing of what is set
+-- for a run
 abbrev pub Isolated : Type 0
 Isolated = (cx : Context) (inputs other : Inputs) (one second : RunSettings) → AgreeOnChain cx inputs other → Sets cx inputs (Ok one) → Sets cx other (Ok second) → one ≡ second
 
@@ -123,7 +127,8 @@ IsOneAtLeast limits.All = ⊤
 abbrev pub SetsLimit : Type 0
 SetsLimit = (cx : Context) (inputs : Inputs) (it : RunSettings) → Sets cx inputs (Ok it) → IsOneAtLeast it.max_fail
 
--- whatever configuration their sources come to, inputs pass, or are refused, as the current version is judged by it
+-- whatever configuration their sources come to, inputs pass, or are refused, as the current version
+-- is judged by it
 abbrev pub PassesByConfig : Type 0
 PassesByConfig = (inputs : Inputs) (all : List Asking) (config : VersionOnlyConfig)
     → askings (sources_of inputs.sources) ≡ Ok all → Comes all config

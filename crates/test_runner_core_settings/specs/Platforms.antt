@@ -40,7 +40,8 @@ has_repeated_fact inputs = repeats inputs.host || option_map_or repeats inputs.t
 
 -- ---- specs
 
--- a spec holds on a platform, unless what is known tells that it doesn't; and so does one that isn't there
+-- a spec holds on a platform, unless what is known tells that it doesn't; and so does one that
+-- isn't there
 abbrev pub SpecHolds : Facts → Option (List ℕ) → Type 0
 SpecHolds facts None = ⊤
 SpecHolds facts (Some text) = (spec : Spec) × IsSpec text spec × ¬ HasValue facts spec (Some false)
@@ -50,7 +51,7 @@ abbrev pub built_for_of : Platforms → BuildPlatform → Facts
 built_for_of platforms built_for.Host = platforms.host
 built_for_of platforms built_for.Target = platforms.target
 
--- a rule with these texts holds for what is built for a platform: its spec of the host holds on the host, and its spec of the target on
--- that platform
+-- a rule with these texts holds for what is built for a platform: its spec of the host holds on the
+-- host, and its spec of the target on that platform
 abbrev pub HoldsFor : Platforms → BuildPlatform → Conditions → Type 0
 HoldsFor platforms platform it = SpecHolds platforms.host it.host × SpecHolds (built_for_of platforms platform) it.target

@@ -68,8 +68,8 @@ pub record HasNoProfile (cx : Context) (inputs : Inputs) (missing : ProfileNotFo
 
 -- ---- the chosen profile
 
--- the overrides of the profiles of a chain, in the order in which they are asked: by profile, then by file from the highest, then as
--- they are written
+-- the overrides of the profiles of a chain, in the order in which they are asked: by profile, then
+-- by file from the highest, then as they are written
 abbrev pub rules_in : Inputs → List (List ℕ) → List PlacedOverride
 rules_in inputs names = rules_of profile_of (rules_downward inputs.sources) names
 
@@ -104,7 +104,8 @@ pub record HasRepeatedFact (cx : Context) (inputs : Inputs) : Type 0 where
   pub chosen : IsChosen cx inputs profile
   pub repeated : has_repeated_fact inputs ≡ true
 
--- what inputs set for their run, or the first reason in their configuration and platforms why they set nothing
+-- what inputs set for their run, or the first reason in their configuration and platforms why they
+-- set nothing
 abbrev pub Sets : Context → Inputs → Result RunSettings SettingsFault → Type 0
 Sets cx inputs (Ok it) = SetsBy cx inputs it
 Sets cx inputs (Err (fault.Load refusal)) = Loads cx inputs (Err (load.Refused refusal))
@@ -120,7 +121,8 @@ pub record IsAsked (cx : Context) (inputs : Inputs) (profile : Chosen) (default 
   pub set : IsDefaultText (platforms_of inputs) profile.rules profile.chain text
   pub read : IsDefaultTree cx text default
 
--- what inputs set for a test: the settings by the rules that hold on it, beside the default filter of the run, and by the chain
+-- what inputs set for a test: the settings by the rules that hold on it, beside the default filter
+-- of the run, and by the chain
 pub record SetsTest (cx : Context) (inputs : Inputs) (test : Test) (it : PlanSettings) : Type 0 where
   pub profile : Chosen
   pub default : Tree

@@ -48,7 +48,8 @@ pub record AreOwned (mode : NextestRunMode) (layers : Layers) (it : PlanSettings
   pub each : AreSettings TellsNothing mode layers lent
   pub owned : it ≡ owned_of lent
 
--- the settings of a test, by the rules of a profile that hold on it, beside a default filter, and by its chain
+-- the settings of a test, by the rules of a profile that hold on it, beside a default filter, and
+-- by its chain
 pub record AreOfTest (cx : Context) (platforms : Platforms) (mode : NextestRunMode) (profile : Chosen) (default : Tree) (test : Test) (it : PlanSettings) : Type 0 where
   pub held : List PlacedOverride
   pub are : AreHeld (RuleHolds cx platforms default test) profile.rules held

@@ -5,7 +5,8 @@ use Rattle.std.specs.List.{flat_map}
 use Rattle.semver.specs.Identifiers.{parts_text}
 use Rattle.semver.specs.Parse.{Parts}
 
--- a character: one below a space, and the one behind `~`, prints as `\u{h}`, h its number in hexadecimal digits
+-- a character: one below a space, and the one behind `~`, prints as `\u{h}`, h its number in
+-- hexadecimal digits
 abbrev pub shown_character : ℕ → List ℕ
 shown_character character =
     if nat_lt character 32 || character == 127 then 92 ∷ 117 ∷ 123 ∷ digits 16 false character ++ 125 ∷ []

@@ -56,7 +56,8 @@ pub struct ConfiguredRun {
     pub warnings: Listing<Text>,
 }
 
-/// What the chosen profile of a configuration sets for a run, and the profile, which is asked for the settings of tests.
+/// What the chosen profile of a configuration sets for a run, and the profile, which is asked for
+/// the settings of tests.
 #[derive(Drop)]
 pub struct ChosenRun<'c> {
     /// What the profile sets for the run.
@@ -65,12 +66,14 @@ pub struct ChosenRun<'c> {
     pub profile: EvaluatableProfile<'c, Filterset, PlatformSpec>,
 }
 
-/// What the sources of inputs come to, those that count, each over the lower ones and over what is built in. `cx` is the
-/// workspace of the inputs to filtersets, and `experimental` are the features that the sources ask for.
+/// What the sources of inputs come to, those that count, each over the lower ones and over what is
+/// built in. `cx` is the workspace of the inputs to filtersets, and `experimental` are the features
+/// that the sources ask for.
 ///
 /// # Errors
 ///
-/// `Refused` tells of the first rule of the load that is broken, as `load` says. Want of memory says nothing of the inputs.
+/// `Refused` tells of the first rule of the load that is broken, as `load` says. Want of memory
+/// says nothing of the inputs.
 pub fn configure(
     alloc: Global,
     cx: &ParseContext,
@@ -96,12 +99,14 @@ pub fn configure(
     })
 }
 
-/// What the chosen profile sets in the configuration of inputs, and the profile itself, on the platforms of the inputs.
+/// What the chosen profile sets in the configuration of inputs, and the profile itself, on the
+/// platforms of the inputs.
 ///
 /// # Errors
 ///
-/// `Refused` tells, in this order, that no profile has the chosen name, or that two facts of the host, or of the target, have the
-/// same name and the same value. Want of memory says nothing of the inputs.
+/// `Refused` tells, in this order, that no profile has the chosen name, or that two facts of the
+/// host, or of the target, have the same name and the same value. Want of memory says nothing of
+/// the inputs.
 pub fn run_settings<'c>(
     alloc: Global,
     config: &'c RunConfig,

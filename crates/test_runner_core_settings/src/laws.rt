@@ -13,8 +13,8 @@ pub fn one_test()
     ensures one { OneTest }
 {}
 
-/// Profiles outside of the chosen one's chain, and their rules, change nothing of what is set for a run, or for a test, or of which
-/// setup scripts tests need.
+/// Profiles outside of the chosen one's chain, and their rules, change nothing of what is set for a
+/// run, or for a test, or of which setup scripts tests need.
 pub fn isolated()
     ensures run { Isolated }
     ensures tests { IsolatesTests }
@@ -37,8 +37,8 @@ pub fn sets_limit()
     ensures { SetsLimit }
 {}
 
-/// Whatever configuration the sources of inputs come to by their versions and features, the current version is judged by it;
-/// and a source that is refused refuses the inputs.
+/// Whatever configuration the sources of inputs come to by their versions and features, the current
+/// version is judged by it; and a source that is refused refuses the inputs.
 pub fn version_pass_by_sources()
     ensures judged { PassesByConfig }
     ensures refused { RefusedBySource }

@@ -22,10 +22,11 @@ pub struct VersionPass {
     pub experimental: FeatureSet,
 }
 
-/// Judges the inputs by the versions and features that their sources ask for, of which the tools' count, the first handed in
-/// as the highest, and of the repository's the first that was named, else the first that was looked for. An `Err` says, in
-/// this order, that a source is refused, that the current version is below a required one and that isn't passed over, or that
-/// a feature is asked for that isn't known; or that there was no memory, which says nothing of the inputs.
+/// Judges the inputs by the versions and features that their sources ask for, of which the tools'
+/// count, the first handed in as the highest, and of the repository's the first that was named,
+/// else the first that was looked for. An `Err` says, in this order, that a source is refused, that
+/// the current version is below a required one and that isn't passed over, or that a feature is
+/// asked for that isn't known; or that there was no memory, which says nothing of the inputs.
 pub fn version_pass(alloc: Global, inputs: &Inputs) -> Result<VersionPass, VersionPassError>
     ensures exact { GivesPass result (pass_of inputs.now) }
 {

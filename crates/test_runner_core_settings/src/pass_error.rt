@@ -5,7 +5,8 @@ use thiserror::Error;
 /// Why inputs don't pass, in the order in which the reasons are looked for.
 #[derive(Clone, Copy, Debug, PartialEq, Eq, Hash, Error)]
 pub enum VersionPassFault {
-    /// A source's text is no TOML, a version or feature in it is none, or a tool asks for a feature.
+    /// A source's text is no TOML, a version or feature in it is none, or a tool asks for a
+    /// feature.
     #[error("VersionSource")]
     VersionSource,
     /// A version is required that is above the current one.

@@ -21,7 +21,8 @@ pub(crate) fn facts_of(
     PlatformFacts::new(alloc, platform.triple.clone()?, facts)
 }
 
-// What is known of the platform that is built for, where it is another than the one that is built on.
+// What is known of the platform that is built for, where it is another than the one that is built
+// on.
 pub(crate) fn target_of(
     alloc: Global,
     target: &Option<PlatformRecord>,
@@ -34,7 +35,8 @@ pub(crate) fn target_of(
     }
 }
 
-// The platforms of a build, where this is known of the one that it is built on, and this of the one that it is built for.
+// The platforms of a build, where this is known of the one that it is built on, and this of the one
+// that it is built for.
 pub(crate) fn platforms_of<'f>(
     host: &'f PlatformFacts,
     target: &'f Option<PlatformFacts>,

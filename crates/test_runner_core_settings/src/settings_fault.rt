@@ -3,7 +3,8 @@ use nextest_config_resolution_load::LoadFault;
 use nextest_config_resolution_profiles::ProfileNotFound;
 use thiserror::Error;
 
-/// Why the configuration of inputs sets nothing for their run, in the order in which the reasons are looked for.
+/// Why the configuration of inputs sets nothing for their run, in the order in which the reasons
+/// are looked for.
 #[derive(Debug, PartialEq, Eq, Drop, Error)]
 pub enum SettingsFault {
     /// The configuration isn't loaded.

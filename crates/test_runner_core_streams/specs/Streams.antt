@@ -39,8 +39,8 @@ pub record CountedWriter (S : Type 0) : Type 0 where
   pub failures : ℕ
   pub last_failed : Bool
 
--- what a reader over memory shows: the bytes that are left, the greatest number of bytes that a call moves, how
--- many calls come before the one that fails, and how its calls went
+-- what a reader over memory shows: the bytes that are left, the greatest number of bytes that a
+-- call moves, how many calls come before the one that fails, and how its calls went
 pub record MemoryRead : Type 0 where
   pub left : List ℕ
   pub piece : ℕ
@@ -55,8 +55,9 @@ counted_down None = None
 counted_down (Some zero) = None
 counted_down (Some (suc calls)) = Some calls
 
--- what a writer into memory shows: the bytes that it took, how many it has room for in all, the greatest number of
--- bytes that a call takes, how many calls come before the one that fails and how that fails, and how its calls went
+-- what a writer into memory shows: the bytes that it took, how many it has room for in all, the
+-- greatest number of bytes that a call takes, how many calls come before the one that fails and how
+-- that fails, and how its calls went
 pub record MemoryWritten : Type 0 where
   pub written : List ℕ
   pub room : ℕ
@@ -65,7 +66,8 @@ pub record MemoryWritten : Type 0 where
   pub failures : ℕ
   pub last_failed : Bool
 
--- a writer into memory moves some bytes a call, took no more than it has room for, and has memory for all its room
+-- a writer into memory moves some bytes a call, took no more than it has room for, and has memory
+-- for all its room
 pub record HasItsRoom (piece taken room capacity : ℕ) : Type 0 where
   pub some_piece : 0 < piece
   pub within : taken ≤ room

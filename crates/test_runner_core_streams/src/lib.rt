@@ -1,9 +1,9 @@
 //! Where a log comes from and where a report goes to.
 //!
-//! A `LogReader` and a `ReportWriter` say what each call moved and count the calls that failed, so that what
-//! stands on them can say which stream failed, and when. `StdReader` and `StdWriter` are these over std's
-//! `Read` and `Write`; `MemoryReader` and `MemoryWriter` move bytes of memory, in pieces of a chosen size, and
-//! fail at a chosen call.
+//! A `LogReader` and a `ReportWriter` say what each call moved and count the calls that failed, so
+//! that what stands on them can say which stream failed, and when. `StdReader` and `StdWriter` are
+//! these over std's `Read` and `Write`; `MemoryReader` and `MemoryWriter` move bytes of memory, in
+//! pieces of a chosen size, and fail at a chosen call.
 #![tactic(auto)]
 
 mod failures;

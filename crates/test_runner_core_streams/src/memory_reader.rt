@@ -11,8 +11,8 @@ use std::io;
 use std::io::ErrorKind;
 use std::marker::Model;
 
-/// A `LogReader` over bytes of memory, which moves them in pieces and can fail at one call. What a failed call
-/// would have moved is still there for the next.
+/// A `LogReader` over bytes of memory, which moves them in pieces and can fail at one call. What a
+/// failed call would have moved is still there for the next.
 #[derive(Drop)]
 pub struct MemoryReader<'a> {
     left: &'a [u8],
@@ -34,8 +34,8 @@ impl<'a> Model for MemoryReader<'a> {
 }
 
 impl<'a> MemoryReader<'a> {
-    /// A reader of `bytes` that moves at most `piece` of them a call, and at least one: 0 counts as 1. None of
-    /// its calls fails.
+    /// A reader of `bytes` that moves at most `piece` of them a call, and at least one: 0 counts as
+    /// 1. None of its calls fails.
     pub fn new(bytes: &'a [u8], piece: usize) -> Self
         ensures { result ≡ record {
           left = bytes.now;
@@ -55,7 +55,8 @@ impl<'a> MemoryReader<'a> {
         }
     }
 
-    /// The same reader, where the call after `calls` more calls fails, at 0 the next one; the others don't.
+    /// The same reader, where the call after `calls` more calls fails, at 0 the next one; the
+    /// others don't.
     pub fn failing_after(self, calls: u64) -> Self
         ensures { result ≡ record self.entry { fails_after = Some calls } }
     {
@@ -103,8 +104,9 @@ impl<'a> LogReader for MemoryReader<'a> {
 
     ghost last_failed = { λ r. r.last_failed };
 
-    /// Moves the smallest of a piece, what is left and the buffer's room. It fails as `ErrorKind::Other` at the
-    /// chosen call, where it moves nothing and leaves the buffer alone, and at no other.
+    /// Moves the smallest of a piece, what is left and the buffer's room. It fails as
+    /// `ErrorKind::Other` at the chosen call, where it moves nothing and leaves the buffer alone,
+    /// and at no other.
     fn read(&mut self, buffer: &mut [u8]) -> io::Result<usize>
         requires calls_fit { self.old.calls < 2 ^ 63 }
         requires failures_fit { self.old.failures < 2 ^ 63 }

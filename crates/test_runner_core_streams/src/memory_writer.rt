@@ -20,8 +20,9 @@ pub enum WriteFailure {
     TakesNone,
 }
 
-/// A `ReportWriter` into memory that it takes as it is made: no call after that takes any. It takes bytes in
-/// pieces, fails where a piece doesn't fit into the room that is left, and can fail at one call.
+/// A `ReportWriter` into memory that it takes as it is made: no call after that takes any. It takes
+/// bytes in pieces, fails where a piece doesn't fit into the room that is left, and can fail at one
+/// call.
 #[derive(Drop)]
 pub struct MemoryWriter {
     written: Vec<u8>,
@@ -43,8 +44,9 @@ impl Model for MemoryWriter {
 }
 
 impl MemoryWriter {
-    /// A writer with room for `room` bytes in all, that takes at most `piece` of them a call, and at least one:
-    /// 0 counts as 1. None of its calls is chosen to fail. It fails only where there is no memory for the room.
+    /// A writer with room for `room` bytes in all, that takes at most `piece` of them a call, and
+    /// at least one: 0 counts as 1. None of its calls is chosen to fail. It fails only where there
+    /// is no memory for the room.
     pub fn new(alloc: Global, room: usize, piece: usize) -> Result<Self, AllocError>
         ensures made { IfOk result (λ w. w ≡ record {
           written = [];
@@ -66,8 +68,9 @@ impl MemoryWriter {
         })
     }
 
-    /// The same writer, where the call after `calls` more calls fails in the way `how`, at 0 the next one. The
-    /// others fail only where what they would take doesn't fit into the room that is left.
+    /// The same writer, where the call after `calls` more calls fails in the way `how`, at 0 the
+    /// next one. The others fail only where what they would take doesn't fit into the room that is
+    /// left.
     pub fn failing_after(self, calls: u64, how: WriteFailure) -> Self
         ensures { result ≡ record self { fails_after = Some (calls, how) } }
     {
@@ -133,9 +136,9 @@ impl ReportWriter for MemoryWriter {
 
     ghost last_failed = { λ w. w.last_failed };
 
-    /// Takes a piece, or all of `bytes` where they are fewer. It fails as `ErrorKind::StorageFull` where that
-    /// many don't fit into the room that is left, and in the chosen way at the chosen call, as
-    /// `ErrorKind::Other` where that is an error. A call that fails takes nothing.
+    /// Takes a piece, or all of `bytes` where they are fewer. It fails as `ErrorKind::StorageFull`
+    /// where that many don't fit into the room that is left, and in the chosen way at the chosen
+    /// call, as `ErrorKind::Other` where that is an error. A call that fails takes nothing.
     fn write(&mut self, bytes: &[u8]) -> io::Result<usize>
         requires { self.old.failures < 2 ^ 63 }
 

@@ -7,8 +7,8 @@ use std::io;
 use std::io::{Read, Write};
 use std::marker::Model;
 
-/// A `LogReader` over one of std's readers. Each call is one call of the reader below, and a failed one is
-/// never tried again, also where it was interrupted.
+/// A `LogReader` over one of std's readers. Each call is one call of the reader below, and a failed
+/// one is never tried again, also where it was interrupted.
 #[derive(Drop)]
 pub struct StdReader<R> {
     inner: R,
@@ -16,8 +16,8 @@ pub struct StdReader<R> {
     failures: Failures,
 }
 
-/// A `ReportWriter` over one of std's writers. Each call is one call of the writer below: a failed one is never
-/// tried again, also where it was interrupted, and nothing is flushed.
+/// A `ReportWriter` over one of std's writers. Each call is one call of the writer below: a failed
+/// one is never tried again, also where it was interrupted, and nothing is flushed.
 #[derive(Drop)]
 pub struct StdWriter<W> {
     inner: W,

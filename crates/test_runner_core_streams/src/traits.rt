@@ -20,8 +20,8 @@ pub trait LogReader {
     /// Whether the last call failed.
     ghost last_failed: { Self → Bool };
 
-    /// Moves the next bytes to the start of `buffer` and answers how many. It answers 0 only at the end or
-    /// where `buffer` has no room, and fails with the cause, which moves nothing.
+    /// Moves the next bytes to the start of `buffer` and answers how many. It answers 0 only at the
+    /// end or where `buffer` has no room, and fails with the cause, which moves nothing.
     fn read(&mut self, buffer: &mut [u8]) -> io::Result<usize>
         requires calls_fit { calls self.old < 2 ^ 63 }
         requires failures_fit { failures self.old < 2 ^ 63 }
@@ -44,8 +44,8 @@ pub trait ReportWriter {
     /// Whether the last call failed.
     ghost last_failed: { Self → Bool };
 
-    /// Takes bytes from the start of `bytes` and answers how many. It fails with the cause, which takes
-    /// nothing; to take none of some bytes counts as a failure too.
+    /// Takes bytes from the start of `bytes` and answers how many. It fails with the cause, which
+    /// takes nothing; to take none of some bytes counts as a failure too.
     fn write(&mut self, bytes: &[u8]) -> io::Result<usize>
         requires { failures self.old < 2 ^ 63 }
         ensures bound { WritesAtMost result bytes.now }

@@ -6,9 +6,9 @@ use super::traits::ReportWriter;
 use std::io;
 use std::io::ErrorKind;
 
-/// Writes all of `bytes`, in as many calls as it takes. It fails where a call fails, with its cause, and as
-/// `ErrorKind::WriteZero` where a call takes none of what is left; the writer then took a prefix of `bytes`. After a
-/// failed call there is no other.
+/// Writes all of `bytes`, in as many calls as it takes. It fails where a call fails, with its
+/// cause, and as `ErrorKind::WriteZero` where a call takes none of what is left; the writer then
+/// took a prefix of `bytes`. After a failed call there is no other.
 pub fn write_all<W: ReportWriter>(writer: &mut W, bytes: &[u8]) -> io::Result<()>
     requires { W.failures writer.old < 2 ^ 63 }
     ensures bytes { TakesAll result (W.taken writer.old) (W.taken writer.new) bytes.now }

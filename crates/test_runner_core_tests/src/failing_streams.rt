@@ -1,5 +1,5 @@
-// One run, each of whose reads and writes fails in turn: it is told, nothing is tried again, and the report is a front. Where a read
-// fails, it is what the whole lines tell that were read before.
+// One run, each of whose reads and writes fails in turn: it is told, nothing is tried again, and
+// the report is a front. Where a read fails, it is what the whole lines tell that were read before.
 ghost use Rattle.std.specs.Prelude.{◌≡◌, ◌^◌, ◌<◌};
 
 use super::three_tests::{REPORT, STREAM, told_by};
@@ -85,8 +85,8 @@ fn end_of<R: LogReader, W: ReportWriter>(alloc: Global, input: &mut R, report: &
     }
 }
 
-// How the run ends whose reader moves so many bytes a call and fails after so many calls; whether the reader wasn't called again, and
-// whether just the whole lines are told that it moved.
+// How the run ends whose reader moves so many bytes a call and fails after so many calls; whether
+// the reader wasn't called again, and whether just the whole lines are told that it moved.
 fn of_failing_reader(alloc: Global, piece: usize, calls: u64) -> Result<(End, bool, bool), Fail> {
     let mut input = MemoryReader::new(STREAM, piece).failing_after(calls);
     let mut report = MemoryWriter::new(alloc, REPORT.len(), 64)?;
@@ -117,8 +117,8 @@ fn each_read_that_fails_is_told(rt: HostRuntime) -> Result<(), Fail> {
     Ok(())
 }
 
-// How the run ends that is written so, how many writes failed, and how many bytes were written; none where they are no front of the
-// report.
+// How the run ends that is written so, how many writes failed, and how many bytes were written;
+// none where they are no front of the report.
 fn of_writer(alloc: Global, mut report: MemoryWriter) -> Option<(End, u64, usize)>
     requires { report.failures ≡ 0 }
 {

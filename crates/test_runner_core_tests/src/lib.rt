@@ -1,5 +1,5 @@
-//! Tests of what no clause of the core says and no row can: streams whose calls fail, a lister of one's own, runs that go on behind
-//! a refused step, and what refusals print.
+//! Tests of what no clause of the core says and no row can: streams whose calls fail, a lister of
+//! one's own, runs that go on behind a refused step, and what refusals print.
 #![tactic(auto)]
 
 #[cfg(test)]

@@ -1,4 +1,5 @@
-// A lister of one's own: it is asked for each listed binary once, and its answers are the run's tests.
+// A lister of one's own: it is asked for each listed binary once, and its answers are the run's
+// tests.
 use nextest_text::{Listing, Text};
 use std::alloc::Global;
 use std::test::Fail;

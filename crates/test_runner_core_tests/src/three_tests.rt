@@ -1,6 +1,7 @@
 // A run of three tests, of which something is told before the log ends.
 
-/// The inputs of a binary p with tests a, b and c, and a log: b passes, a fails and tells of its error, c could not be started.
+/// The inputs of a binary p with tests a, b and c, and a log: b passes, a fails and tells of its
+/// error, c could not be started.
 pub const STREAM: &[u8] =
     b"{\"workspace\":{\"packages\":[{\"id\":\"p\",\"name\":\"p\"}],\"links\":[],\"binaries\":[{\"id\":\"p\",\"name\":\"p\",\"package\":\"p\",\"kind\":\"lib\",\"platform\":\"target\",\"tests\":[\"a\",\"b\",\"c\"]}]},\"sources\":[],\"current_version\":\"0.9.100\"}\nstart\tp\tc\nstart\tp\tb\nstart\tp\ta\nend\tp\tb\tpass\t-\t1\t-\t-\nend\tp\ta\tfail:1\t-\t2\t78\t4572726f723a20650a\nend\tp\tc\texec-fail\tslow\t3\t6e6f\t-\n";
 
@@ -8,7 +9,8 @@ pub const STREAM: &[u8] =
 pub const REPORT: &[u8] =
     b"done\tp\tb\tpass\t1/1\ndone\tp\ta\tfail\t1/1\nout\t78\nerr\t4572726f723a20650a\nslice\terror\t0\t8\ndone\tp\tc\tfail\t1/1\nerror\t6e6f\n== final ==\nstatus\t100\noutcome failed test 3 0\ninitial-run-count\t3\nfinished-count\t3\nsetup-scripts-initial-count\t0\nsetup-scripts-finished-count\t0\nsetup-scripts-passed\t0\nsetup-scripts-failed\t0\nsetup-scripts-exec-failed\t0\nsetup-scripts-timed-out\t0\npassed\t1\npassed-slow\t0\npassed-timed-out\t0\nflaky\t0\nfailed\t1\nfailed-slow\t0\nfailed-timed-out\t0\nleaky\t0\nleaky-failed\t0\nexec-failed\t1\nskipped\t0\ncancel-reason\ttest-failure\ntest\tp\ta\tfail\t1/1\ntry\t1\tfail:1\t-\t2\ntest\tp\tc\tfail\t1/1\ntry\t1\texec-fail\tslow\t3\n";
 
-// How many bytes of the stream there are up to the end of a line with which a test ends, and what is told from there on.
+// How many bytes of the stream there are up to the end of a line with which a test ends, and what
+// is told from there on.
 const TOLD: [(usize, &str); 3] = [
     (258, "done\tp\tb\tpass\t1/1\n"),
     (

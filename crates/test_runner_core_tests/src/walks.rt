@@ -1,5 +1,5 @@
-// A run with scripts, taken step by step, and on behind a refused step, as no log can be: what each finishes, and which steps are
-// refused, by which name first.
+// A run with scripts, taken step by step, and on behind a refused step, as no log can be: what each
+// finishes, and which steps are refused, by which name first.
 use nextest_run_events_results::{CancelReason, ExecutionResultDescription, FailureDescription};
 use nextest_text::Listing;
 use std::alloc::{AllocError, Global};

@@ -28,7 +28,8 @@ reorder false true m r = refl
 reorder false false true r = refl
 reorder false false false r = refl
 
--- an id stands twice in a list with one more at its end, if it did before or if the new one is there already
+-- an id stands twice in a list with one more at its end, if it did before or if the new one is
+-- there already
 pub has_repeat-push : (texts : List (List ℕ)) (text : List ℕ) → has_repeat (texts ++ text ∷ []) ≡ (is_among texts text || has_repeat texts)
 has_repeat-push [] text = refl
 has_repeat-push (first ∷ texts) text =

@@ -51,13 +51,15 @@ refusal_of workspace =
     if has_repeat (package_ids workspace) then Some refused.RepeatedPackage
     else refusal_by (is_among (package_ids workspace)) workspace
 
--- a check passes where nothing refuses the record, and else tells the reason; want of memory says nothing
+-- a check passes where nothing refuses the record, and else tells the reason; want of memory says
+-- nothing
 abbrev pub Checks : {T : Type 0} → WorkspaceRecord → Result T WorkspaceError → Type 0
 Checks given (Ok done) = refusal_of given ≡ None
 Checks given (Err (error.Refused refusal)) = refusal_of given ≡ Some refusal
 Checks given (Err error.OutOfMemory) = ⊤
 
--- a read gives the record itself where nothing refuses it, and else the reason; want of memory says nothing
+-- a read gives the record itself where nothing refuses it, and else the reason; want of memory says
+-- nothing
 abbrev pub Reads : WorkspaceRecord → Result WorkspaceRecord WorkspaceError → Type 0
 Reads given (Ok workspace) = (workspace ≡ given) × (refusal_of given ≡ None)
 Reads given (Err (error.Refused refusal)) = refusal_of given ≡ Some refusal

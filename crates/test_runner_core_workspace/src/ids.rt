@@ -92,7 +92,8 @@ fn is_separator(byte: u8) -> bool
     byte == b'\t' || byte == b'\n' || byte == b'\r'
 }
 
-/// Whether a text contains a tab, a line feed or a carriage return, which divide what a log and a report have.
+/// Whether a text contains a tab, a line feed or a carriage return, which divide what a log and a
+/// report have.
 pub fn has_separator(text: &str) -> bool
     ensures { result ≡ refusing.has_separator text.now }
 {

@@ -1,4 +1,5 @@
-//! The workspace whose tests are run: its record, the check of the record, and who lists a binary's tests.
+//! The workspace whose tests are run: its record, the check of the record, and who lists a binary's
+//! tests.
 #![tactic(auto)]
 
 mod ids;

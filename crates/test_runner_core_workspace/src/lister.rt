@@ -15,8 +15,9 @@ pub trait Lister {
     /// The ids of the binaries that were asked, in order.
     ghost asked: { Self → List (List ℕ) };
 
-    /// The names of the binary's tests, in its order. An `Err` says why it can't list them, or that there was no
-    /// memory, where the binary may count as asked or not. Every binary answers afterwards as it did before.
+    /// The names of the binary's tests, in its order. An `Err` says why it can't list them, or that
+    /// there was no memory, where the binary may count as asked or not. Every binary answers
+    /// afterwards as it did before.
     fn list(&mut self, binary: &Binary) -> Result<Listing<Text>, ListFault>
         ensures answers { IsAnswer result (answer self.old binary.now) }
         ensures stays { (other : Binary) → answer self.new other ≡ answer self.old other }

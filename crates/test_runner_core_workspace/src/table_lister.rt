@@ -10,8 +10,9 @@ use std::alloc::{AllocError, Global};
 use std::collections::BTreeMap;
 use std::marker::Model;
 
-/// A lister that answers by a record, which is lent. An id answers what its first binary in the record lists, and
-/// an id that the record hasn't is its own cause. In a clause it is the record and the ids that it was asked for.
+/// A lister that answers by a record, which is lent. An id answers what its first binary in the
+/// record lists, and an id that the record hasn't is its own cause. In a clause it is the record
+/// and the ids that it was asked for.
 #[derive(Drop)]
 pub struct TableLister<'a> {
     record: &'a WorkspaceRecord,

@@ -33,8 +33,9 @@ impl Model for Workspace {
 }
 
 impl Workspace {
-    /// The workspace of `record`. An `Err` says why the record is no workspace, each reason being looked for in the
-    /// whole record before the next, or that there was no memory, which says nothing of the record.
+    /// The workspace of `record`. An `Err` says why the record is no workspace, each reason being
+    /// looked for in the whole record before the next, or that there was no memory, which says
+    /// nothing of the record.
     pub fn read(alloc: Global, record: WorkspaceRecord) -> Result<Workspace, WorkspaceError>
         ensures exact { Reads «record» result }
     {
@@ -61,8 +62,9 @@ impl Workspace {
 }
 
 impl WorkspaceRecord {
-    /// Whether the record is a workspace. An `Err` says why it is none, each reason being looked for in the whole
-    /// record before the next, or that there was no memory, which says nothing of the record.
+    /// Whether the record is a workspace. An `Err` says why it is none, each reason being looked
+    /// for in the whole record before the next, or that there was no memory, which says nothing of
+    /// the record.
     pub fn check(&self, alloc: Global) -> Result<(), WorkspaceError>
         ensures exact { Checks self.now result }
     {

@@ -1,7 +1,8 @@
 // Why a record of a workspace is refused.
 use thiserror::Error;
 
-/// Why a record is no workspace. Each reason is looked for in the whole record before the next, in this order.
+/// Why a record is no workspace. Each reason is looked for in the whole record before the next, in
+/// this order.
 #[derive(Clone, Copy, Debug, PartialEq, Eq, Hash, Error)]
 pub enum WorkspaceFault {
     /// Two packages have one id.

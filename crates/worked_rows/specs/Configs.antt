@@ -27,8 +27,9 @@ place_of (an_override id) = None
 place_of (a_script_rule id) = None
 place_of no_layer = None
 
--- how a test is tried again by a profile on platforms, and which profile of its chain sets that, if one does. A text is a filter by
--- `Is`, and a platform spec by `IsSpec`; a spec is asked by `value_on`, and a filter by `OnTest`; and these features are known
+-- how a test is tried again by a profile on platforms, and which profile of its chain sets that, if
+-- one does. A text is a filter by `Is`, and a platform spec by `IsSpec`; a spec is asked by
+-- `value_on`, and a filter by `OnTest`; and these features are known
 pub record AreRetriesBy {F S Facts : Type 0} (Is : IsFilterBy F) (IsSpec : IsSpecBy S) (IsTooDeep : List ℕ → Type 0) (value_on : S → Facts → Option Bool)
     (OnTest : F → F → Test → Bool → Type 0) (features : FeatureSet) (sources : List ConfigSource) (name : List ℕ) (platforms : BuildPlatforms Facts) (test : Test) (it : RetryPolicy × Option ℕ) : Type 0 where
   pub config : Whole F S

@@ -1,5 +1,5 @@
-// Which function answers the rows of which table of the layers below the core: few names at a time, since a function over many
-// of them is dear to prove.
+// Which function answers the rows of which table of the layers below the core: few names at a time,
+// since a function over many of them is dear to prove.
 use crate::page::Page;
 use crate::table::{Table, rows_hold};
 use crate::{
@@ -10,7 +10,8 @@ use crate::{
 use anyhow::Result;
 use std::rt::Files;
 
-// The tables, one name a line: lines of logs, filtersets, run events, elements of configurations, configurations.
+// The tables, one name a line: lines of logs, filtersets, run events, elements of configurations,
+// configurations.
 const TABLES: &str = "log_lines
 filtersets
 parsed
@@ -101,7 +102,8 @@ pub(crate) fn layers_hold<R: Files + Print + AllocGlobal>(rt: &R) -> Result<bool
     Ok(hold)
 }
 
-// Writes the answer to an input of the table of a name; `None` where the input is none of it, or there is no memory.
+// Writes the answer to an input of the table of a name; `None` where the input is none of it, or
+// there is no memory.
 fn of_layers(page: &mut Page, name: &str, input: &str) -> Option<()> {
     match name {
         "loads" => configs::loads(page, input),

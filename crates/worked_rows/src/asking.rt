@@ -1,4 +1,5 @@
-// What is asked of any filters, of any platform specs, and of configurations of both; and rows over those of one's own.
+// What is asked of any filters, of any platform specs, and of configurations of both; and rows over
+// those of one's own.
 ghost use Rattle.std.specs.Prelude.{◌≡◌, IfOk};
 ghost use Rattle.nextest_filtering_arguments.specs.declared.ban.FiltersetKind.TheVariants as purpose;
 ghost use Rattle.nextest_filtering_filters.specs.Query.{test_of};
@@ -38,8 +39,8 @@ fn test_named(name: &str) -> TestQuery<'_> {
     }
 }
 
-// Whether the filter of an override holds on a test, beside a default filter, both by their texts. What is sure of the
-// test's binary isn't asked of the test.
+// Whether the filter of an override holds on a test, beside a default filter, both by their texts.
+// What is sure of the test's binary isn't asked of the test.
 fn holds<F: Filters>(
     alloc: Global,
     filter_text: Text,
@@ -86,8 +87,9 @@ fn holds_on<S: Specs>(
     Ok(spec.eval(facts))
 }
 
-// How the profile of a name has a test tried again that fails, on these platforms, and the place in its chain of the profile that sets that,
-// if one does; whatever filters and specs its configuration has. `None` where the sources are refused, or no profile has the name; want of
+// How the profile of a name has a test tried again that fails, on these platforms, and the place in
+// its chain of the profile that sets that, if one does; whatever filters and specs its
+// configuration has. `None` where the sources are refused, or no profile has the name; want of
 // memory says nothing of them.
 fn retries_of<F: Filters, S: Specs>(
     alloc: Global,
@@ -148,7 +150,8 @@ fn held_told<F: Filters>(page: &mut Page, input: &str, cx: &F::Cx) -> Option<()>
     Some(())
 }
 
-// What a filter is asked: whether it asks for groups, whether it asks what only tests tell, and whether it serves as a default.
+// What a filter is asked: whether it asks for groups, whether it asks what only tests tell, and
+// whether it serves as a default.
 fn asked_told<F: Filters>(page: &mut Page, input: &str, cx: &F::Cx) -> Option<()> {
     let text = ok!(Text::from_str(page.alloc, input));
     let filter = ok!(F::parse(
@@ -163,7 +166,8 @@ fn asked_told<F: Filters>(page: &mut Page, input: &str, cx: &F::Cx) -> Option<()
     Some(())
 }
 
-// Of filters without a language: a filter and a default filter, and whether the one holds on the test `slow`.
+// Of filters without a language: a filter and a default filter, and whether the one holds on the
+// test `slow`.
 pub(crate) fn plain_filters(page: &mut Page, input: &str) -> Option<()> {
     held_told::<PlainFilter>(page, input, &())
 }
@@ -191,7 +195,8 @@ pub(crate) fn plain_specs(page: &mut Page, input: &str) -> Option<()> {
     Some(())
 }
 
-// A profile and sources: its retries and where it takes them from, in a configuration of plain filters and plain specs.
+// A profile and sources: its retries and where it takes them from, in a configuration of plain
+// filters and plain specs.
 pub(crate) fn plain_configs(page: &mut Page, input: &str) -> Option<()> {
     let (name, sources) = two(input, BAR);
     let sources = some!(sources_of(page.alloc, sources));

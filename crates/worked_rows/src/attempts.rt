@@ -45,8 +45,8 @@ impl Word for ExecuteStatus<NoOutput> {
     }
 }
 
-// The flaky rule of a test and how its attempts ended: the two levels of what they come to, whether the last output is that of a
-// success, and the counters of a run of this test alone.
+// The flaky rule of a test and how its attempts ended: the two levels of what they come to, whether
+// the last output is that of a success, and the counters of a run of this test alone.
 pub(crate) fn attempts(page: &mut Page, input: &str) -> Option<()> {
     let (rule, ends) = two(input, ": ");
     let rule = some!(word_as::<FlakyResult>(page.alloc, rule));

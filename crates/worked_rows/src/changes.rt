@@ -4,8 +4,9 @@ use std::alloc::Global;
 
 const ARROW: &str = " => ";
 
-// What becomes of a text by `PART => OTHER`: the first place of a part has the other text in place of it. Further such changes of
-// what came of it follow behind another ` => `. `None` where the text doesn't have such a part, or there is no memory.
+// What becomes of a text by `PART => OTHER`: the first place of a part has the other text in place
+// of it. Further such changes of what came of it follow behind another ` => `. `None` where the
+// text doesn't have such a part, or there is no memory.
 pub(crate) fn changed(alloc: Global, text: &str, changes: &str) -> Option<String> {
     let mut text = ok!(String::from_str(alloc, text));
     let mut part: Option<&str> = None;

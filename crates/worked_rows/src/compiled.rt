@@ -67,7 +67,8 @@ fn faults_told(page: &mut Page, faults: &[ParseSingleError]) {
     }
 }
 
-// A workspace, the default filter, a binary, a test, its group, and a filterset: its value on the binary and on the test.
+// A workspace, the default filter, a binary, a test, its group, and a filterset: its value on the
+// binary and on the test.
 pub(crate) fn answers(page: &mut Page, input: &str) -> Option<()> {
     let (name, default, rest) = three(input);
     let (id, test_name, rest) = three(rest);
@@ -81,7 +82,8 @@ pub(crate) fn answers(page: &mut Page, input: &str) -> Option<()> {
     asked(page, &cx, default, text, &test, group)
 }
 
-// The value of a filterset on a test's binary, and on the test, which is in the group, beside a default filter.
+// The value of a filterset on a test's binary, and on the test, which is in the group, beside a
+// default filter.
 fn asked(
     page: &mut Page,
     cx: &ParseContext,

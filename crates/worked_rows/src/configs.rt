@@ -60,8 +60,9 @@ fn outcome_of(alloc: Global, outcome: &str) -> Option<ConfigSourceOutcome> {
     }
 }
 
-// A profile and the settings that are asked for, with commas between them, perhaps the features that are known, and then sources:
-// what each setting is, or why the sources are refused. Default filters are those without a language.
+// A profile and the settings that are asked for, with commas between them, perhaps the features
+// that are known, and then sources: what each setting is, or why the sources are refused. Default
+// filters are those without a language.
 pub(crate) fn loads(page: &mut Page, input: &str) -> Option<()> {
     let (head, sources) = two(input, BAR);
     let sources = some!(sources_of(page.alloc, sources));
@@ -93,7 +94,8 @@ fn features_of(alloc: Global, words: &str, sources: &[ConfigSource]) -> Option<F
     })
 }
 
-// The features that the sources ask for which count; none where one of these may not ask for what it does.
+// The features that the sources ask for which count; none where one of these may not ask for what
+// it does.
 fn features_asked(alloc: Global, sources: &[ConfigSource]) -> Option<FeatureSet> {
     let mut lent = Vec::new(alloc);
     for source in ok!(counted(alloc, sources)) {
@@ -119,7 +121,8 @@ fn lent_by(source: &ConfigSource) -> VersionSource<'_> {
     }
 }
 
-// Why sources are refused: the rule, and what the fault says of the place; the reader's own words are left out.
+// Why sources are refused: the rule, and what the fault says of the place; the reader's own words
+// are left out.
 fn refusal_told(page: &mut Page, fault: &LoadFault) {
     show!(page; "refused ", fault.kind(), " ");
     match fault {
@@ -159,7 +162,8 @@ fn each_told(
     Some(())
 }
 
-// The path of a file and its text: what is told of it, one behind the other, or `-` where nothing is.
+// The path of a file and its text: what is told of it, one behind the other, or `-` where nothing
+// is.
 pub(crate) fn warnings(page: &mut Page, input: &str) -> Option<()> {
     let (path, text) = two(input, " ");
     let file = ok!(toml::table_from_str(page.alloc, text));

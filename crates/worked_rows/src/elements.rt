@@ -27,7 +27,8 @@ pub(crate) fn tool_names(page: &mut Page, input: &str) -> Option<()> {
     Some(())
 }
 
-// A text: `plain` and the identifier that it is, or `tool`, the tool and what is its own; or why it is none.
+// A text: `plain` and the identifier that it is, or `tool`, the tool and what is its own; or why it
+// is none.
 pub(crate) fn identifiers(page: &mut Page, input: &str) -> Option<()> {
     page.told(ConfigIdentifier::new(page.alloc, input));
     Some(())
@@ -54,7 +55,8 @@ impl Tell for ToolConfigFile {
     }
 }
 
-// A text: the group of tests that it names, `global`, or `custom` and its identifier; or why it names none.
+// A text: the group of tests that it names, `global`, or `custom` and its identifier; or why it
+// names none.
 pub(crate) fn test_groups(page: &mut Page, input: &str) -> Option<()> {
     page.told(TestGroup::from_text(page.alloc, input));
     Some(())
@@ -69,7 +71,8 @@ impl Tell for TestGroup {
     }
 }
 
-// A mode of runs by its name, nothing for the one where nothing is said: what it prints and whether benchmarks are run.
+// A mode of runs by its name, nothing for the one where nothing is said: what it prints and whether
+// benchmarks are run.
 pub(crate) fn run_modes(page: &mut Page, input: &str) -> Option<()> {
     let mode = match input {
         "" => NextestRunMode::default(),
@@ -115,8 +118,8 @@ pub(crate) fn exceeded(page: &mut Page, input: &str) -> Option<()> {
     Some(())
 }
 
-// What becomes of a flaky test, the attempt that it passed on, and how many there may be: what is told of its failure, or `-` where
-// it passes.
+// What becomes of a flaky test, the attempt that it passed on, and how many there may be: what is
+// told of its failure, or `-` where it passes.
 pub(crate) fn flaky_messages(page: &mut Page, input: &str) -> Option<()> {
     let (rule, attempt, total) = three(input);
     let rule = some!(word_as::<FlakyResult>(page.alloc, rule));
@@ -151,9 +154,9 @@ impl Tell for TestPriority {
     }
 }
 
-// A setting as it stands in TOML and the number of processors, behind the word `test-threads`: how many tests run at a time.
-// A setting, the number of tests that run at a time and the number of processors, behind `threads-required`: how many
-// threads a test takes.
+// A setting as it stands in TOML and the number of processors, behind the word `test-threads`: how
+// many tests run at a time. A setting, the number of tests that run at a time and the number of
+// processors, behind `threads-required`: how many threads a test takes.
 pub(crate) fn threads(page: &mut Page, input: &str) -> Option<()> {
     let (kind, setting, numbers) = three(input);
     let value = some!(toml_value(page.alloc, setting));

@@ -33,8 +33,8 @@ fn failure_of(words: &str) -> Option<ExecutionResult> {
     })
 }
 
-// The end of these words: `pass`, `leak` or `timeout` with how it is judged, `exec-fail`, or `code` or `signal` with its
-// number and, where handles were left open too, `leaked`.
+// The end of these words: `pass`, `leak` or `timeout` with how it is judged, `exec-fail`, or `code`
+// or `signal` with its number and, where handles were left open too, `leaked`.
 pub(crate) fn end_of(words: &str) -> Option<ExecutionResult> {
     match words {
         "pass" => Some(ExecutionResult::Pass),
@@ -86,7 +86,8 @@ pub(crate) fn signals(page: &mut Page, input: &str) -> Option<()> {
     Some(())
 }
 
-// A kind of value and JSON: the value that is read of it, behind the JSON that it is written as; or why nothing is read.
+// A kind of value and JSON: the value that is read of it, behind the JSON that it is written as; or
+// why nothing is read.
 pub(crate) fn json_forms(page: &mut Page, input: &str) -> Option<()> {
     let (kind, text) = two(input, " ");
     json_form(page, kind, &ok!(Value::from_str(page.alloc, text)))

@@ -1,4 +1,5 @@
-// Globs, and the texts and regular expressions in filtersets: where they end, what they stand for, and how they print.
+// Globs, and the texts and regular expressions in filtersets: where they end, what they stand for,
+// and how they print.
 use crate::page::Page;
 use crate::parts::two;
 use crate::{ok, show};
@@ -51,7 +52,8 @@ pub(crate) fn printed(page: &mut Page, input: &str) -> Option<()> {
     Some(())
 }
 
-// What the regular expression up to a bare slash stands for, behind how that prints and what follows the slash.
+// What the regular expression up to a bare slash stands for, behind how that prints and what
+// follows the slash.
 pub(crate) fn regexes(page: &mut Page, input: &str) -> Option<()> {
     let Some((raw, rest)) = split_regex(input) else {
         page.show("-");
@@ -62,7 +64,8 @@ pub(crate) fn regexes(page: &mut Page, input: &str) -> Option<()> {
     Some(())
 }
 
-// The text at the start of an input as an argument: what it stands for, where it stands, what follows it, and its faults.
+// The text at the start of an input as an argument: what it stands for, where it stands, what
+// follows it, and its faults.
 #[tactic(auto, using(nextest_filtering_arguments::proofs::Spans::suffix_all))]
 pub(crate) fn arguments(page: &mut Page, input: &str) -> Option<()> {
     let mut faults = Faults::new(page.alloc, input);

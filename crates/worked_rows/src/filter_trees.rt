@@ -111,7 +111,8 @@ pub(crate) fn name_matches(page: &mut Page, input: &str) -> Option<()> {
     }
 }
 
-// Whether the page of all names has just the names of these predicates, as they print, each on a line.
+// Whether the page of all names has just the names of these predicates, as they print, each on a
+// line.
 pub(crate) fn page(page: &mut Page, input: &str) -> Option<()> {
     let mut names = Page::new(page.alloc);
     for text in input.split(' ') {

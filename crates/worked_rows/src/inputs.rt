@@ -11,8 +11,9 @@ const FOLDER: &str = "inputs";
 
 const INPUT: &str = ".in";
 
-/// Whether each case of the folder has the value that its text is read as. Prints each case that has not, with both, and then how
-/// many hold. A file that can't be read, a text that is no inputs, and want of memory end it.
+/// Whether each case of the folder has the value that its text is read as. Prints each case that
+/// has not, with both, and then how many hold. A file that can't be read, a text that is no inputs,
+/// and want of memory end it.
 pub(crate) fn inputs_hold<R: Files + Print + AllocGlobal + Clone + Drop>(rt: &R) -> Result<bool> {
     let mut held: u64 = 0;
     let mut hold = true;

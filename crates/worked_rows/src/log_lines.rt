@@ -3,8 +3,8 @@ use crate::page::Page;
 use crate::{ok, show};
 use test_runner_core_line_syntax::{LogLine, ParseLineError};
 
-// A line: its event, `no event`, or the name under which it is refused. An event's line is what it prints, or that is told behind
-// it.
+// A line: its event, `no event`, or the name under which it is refused. An event's line is what it
+// prints, or that is told behind it.
 pub(crate) fn log_lines(page: &mut Page, line: &str) -> Option<()> {
     match LogLine::parse(page.alloc, line.as_bytes()) {
         Ok(None) => page.show("no event"),

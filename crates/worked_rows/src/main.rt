@@ -1,10 +1,12 @@
-//! The program `worked_rows`: worked rows of the core's plans, inputs and lines, and of the layers below it, filtersets, run
-//! events, elements of configurations and configurations. It answers the input of each row of its tables, and says which
-//! answers differ. What is seen on the built program itself stands in `rows/`.
+//! The program `worked_rows`: worked rows of the core's plans, inputs and lines, and of the layers
+//! below it, filtersets, run events, elements of configurations and configurations. It answers the
+//! input of each row of its tables, and says which answers differ. What is seen on the built
+//! program itself stands in `rows/`.
 //!
-//! A row of a table is a line `INPUT => ANSWER`, divided at the last ` => `. A line that is empty or begins with `#` is none.
-//! In both parts `␉`, `␊` and `␍` stand for a tab, a line feed and a carriage return. Where a line is too short, a row is a
-//! case of a folder, two files `CASE.in` and `CASE.out`.
+//! A row of a table is a line `INPUT => ANSWER`, divided at the last ` => `. A line that is empty
+//! or begins with `#` is none. In both parts `␉`, `␊` and `␍` stand for a tab, a line feed and a
+//! carriage return. Where a line is too short, a row is a case of a folder, two files `CASE.in` and
+//! `CASE.out`.
 #![tactic(auto)]
 
 mod answering;

@@ -16,7 +16,8 @@ use nextest_text::{Listing, Text};
 use std::alloc::Global;
 use std::time::Duration;
 
-// A kind of values, and two of them: how the first compares to the second, how the second to the first, and whether they are equal.
+// A kind of values, and two of them: how the first compares to the second, how the second to the
+// first, and whether they are equal.
 pub(crate) fn orders(page: &mut Page, input: &str) -> Option<()> {
     let (kind, low, high) = three(input);
     match kind {

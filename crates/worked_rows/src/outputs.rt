@@ -66,7 +66,8 @@ fn child_error_told(page: &mut Page, error: &ChildError) -> Option<()> {
     Some(())
 }
 
-// An error and its causes: how many there are, each with the nearest one behind it, and what is nearest to the error itself.
+// An error and its causes: how many there are, each with the nearest one behind it, and what is
+// nearest to the error itself.
 pub(crate) fn causes(page: &mut Page, input: &str) -> Option<()> {
     let chain = some!(chain_of(page.alloc, input));
     let kept = ok!(SerializableError::new(page.alloc, &chain));
@@ -147,7 +148,8 @@ pub(crate) fn has_errors(page: &mut Page, input: &str) -> Option<()> {
     Some(())
 }
 
-// Where a stream was captured and what was written to it: the lengths of standard output and standard error.
+// Where a stream was captured and what was written to it: the lengths of standard output and
+// standard error.
 pub(crate) fn stream_lengths(page: &mut Page, input: &str) -> Option<()> {
     let (captured, bytes) = two(input, " ");
     let output = some!(stream(page.alloc, bytes.as_bytes()));
@@ -166,7 +168,8 @@ pub(crate) fn stream_lengths(page: &mut Page, input: &str) -> Option<()> {
     Some(())
 }
 
-// What is left by a test that was ended with handles left open, whose standard output wasn't read and whose error is no UTF-8.
+// What is left by a test that was ended with handles left open, whose standard output wasn't read
+// and whose error is no UTF-8.
 fn left_by_test(alloc: Global) -> Option<ChildExecutionOutputDescription<LiveSpec>>
     ensures { IfSome result (λ output. IsLoaded output) }
 {
@@ -243,8 +246,8 @@ fn bytes_of(alloc: Global, text: &str) -> Option<Vec<u8>> {
     Some(bytes)
 }
 
-// Standard error and standard output, divided by a tab, `-` for one that wasn't captured: the kind of the part that is found, where
-// it starts, and its length.
+// Standard error and standard output, divided by a tab, `-` for one that wasn't captured: the kind
+// of the part that is found, where it starts, and its length.
 pub(crate) fn slices(page: &mut Page, input: &str) -> Option<()> {
     let (error_text, output_text) = two(input, "\t");
     let stderr = some!(bytes_of(page.alloc, error_text));

@@ -3,8 +3,8 @@ use std::alloc::Global;
 use std::fmt;
 use std::fmt::{Debug, Display};
 
-/// An answer that is being written. Nothing that is written may fail: the page remembers that memory ran out, or that a word was
-/// no number, and is no answer then.
+/// An answer that is being written. Nothing that is written may fail: the page remembers that
+/// memory ran out, or that a word was no number, and is no answer then.
 #[derive(Drop)]
 pub struct Page {
     /// Where memory is taken from.
@@ -35,7 +35,8 @@ macro_rules! show {
     ($page:expr; $($part:expr),+ $(,)?) => {{ $page$(.and($part))+; }};
 }
 
-/// What an option holds; the function ends with `None` where it holds nothing. This is `?`, which costs twice as much to prove.
+/// What an option holds; the function ends with `None` where it holds nothing. This is `?`, which
+/// costs twice as much to prove.
 #[macro_export]
 macro_rules! some {
     ($option:expr) => {
@@ -87,7 +88,8 @@ impl Page {
         self.show(Whole(part));
     }
 
-    /// Writes what stands between two parts, unless nothing was written since the answer was so long.
+    /// Writes what stands between two parts, unless nothing was written since the answer was so
+    /// long.
     pub(crate) fn separate(&mut self, start: usize, between: &str) {
         if self.len() > start {
             self.show(between);

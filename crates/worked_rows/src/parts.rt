@@ -31,7 +31,8 @@ pub(crate) fn list_of<T: Word>(alloc: Global, words: &str, between: &str) -> Opt
     Some(items)
 }
 
-// Two parts of an input, with something between them; where that isn't there, all is the first part, and the second is empty.
+// Two parts of an input, with something between them; where that isn't there, all is the first
+// part, and the second is empty.
 pub(crate) fn two<'a>(input: &'a str, between: &str) -> (&'a str, &'a str) {
     input.split_once(between).unwrap_or((input, ""))
 }

@@ -7,7 +7,8 @@ use nextest_filtering::{BinaryQuery, FiltersetKind, KnownGroups, TestQuery};
 use nextest_text::Text;
 use std::alloc::{AllocError, Global};
 
-/// All tests, none, or those of one name. Its text is `all()`, `none()` or the name; the empty text is none.
+/// All tests, none, or those of one name. Its text is `all()`, `none()` or the name; the empty text
+/// is none.
 #[derive(Drop)]
 pub enum PlainFilter {
     /// All tests.

@@ -11,7 +11,8 @@ use test_runner_core_plan::{Plan, PlanTest};
 use test_runner_core_planning::{BuildPlan, PlanError};
 use test_runner_core_workspace::TableLister;
 
-// Whether each row of the tables of plans has the plan that is made of its inputs; of two of them a row changes parts of these inputs.
+// Whether each row of the tables of plans has the plan that is made of its inputs; of two of them a
+// row changes parts of these inputs.
 pub(crate) fn plans_hold<R: Files + Print + AllocGlobal>(rt: &R, inputs: &str) -> Result<bool> {
     let tables = [
         ("plans", Some(inputs), false),
@@ -40,9 +41,9 @@ pub struct Plans<'a> {
     pub name: &'static str,
     /// The inputs of which a row changes parts; each row has whole inputs where there are none.
     pub base: Option<&'a str>,
-    /// What is shown of a plan: its tests with their tries and settings, its scripts, the limit, the levels and the warnings. Else
-    /// the tests with their tries, the scripts, the skipped tests, the limit, the listed binaries, and those that were asked for
-    /// their tests.
+    /// What is shown of a plan: its tests with their tries and settings, its scripts, the limit,
+    /// the levels and the warnings. Else the tests with their tries, the scripts, the skipped
+    /// tests, the limit, the listed binaries, and those that were asked for their tests.
     pub has_settings: bool,
 }
 

@@ -9,7 +9,8 @@ use test_runner_core_platforms::{
     Fact, PlatformFacts, PlatformFactsError, PlatformSpec, PlatformSpecError,
 };
 
-// The triple of a platform, what is known of it, each with a comma behind it, and a spec: whether it holds there.
+// The triple of a platform, what is known of it, each with a comma behind it, and a spec: whether
+// it holds there.
 pub(crate) fn platform_specs(page: &mut Page, input: &str) -> Option<()> {
     let (triple, rest) = two(input, BAR);
     let (known, spec) = two(rest, BAR);

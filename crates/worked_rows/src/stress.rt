@@ -10,7 +10,8 @@ use std::num::NonZeroU32;
 use std::time::Duration;
 use uuid::Uuid;
 
-// How many sub-runs failed and what the last one came to: what the run comes to, and its last sub-run.
+// How many sub-runs failed and what the last one came to: what the run comes to, and its last
+// sub-run.
 pub(crate) fn stress_ends(page: &mut Page, input: &str) -> Option<()> {
     let (failed_count, last) = two(input, " ");
     let last_final_stats = match last {
@@ -47,8 +48,8 @@ fn span_of(seconds: &str, nanos: &str) -> Option<Duration> {
     Some(Duration::new(ok!(seconds.parse::<u64>()), nanos))
 }
 
-// A run by its number of sub-runs, `-` where it has no end, and how many were completed; or by its seconds, and how many seconds
-// and nanoseconds it took.
+// A run by its number of sub-runs, `-` where it has no end, and how many were completed; or by its
+// seconds, and how many seconds and nanoseconds it took.
 fn progress_of(input: &str) -> Option<StressProgress> {
     let (kind, total, rest) = three(input);
     if kind == "count" {
@@ -69,7 +70,8 @@ fn progress_of(input: &str) -> Option<StressProgress> {
     })
 }
 
-// What is left of a run: `sub-runs` and how many, `time` and its seconds and nanoseconds, or `endless`; nothing in other words.
+// What is left of a run: `sub-runs` and how many, `time` and its seconds and nanoseconds, or
+// `endless`; nothing in other words.
 fn left_of(words: &str) -> Option<StressRemaining> {
     let (kind, amount, nanos) = three(words);
     match kind {

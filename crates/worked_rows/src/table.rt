@@ -9,15 +9,18 @@ use std::rt::Files;
 
 /// What answers the inputs of a table.
 pub trait Table {
-    /// The table's name. Its rows stand in the file `NAME.txt` of the folder that the program runs in.
+    /// The table's name. Its rows stand in the file `NAME.txt` of the folder that the program runs
+    /// in.
     fn name(&self) -> &'static str;
 
-    /// Writes the answer to an input, as a row has it; `None` where the input is none of the table, or there is no memory.
+    /// Writes the answer to an input, as a row has it; `None` where the input is none of the table,
+    /// or there is no memory.
     fn answer(&self, page: &mut Page, input: &str) -> Option<()>;
 }
 
-/// Whether each row of a table has the answer that is given to its input. Prints each row that has not, with that answer, and
-/// then how many rows hold. A file that can't be read, a row without an answer, and want of memory end it.
+/// Whether each row of a table has the answer that is given to its input. Prints each row that has
+/// not, with that answer, and then how many rows hold. A file that can't be read, a row without an
+/// answer, and want of memory end it.
 pub fn rows_hold<R: Files + Print + AllocGlobal, T: Table>(rt: &R, table: &T) -> Result<bool> {
     let file = format!(in rt.alloc(); "{}.txt", table.name())?;
     let text = fs::read_to_string(rt, file.as_str())?;

@@ -17,8 +17,9 @@ use std::fmt::Debug;
 // The settings of a test, each with where it comes from.
 type Sourced<'p> = TestSettings<'p, SettingSource<'p>>;
 
-// A profile, a mode, the platform of the test's binary, the names of host and target with commas between them, a test and the keys of
-// settings, with commas between them; and then sources: what each setting is, and where it comes from. Features of scripts are known.
+// A profile, a mode, the platform of the test's binary, the names of host and target with commas
+// between them, a test and the keys of settings, with commas between them; and then sources: what
+// each setting is, and where it comes from. Features of scripts are known.
 pub(crate) fn test_settings(page: &mut Page, input: &str) -> Option<()> {
     let (head, sources) = two(input, BAR);
     let sources = some!(sources_of(page.alloc, sources));
@@ -149,7 +150,8 @@ fn wrapper_told(page: &mut Page, found: Option<&WrapperScriptConfig>) {
     }
 }
 
-// The names of the setup scripts that are enabled for a test, with commas between them; `-` where there is none.
+// The names of the setup scripts that are enabled for a test, with commas between them; `-` where
+// there is none.
 fn setup_scripts(page: &mut Page, profile: &PlainProfile<'_>, query: &TestQuery<'_>) -> Option<()> {
     let (matching, start) = ([*query], page.len());
     let scripts = ok!(profile.setup_scripts(page.alloc, &matching));

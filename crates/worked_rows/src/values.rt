@@ -24,7 +24,8 @@ pub(crate) fn word_as<T: ConfigValue<Any>>(alloc: Global, word: &str) -> Option<
     T::from_value(&Value::String(ok!(String::from_str(alloc, word))))
 }
 
-// A kind of value and what stands in TOML behind `k = `: the value of that kind that it is, or why it is refused.
+// A kind of value and what stands in TOML behind `k = `: the value of that kind that it is, or why
+// it is refused.
 pub(crate) fn values(page: &mut Page, input: &str) -> Option<()> {
     let (kind, text) = two(input, " ");
     let table = some!(table_with(page.alloc, text));

@@ -17,9 +17,9 @@ struct Kinds {
     discovered: ConfigSourceKind,
 }
 
-// A current version and `strict` or `override`, and then sources, the lowest first, each a kind, a path and a text: the verdict,
-// with the version and the path of the source that asks for it, and the features that are known, and those that aren't; or why
-// the first source is refused that is.
+// A current version and `strict` or `override`, and then sources, the lowest first, each a kind, a
+// path and a text: the verdict, with the version and the path of the source that asks for it, and
+// the features that are known, and those that aren't; or why the first source is refused that is.
 pub(crate) fn verdicts(page: &mut Page, input: &str) -> Option<()> {
     let (head, sources) = two(input, BAR);
     let kinds = Kinds {

@@ -19,8 +19,9 @@ fn kept_words(kept: OutputStoreFinal) -> &'static str {
     }
 }
 
-// A display, a reason or `-`, the level and the final level of a test, and how it ended: whether its line is written, whether its
-// output is shown at once, and what is kept for the end, where the levels that are set are `pass` and, at the end, `fail`.
+// A display, a reason or `-`, the level and the final level of a test, and how it ended: whether
+// its line is written, whether its output is shown at once, and what is kept for the end, where the
+// levels that are set are `pass` and, at the end, `fail`.
 pub(crate) fn visibility(page: &mut Page, input: &str) -> Option<()> {
     let (display, reason, rest) = three(input);
     let (level, final_level, end) = three(rest);

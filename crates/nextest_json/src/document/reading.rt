@@ -16,7 +16,8 @@ use std::alloc::Global;
 const MAX_DEPTH: usize = 127;
 
 impl<'a> JsonDocument<'a> {
-    /// The document that a text is. An `Err` says that the text is no JSON, or that there was no memory.
+    /// The document that a text is. An `Err` says that the text is no JSON, or that there was no
+    /// memory.
     pub fn parse(
         alloc: Global,
         text: &'a str,
@@ -59,7 +60,8 @@ fn is_within(nodes: &[Node<'_>]) -> bool
     true
 }
 
-// How many lists and objects are open behind a node; `None` where they nest too deep, or a number is out of range.
+// How many lists and objects are open behind a node; `None` where they nest too deep, or a number
+// is out of range.
 fn opened_behind(opened: usize, node: &Node<'_>) -> Option<usize>
     ensures { result ≡ limit.opened_behind opened (node_token node.now) }
 {

@@ -33,7 +33,8 @@ impl<'t, 'a> JsonValue<'t, 'a> {
         }
     }
 
-    /// What an object has under a name, the last of that name. The time grows with the object's members.
+    /// What an object has under a name, the last of that name. The time grows with the object's
+    /// members.
     pub fn get(&self, name: &str) -> Option<JsonValue<'t, 'a>>
         ensures { option_map data_of result ≡ get name.now (data_of self.now) }
     {
@@ -82,7 +83,8 @@ impl<'t, 'a> JsonValue<'t, 'a> {
         }
     }
 
-    /// The number, where the value is one from 0 to 18,446,744,073,709,551,615 without point and exponent.
+    /// The number, where the value is one from 0 to 18,446,744,073,709,551,615 without point and
+    /// exponent.
     pub fn as_u64(&self) -> Option<u64>
         ensures { result ≡ option_and_then as_u64 (as_number (data_of self.now)) }
     {

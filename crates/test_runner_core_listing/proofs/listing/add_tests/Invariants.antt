@@ -4,7 +4,8 @@ use Rattle.test_runner_core_listing.specs.Answers.{Answers, AnswerOn}
 use Rattle.test_runner_core_listing.specs.Listing.{skipped_in}
 use Rattle.test_runner_core_listing.proofs.listing.add_tests.Given as goal
 
--- of the names so far those on which all filters hold are the selected ones, and the others were added to the others
+-- of the names so far those on which all filters hold are the selected ones, and the others were
+-- added to the others
 abbrev pub invariant-loop-name : goal.invariant-loop-name
 invariant-loop-name g l =
     let Member = g.G.GroupLookup.member l.groups in

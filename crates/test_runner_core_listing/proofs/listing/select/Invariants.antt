@@ -5,7 +5,8 @@ use Rattle.test_runner_core_listing.specs.Listing.{listed_of}
 use Rattle.test_runner_core_listing.proofs.Walk.{Walked}
 use Rattle.test_runner_core_listing.proofs.listing.select.Given as goal
 
--- whatever the filters answer, the listed ones among the binaries so far were asked, and those of the rest are ahead
+-- whatever the filters answer, the listed ones among the binaries so far were asked, and those of
+-- the rest are ahead
 abbrev pub invariant-loop-binary : goal.invariant-loop-binary
 invariant-loop-binary g l =
     let answer = g.L.Lister.answer l.fn.lister in
