@@ -1,21 +1,13 @@
 // Whether names differ.
-ghost use Rattle.std.specs.Prelude.{◌≡◌, ℕ, List, IfOk, IsTrue};
+ghost use Rattle.std.specs.Prelude.{◌≡◌, ℕ, List, map, IfOk, IsTrue};
 ghost use Rattle.std.specs.List.{IsDistinct};
-ghost use Rattle.std.specs.Ordering.{is_lt};
+ghost use Rattle.std.specs.Ordering.{is_lt, nat_cmp};
 ghost use Rattle.std.specs.Str.{bytes_eq};
-ghost use Rattle.test_runner_core_listing.specs.Hashed.{AreHashed, hash, hashed_cmp};
+ghost use Rattle.test_runner_core_listing.specs.Hashed.{hash};
 
 use nextest_text::Text;
 use std::alloc::{AllocError, Global};
-use std::cmp::Ordering;
 use std::hash::{FoldHasher, Hasher};
-
-// A name, and its hash.
-#[derive(Clone, Copy)]
-pub(crate) struct Hashed<'n> {
-    hash: u64,
-    name: &'n str,
-}
 
 // Whether it is found that no name stands twice among these: by their order where they rise, as
 // mostly they do, else by their hashes.
@@ -25,8 +17,8 @@ pub(crate) fn differ(alloc: Global, names: &[Text]) -> Result<bool, AllocError>
     if rise(names) {
         return Ok(true);
     }
-    let hashed = hashed_names(alloc, names)?;
-    Ok(differ_by_hash(hashed))
+    let hashes = hashes_of(alloc, names)?;
+    Ok(hashes_differ(hashes))
 }
 
 // Whether each name is greater than the one before it.
@@ -41,19 +33,15 @@ fn rise(names: &[Text]) -> bool
     true
 }
 
-// The names with their hashes.
-fn hashed_names<'n>(alloc: Global, names: &'n [Text]) -> Result<Vec<Hashed<'n>>, AllocError>
-    ensures { IfOk result (λ it. AreHashed it.items names.now) }
+// The hashes of names.
+fn hashes_of(alloc: Global, names: &[Text]) -> Result<Vec<u64>, AllocError>
+    ensures { IfOk result (λ it. it.items ≡ map hash names.now) }
 {
-    let mut hashed = Vec::with_capacity(alloc, names.len())?;
+    let mut hashes = Vec::with_capacity(alloc, names.len())?;
     for name in names {
-        let name = name.as_str();
-        hashed.push(Hashed {
-            hash: hash_of(name),
-            name,
-        })?;
+        hashes.push(hash_of(name.as_str()))?;
     }
-    Ok(hashed)
+    Ok(hashes)
 }
 
 // The hash of a name.
@@ -65,28 +53,15 @@ fn hash_of(name: &str) -> u64
     hasher.finish()
 }
 
-// Whether it is found that no name stands twice among these.
-fn differ_by_hash(mut hashed: Vec<Hashed<'_>>) -> bool
-    ensures { (names : List (List ℕ)) → AreHashed hashed.entry.items names
+// Whether no number stands twice among these, so that of names with these hashes none does.
+fn hashes_differ(mut hashes: Vec<u64>) -> bool
+    ensures { (names : List (List ℕ)) → hashes.items ≡ map hash names
         → IsTrue result → IsDistinct bytes_eq names }
 {
-    hashed.sort_unstable_by(
-        |one: &Hashed<'_>, other: &Hashed<'_>| -> Ordering
-            ensures { result ≡ hashed_cmp one.now other.now }
-        { compare(one, other) },
-    );
-    hashed.is_sorted_by(
-        |one: &Hashed<'_>, other: &Hashed<'_>| -> bool
-            ensures { result ≡ is_lt (hashed_cmp one.now other.now) }
-        { compare(one, other).is_lt() },
+    hashes.sort_unstable();
+    hashes.is_sorted_by(
+        |one: &u64, other: &u64| -> bool
+            ensures { result ≡ is_lt (nat_cmp one.now other.now) }
+        { one.cmp(other).is_lt() },
     )
-}
-
-// Which of two names comes first: by their hashes, and of one hash by their bytes.
-fn compare(one: &Hashed<'_>, other: &Hashed<'_>) -> Ordering
-    ensures { result ≡ hashed_cmp one.now other.now }
-{
-    one.hash
-        .cmp(&other.hash)
-        .then_with(|| one.name.cmp(other.name))
 }
