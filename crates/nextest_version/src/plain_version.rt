@@ -12,8 +12,8 @@ use std::cmp::Ordering;
 use std::fmt;
 use std::marker::Model;
 
-/// A version. In a clause it is its parts: three numbers, the text of the pre-release and that of
-/// the build. Two are equal where all parts are, that of the build too.
+/// A version. In a clause it is its parts: three numbers, the text of the pre-release and that of the build. Two are equal
+/// where all parts are, that of the build too.
 pub struct PlainVersion {
     version: Version,
 }
