@@ -42,9 +42,9 @@ apart a b other = by_answer (bytes_eq a b) refl
     by_answer false e = refl
     by_answer true e =
         absurd (false≢true (
-          sym other
-          ∙ ap (λ (name : List ℕ). eq_by_cmp nat_cmp (hash name) (hash b)) ((bytes_decides a b).0 e)
-          ∙ (eq_by_cmp_equiv nat_cmp_total).refl (hash b)
+        sym other
+        ∙ ap (λ (name : List ℕ). eq_by_cmp nat_cmp (hash name) (hash b)) ((bytes_decides a b).0 e)
+        ∙ (eq_by_cmp_equiv nat_cmp_total).refl (hash b)
         ))
 
 -- so none stands twice where their hashes rise in some order
@@ -56,9 +56,9 @@ hashed_differ hashes sorted names are same rise =
     subst (IsDistinct equal) are
     (IsDistinct-IsPermutation equal (eq_by_cmp_equiv nat_cmp_total).symm sorted hashes (IsPermutation-sym hashes sorted same) (IsDistinct-from_sorted nat_cmp sorted rise)) in
     IsDistinct-from_apart bytes_eq names (λ i j d below within.
-      let inside : j < length (map hash names) = omega (arith, within, length-map names hash) in
-      let before : i < length names = omega (arith, below, within) in
-      apart (get_or names i d) (get_or names j d)
-      (subst (λ (n : ℕ). equal n (hash (get_or names j d)) ≡ false) (get_or-map hash names i d 0 before)
-      (subst (λ (n : ℕ). equal (get_or (map hash names) i 0) n ≡ false) (get_or-map hash names j d 0 within)
-      (apart_from_distinct equal (map hash names) i j 0 differ below inside))))
+    let inside : j < length (map hash names) = omega (arith, within, length-map names hash) in
+    let before : i < length names = omega (arith, below, within) in
+    apart (get_or names i d) (get_or names j d)
+    (subst (λ (n : ℕ). equal n (hash (get_or names j d)) ≡ false) (get_or-map hash names i d 0 before)
+    (subst (λ (n : ℕ). equal (get_or (map hash names) i 0) n ≡ false) (get_or-map hash names j d 0 within)
+    (apart_from_distinct equal (map hash names) i j 0 differ below inside))))

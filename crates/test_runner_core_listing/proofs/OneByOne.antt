@@ -63,10 +63,10 @@ pub new_name : (names : List (List ℕ)) (i : ℕ) (name : List ℕ) → IsDisti
     → is_among (take i names) name ≡ false
 new_name names i name distinct within is =
     list_any_none (bytes_eq name) (take i names) (λ k d inside.
-      let below : k < i = omega (arith, inside, length-take-le i names (omega (arith, within))) in
-      let text = get_or names k d in
-      let same : get_or names i d ≡ name = get_or_default names i d name within ∙ sym is in
-      ap (bytes_eq name) (get_or-take i names k d below)
-      ∙ nat_list_eq_equiv.symm name text
-      ∙ ap (bytes_eq text) (sym same)
-      ∙ apart_from_distinct bytes_eq names k i d distinct below within)
+    let below : k < i = omega (arith, inside, length-take-le i names (omega (arith, within))) in
+    let text = get_or names k d in
+    let same : get_or names i d ≡ name = get_or_default names i d name within ∙ sym is in
+    ap (bytes_eq name) (get_or-take i names k d below)
+    ∙ nat_list_eq_equiv.symm name text
+    ∙ ap (bytes_eq text) (sym same)
+    ∙ apart_from_distinct bytes_eq names k i d distinct below within)
