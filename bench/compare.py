@@ -6,19 +6,26 @@
 Build the program first by `make run`. The plain one is bench/plain/plain.rs, built here by `rustc -O` alone. Each load is a file that
 both read from standard input; they run in turns, N times each (5 where nothing is said), and of each the least time and the least peak
 memory count: processor seconds, and MB as the system tells them. Their reports have to be the same, byte for byte.
+
+Of the plain program there are two for loads with rules: one whose matchers are all written by hand for these rules, and one in which the
+crate `regex` matches the regular expressions, built by Cargo from Debian's packages (`apt-get install librust-regex+default-dev`).
 """
 import argparse
 import dataclasses
 import filecmp
+import json
 import os
 import pathlib
 import random
+import shutil
 import subprocess
 import sys
 import tempfile
 
+sys.dont_write_bytecode = True
 sys.path.insert(0, str(pathlib.Path(__file__).resolve().parent))
 import loads
+import overrides
 
 ROOT = pathlib.Path(__file__).resolve().parent.parent
 PROGRAM = ROOT / "crates/test_runner/out/test_runner"
@@ -60,6 +67,27 @@ def flaky(count, size):
     return loads.inputs([loads.binary("p", names)], settings), "".join(tries.format(name) for name in names)
 
 
+# What is in force beside overrides: a default filter, a setup script and a filterset, which bench/plain/rules.rs knows too.
+BESIDE_RULES = r"""
+experimental = ["setup-scripts"]
+# rules {}
+[scripts.setup.database]
+command = "database"
+[profile.default]
+default-filter = "not (kind(example) & test(~codec))"
+[[profile.default.scripts]]
+filter = "test(~writer) & package(p2*)"
+setup = "database"
+"""
+FILTERSET = r"(test(~a) | test(/x\d+$/)) & !test(#*slow*{_b\,_c}) & (package(p*) | deps(=q))"
+
+
+def ruled(count):
+    """Tests of 300 binaries under the first overrides of bench/overrides.py, three groups, a default filter, a setup script and a filterset."""
+    given = overrides.inputs(range(overrides.BINARIES), count, BESIDE_RULES.format(count))
+    return json.dumps({**given, "filterset": FILTERSET}, separators=(",", ":"))
+
+
 # Each load: what it is, and what makes its inputs and its log.
 LOADS = {
     "sorted": ("200,000 tests of one binary, names in order, all pass", lambda: loads.tests(200_000)),
@@ -73,7 +101,37 @@ LOADS = {
     "flaky": ("1,000 tests that fail at first, 64 KiB of output each, then pass", lambda: flaky(1_000, 65_536)),
     "failing": ("1,000 tests that fail, 64 KiB of output each, all written", lambda: loads.failing(65_536)),
     "planned": ("300,000 tests of 300 binaries, planned, no log", lambda: (of_binaries(300_000, False)[0], "")),
+    "ruled": ("300,000 tests of 300 binaries under 20 overrides and two filters, planned, no log", lambda: (ruled(20), "")),
+    "regex": ("the same, the plain program with `regex`", lambda: (ruled(20), "")),
 }
+
+MANIFEST = """[package]
+name = "plain"
+version = "0.0.0"
+edition = "2021"
+[[bin]]
+name = "plain"
+path = "plain.rs"
+[dependencies]
+regex = "1"
+"""
+DEBIAN = """[source.crates-io]
+replace-with = "debian"
+[source.debian]
+directory = "/usr/share/cargo/registry"
+"""
+
+
+def build_with_regex(room):
+    """The plain program with the crate `regex` of Debian's packages, built in this folder."""
+    folder = room / "with-regex"
+    shutil.copytree(ROOT / "bench/plain", folder)
+    (folder / "Cargo.toml").write_text(MANIFEST)
+    (folder / ".cargo").mkdir()
+    (folder / ".cargo/config.toml").write_text(DEBIAN)
+    command = ["cargo", "build", "--quiet", "--release", "--offline"]
+    subprocess.run(command, cwd=folder, env={**os.environ, "RUSTFLAGS": "--cfg regex -Awarnings"}, check=True)
+    return folder / "target/release/plain"
 
 
 @dataclasses.dataclass
@@ -91,13 +149,14 @@ class Took:
 
 
 def compare(room, program, name, runs):
+    plain = build_with_regex(room) if name == "regex" else room / "plain"
     shown, make = LOADS[name]
     inputs, log = make()
     (room / "load").write_text(f"{inputs}\n{log}")
     ours, other = Took(), Took()
     for _ in range(runs):
         ours.run(room, program, room / "of-ours")
-        other.run(room, room / "plain", room / "of-plain")
+        other.run(room, plain, room / "of-plain")
     if not filecmp.cmp(room / "of-ours", room / "of-plain", shallow=False):
         raise SystemExit(f"{name}: the reports of the two programs differ")
     size = (room / "load").stat().st_size / 1e6

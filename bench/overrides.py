@@ -42,7 +42,7 @@ def override(filter=None, platform=None, **sets):
     return {**where, **{key.replace("_", "-"): value for key, value in sets.items()}}
 
 
-# The rules of bench/overrides_plain.rs, in the same order.
+# The rules of bench/plain/rules.rs, in the same order.
 OVERRIDES = [
     override("test(~slow)", threads_required=2),
     override(r"test(/case_09\d+/)", retries=1),
@@ -94,10 +94,10 @@ def binary(at):
     return {"id": f"b{at:03}", "name": f"b{at:03}", "package": PACKAGES[at % len(PACKAGES)], "kind": kind, "platform": platform}
 
 
-def inputs(binaries, overrides):
-    """Inputs with these binaries and the first of the overrides."""
+def inputs(binaries, overrides, before=""):
+    """Inputs with these binaries and the first of the overrides, and a text before them in their file."""
     names = sorted(name(at) for at in range(TESTS))
-    text = "".join(f"[test-groups.{group}]\nmax-threads = 1\n" for group in GROUPS)
+    text = before + "".join(f"[test-groups.{group}]\nmax-threads = 1\n" for group in GROUPS)
     for rule in OVERRIDES[:overrides]:
         text += "[[profile.default.overrides]]\n" + "".join(f"{key} = {toml(value)}\n" for key, value in rule.items())
     workspace = {

@@ -2,9 +2,14 @@
 // of a log by the same names, and writes the same report. `rustc -O plain.rs` builds it; it uses nothing but std.
 //
 // It knows plans without filtersets and scripts, and of settings what `fail-fast = false` and `retries = N` in the first source say; it
-// doesn't know inputs that are refused, and warnings. Outputs are looked at as hex and kept only until they are written.
+// doesn't know inputs that are refused, and warnings. Outputs are looked at as hex and kept only until they are written. Where the first
+// source has the comment `# rules N`, the first N rules of rules.rs give tests their settings, and its two filters and its script are in force;
+// of the script no line of the log is known.
 use std::collections::HashMap;
 use std::io::{self, BufRead, Read, Write};
+
+mod rules;
+use rules::{is_selected, needs_script, settings_of, Rule, Settings, RULES};
 
 // ---- the JSON inputs
 
@@ -15,8 +20,18 @@ struct Json<'a> {
 
 #[derive(Default)]
 struct Inputs {
-    binaries: Vec<(String, Vec<String>)>,
+    binaries: Vec<Listed>,
     settings: String,
+}
+
+#[derive(Default)]
+struct Listed {
+    id: String,
+    name: String,
+    package: String,
+    kind: String,
+    platform: String,
+    tests: Vec<String>,
 }
 
 impl Json<'_> {
@@ -125,14 +140,18 @@ impl Json<'_> {
         made
     }
 
-    fn binary(&mut self) -> (String, Vec<String>) {
-        let (mut id, mut tests) = (String::new(), Vec::new());
+    fn binary(&mut self) -> Listed {
+        let mut made = Listed::default();
         self.object(|json, key| match key {
-            "id" => id = json.string(),
-            "tests" => json.list(|json| tests.push(json.string())),
+            "id" => made.id = json.string(),
+            "name" => made.name = json.string(),
+            "package" => made.package = json.string(),
+            "kind" => made.kind = json.string(),
+            "platform" => made.platform = json.string(),
+            "tests" => json.list(|json| made.tests.push(json.string())),
             _ => json.skip(),
         });
-        (id, tests)
+        made
     }
 }
 
@@ -271,6 +290,52 @@ fn read_line(text: &str) -> Option<Line<'_>> {
     }
 }
 
+// ---- plans
+
+#[derive(Default)]
+struct Plan<'a> {
+    tests: Vec<Test<'a>>,
+    // Of each test, in the order of the lists. Where no rules are in force there are none.
+    settings: Vec<Settings>,
+    has_script: bool,
+}
+
+impl<'a> Plan<'a> {
+    fn new(binaries: &'a [Listed], settings: &str) -> Plan<'a> {
+        if let Some(count) = number_behind(settings, "# rules ") {
+            return Plan::by_rules(binaries, &RULES[..count]);
+        }
+        let tries = number_behind(settings, "retries = ").unwrap_or(0) as u32 + 1;
+        let mut names: Vec<(&str, &str)> = binaries.iter().flat_map(|it| it.tests.iter().map(move |name| (it.id.as_str(), name.as_str()))).collect();
+        if !names.is_sorted() {
+            names.sort_unstable();
+        }
+        Plan { tests: names.into_iter().map(|(binary, name)| Test::new(binary, name, tries)).collect(), ..Plan::default() }
+    }
+
+    fn by_rules(binaries: &'a [Listed], rules: &[Rule]) -> Plan<'a> {
+        let (mut ranked, mut plan) = (Vec::new(), Plan::default());
+        for it in binaries {
+            let binary = rules::Binary { id: &it.id, name: &it.name, package: &it.package, kind: &it.kind, platform: &it.platform };
+            for name in it.tests.iter().filter(|name| is_selected(&binary, name)) {
+                let settings = settings_of(rules, &binary, name);
+                plan.has_script = plan.has_script || needs_script(&binary, name);
+                ranked.push((settings.priority, it.id.as_str(), name.as_str(), settings.retries + 1));
+                plan.settings.push(settings);
+            }
+        }
+        ranked.sort_by(|a, b| b.0.cmp(&a.0).then_with(|| a.1.cmp(b.1)).then_with(|| a.2.cmp(b.2)));
+        plan.tests = ranked.into_iter().map(|(_, binary, name, tries)| Test::new(binary, name, tries)).collect();
+        plan
+    }
+}
+
+// The number that stands behind the first place of some words.
+fn number_behind(text: &str, words: &str) -> Option<usize> {
+    let (_, rest) = text.split_once(words)?;
+    rest.split(|it: char| !it.is_ascii_digit()).next()?.parse().ok()
+}
+
 // ---- runs
 
 struct Attempt {
@@ -296,9 +361,14 @@ struct Test<'a> {
     written: Option<Box<(String, String)>>,
     // It finished under an interrupt: nothing but its line is shown.
     is_hidden: bool,
+    tries: u32,
 }
 
-impl Test<'_> {
+impl<'a> Test<'a> {
+    fn new(binary: &'a str, name: &'a str, tries: u32) -> Test<'a> {
+        Test { binary, name, mark: Mark::Waiting, attempts: Vec::new(), written: None, is_hidden: false, tries }
+    }
+
     fn fate(&self) -> &'static str {
         match self.attempts.last() {
             None => "not-run",
@@ -319,7 +389,7 @@ fn weight(reason: &str) -> usize {
 struct Run<'a> {
     tests: Vec<Test<'a>>,
     places: HashMap<&'a str, HashMap<&'a str, usize>>,
-    tries: usize,
+    has_script: bool,
     is_limited: bool,
     reason: &'static str,
     report: Vec<u8>,
@@ -366,7 +436,7 @@ impl<'a> Run<'a> {
         }
         let End { result, slow, nanos, out, err } = end;
         test.attempts.push(Attempt { result, slow, nanos });
-        if !result.is_success() && test.attempts.len() < self.tries && self.reason.is_empty() {
+        if !result.is_success() && test.attempts.len() < test.tries as usize && self.reason.is_empty() {
             test.mark = Mark::Between;
             test.written = Some(Box::new((out.to_string(), err.to_string())));
             return Ok(());
@@ -408,7 +478,7 @@ impl<'a> Run<'a> {
             self.report.extend_from_slice(part);
             self.report.push(b'\t');
         }
-        let _ = writeln!(self.report, "{}/{}", test.attempts.len(), self.tries);
+        let _ = writeln!(self.report, "{}/{}", test.attempts.len(), test.tries);
     }
 
     fn write_outputs(&mut self, result: Ended, out: &str, err: &str) {
@@ -437,7 +507,7 @@ impl<'a> Run<'a> {
         let counters = [
             ("initial-run-count", initial),
             ("finished-count", ended),
-            ("setup-scripts-initial-count", 0),
+            ("setup-scripts-initial-count", usize::from(self.has_script)),
             ("setup-scripts-finished-count", 0),
             ("setup-scripts-passed", 0),
             ("setup-scripts-failed", 0),
@@ -456,12 +526,17 @@ impl<'a> Run<'a> {
             ("skipped", 0),
         ];
         let failing = count(&|it, _, _| !it.is_success());
-        let status = if initial == 0 { 4 } else { 100 * u8::from(failing > 0 || ended < initial) };
+        let status = match initial {
+            0 => 4,
+            _ if self.has_script => 105,
+            _ => 100 * u8::from(failing > 0 || ended < initial),
+        };
         let reason = if self.reason.is_empty() { "-" } else { self.reason };
         let at = format!("test {initial} {}", initial - ended);
         let outcome = match status {
             4 => "no-tests-run".to_string(),
             0 => "success".to_string(),
+            105 => format!("cancelled setup-script {reason}"),
             _ if failing > 0 && !REASONS.contains(&self.reason) => format!("failed {at}"),
             _ => format!("cancelled {at} {reason}"),
         };
@@ -470,6 +545,9 @@ impl<'a> Run<'a> {
             let _ = writeln!(self.report, "{name}\t{number}");
         }
         let _ = writeln!(self.report, "cancel-reason\t{reason}");
+        if self.has_script {
+            let _ = writeln!(self.report, "script\tdatabase\tnot-run");
+        }
         for place in 0..self.tests.len() {
             if self.tests[place].fate() != "pass" && !self.tests[place].is_hidden {
                 self.write_test(b"test", place);
@@ -544,17 +622,12 @@ fn main() -> io::Result<()> {
     let mut line = Vec::new();
     input.read_until(b'\n', &mut line)?;
     let Inputs { binaries, settings } = Json { text: &line, at: 0 }.inputs();
-    let retries = settings.split_once("retries = ").map_or(0, |(_, rest)| rest.split(|it: char| !it.is_ascii_digit()).next().and_then(|it| it.parse().ok()).unwrap_or(0));
-    let mut names: Vec<(&str, &str)> = binaries.iter().flat_map(|(id, tests)| tests.iter().map(move |it| (id.as_str(), it.as_str()))).collect();
-    if !names.is_sorted() {
-        names.sort_unstable();
-    }
+    let Plan { tests, settings: _kept, has_script } = Plan::new(&binaries, &settings);
     let mut places: HashMap<&str, HashMap<&str, usize>> = HashMap::new();
-    for (place, (binary, name)) in names.iter().enumerate() {
-        places.entry(binary).or_default().insert(name, place);
+    for (place, test) in tests.iter().enumerate() {
+        places.entry(test.binary).or_default().insert(test.name, place);
     }
-    let tests = names.into_iter().map(|(binary, name)| Test { binary, name, mark: Mark::Waiting, attempts: Vec::new(), written: None, is_hidden: false }).collect();
-    let mut run = Run { tests, places, tries: retries + 1, is_limited: !settings.contains("fail-fast = false"), reason: "", report: Vec::new() };
+    let mut run = Run { tests, places, has_script, is_limited: !settings.contains("fail-fast = false"), reason: "", report: Vec::new() };
     let mut output = io::stdout().lock();
     let (mut number, mut status) = (0u64, None);
     let mut text = Vec::new();

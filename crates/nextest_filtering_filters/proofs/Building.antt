@@ -7,7 +7,7 @@ use Rattle.nextest_filtering_filters.specs.declared.step.FormulaStep.{FormulaSte
 use Rattle.nextest_filtering_filters.specs.declared.step.FormulaStep.TheVariants as step
 
 -- steps, and others behind them
-after_more : (steps more : List FormulaStep) (waiting : List (Formula ℕ)) → after (steps ++ more) waiting ≡ and_then (after more) (after steps waiting)
+pub after_more : (steps more : List FormulaStep) (waiting : List (Formula ℕ)) → after (steps ++ more) waiting ≡ and_then (after more) (after steps waiting)
 after_more [] more waiting = refl
 after_more (first ∷ steps) more waiting = by_made (λ next. after_more steps more next) (after_step first waiting)
   where

@@ -116,7 +116,7 @@ platforms platform.Target platform.Host = inr (λ is. cc)
 platforms platform.Host platform.Target = inr (λ is. cc)
 
 -- on a test a predicate holds, or doesn't
-some_told : (binary : Binary) (name : List ℕ) (Member : Matcher → Type 0) → ((m : Matcher) → IsReadable m → (b : Bool) × Tells (Member m) b) → (Default : Bool → Type 0) (it : FiltersetLeaf) → HasReadable it
+pub some_told : (binary : Binary) (name : List ℕ) (Member : Matcher → Type 0) → ((m : Matcher) → IsReadable m → (b : Bool) × Tells (Member m) b) → (Default : Bool → Type 0) (it : FiltersetLeaf) → HasReadable it
     → (is_default it ≡ true → (b : Bool) × Default b) → (b : Bool) × MayBe binary (λ m. Tells (MatchesName m name)) (λ m. Tells (Member m)) Default it b
 some_told binary name Member member Default (predicate.Packages set) readable default = (contains_text set binary.package_id, refl)
 some_told binary name Member member Default (predicate.Kind m span) readable default = decided_name (matcher_of m) binary.kind readable

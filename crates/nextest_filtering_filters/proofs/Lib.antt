@@ -6,6 +6,6 @@ pub mod Lists
 pub mod Parts
 pub mod Sure
 pub mod Deciding
-pub mod EachTest
-pub mod TestColumns
+pub mod StepsBack
+pub mod ByName
 pub mod Copies

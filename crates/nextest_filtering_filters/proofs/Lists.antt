@@ -1,5 +1,5 @@
 -- Lists side by side, and a loop over one of them.
-use Rattle.std.proofs.Common.{◌≡◌, ℕ, zero, suc, ◌+◌, ◌<◌, List, [], ◌∷◌, ◌++◌, Some, length, map, replicate, take, get_or, refl, sym, ap, ◌∙◌, subst, arith, slice_get, slice_set}
+use Rattle.std.proofs.Common.{◌≡◌, ℕ, zero, suc, ◌+◌, ◌<◌, List, [], ◌∷◌, ◌++◌, Some, length, map, replicate, take, get_or, refl, sym, ap, ◌∙◌, subst, arith, slice_get, slice_set, IfOk, Result, Ok, Err}
 use Rattle.std.specs.List.{All, AllZip}
 use Rattle.std.proofs.lemmas.List.{take_more}
 use Rattle.std.proofs.Math.Seq.{take-length, take-suc}
@@ -105,3 +105,8 @@ pub within : {A : Type 0} (xs : List A) (place : ℕ) (x : A) → slice_get xs p
 within [] place x at = cc
 within (a ∷ xs) zero x at = omega arith
 within (a ∷ xs) (suc place) x at = let less = within xs place x at in omega (arith, less)
+
+-- two clauses of one result
+pub ok_both : {T E : Type 0} (P Q R : T → Type 0) → ((it : T) → P it → Q it → R it) → (r : Result T E) → IfOk r P → IfOk r Q → IfOk r R
+ok_both P Q R so (Ok it) first second = so it first second
+ok_both P Q R so (Err e) first second = tt

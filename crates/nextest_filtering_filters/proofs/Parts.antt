@@ -34,7 +34,7 @@ filter_less it May Less less value gives =
     gives_with at May steps value (gives_less (λ n. May (at n)) (λ n. Less (at n)) less steps value (with_gives at Less steps value gives))
 
 -- values of predicates, place by place
-place_values : (May : FiltersetLeaf → Bool → Type 0) → AreValues (May leaf.None) nowhere → (leaves : List FiltersetLeaf) (values : List Values) → AllZip (λ it v. AreValues (May it) v × IsSome v) leaves values → (place : ℕ)
+pub place_values : (May : FiltersetLeaf → Bool → Type 0) → AreValues (May leaf.None) nowhere → (leaves : List FiltersetLeaf) (values : List Values) → AllZip (λ it v. AreValues (May it) v × IsSome v) leaves values → (place : ℕ)
     → AreValues (May (leaf_at leaves place)) (values_at values place)
 place_values May none [] [] all place = none
 place_values May none [] (v ∷ values) all place = absurd all
@@ -46,7 +46,7 @@ may_there : (Can : Bool → Type 0) (at : ℕ → Values) (place : ℕ) → AreV
 may_there Can at place exact true so = exact.0.0 so
 may_there Can at place exact false so = exact.1.0 so
 
-may_back : (Can : Bool → Type 0) (at : ℕ → Values) (place : ℕ) → AreValues Can (at place) → (b : Bool) → Can b → may_by at place b
+pub may_back : (Can : Bool → Type 0) (at : ℕ → Values) (place : ℕ) → AreValues Can (at place) → (b : Bool) → Can b → may_by at place b
 may_back Can at place exact true so = exact.0.1 so
 may_back Can at place exact false so = exact.1.1 so
 
@@ -62,7 +62,7 @@ by_places May none it values all =
     (λ b gives. gives_less (may_by (values_at values)) (λ n. May (at n)) (λ n. may_back (May (at n)) (values_at values) n (exact n)) steps b (with_gives at May steps b gives))
 
 -- where nothing stands
-nowhere_false : (Can : Bool → Type 0) → Can false → (Can true → ⊥) → AreValues Can nowhere
+pub nowhere_false : (Can : Bool → Type 0) → Can false → (Can true → ⊥) → AreValues Can nowhere
 nowhere_false Can fails never = (((λ so. absurd cc), (λ can. absurd (never can))), ((λ so. fails), (λ can. refl)))
 
 -- of lists that are lent

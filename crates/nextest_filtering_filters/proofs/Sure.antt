@@ -14,7 +14,7 @@ use Rattle.nextest_filtering_filters.specs.declared.leaf.FiltersetLeaf.TheVarian
 use Rattle.nextest_filtering_filters.proofs.Parts.{filter_less, none_at, only_value, told_one}
 
 -- on a binary a predicate may be all that it may be on a test
-may_wider : (binary : Binary) (Name Group : Matcher → Bool → Type 0) (Default Other : Bool → Type 0) → ((value : Bool) → Default value → Other value) → (it : FiltersetLeaf) (value : Bool)
+pub may_wider : (binary : Binary) (Name Group : Matcher → Bool → Type 0) (Default Other : Bool → Type 0) → ((value : Bool) → Default value → Other value) → (it : FiltersetLeaf) (value : Bool)
     → MayBe binary Name Group Default it value → MayBe binary Either Either Other it value
 may_wider binary Name Group Default Other there (leaf.Packages set) value may = may
 may_wider binary Name Group Default Other there (leaf.Kind m span) value may = may

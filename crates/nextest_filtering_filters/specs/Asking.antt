@@ -1,18 +1,18 @@
 -- What is left to ask of a filter where its binary is known.
-use Rattle.std.specs.Prelude.{◌≡◌, ℕ, Bool, true, false, List, length, Option, None, Some}
-use Rattle.std.specs.Borrow.{Bor}
-use Rattle.std.specs.Global.{Vec}
+use Rattle.std.specs.Prelude.{◌≡◌, ℕ, Bool, true, false, ⊤, List, Option, None, Some}
 use Rattle.std.specs.List.{list_any}
-use Rattle.nextest_filtering_filters.specs.Columns.{IsLong, OnEach, value_at}
 use Rattle.nextest_filtering_filters.specs.Formula.{AreValues}
+use Rattle.nextest_filtering_filters.specs.Questions.{comes_to, holds_by}
+use Rattle.nextest_filtering_filters.specs.Steps.{formula_of}
 use Rattle.nextest_filtering_filters.specs.Values.{IsSome, may_by}
+use Rattle.nextest_filtering_filters.specs.declared.questions.Questions.{Questions}
 use Rattle.nextest_filtering_filters.specs.declared.values.Values.{Values}
 use Rattle.nextest_filtering_ast.specs.Matching.{comparison_of, text_of}
 use Rattle.nextest_filtering_ast.specs.Meaning.{MatchesName}
 use Rattle.nextest_filtering_ast.specs.Tree.{Matcher, matcher_of}
 use Rattle.nextest_filtering_ast.specs.declared.leaf.SourceSpan.{SourceSpan}
 use Rattle.nextest_filtering_ast.specs.declared.matcher.NameMatcher.{NameMatcher}
-use Rattle.nextest_filtering_filters.specs.Filter.{Compiled, is_default}
+use Rattle.nextest_filtering_filters.specs.Filter.{Compiled, is_default, leaf_at}
 use Rattle.nextest_filtering_filters.specs.Meaning.{Either, IsKnownOn, MayBe, Tells}
 use Rattle.nextest_filtering_filters.specs.Query.{Binary}
 use Rattle.nextest_filtering_filters.specs.declared.asked.Asked.{Asked}
@@ -56,11 +56,15 @@ AreOn binary default it values = AreValues (MayBe binary Either Either (values_m
 abbrev pub AreLeafValues : Binary → List ℕ → (Matcher → Type 0) → Bool → FiltersetLeaf → Values → Type 0
 AreLeafValues binary name Member default it values = AreValues (IsLeafValue binary name Member default it) values × IsSome values
 
--- what a predicate is on each of some tests of a binary, whose groups nobody knows, where this is
--- what the default filter is
-abbrev pub IsColumn : Binary → List (Bor (List ℕ)) → List Bool → FiltersetLeaf → Vec Bool → Type 0
-IsColumn binary names default it column = IsLong (length names) column
-    × OnEach names (λ place name. IsLeafValue binary name (λ m. ⊥) (value_at default place) it (value_at column.items place))
+-- what predicates are on a test of this name, whose groups nobody knows, by their numbers
+abbrev pub AreAnswers : Binary → List ℕ → Bool → List FiltersetLeaf → (ℕ → Bool) → Type 0
+AreAnswers binary name default leaves answer = (number : ℕ) → IsLeafValue binary name (λ m. ⊥) default (leaf_at leaves number) (answer number)
+
+-- questions that come to what a filter is, whatever its predicates may be on the binary
+abbrev pub AreForAll : Binary → Compiled → Questions → Type 0
+AreForAll binary it questions =
+    (answer : ℕ → Bool) → ((number : ℕ) → MayBe binary Either Either (λ value. ⊤) (leaf_at it.leaves number) (answer number))
+    → comes_to answer questions ≡ holds_by answer (formula_of it.steps)
 
 -- what is kept of a default filter on a binary, beside a filter: nothing only where the filter
 -- doesn't ask for it

@@ -2,13 +2,13 @@ pub mod Formula
 pub mod Values
 pub mod Steps
 pub mod Waiting
-pub mod Columns
 pub mod FormulaLaws
 pub mod WorkedRows
 pub mod Query
 pub mod Filter
 pub mod Copies
 pub mod Meaning
+pub mod Questions
 pub mod Asking
 pub mod Laws
 pub mod Deciding

@@ -1,18 +1,19 @@
 // What a predicate is on a binary, and who is asked of the binary's tests.
-ghost use Rattle.std.specs.Prelude.{◌≡◌, Bool, IfOk, length};
+ghost use Rattle.std.specs.Prelude.{◌≡◌, ℕ, Bool, List, IfOk};
 ghost use Rattle.std.specs.List.{AllZip};
+ghost use Rattle.nextest_filtering_filters.specs.Filter.{leaf_at};
 ghost use Rattle.nextest_filtering_filters.specs.Formula.{AreValues};
 ghost use Rattle.nextest_filtering_filters.specs.Values.{IsSome, may_by};
-ghost use Rattle.nextest_filtering_filters.specs.Asking.{IsColumn, IsFor, IsLeafValue, values_may};
+ghost use Rattle.nextest_filtering_filters.specs.Asking.{AreAnswers, IsFor, IsLeafValue, values_may};
 ghost use Rattle.nextest_filtering_filters.specs.Meaning.{Either, MayBe, Tells};
 ghost use Rattle.nextest_filtering_filters.specs.Query.{Binary, binary_of, test_of};
+ghost use Rattle.nextest_filtering_filters.specs.Questions.{comes_to};
 ghost use Rattle.nextest_filtering_filters.specs.declared.leaf.FiltersetLeaf.{FiltersetLeaf};
-ghost use Rattle.nextest_filtering_ast.specs.Matching.{comparison_of, text_of};
-ghost use Rattle.nextest_filtering_ast.specs.Meaning.{Compares};
 
 use crate::group_lookup::GroupLookup;
 use crate::leaf::FiltersetLeaf;
 use crate::query::{BinaryQuery, TestQuery};
+use crate::questions::{Goal, Questions};
 use crate::values::Values;
 use nextest_filtering_ast::{NameMatcher, NameMatching};
 use std::alloc::{AllocError, Global};
@@ -28,25 +29,6 @@ pub(crate) enum Asked<'f> {
     Group(&'f NameMatcher),
     // Whether the default filter holds.
     Default,
-}
-
-// Whether each of some names is matched.
-fn matched(
-    alloc: Global,
-    matching: &mut NameMatching<'_>,
-    names: &[&str],
-) -> Result<Vec<bool>, AllocError>
-    ensures column { IfOk result (λ column. AllZip (λ name value.
-        Tells (Compares (comparison_of matching.old) (text_of matching.old) name.now) value)
-        names.now column.items) }
-    ensures comparison { comparison_of matching.new ≡ comparison_of matching.old }
-    ensures text { text_of matching.new ≡ text_of matching.old }
-{
-    let mut column = Vec::with_capacity(alloc, names.len())?;
-    for name in names {
-        column.push(matching.is_match(name)?)?;
-    }
-    Ok(column)
 }
 
 impl<'f> Asked<'f> {
@@ -120,25 +102,71 @@ impl<'f> Asked<'f> {
         }
     }
 
-    // Whether the predicate is so on each of some tests, whose groups nobody knows, where this is
-    // whether the default filter holds on them.
-    pub(crate) fn on_tests(
-        &mut self,
-        alloc: Global,
-        names: &[&str],
-        default: &[bool],
-    ) -> Result<Vec<bool>, AllocError>
-        requires long { length default.now ≡ length names.now }
-        ensures column { IfOk result (λ column. (binary : Binary) (leaf : FiltersetLeaf)
-            → IsFor binary leaf self.old → IsColumn binary names.now default.now leaf column) }
-        ensures stays { (binary : Binary) (leaf : FiltersetLeaf)
-            → IsFor binary leaf self.old → IsFor binary leaf self.new }
+    // Whether the predicate is so on a test of this name, whose groups nobody knows, where the
+    // default filter is `default`.
+    fn on_name(&mut self, name: &str, default: bool) -> Result<bool, AllocError>
+        ensures value { IfOk result (λ value. (binary : Binary) (leaf : FiltersetLeaf)
+            → IsFor binary leaf self.old
+            → IsLeafValue binary name.now (λ m. ⊥) default leaf value) }
+        ensures stays { (binary : Binary) (leaf : FiltersetLeaf) → IsFor binary leaf self.old
+            → IsFor binary leaf self.new }
     {
         match self {
-            Asked::Known(value) => vec![in alloc; *value; names.len()],
-            Asked::Name(matching) => matched(alloc, matching, names),
-            Asked::Group(_) => vec![in alloc; false; names.len()],
-            Asked::Default => Vec::from_slice(alloc, default),
+            Asked::Known(value) => Ok(*value),
+            Asked::Name(matching) => matching.is_match(name),
+            Asked::Group(_) => Ok(false),
+            Asked::Default => Ok(default),
         }
+    }
+}
+
+// Whether the predicate of a number is so on a test of this name, whose groups nobody knows.
+fn on_name(
+    asked: &mut [Asked<'_>],
+    leaf: usize,
+    name: &str,
+    default: bool,
+) -> Result<bool, AllocError>
+    ensures value { IfOk result (λ value. (binary : Binary) (leaves : List FiltersetLeaf)
+        → AllZip (IsFor binary) leaves asked.old
+        → IsLeafValue binary name.now (λ m. ⊥) default (leaf_at leaves leaf) value) }
+    ensures stays { (binary : Binary) (leaves : List FiltersetLeaf)
+        → AllZip (IsFor binary) leaves asked.old → AllZip (IsFor binary) leaves asked.new }
+{
+    if leaf < asked.len() {
+        asked[leaf].on_name(name, default)
+    } else {
+        Ok(false)
+    }
+}
+
+// What a formula that is asked question by question comes to on a test of this name, whose groups
+// nobody knows, where the default filter is `default`.
+pub(crate) fn answer(
+    questions: &Questions,
+    asked: &mut [Asked<'_>],
+    name: &str,
+    default: bool,
+) -> Result<bool, AllocError>
+    ensures value { IfOk result
+        (λ value. (binary : Binary) (leaves : List FiltersetLeaf) (answer : ℕ → Bool)
+        → AllZip (IsFor binary) leaves asked.old
+        → AreAnswers binary name.now default leaves answer → value ≡ comes_to answer questions.now) }
+    ensures stays { (binary : Binary) (leaves : List FiltersetLeaf)
+        → AllZip (IsFor binary) leaves asked.old → AllZip (IsFor binary) leaves asked.new }
+{
+    let mut list = questions.list.as_slice();
+    let mut goal = questions.first;
+    loop {
+        let place = match goal {
+            Goal::Value(value) => return Ok(value),
+            Goal::Question(place) => place,
+        };
+        let Some(question) = list.get(place) else {
+            return Ok(false);
+        };
+        let answer = on_name(asked, question.leaf, name, default)?;
+        goal = question.exits.of(answer);
+        list = &list[..place];
     }
 }

@@ -1,7 +1,6 @@
 // A filter on a binary and its tests.
-ghost use Rattle.std.specs.Prelude.{◌≡◌, false, Some, IfOk, IfSome, length};
+ghost use Rattle.std.specs.Prelude.{◌≡◌, false, Some, IfOk, IfSome};
 ghost use Rattle.std.specs.List.{AllZip, list_any};
-ghost use Rattle.nextest_filtering_filters.specs.Columns.{IsLong, OnEach, value_at};
 ghost use Rattle.nextest_filtering_filters.specs.Formula.{AreValues, Gives, IsValue};
 ghost use Rattle.nextest_filtering_filters.specs.Values.{IsSome};
 ghost use Rattle.nextest_filtering_ast.specs.Meaning.{MatchesName};
@@ -34,6 +33,8 @@ pub struct BinaryEvaluator<'f> {
     default: Option<Part<'f>>,
     default_filter: &'f CompiledExpr,
     binary: BinaryQuery<'f>,
+    // One of both filters asks for a test's group.
+    groups_matter: bool,
 }
 
 impl<'f> Drop for BinaryEvaluator<'f> {
@@ -43,15 +44,16 @@ impl<'f> Drop for BinaryEvaluator<'f> {
             default: _,
             default_filter: _,
             binary: _,
+            groups_matter: _,
         } = self;
     }
 }
 
 impl<'f> Model for BinaryEvaluator<'f> {
-    ghost use Rattle.std.specs.Prelude.{◌≡◌, false};
+    ghost use Rattle.std.specs.Prelude.{◌≡◌, ◌||◌, false};
     ghost use Rattle.std.specs.List.{list_any};
     ghost use Rattle.nextest_filtering_filters.specs.Asking.{Asking, IsKept};
-    ghost use Rattle.nextest_filtering_filters.specs.Filter.{is_default};
+    ghost use Rattle.nextest_filtering_filters.specs.Filter.{is_default, is_group};
     ghost use Rattle.nextest_filtering_filters.specs.Query.{binary_of};
 
     ghost Value = { Asking };
@@ -64,6 +66,8 @@ impl<'f> Model for BinaryEvaluator<'f> {
 
     ghost invariant = { λ it. (it.main.binary ≡ binary_of it.binary)
         × (list_any is_default it.default_filter.now.leaves ≡ false)
+        × (it.groups_matter ≡ (list_any is_group it.main.filter.leaves
+        || list_any is_group it.default_filter.now.leaves))
         × IsKept it.main.filter it.default_filter.now (binary_of it.binary) it.default };
 }
 
@@ -127,25 +131,18 @@ fn default_value<G: GroupLookup>(
     }
 }
 
-// Whether a default filter holds on each of some tests, whose groups nobody knows, where it is
+// Whether a default filter holds on a test of this name, whose groups nobody knows, where it is
 // asked for.
-fn default_column(
-    alloc: Global,
-    default: &mut Option<Part<'_>>,
-    names: &[&str],
-) -> Result<Vec<bool>, AllocError>
+fn default_on_name(default: &mut Option<Part<'_>>, name: &str) -> Result<bool, AllocError>
     requires none { IfSome default.old (λ part. list_any is_default part.filter.leaves ≡ false) }
-    ensures long { IfOk result (IsLong (length names.now)) }
-    ensures values { IfOk result (λ column. IfSome default.old (λ part.
-        OnEach names.now (λ place name. IsValue (Gives
-        (MayBe part.binary (λ m. Tells (MatchesName m name)) (λ m. Tells ⊥) Never)
-        (filter_of part.filter)) (Some (value_at column.items place))))) }
+    ensures value { IfOk result (λ value. IfSome default.old (λ part. IsValue (Gives
+        (MayBe part.binary (λ m. Tells (MatchesName m name.now)) (λ m. Tells ⊥) Never)
+        (filter_of part.filter)) (Some value))) }
     ensures same { default.new ≡ default.old }
 {
-    let nowhere = vec![in alloc; false; names.len()]?;
     match default {
-        Some(part) => part.on_tests(alloc, names, nowhere.as_slice()),
-        None => Ok(nowhere),
+        Some(part) => part.on_name(name, false),
+        None => Ok(false),
     }
 }
 
@@ -167,6 +164,7 @@ impl<'f> BinaryEvaluator<'f> {
             default: default_part(alloc, filter, default_filter, binary)?,
             default_filter,
             binary: *binary,
+            groups_matter: filter.has_group_matchers() || default_filter.has_group_matchers(),
         })
     }
 
@@ -196,6 +194,25 @@ impl<'f> BinaryEvaluator<'f> {
             (Some value)) }
         ensures same { self.new ≡ self.old }
     {
+        if self.groups_matter {
+            return self.matches_test_asking(test_name, groups);
+        }
+        self.matches_name(test_name)
+    }
+
+    // The same, where the groups are asked for.
+    fn matches_test_asking<G: GroupLookup>(
+        &mut self,
+        test_name: &str,
+        groups: &G,
+    ) -> Result<bool, AllocError>
+        ensures value { IfOk result (λ value. IsValue
+            (IsOn (filter_of self.old.filter) (filter_of self.old.default)
+            (record { binary = self.old.binary; name = test_name.now })
+            (G.member groups.now (record { binary = self.old.binary; name = test_name.now })))
+            (Some value)) }
+        ensures same { self.new ≡ self.old }
+    {
         let test = TestQuery {
             binary_query: self.binary,
             test_name,
@@ -204,8 +221,20 @@ impl<'f> BinaryEvaluator<'f> {
         self.main.on_test(&test, default, groups)
     }
 
-    // Whether the filter holds on each of some tests of the binary, whose groups nobody knows, by
-    // their names and in their order.
+    // Whether the filter holds on a test of the binary that has this name and whose groups nobody
+    // knows. Just those predicates are asked whose answers matter.
+    fn matches_name(&mut self, test_name: &str) -> Result<bool, AllocError>
+        ensures value { IfOk result (λ value. IsValue
+            (IsOn (filter_of self.old.filter) (filter_of self.old.default)
+            (record { binary = self.old.binary; name = test_name.now }) (λ matcher. ⊥))
+            (Some value)) }
+        ensures same { self.new ≡ self.old }
+    {
+        let default = default_on_name(&mut self.default, test_name)?;
+        self.main.on_name(test_name, default)
+    }
+
+    // The same for each of some tests, by their names and in their order.
     pub(crate) fn matches_tests(
         &mut self,
         alloc: Global,
@@ -217,7 +246,10 @@ impl<'f> BinaryEvaluator<'f> {
             names.now values.items) }
         ensures same { self.new ≡ self.old }
     {
-        let default = default_column(alloc, &mut self.default, names)?;
-        self.main.on_tests(alloc, names, default.as_slice())
+        let mut values = Vec::with_capacity(alloc, names.len())?;
+        for name in names {
+            values.push(self.matches_name(name)?)?;
+        }
+        Ok(values)
     }
 }

@@ -51,7 +51,7 @@ pub(crate) fn take_last<T>(waiting: &mut Vec<T>) -> T
 }
 
 // The values of a leaf.
-fn values_of(leaves: &[Values], leaf: usize) -> Values
+pub(crate) fn values_of(leaves: &[Values], leaf: usize) -> Values
     requires some { All IsSome leaves.now }
     ensures values { result ≡ values_at leaves.now leaf }
     ensures some { IsSome result }

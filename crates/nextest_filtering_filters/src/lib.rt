@@ -3,7 +3,6 @@
 
 mod asked;
 mod builder;
-mod columns;
 mod compiled;
 mod context;
 mod evaluator;
@@ -15,6 +14,7 @@ mod leaf;
 mod matches;
 mod part;
 mod query;
+mod questions;
 mod readable;
 mod step;
 mod values;

@@ -1,29 +1,37 @@
 // A filter on a binary, asked of the binary's tests.
-ghost use Rattle.std.specs.Prelude.{◌≡◌, Bool, List, Some, IfOk, length};
+ghost use Rattle.std.specs.Prelude.{◌≡◌, Bool, List, Some, IfOk};
 ghost use Rattle.std.specs.List.{AllZip};
-ghost use Rattle.nextest_filtering_filters.specs.Columns.{IsLong, OnEach, value_at};
 ghost use Rattle.nextest_filtering_filters.specs.Formula.{Gives, IsValue};
 ghost use Rattle.nextest_filtering_filters.specs.Values.{IsSome};
-ghost use Rattle.nextest_filtering_filters.specs.Asking.{AreOn, AreLeafValues, IsColumn, IsFor, IsLeafValue, values_may};
+ghost use Rattle.nextest_filtering_filters.specs.Asking.{AreOn, AreLeafValues, IsFor, IsLeafValue, values_may};
 ghost use Rattle.nextest_filtering_filters.specs.Filter.{filter_of};
 ghost use Rattle.nextest_filtering_filters.specs.Meaning.{Either, MayBe};
 ghost use Rattle.nextest_filtering_filters.specs.Query.{Binary, binary_of, test_of};
 ghost use Rattle.nextest_filtering_filters.specs.declared.leaf.FiltersetLeaf.{FiltersetLeaf};
 
-use crate::asked::Asked;
+use crate::asked::{Asked, answer};
 use crate::compiled::CompiledExpr;
 use crate::group_lookup::GroupLookup;
 use crate::leaf::FiltersetLeaf;
 use crate::query::{BinaryQuery, TestQuery};
+use crate::questions::Questions;
+use crate::readable::see_leaves;
 use crate::values::Values;
 use std::alloc::{AllocError, Global};
 use std::marker::Model;
+
+// What may be so and may not be.
+const EITHER: Values = Values {
+    may_hold: true,
+    may_fail: true,
+};
 
 // A filter on a binary, with what it takes to ask it of the binary's tests.
 pub(crate) struct Part<'f> {
     filter: &'f CompiledExpr,
     binary: BinaryQuery<'f>,
     asked: Vec<Asked<'f>>,
+    questions: Questions,
     values: Vec<Values>,
     waiting: Vec<Values>,
 }
@@ -34,6 +42,7 @@ impl<'f> Drop for Part<'f> {
             filter: _,
             binary: _,
             asked: _,
+            questions: _,
             values: _,
             waiting: _,
         } = self;
@@ -42,14 +51,20 @@ impl<'f> Drop for Part<'f> {
 
 impl<'f> Model for Part<'f> {
     ghost use Rattle.std.specs.List.{AllZip};
-    ghost use Rattle.nextest_filtering_filters.specs.Asking.{IsFor, PartOf};
+    ghost use Rattle.std.specs.Prelude.{All};
+    ghost use Rattle.nextest_filtering_filters.specs.Asking.{AreForAll, IsFor, PartOf};
+    ghost use Rattle.nextest_filtering_filters.specs.Deciding.{HasReadable};
     ghost use Rattle.nextest_filtering_filters.specs.Query.{binary_of};
 
     ghost Value = { PartOf };
 
     ghost view = { λ it. record { filter = it.filter.now; binary = binary_of it.binary } };
 
-    ghost invariant = { λ it. AllZip (IsFor (binary_of it.binary)) it.filter.now.leaves it.asked.items };
+    // What is asked is asked of the predicates, each of which has an answer, and the questions come to
+    // what the filter is.
+    ghost invariant = { λ it. AllZip (IsFor (binary_of it.binary)) it.filter.now.leaves it.asked.items
+        × All HasReadable it.filter.now.leaves
+        × AreForAll (binary_of it.binary) it.filter.now it.questions };
 }
 
 // What each predicate is on a binary, or asks of its tests.
@@ -125,28 +140,6 @@ fn values_on_test<G: GroupLookup>(
     Ok(())
 }
 
-// What each predicate is on each of some tests, where this is whether the default filter holds on
-// them.
-fn columns_of(
-    alloc: Global,
-    asked: &mut [Asked<'_>],
-    names: &[&str],
-    default: &[bool],
-) -> Result<Vec<Vec<bool>>, AllocError>
-    requires long { length default.now ≡ length names.now }
-    ensures columns { IfOk result (λ columns. (binary : Binary) (leaves : List FiltersetLeaf)
-        → AllZip (IsFor binary) leaves asked.old
-        → AllZip (IsColumn binary names.now default.now) leaves columns.items) }
-    ensures stays { (binary : Binary) (leaves : List FiltersetLeaf)
-        → AllZip (IsFor binary) leaves asked.old → AllZip (IsFor binary) leaves asked.new }
-{
-    let mut columns = Vec::with_capacity(alloc, asked.len())?;
-    for it in asked.iter_mut() {
-        columns.push(it.on_tests(alloc, names, default)?)?;
-    }
-    Ok(columns)
-}
-
 // The one value, where there is one.
 fn one_value(value: Option<bool>) -> bool
     ensures { (one : Bool) → value ≡ Some one → result ≡ one }
@@ -164,11 +157,17 @@ impl<'f> Part<'f> {
         ensures filter { IfOk result (λ it. it.filter ≡ filter.now) }
         ensures binary { IfOk result (λ it. it.binary ≡ binary_of binary.entry) }
     {
+        see_leaves(filter.leaves());
+        let asked = asked_of(alloc, filter.leaves(), &binary)?;
+        let mut values = Vec::new(alloc);
+        values_on_binary(asked.as_slice(), EITHER, &mut values)?;
+        let questions = filter.formula().questions(alloc, values.as_slice())?;
         Ok(Part {
             filter,
             binary,
-            asked: asked_of(alloc, filter.leaves(), &binary)?,
-            values: Vec::new(alloc),
+            asked,
+            questions,
+            values,
             waiting: Vec::new(alloc),
         })
     }
@@ -212,24 +211,14 @@ impl<'f> Part<'f> {
         Ok(one_value(value))
     }
 
-    // Whether the filter holds on each of some tests of the binary, whose groups nobody knows,
-    // where this is whether the default filter does.
-    pub(crate) fn on_tests(
-        &mut self,
-        alloc: Global,
-        names: &[&str],
-        default: &[bool],
-    ) -> Result<Vec<bool>, AllocError>
-        requires long { length default.now ≡ length names.now }
-        ensures long { IfOk result (IsLong (length names.now)) }
-        ensures values { IfOk result (λ column. OnEach names.now (λ place name. IsValue
-            (Gives (IsLeafValue self.old.binary name (λ m. ⊥) (value_at default.now place))
-            (filter_of self.old.filter)) (Some (value_at column.items place)))) }
+    // Whether the filter holds on a test of the binary that has this name and whose groups nobody
+    // knows, where the default filter is `default`.
+    pub(crate) fn on_name(&mut self, name: &str, default: bool) -> Result<bool, AllocError>
+        ensures value { IfOk result (λ value. IsValue
+            (Gives (IsLeafValue self.old.binary name.now (λ m. ⊥) default)
+            (filter_of self.old.filter)) (Some value)) }
         ensures same { self.new ≡ self.old }
     {
-        let columns = columns_of(alloc, self.asked.as_mut_slice(), names, default)?;
-        self.filter
-            .formula()
-            .column(alloc, columns.as_slice(), names.len())
+        answer(&self.questions, self.asked.as_mut_slice(), name, default)
     }
 }

@@ -8,7 +8,7 @@ use Rattle.nextest_filtering_filters.specs.Formula.{IsValue}
 use Rattle.nextest_filtering_filters.specs.Meaning.{CanBeOn, IsOn}
 use Rattle.nextest_filtering_filters.specs.Query.{Binary, binary_of}
 use Rattle.nextest_filtering_filters.proofs.Parts.{with_three}
-use Rattle.nextest_filtering_filters.proofs.TestColumns.{sure_on_tests}
+use Rattle.nextest_filtering_filters.proofs.ByName.{sure_on_tests}
 use Rattle.nextest_filtering_filters.proofs.compiled.CompiledExpr.matches_tests.Goals as goal
 
 pub returns-in-Some : goal.returns-in-Some

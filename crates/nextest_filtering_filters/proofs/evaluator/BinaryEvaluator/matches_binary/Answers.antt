@@ -11,7 +11,7 @@ use Rattle.nextest_filtering_filters.proofs.evaluator.BinaryEvaluator.matches_bi
 pub default_values-requires : goal.default_values-requires
 default_values-requires c =
     let known = c.self.invariant in
-    record { none = kept_asks_not c.self.inside.main.filter c.self.inside.default_filter.now (binary_of c.self.inside.binary) c.self.inside.default known.2 known.1 }
+    record { none = kept_asks_not c.self.inside.main.filter c.self.inside.default_filter.now (binary_of c.self.inside.binary) c.self.inside.default known.3 known.1 }
 
 pub returns-clause-value : goal.returns-clause-value
 returns-clause-value c =
@@ -23,6 +23,6 @@ returns-clause-value c =
     IfOk-weaker c.on_binary.result _ _
     (λ value is. subst (λ (it : Asking). IsValue (CanBeOn (filter_of it.filter) (filter_of it.default) it.binary) value) c.self.view_is
     (can_be main.filter default binary values
-    (kept_of main.filter default binary c.self.inside.default (λ (f : Compiled) (b : Binary). AreValues (Gives (MayBe b Either Either Never) (filter_of f)) values) known.2 c.in_ok-default.ensures.values)
+    (kept_of main.filter default binary c.self.inside.default (λ (f : Compiled) (b : Binary). AreValues (Gives (MayBe b Either Either Never) (filter_of f)) values) known.3 c.in_ok-default.ensures.values)
     value (subst (λ (b : Binary). IsValue (Gives (MayBe b Either Either (values_may values)) (filter_of main.filter)) value) known.0 is)))
     c.on_binary.ensures.value

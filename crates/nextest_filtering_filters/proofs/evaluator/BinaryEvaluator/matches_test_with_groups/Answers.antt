@@ -1,36 +1,15 @@
-use Rattle.std.proofs.Common.{Bool, Some, subst}
+use Rattle.std.proofs.Common.{◌≡◌, ◌||◌, subst}
+use Rattle.std.specs.List.{list_any}
 use Rattle.std.proofs.lemmas.Result.{IfOk-weaker}
-use Rattle.nextest_filtering_filters.specs.Formula.{Gives, IsValue}
-use Rattle.nextest_filtering_ast.specs.Meaning.{MatchesName}
-use Rattle.nextest_filtering_ast.specs.Tree.{Matcher}
-use Rattle.nextest_filtering_filters.specs.Asking.{Asking, IsLeafValue}
-use Rattle.nextest_filtering_filters.specs.Filter.{Compiled, filter_of}
-use Rattle.nextest_filtering_filters.specs.Meaning.{IsOn, MayBe, Never, Tells}
-use Rattle.nextest_filtering_filters.specs.Query.{Binary, Test, binary_of}
-use Rattle.nextest_filtering_filters.proofs.Parts.{is_on, kept_asks_not, kept_of}
+use Rattle.nextest_filtering_filters.specs.Asking.{Asking}
+use Rattle.nextest_filtering_filters.specs.Filter.{is_group}
+use Rattle.nextest_filtering_filters.proofs.ByName.{with_groups}
 use Rattle.nextest_filtering_filters.proofs.evaluator.BinaryEvaluator.matches_test_with_groups.Goals as goal
-
-pub default_value-requires : goal.default_value-requires
-default_value-requires g c =
-    let known = c.self.invariant in
-    record { none = kept_asks_not c.self.inside.main.filter c.self.inside.default_filter.now (binary_of c.self.inside.binary) c.self.inside.default known.2 known.1 }
 
 pub returns-clause-value : goal.returns-clause-value
 returns-clause-value g c =
-    let main = c.self.inside.main in
-    let default = c.self.inside.default_filter.now in
-    let known = c.self.invariant in
+    let it = c.args.self.now in
     let name = c.args.test_name.now in
-    let test : Test = record { binary = binary_of c.self.inside.binary; name = name } in
-    let Member = g.G.GroupLookup.member c.args.groups.now test in
-    let Name : Matcher → Bool → Type 0 = λ m. Tells (MatchesName m name) in
-    let Group : Matcher → Bool → Type 0 = λ m. Tells (Member m) in
-    let one = c.in_ok-default.default in
-    IfOk-weaker c.on_test.result _ _
-    (λ value is. subst
-    (λ (it : Asking). IsValue (IsOn (filter_of it.filter) (filter_of it.default) (record { binary = it.binary; name = name }) (g.G.GroupLookup.member c.args.groups.now (record { binary = it.binary; name = name }))) (Some value))
-    c.self.view_is
-    (is_on main.filter default test Member one
-    (kept_of main.filter default test.binary c.self.inside.default (λ (f : Compiled) (b : Binary). IsValue (Gives (MayBe b Name Group Never) (filter_of f)) (Some one)) known.2 c.in_ok-default.ensures.value)
-    (Some value) (subst (λ (b : Binary). IsValue (Gives (IsLeafValue b name Member one) (filter_of main.filter)) (Some value)) known.0 is)))
-    c.on_test.ensures.value
+    let matters = subst (λ (known : Asking). c.self.inside.groups_matter ≡ (list_any is_group known.filter.leaves || list_any is_group known.default.leaves)) c.self.view_is c.self.invariant.2 in
+    IfOk-weaker c.matches_name.result _ _
+    (λ value is. with_groups it name (g.G.GroupLookup.member c.args.groups.now (record { binary = it.binary; name = name })) c.self.inside.groups_matter value matters c.if-self.false is) c.matches_name.ensures.value
