@@ -15,20 +15,25 @@ import time
 
 ROOT = pathlib.Path(__file__).resolve().parent.parent
 LINE = (
-    "time_load: nextest_config_resolution_load nextest_config_resolution_profiles nextest_config_resolution_sources"
-    " nextest_config_elements_identifiers nextest_text toml anyhow\n"
+    "time_load: nextest_config_resolution_profiles nextest_config_resolution_load nextest_config_resolution_sources"
+    " nextest_config_elements_versions nextest_config_elements_identifiers nextest_filtering_compiling nextest_filtering_graph"
+    " test_runner_core_platforms nextest_text toml anyhow\n"
 )
 PROGRAM = """//! Reads three files as TOML, or loads them one over the other.
 #![tactic(auto)]
 
 use anyhow::Result;
 use nextest_config_elements_identifiers::{ConfigSourceKind, ToolName};
-use nextest_config_resolution_profiles::built_in;
-use nextest_config_resolution_load::{LoadError, load};
+use nextest_config_elements_versions::FeatureSet;
+use nextest_config_resolution_load::LoadError;
+use nextest_config_resolution_profiles::NextestConfig;
 use nextest_config_resolution_sources::{ConfigSource, ConfigSourceOutcome};
+use nextest_filtering_compiling::{Filterset, ParseContext};
+use nextest_filtering_graph::PackageGraph;
 use nextest_text::Text;
 use std::fs;
 use std::process::ExitCode;
+use test_runner_core_platforms::PlatformSpec;
 
 fn main(rt: HostRuntime) -> Result<ExitCode> {
     let alloc = rt.alloc();
@@ -48,9 +53,10 @@ fn main(rt: HostRuntime) -> Result<ExitCode> {
         }
     }
     if mode.as_str() == "load" {
-        let base = built_in(alloc)?;
-        match load(alloc, &base, sources.as_slice()) {
-            Ok(config) => println!(rt; "profiles {}", config.profiles.len())?,
+        let cx = ParseContext::new(alloc, PackageGraph::new(alloc, &[], &[])?)?;
+        let features = FeatureSet::default();
+        match NextestConfig::<Filterset, PlatformSpec>::from_sources(alloc, "/", &cx, sources.as_slice(), features) {
+            Ok(_) => println!(rt; "loaded")?,
             Err(LoadError::Refused(fault)) => println!(rt; "refused {fault}")?,
             Err(LoadError::OutOfMemory) => println!(rt; "memory")?,
         }

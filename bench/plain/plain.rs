@@ -9,7 +9,7 @@ use std::collections::HashMap;
 use std::io::{self, BufRead, Read, Write};
 
 mod rules;
-use rules::{is_selected, needs_script, settings_of, Rule, Settings, RULES};
+use rules::{is_listed, is_selected, needs_script, settings_of, Rule, Settings, RULES};
 
 // ---- the JSON inputs
 
@@ -297,6 +297,8 @@ struct Plan<'a> {
     tests: Vec<Test<'a>>,
     // Of each test, in the order of the lists. Where no rules are in force there are none.
     settings: Vec<Settings>,
+    // How many tests of binaries that are listed are left out.
+    skipped: usize,
     has_script: bool,
 }
 
@@ -317,6 +319,10 @@ impl<'a> Plan<'a> {
         let (mut ranked, mut plan) = (Vec::new(), Plan::default());
         for it in binaries {
             let binary = rules::Binary { id: &it.id, name: &it.name, package: &it.package, kind: &it.kind, platform: &it.platform };
+            if !is_listed(&binary) {
+                continue;
+            }
+            plan.skipped += it.tests.len();
             for name in it.tests.iter().filter(|name| is_selected(&binary, name)) {
                 let settings = settings_of(rules, &binary, name);
                 plan.has_script = plan.has_script || needs_script(&binary, name);
@@ -324,6 +330,7 @@ impl<'a> Plan<'a> {
                 plan.settings.push(settings);
             }
         }
+        plan.skipped -= ranked.len();
         ranked.sort_by(|a, b| b.0.cmp(&a.0).then_with(|| a.1.cmp(b.1)).then_with(|| a.2.cmp(b.2)));
         plan.tests = ranked.into_iter().map(|(_, binary, name, tries)| Test::new(binary, name, tries)).collect();
         plan
@@ -389,6 +396,7 @@ fn weight(reason: &str) -> usize {
 struct Run<'a> {
     tests: Vec<Test<'a>>,
     places: HashMap<&'a str, HashMap<&'a str, usize>>,
+    skipped: usize,
     has_script: bool,
     is_limited: bool,
     reason: &'static str,
@@ -523,7 +531,7 @@ impl<'a> Run<'a> {
             ("leaky", count(&|it, _, _| it == LeakPass)),
             ("leaky-failed", count(&|it, _, _| it == LeakFail)),
             ("exec-failed", count(&|it, _, _| it == ExecFail)),
-            ("skipped", 0),
+            ("skipped", self.skipped),
         ];
         let failing = count(&|it, _, _| !it.is_success());
         let status = match initial {
@@ -622,12 +630,12 @@ fn main() -> io::Result<()> {
     let mut line = Vec::new();
     input.read_until(b'\n', &mut line)?;
     let Inputs { binaries, settings } = Json { text: &line, at: 0 }.inputs();
-    let Plan { tests, settings: _kept, has_script } = Plan::new(&binaries, &settings);
+    let Plan { tests, settings: _kept, skipped, has_script } = Plan::new(&binaries, &settings);
     let mut places: HashMap<&str, HashMap<&str, usize>> = HashMap::new();
     for (place, test) in tests.iter().enumerate() {
         places.entry(test.binary).or_default().insert(test.name, place);
     }
-    let mut run = Run { tests, places, has_script, is_limited: !settings.contains("fail-fast = false"), reason: "", report: Vec::new() };
+    let mut run = Run { tests, places, skipped, has_script, is_limited: !settings.contains("fail-fast = false"), reason: "", report: Vec::new() };
     let mut output = io::stdout().lock();
     let (mut number, mut status) = (0u64, None);
     let mut text = Vec::new();

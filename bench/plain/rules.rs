@@ -313,21 +313,18 @@ pub fn settings_of(rules: &[Rule], binary: &Binary<'_>, name: &str) -> Settings 
 
 // ---- what is in force beside the rules, in bench/compare.py
 
-// `(test(~a) | test(/x\d+$/)) & !test(#*slow*{_b\,_c}) & (package(p*) | deps(=q))`
-fn is_asked_for(binary: &Binary<'_>, name: &str) -> bool {
+// The filterset `(test(~a) | test(/x\d+$/)) & !test(#*slow*{_b\,_c}) & (package(p*) | deps(=q))` and the default filter
+// `not (kind(example) & test(~codec))`. Whether some test of a binary may be one on which both hold.
+pub fn is_listed(binary: &Binary<'_>) -> bool {
+    binary.package.starts_with('p') || is_reached_from_q(binary.package)
+}
+
+// Whether both hold on a test of a binary that is listed.
+pub fn is_selected(binary: &Binary<'_>, name: &str) -> bool {
     let is_numbered = |it: &str| digits(it) > 0 && digits(it) == it.len();
     let is_named = || name.contains('a') || is_match!(name, r"x\d+$", followed(name, "x", is_numbered));
     let is_left_out = || ["_b", "_c"].iter().any(|it| is_between_and_at_end(name, "slow", it));
-    (binary.package.starts_with('p') || is_reached_from_q(binary.package)) && is_named() && !is_left_out()
-}
-
-// The default filter `not (kind(example) & test(~codec))`.
-fn is_left_by_default(binary: &Binary<'_>, name: &str) -> bool {
-    !(binary.kind == "example" && name.contains("codec"))
-}
-
-pub fn is_selected(binary: &Binary<'_>, name: &str) -> bool {
-    is_asked_for(binary, name) && is_left_by_default(binary, name)
+    is_named() && !is_left_out() && !(binary.kind == "example" && name.contains("codec"))
 }
 
 // `test(~writer) & package(p2*)`
