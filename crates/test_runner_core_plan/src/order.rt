@@ -18,6 +18,10 @@ pub fn in_order(mut tests: Vec<PlanTest>) -> Listing<PlanTest>
     if stand_in_order(tests.as_slice()) {
         return Listing::from(tests);
     }
+    sort_by_priority(&mut tests);
+    if stand_in_order(tests.as_slice()) {
+        return Listing::from(tests);
+    }
     sort_by_keys(&mut tests);
     if stand_in_order(tests.as_slice()) {
         return Listing::from(tests);
@@ -28,6 +32,28 @@ pub fn in_order(mut tests: Vec<PlanTest>) -> Listing<PlanTest>
         { compare(one, other) },
     );
     Listing::from(tests)
+}
+
+// Puts tests in the order of their priorities, and leaves those of one priority in their order. So
+// they are in the order of a plan then where they were listed by their binary ids and names. Where
+// there is no memory, all stay as they were.
+fn sort_by_priority(tests: &mut Vec<PlanTest>)
+    ensures { IsPermutation tests.old.items tests.new.items }
+{
+    if have_one_priority(tests.as_slice()) {
+        return;
+    }
+    let _ = tests.sort_by_cached_key(|test: &PlanTest| test.settings.priority);
+}
+
+// Whether tests all have the priority of the first.
+fn have_one_priority(tests: &[PlanTest]) -> bool {
+    let Some(first) = tests.first() else {
+        return true;
+    };
+    tests
+        .iter()
+        .all(|test| test.settings.priority == first.settings.priority)
 }
 
 // Puts tests in the order of their keys, and leaves those of one key in their order. So mostly they
