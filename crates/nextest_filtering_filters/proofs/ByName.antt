@@ -1,15 +1,15 @@
--- Filters that are asked question by question, and what is sure of a binary.
-use Rattle.std.proofs.Common.{◌≡◌, ◌<◌, ◌≤◌, ℕ, zero, suc, Bool, true, false, not, ◌||◌, List, [], ◌∷◌, length, replicate, Some, Bor, refl, sym, ◌∙◌, subst, get_or, arith}
+-- Filters that are asked question by question.
+use Rattle.std.proofs.Common.{◌≡◌, ◌<◌, ◌≤◌, ℕ, zero, suc, Bool, true, false, not, ◌||◌, List, [], ◌∷◌, length, Some, refl, sym, ◌∙◌, subst, get_or, arith}
 use Rattle.std.specs.Prelude.{⊤}
 use Rattle.std.specs.List.{All, AllZip, list_any}
 use Rattle.std.proofs.lemmas.List.Elements.{All-head, All-tail}
 use Rattle.nextest_filtering_ast.specs.Meaning.{MatchesName}
 use Rattle.nextest_filtering_ast.specs.Tree.{Matcher}
-use Rattle.nextest_filtering_filters.specs.Asking.{Asking, AreAnswers, AreForAll, AreOn, IsLeafValue, values_may}
-use Rattle.nextest_filtering_filters.specs.Deciding.{AllLeaves, HasReadable}
-use Rattle.nextest_filtering_filters.specs.Filter.{Compiled, filter_of, is_default, is_group, leaf_at}
-use Rattle.nextest_filtering_filters.specs.Formula.{Formula, Gives, IsValue, both, either, leaf, negated, with_leaves}
-use Rattle.nextest_filtering_filters.specs.Meaning.{CanBeOn, Either, IsOn, MayBe, Tells}
+use Rattle.nextest_filtering_filters.specs.Asking.{Asking, AreAnswers, AreQuestionsOf, AreOn, IsLeafValue, values_may}
+use Rattle.nextest_filtering_filters.specs.Deciding.{HasReadable}
+use Rattle.nextest_filtering_filters.specs.Filter.{Compiled, filter_of, is_group, leaf_at}
+use Rattle.nextest_filtering_filters.specs.Formula.{Gives, IsValue}
+use Rattle.nextest_filtering_filters.specs.Meaning.{Either, IsOn, MayBe, Tells}
 use Rattle.nextest_filtering_filters.specs.Query.{Binary, Test}
 use Rattle.nextest_filtering_filters.specs.Questions.{comes_to, holds_by}
 use Rattle.nextest_filtering_filters.specs.Steps.{formula_of}
@@ -20,12 +20,11 @@ use Rattle.nextest_filtering_filters.specs.declared.leaf.FiltersetLeaf.TheVarian
 use Rattle.nextest_filtering_filters.specs.declared.questions.Questions.{Questions}
 use Rattle.nextest_filtering_filters.specs.declared.step.FormulaStep.{FormulaStep}
 use Rattle.nextest_filtering_filters.specs.declared.values.Values.{Values}
-use Rattle.nextest_filtering_filters.proofs.Deciding.{decided_on_test, not_itself, some_told}
+use Rattle.nextest_filtering_filters.proofs.Deciding.{not_itself, some_told}
 use Rattle.nextest_filtering_filters.proofs.Giving.{gives_with}
-use Rattle.nextest_filtering_filters.proofs.Lists.{zip_same}
-use Rattle.nextest_filtering_filters.proofs.Parts.{is_value_same, may_back, may_less, may_one, none_at, nowhere_false, place_values, tells_one, told_one}
+use Rattle.nextest_filtering_filters.proofs.Parts.{is_value_same, may_back, may_less, may_one, nowhere_false, place_values, tells_one, told_one}
 use Rattle.nextest_filtering_filters.proofs.StepsBack.{gives_by}
-use Rattle.nextest_filtering_filters.proofs.Sure.{may_wider, same_without_lookup, sure_of_tests}
+use Rattle.nextest_filtering_filters.proofs.Sure.{may_wider, same_without_lookup}
 
 -- what holds of each predicate holds at each place
 at_place : (P : FiltersetLeaf → Type 0) → P predicate.None → (leaves : List FiltersetLeaf) → All P leaves → (place : ℕ) → P (leaf_at leaves place)
@@ -61,7 +60,7 @@ answers binary name default leaves readable number =
     some_told binary name (λ m. ⊥) (λ m plain. (false, ((λ is. absurd cc), (λ has. absurd has)))) (λ other. other ≡ default) (leaf_at leaves number) (at_place HasReadable tt leaves readable number) (λ is. (default, refl))
 
 -- what the questions come to is what the filter is
-pub on_name : (it : Compiled) (binary : Binary) (name : List ℕ) (default : Bool) (questions : Questions) (value : Bool) → All HasReadable it.leaves → AreForAll binary it questions
+pub on_name : (it : Compiled) (binary : Binary) (name : List ℕ) (default : Bool) (questions : Questions) (value : Bool) → All HasReadable it.leaves → AreQuestionsOf binary it questions
     → ((answer : ℕ → Bool) → AreAnswers binary name default it.leaves answer → value ≡ comes_to answer questions)
     → IsValue (Gives (IsLeafValue binary name (λ m. ⊥) default) (filter_of it)) (Some value)
 on_name it binary name default questions value readable for_all told =
@@ -102,7 +101,7 @@ any false = refl
 pub for_all : (it : Compiled) (binary : Binary) (default : Values) (values lent : List Values) (steps : List FormulaStep) (questions : Questions) → default ≡ record { may_hold = true; may_fail = true } → AllZip (AreOn binary default) it.leaves values
     → lent ≡ values → steps ≡ it.steps
     → ((answer : ℕ → Bool) → ((number : ℕ) → may_by (values_at lent) number (answer number)) → comes_to answer questions ≡ holds_by answer (formula_of steps))
-    → AreForAll binary it questions
+    → AreQuestionsOf binary it questions
 for_all it binary default values lent steps questions is all same steps_are told answer may =
     let at = leaf_at it.leaves in
     let Can = MayBe binary Either Either (values_may default) in
@@ -111,35 +110,3 @@ for_all it binary default values lent steps questions is all same steps_are told
     let by_values = λ (number : ℕ). subst (λ (l : List Values). may_by (values_at l) number (answer number)) (sym same)
     (may_back (Can (at number)) (values_at values) number (exact number) (answer number) (may_less binary Either Either (λ (v : Bool). ⊤) (values_may default) (at number) (answer number) (λ asked so. there (answer number)) (may number))) in
     subst (λ (l : List FormulaStep). comes_to answer questions ≡ holds_by answer (formula_of l)) steps_are (told answer by_values)
-
--- ---- what is sure of a binary
-
-all_leaves : (P : FiltersetLeaf → Type 0) → P predicate.None → (leaves : List FiltersetLeaf) → All P leaves → (formula : Formula ℕ) → AllLeaves P (with_leaves (leaf_at leaves) formula)
-all_leaves P none leaves all (leaf place) = at_place P none leaves all place
-all_leaves P none leaves all (negated inside) = all_leaves P none leaves all inside
-all_leaves P none leaves all (either left right) = (all_leaves P none leaves all left, all_leaves P none leaves all right)
-all_leaves P none leaves all (both left right) = (all_leaves P none leaves all left, all_leaves P none leaves all right)
-
-without : (leaves : List FiltersetLeaf) → list_any is_default leaves ≡ false → (formula : Formula ℕ) → AllLeaves (λ it. is_default it ≡ false) (with_leaves (leaf_at leaves) formula)
-without leaves none (leaf place) = none_at is_default refl leaves place none
-without leaves none (negated inside) = without leaves none inside
-without leaves none (either left right) = (without leaves none left, without leaves none right)
-without leaves none (both left right) = (without leaves none left, without leaves none right)
-
--- it is so on each test
-pub sure_on_test : (filter default : Compiled) → All HasReadable filter.leaves → All HasReadable default.leaves → list_any is_default default.leaves ≡ false → (test : Test) (value : Bool)
-    → IsValue (CanBeOn (filter_of filter) (filter_of default) test.binary) (Some value) → IsValue (IsOn (filter_of filter) (filter_of default) test (λ matcher. ⊥)) (Some value)
-sure_on_test filter default readable default_readable none test value sure =
-    let one = sure_of_tests (λ (groups : Bool) (t : Test) (m : Matcher). ⊥) true (filter_of filter) (filter_of default) test value in
-    let found = decided_on_test filter default (all_leaves HasReadable tt filter.leaves readable (formula_of filter.steps)) (all_leaves HasReadable tt default.leaves default_readable (formula_of default.steps))
-    (without default.leaves none (formula_of default.steps)) test (λ matcher. ⊥) (λ m readable. (false, ((λ is. absurd cc), (λ has. absurd has)))) in (
-      subst (IsOn (filter_of filter) (filter_of default) test (λ matcher. ⊥)) (one found.0 sure found.1) found.1,
-      λ other. not_itself value (sym (one (not value) sure other)),
-    )
-
-pub sure_on_tests : (filter default : Compiled) (binary : Binary) → All HasReadable filter.leaves → All HasReadable default.leaves → list_any is_default default.leaves ≡ false → (value : Bool)
-    → IsValue (CanBeOn (filter_of filter) (filter_of default) binary) (Some value) → (names : List (Bor (List ℕ))) (column : List Bool) → column ≡ replicate (length names) value
-    → AllZip (λ name b. IsValue (IsOn (filter_of filter) (filter_of default) (record { binary = binary; name = name.now }) (λ matcher. ⊥)) (Some b)) names column
-sure_on_tests filter default binary readable default_readable none value sure names column is =
-    zip_same (λ (name : Bor (List ℕ)) b. IsValue (IsOn (filter_of filter) (filter_of default) (record { binary = binary; name = name.now }) (λ matcher. ⊥)) (Some b)) names column value is
-    (λ name. sure_on_test filter default readable default_readable none (record { binary = binary; name = name.now }) value sure)

@@ -1,10 +1,21 @@
 -- The worked rows.
-use Rattle.std.proofs.Common.{inl, inr, refl}
+use Rattle.std.proofs.Common.{◌≡◌, Bool, true, false, not, ◌||◌, inl, inr, refl}
 use Rattle.nextest_filtering_filters.specs.Formula.{Gives, leaf, negated, either, both}
+use Rattle.nextest_filtering_filters.specs.Questions.{at_next, outcomes}
+use Rattle.nextest_filtering_filters.specs.declared.questions.Next.TheVariants as to
 use Rattle.nextest_filtering_filters.specs.Values.{may_by, nowhere, both_values, either_values, negated_values}
 use Rattle.nextest_filtering_filters.specs.Waiting.{AreOf}
-use Rattle.nextest_filtering_filters.specs.WorkedRows.{WorkedRows, everywhere, values_of_leaf, unknown}
+use Rattle.nextest_filtering_filters.specs.WorkedRows.{WorkedRows, answer_of, everywhere, not_a_or_b, values_of_leaf, unknown}
 use Rattle.nextest_filtering_filters.proofs.Giving.{is_value, may_exactly, leaf_values, values_both, values_either, values_negated}
+
+-- by what leaf 0 is
+asked_first : (a b : Bool) → at_next (outcomes (answer_of a b) not_a_or_b) (to.Question 1) ≡ (not a || b)
+asked_first true b = by_second b
+  where
+    by_second : (b : Bool) → at_next (outcomes (answer_of true b) not_a_or_b) (to.Question 1) ≡ b
+    by_second true = refl
+    by_second false = refl
+asked_first false b = refl
 
 test_a : AreOf (may_by values_of_leaf) (leaf 0) unknown
 test_a = leaf_values (may_by values_of_leaf) 0 unknown (may_exactly values_of_leaf 0) (inl refl)
@@ -28,5 +39,6 @@ worked_rows =
       and_none = is_value (Gives may (both (leaf 0) (leaf 2))) (both_values unknown nowhere) and_none.0 and_none.1;
       alone = is_value (Gives may (leaf 0)) unknown test_a.0 test_a.1;
       not_both = is_value (Gives may (negated (both (leaf 0) (leaf 0)))) (negated_values (both_values unknown unknown)) not_both.0 not_both.1;
+      asked = asked_first;
       or_not = is_value (Gives may (either (leaf 0) (negated (leaf 0)))) (either_values unknown (negated_values unknown)) or_not.0 or_not.1;
     }

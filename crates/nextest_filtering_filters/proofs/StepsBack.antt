@@ -6,12 +6,13 @@ use Rattle.std.proofs.lemmas.List.{reverse-append}
 use Rattle.std.proofs.lemmas.Option.{slice_get_read}
 use Rattle.std.proofs.lemmas.List.Elements.{All-head, All-nil, All-pop, All-push, All-tail}
 use Rattle.nextest_filtering_filters.specs.Formula.{Formula, Gives, both, both_gives, either, either_gives, leaf, leaf_gives, negated, negated_gives}
-use Rattle.nextest_filtering_filters.specs.Questions.{AreWithin, IsPendingWithin, IsWithin, Keeps, at_exits, at_goal, at_pending, exit_of, exits_of, holds_by, outcomes, outcomes_behind, reach}
+use Rattle.nextest_filtering_filters.specs.Making.{AreWithin, IsPendingWithin, IsWithin, Keeps, at_pending, exits_of, reach}
+use Rattle.nextest_filtering_filters.specs.Questions.{at_exits, at_next, exit_of, holds_by, outcomes, outcomes_behind}
 use Rattle.nextest_filtering_filters.specs.Steps.{after, after_step, and_then}
 use Rattle.nextest_filtering_filters.specs.Values.{may_by, one_value, values_at}
 use Rattle.nextest_filtering_filters.specs.declared.questions.Exits.{Exits}
-use Rattle.nextest_filtering_filters.specs.declared.questions.Goal.{Goal}
-use Rattle.nextest_filtering_filters.specs.declared.questions.Goal.TheVariants as goal
+use Rattle.nextest_filtering_filters.specs.declared.questions.Next.{Next}
+use Rattle.nextest_filtering_filters.specs.declared.questions.Next.TheVariants as to
 use Rattle.nextest_filtering_filters.specs.declared.questions.Pending.{Pending}
 use Rattle.nextest_filtering_filters.specs.declared.questions.Pending.TheVariants as pending
 use Rattle.nextest_filtering_filters.specs.declared.questions.Question.{Question}
@@ -99,19 +100,19 @@ asked_nowhere answer list place beyond = past (outcomes answer list) place (omeg
 
 -- ---- behind more questions
 
-goal_same : (come rest : List Bool) (it : Goal) → IsWithin (length come) it → at_goal (come ++ rest) it ≡ at_goal come it
-goal_same come rest (goal.Value value) within = refl
-goal_same come rest (goal.Question place) within = in_front come rest place within
+next_same : (come rest : List Bool) (it : Next) → IsWithin (length come) it → at_next (come ++ rest) it ≡ at_next come it
+next_same come rest (to.Value value) within = refl
+next_same come rest (to.Question place) within = in_front come rest place within
 
 exits_same : (come rest : List Bool) (exits : Exits) (holds : Bool) → AreWithin (length come) exits → at_exits (come ++ rest) exits holds ≡ at_exits come exits holds
-exits_same come rest exits true within = goal_same come rest exits.if_true within.0
-exits_same come rest exits false within = goal_same come rest exits.if_false within.1
+exits_same come rest exits true within = next_same come rest exits.if_true within.0
+exits_same come rest exits false within = next_same come rest exits.if_false within.1
 
 pending_same : (come rest : List Bool) (last : Bool) (it : Pending) (holds : Bool) → IsPendingWithin (length come) it → at_pending (come ++ rest) last it holds ≡ at_pending come last it holds
 pending_same come rest last (pending.Exits exits) holds within = exits_same come rest exits holds within
 pending_same come rest last (pending.Both if_false) true within = refl
-pending_same come rest last (pending.Both if_false) false within = goal_same come rest if_false within
-pending_same come rest last (pending.Either if_true) true within = goal_same come rest if_true within
+pending_same come rest last (pending.Both if_false) false within = next_same come rest if_false within
+pending_same come rest last (pending.Either if_true) true within = next_same come rest if_true within
 pending_same come rest last (pending.Either if_true) false within = refl
 
 -- each of them is within, one after another
@@ -147,7 +148,7 @@ empty : (all : List Pending) → length all ≡ 0 → all ≡ []
 empty [] none = refl
 empty (it ∷ all) none = absurd (omega (arith, none))
 
-at_taken : (come : List Bool) (last : Goal) (it : Pending) (holds : Bool) → at_pending come (at_goal come last) it holds ≡ at_exits come (exits_of last (Some it)) holds
+at_taken : (come : List Bool) (last : Next) (it : Pending) (holds : Bool) → at_pending come (at_next come last) it holds ≡ at_exits come (exits_of last (Some it)) holds
 at_taken come last (pending.Exits exits) holds = refl
 at_taken come last (pending.Both if_false) true = refl
 at_taken come last (pending.Both if_false) false = refl
@@ -155,17 +156,17 @@ at_taken come last (pending.Either if_true) true = refl
 at_taken come last (pending.Either if_true) false = refl
 
 -- the last of what is pending is taken off
-reach_taken : (answer : ℕ → Bool) (come : List Bool) (before after : List Pending) (popped : Option Pending) (last : Goal) (next : Formula ℕ) (formulas : List (Formula ℕ)) → before ≡ after ++ option_to_list popped
+reach_taken : (answer : ℕ → Bool) (come : List Bool) (before after : List Pending) (popped : Option Pending) (last : Next) (next : Formula ℕ) (formulas : List (Formula ℕ)) → before ≡ after ++ option_to_list popped
     → (popped ≡ None → length before ≡ 0)
-    → reach answer come (reverse before) (at_goal come last) (next ∷ formulas) ≡ reach answer come (reverse after) (at_exits come (exits_of last popped) (holds_by answer next)) formulas
+    → reach answer come (reverse before) (at_next come last) (next ∷ formulas) ≡ reach answer come (reverse after) (at_exits come (exits_of last popped) (holds_by answer next)) formulas
 reach_taken answer come before after None last next formulas is none =
-    let value = at_goal come last in
+    let value = at_next come last in
     let nothing = none refl in
     let left : length after ≡ 0 = omega (arith, nothing, ap length is, length-append after []) in
-    ap (λ (l : List Pending). reach answer come (reverse l) value (next ∷ formulas)) (empty before nothing) ∙ ap (at_goal come) (sym (if_one (holds_by answer next) last))
+    ap (λ (l : List Pending). reach answer come (reverse l) value (next ∷ formulas)) (empty before nothing) ∙ ap (at_next come) (sym (if_one (holds_by answer next) last))
     ∙ sym (ap (λ (l : List Pending). reach answer come (reverse l) (at_exits come (exits_of last None) (holds_by answer next)) formulas) (empty after left))
 reach_taken answer come before after (Some it) last next formulas is none =
-    ap (λ (l : List Pending). reach answer come l (at_goal come last) (next ∷ formulas)) (ap reverse is ∙ reverse-append after (it ∷ []))
+    ap (λ (l : List Pending). reach answer come l (at_next come last) (next ∷ formulas)) (ap reverse is ∙ reverse-append after (it ∷ []))
     ∙ ap (λ (value : Bool). reach answer come (reverse after) value formulas) (at_taken come last it (holds_by answer next))
 
 -- the exits where nothing is so, and where two are pending
@@ -173,11 +174,11 @@ turned : (come : List Bool) (exits : Exits) (holds : Bool) → at_exits come (re
 turned come exits true = refl
 turned come exits false = refl
 
-both_of : (come : List Bool) (exits : Exits) (left right : Bool) → (if left then at_exits come exits right else at_goal come exits.if_false) ≡ at_exits come exits (left && right)
+both_of : (come : List Bool) (exits : Exits) (left right : Bool) → (if left then at_exits come exits right else at_next come exits.if_false) ≡ at_exits come exits (left && right)
 both_of come exits true right = refl
 both_of come exits false right = refl
 
-either_of : (come : List Bool) (exits : Exits) (left right : Bool) → (if left then at_goal come exits.if_true else at_exits come exits right) ≡ at_exits come exits (left || right)
+either_of : (come : List Bool) (exits : Exits) (left right : Bool) → (if left then at_next come exits.if_true else at_exits come exits right) ≡ at_exits come exits (left || right)
 either_of come exits true right = refl
 either_of come exits false right = refl
 
@@ -186,64 +187,64 @@ abbrev pub Reaches : (ℕ → Bool) → List Bool → List Bool → List Pending
 Reaches answer come later before after last value it =
     (formulas next : List (Formula ℕ)) → after_step it formulas ≡ Some next → reach answer later (reverse after) value formulas ≡ reach answer come (reverse before) last next
 
-module _ (answer : ℕ → Bool) (come : List Bool) (before middle : List Pending) (popped : Option Pending) (last : Goal) (is : before ≡ middle ++ option_to_list popped) (none : popped ≡ None → length before ≡ 0) where
+module _ (answer : ℕ → Bool) (come : List Bool) (before middle : List Pending) (popped : Option Pending) (last : Next) (is : before ≡ middle ++ option_to_list popped) (none : popped ≡ None → length before ≡ 0) where
   abbrev exits : Exits
   exits = exits_of last popped
 
   pub back_leaf : (rest : List Bool) (number : ℕ) (value : Bool) → All (IsPendingWithin (length come)) middle → value ≡ at_exits come exits (answer number)
-      → Reaches answer come (come ++ rest) before middle (at_goal come last) value (step.Leaf number)
+      → Reaches answer come (come ++ rest) before middle (at_next come last) value (step.Leaf number)
   back_leaf rest number value within same formulas next made =
       let front : leaf number ∷ formulas ≡ next = cc in
       reach_same answer come rest (reverse middle) value formulas (each_turned (length come) middle within)
       ∙ ap (λ (v : Bool). reach answer come (reverse middle) v formulas) same
       ∙ sym (reach_taken answer come before middle popped last (leaf number) formulas is none)
-      ∙ ap (reach answer come (reverse before) (at_goal come last)) front
+      ∙ ap (reach answer come (reverse before) (at_next come last)) front
 
   pub back_not : (after : List Pending) → after ≡ middle ++ pending.Exits (record { if_true = exits.if_false; if_false = exits.if_true }) ∷ []
-      → Reaches answer come come before after (at_goal come last) (at_goal come last) step.Not
+      → Reaches answer come come before after (at_next come last) (at_next come last) step.Not
   back_not after pushed [] next made = cc
   back_not after pushed (inside ∷ formulas) next made =
       let front : negated inside ∷ formulas ≡ next = cc in
       let top = pending.Exits (record { if_true = exits.if_false; if_false = exits.if_true }) in
-      ap (λ (l : List Pending). reach answer come l (at_goal come last) (inside ∷ formulas)) (ap reverse pushed ∙ reverse-append middle (top ∷ []))
+      ap (λ (l : List Pending). reach answer come l (at_next come last) (inside ∷ formulas)) (ap reverse pushed ∙ reverse-append middle (top ∷ []))
       ∙ ap (λ (v : Bool). reach answer come (reverse middle) v formulas) (turned come exits (holds_by answer inside))
       ∙ sym (reach_taken answer come before middle popped last (negated inside) formulas is none)
-      ∙ ap (reach answer come (reverse before) (at_goal come last)) front
+      ∙ ap (reach answer come (reverse before) (at_next come last)) front
 
   two_more : (one other : Pending) (between after : List Pending) → between ≡ middle ++ one ∷ [] → after ≡ between ++ other ∷ [] → reverse after ≡ other ∷ one ∷ reverse middle
   two_more one other between after first second =
       ap reverse second ∙ reverse-append between (other ∷ []) ∙ ap (λ (l : List Pending). other ∷ l) (ap reverse first ∙ reverse-append middle (one ∷ []))
 
   pub back_both : (between after : List Pending) → between ≡ middle ++ pending.Both exits.if_false ∷ [] → after ≡ between ++ pending.Exits exits ∷ []
-      → Reaches answer come come before after (at_goal come last) (at_goal come last) step.Both
+      → Reaches answer come come before after (at_next come last) (at_next come last) step.Both
   back_both between after first second [] next made = cc
   back_both between after first second (right ∷ []) next made = cc
   back_both between after first second (right ∷ left ∷ formulas) next made =
       let front : both left right ∷ formulas ≡ next = cc in
-      ap (λ (l : List Pending). reach answer come l (at_goal come last) (right ∷ left ∷ formulas)) (two_more (pending.Both exits.if_false) (pending.Exits exits) between after first second)
+      ap (λ (l : List Pending). reach answer come l (at_next come last) (right ∷ left ∷ formulas)) (two_more (pending.Both exits.if_false) (pending.Exits exits) between after first second)
       ∙ ap (λ (v : Bool). reach answer come (reverse middle) v formulas) (both_of come exits (holds_by answer left) (holds_by answer right))
       ∙ sym (reach_taken answer come before middle popped last (both left right) formulas is none)
-      ∙ ap (reach answer come (reverse before) (at_goal come last)) front
+      ∙ ap (reach answer come (reverse before) (at_next come last)) front
 
   pub back_either : (between after : List Pending) → between ≡ middle ++ pending.Either exits.if_true ∷ [] → after ≡ between ++ pending.Exits exits ∷ []
-      → Reaches answer come come before after (at_goal come last) (at_goal come last) step.Either
+      → Reaches answer come come before after (at_next come last) (at_next come last) step.Either
   back_either between after first second [] next made = cc
   back_either between after first second (right ∷ []) next made = cc
   back_either between after first second (right ∷ left ∷ formulas) next made =
       let front : either left right ∷ formulas ≡ next = cc in
-      ap (λ (l : List Pending). reach answer come l (at_goal come last) (right ∷ left ∷ formulas)) (two_more (pending.Either exits.if_true) (pending.Exits exits) between after first second)
+      ap (λ (l : List Pending). reach answer come l (at_next come last) (right ∷ left ∷ formulas)) (two_more (pending.Either exits.if_true) (pending.Exits exits) between after first second)
       ∙ ap (λ (v : Bool). reach answer come (reverse middle) v formulas) (either_of come exits (holds_by answer left) (holds_by answer right))
       ∙ sym (reach_taken answer come before middle popped last (either left right) formulas is none)
-      ∙ ap (reach answer come (reverse before) (at_goal come last)) front
+      ∙ ap (reach answer come (reverse before) (at_next come last)) front
 
-pub leaf_back : (answer : ℕ → Bool) (list after : List Question) (before middle : List Pending) (popped : Option Pending) (last made : Goal) (exits : Exits) (number : ℕ) → before ≡ middle ++ option_to_list popped
-    → (popped ≡ None → length before ≡ 0) → All (IsPendingWithin (length list)) middle → exits ≡ exits_of last popped → Keeps list after → at_goal (outcomes answer after) made ≡ at_exits (outcomes answer list) exits (answer number)
-    → Reaches answer (outcomes answer list) (outcomes answer after) before middle (at_goal (outcomes answer list) last) (at_goal (outcomes answer after) made) (step.Leaf number)
+pub leaf_back : (answer : ℕ → Bool) (list after : List Question) (before middle : List Pending) (popped : Option Pending) (last made : Next) (exits : Exits) (number : ℕ) → before ≡ middle ++ option_to_list popped
+    → (popped ≡ None → length before ≡ 0) → All (IsPendingWithin (length list)) middle → exits ≡ exits_of last popped → Keeps list after → at_next (outcomes answer after) made ≡ at_exits (outcomes answer list) exits (answer number)
+    → Reaches answer (outcomes answer list) (outcomes answer after) before middle (at_next (outcomes answer list) last) (at_next (outcomes answer after) made) (step.Leaf number)
 leaf_back answer list after before middle popped last made exits number is none within same keeps told =
     let come = outcomes answer list in
     let grown = kept answer list after keeps in
-    subst (λ (later : List Bool). Reaches answer come later before middle (at_goal come last) (at_goal (outcomes answer after) made) (step.Leaf number)) (sym grown.1)
-    (back_leaf answer come before middle popped last is none grown.0 number (at_goal (outcomes answer after) made) (subst (λ (count : ℕ). All (IsPendingWithin count) middle) (sym (as_many answer list)) within)
+    subst (λ (later : List Bool). Reaches answer come later before middle (at_next come last) (at_next (outcomes answer after) made) (step.Leaf number)) (sym grown.1)
+    (back_leaf answer come before middle popped last is none grown.0 number (at_next (outcomes answer after) made) (subst (λ (count : ℕ). All (IsPendingWithin count) middle) (sym (as_many answer list)) within)
     (told ∙ ap (λ (e : Exits). at_exits come e (answer number)) same))
 
 pub none_of : (popped : Option Pending) (Nothing : Type 0) (Some : Pending → Type 0) → MatchOption popped Nothing Some → popped ≡ None → Nothing
@@ -262,9 +263,9 @@ known_answer values number answer value = by_values values.may_hold values.may_f
     by_values false fails true one may = cc
     by_values false fails false one may = cc
 
-pub one_exit : (come : List Bool) (exits : Exits) (holds : Bool) → exits.if_true ≡ exits.if_false → at_goal come exits.if_true ≡ at_exits come exits holds
+pub one_exit : (come : List Bool) (exits : Exits) (holds : Bool) → exits.if_true ≡ exits.if_false → at_next come exits.if_true ≡ at_exits come exits holds
 one_exit come exits true same = refl
-one_exit come exits false same = ap (at_goal come) same
+one_exit come exits false same = ap (at_next come) same
 
 -- a new question
 pub new_question : (answer : ℕ → Bool) (list after : List Question) (it : Question) (place : ℕ) → place ≡ length list → after ≡ list ++ it ∷ []
@@ -279,22 +280,22 @@ pub exit_within : (count : ℕ) (exits : Exits) (holds : Bool) → AreWithin cou
 exit_within count exits true within = within.0
 exit_within count exits false within = within.1
 
-pub more_within : (count more : ℕ) (it : Goal) → count ≤ more → IsWithin count it → IsWithin more it
-more_within count more (goal.Value value) less within = tt
-more_within count more (goal.Question place) less within = omega (arith, less, within)
+pub more_within : (count more : ℕ) (it : Next) → count ≤ more → IsWithin count it → IsWithin more it
+more_within count more (to.Value value) less within = tt
+more_within count more (to.Question place) less within = omega (arith, less, within)
 
 pub pending_more : (count more : ℕ) (it : Pending) → count ≤ more → IsPendingWithin count it → IsPendingWithin more it
 pending_more count more (pending.Exits exits) less within = (more_within count more exits.if_true less within.0, more_within count more exits.if_false less within.1)
 pending_more count more (pending.Both if_false) less within = more_within count more if_false less within
 pending_more count more (pending.Either if_true) less within = more_within count more if_true less within
 
-pub exits_within : (count : ℕ) (last : Goal) (popped : Option Pending) → IsWithin count last → IfSome popped (IsPendingWithin count) → AreWithin count (exits_of last popped)
+pub exits_within : (count : ℕ) (last : Next) (popped : Option Pending) → IsWithin count last → IfSome popped (IsPendingWithin count) → AreWithin count (exits_of last popped)
 exits_within count last None within own = (within, within)
 exits_within count last (Some (pending.Exits exits)) within own = own
 exits_within count last (Some (pending.Both if_false)) within own = (within, own)
 exits_within count last (Some (pending.Either if_true)) within own = (own, within)
 
-pub taken_within : (count : ℕ) (before middle : List Pending) (popped : Option Pending) (last : Goal) (exits : Exits) → before ≡ middle ++ option_to_list popped → All (IsPendingWithin count) before → IsWithin count last
+pub taken_within : (count : ℕ) (before middle : List Pending) (popped : Option Pending) (last : Next) (exits : Exits) → before ≡ middle ++ option_to_list popped → All (IsPendingWithin count) before → IsWithin count last
     → exits ≡ exits_of last popped → All (IsPendingWithin count) middle × AreWithin count exits
 taken_within count before middle popped last exits is all within same =
     let parts = All-pop (IsPendingWithin count) before middle popped is all in (parts.0, subst (AreWithin count) (sym same) (exits_within count last popped within parts.1))
@@ -306,23 +307,23 @@ pushed_within count front after it is all own = subst (All (IsPendingWithin coun
 
 -- What a walk back over steps has got to: the formulas that those in front make come to what the
 -- whole one is.
-pub record GotBack (leaves : List Values) (whole : Formula ℕ) (left : List FormulaStep) (list : List Question) (pending : List Pending) (first : Goal) : Type 0 where
+pub record GotBack (leaves : List Values) (whole : Formula ℕ) (left : List FormulaStep) (list : List Question) (pending : List Pending) (first : Next) : Type 0 where
   pub within : IsWithin (length list) first
   pub all_within : All (IsPendingWithin (length list)) pending
   pub formulas : List (Formula ℕ)
   pub made : after left [] ≡ Some formulas
   pub reaches : (answer : ℕ → Bool) → ((number : ℕ) → may_by (values_at leaves) number (answer number))
-      → reach answer (outcomes answer list) (reverse pending) (at_goal (outcomes answer list) first) formulas ≡ holds_by answer whole
+      → reach answer (outcomes answer list) (reverse pending) (at_next (outcomes answer list) first) formulas ≡ holds_by answer whole
 
-its_own : (come : List Bool) (holds : Bool) → at_exits come (record { if_true = goal.Value true; if_false = goal.Value false }) holds ≡ holds
+its_own : (come : List Bool) (holds : Bool) → at_exits come (record { if_true = to.Value true; if_false = to.Value false }) holds ≡ holds
 its_own come true = refl
 its_own come false = refl
 
 abbrev pub last_exits : Pending
-last_exits = pending.Exits (record { if_true = goal.Value true; if_false = goal.Value false })
+last_exits = pending.Exits (record { if_true = to.Value true; if_false = to.Value false })
 
 pub got_all : (leaves : List Values) (whole : Formula ℕ) (left : List FormulaStep) (list : List Question) (all : List Pending) → after left [] ≡ Some (whole ∷ []) → list ≡ [] → all ≡ last_exits ∷ []
-    → GotBack leaves whole left list all (goal.Value false)
+    → GotBack leaves whole left list all (to.Value false)
 got_all leaves whole left list all made none one =
     record {
       within = tt;
@@ -350,10 +351,10 @@ front_of front it formulas made = by_front (after front []) refl (sym (after_mor
     by_front None is given = cc
     by_front (Some before) is given = by_step before is (after_step it before) refl given
 
-pub got_back : (leaves : List Values) (whole : Formula ℕ) (left front : List FormulaStep) (it : FormulaStep) (list after_list : List Question) (pending after_pending : List Pending) (first made : Goal) → left ≡ front ++ it ∷ []
+pub got_back : (leaves : List Values) (whole : Formula ℕ) (left front : List FormulaStep) (it : FormulaStep) (list after_list : List Question) (pending after_pending : List Pending) (first made : Next) → left ≡ front ++ it ∷ []
     → IsWithin (length after_list) made → All (IsPendingWithin (length after_list)) after_pending
     → ((answer : ℕ → Bool) → ((number : ℕ) → may_by (values_at leaves) number (answer number))
-    → Reaches answer (outcomes answer list) (outcomes answer after_list) pending after_pending (at_goal (outcomes answer list) first) (at_goal (outcomes answer after_list) made) it)
+    → Reaches answer (outcomes answer list) (outcomes answer after_list) pending after_pending (at_next (outcomes answer list) first) (at_next (outcomes answer after_list) made) it)
     → GotBack leaves whole left list pending first → GotBack leaves whole front after_list after_pending made
 got_back leaves whole left front it list after_list pending after_pending first made ends within all_within step got =
     let found = front_of front it got.formulas (subst (λ (l : List FormulaStep). after l [] ≡ Some got.formulas) ends got.made) in
@@ -366,19 +367,19 @@ got_back leaves whole left front it list after_list pending after_pending first 
     }
 
 -- at the front
-pub got_to_front : (leaves : List Values) (whole : Formula ℕ) (left : List FormulaStep) (list : List Question) (pending : List Pending) (first : Goal) → length left ≡ 0 → GotBack leaves whole left list pending first → (answer : ℕ → Bool)
-    → ((number : ℕ) → may_by (values_at leaves) number (answer number)) → at_goal (outcomes answer list) first ≡ holds_by answer whole
+pub got_to_front : (leaves : List Values) (whole : Formula ℕ) (left : List FormulaStep) (list : List Question) (pending : List Pending) (first : Next) → length left ≡ 0 → GotBack leaves whole left list pending first → (answer : ℕ → Bool)
+    → ((number : ℕ) → may_by (values_at leaves) number (answer number)) → at_next (outcomes answer list) first ≡ holds_by answer whole
 got_to_front leaves whole left list pending first none got answer may =
     let come = outcomes answer list in
     let nothing : Some [] ≡ Some got.formulas = subst (λ (l : List FormulaStep). after l [] ≡ Some got.formulas) (no_steps left none) got.made in
     let last : got.formulas ≡ [] = cc in
-    sym (reach_end come (reverse pending)) ∙ ap (reach answer come (reverse pending) (at_goal come first)) (sym last) ∙ got.reaches answer may
+    sym (reach_end come (reverse pending)) ∙ ap (reach answer come (reverse pending) (at_next come first)) (sym last) ∙ got.reaches answer may
   where
     no_steps : (l : List FormulaStep) → length l ≡ 0 → l ≡ []
     no_steps [] zero_long = refl
     no_steps (s ∷ l) zero_long = absurd (omega (arith, zero_long))
 
-    reach_end : (come : List Bool) (all : List Pending) → reach answer come all (at_goal come first) [] ≡ at_goal come first
+    reach_end : (come : List Bool) (all : List Pending) → reach answer come all (at_next come first) [] ≡ at_next come first
     reach_end come [] = refl
     reach_end come (p ∷ all) = refl
 

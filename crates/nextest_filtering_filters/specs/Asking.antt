@@ -61,8 +61,8 @@ abbrev pub AreAnswers : Binary → List ℕ → Bool → List FiltersetLeaf → 
 AreAnswers binary name default leaves answer = (number : ℕ) → IsLeafValue binary name (λ m. ⊥) default (leaf_at leaves number) (answer number)
 
 -- questions that come to what a filter is, whatever its predicates may be on the binary
-abbrev pub AreForAll : Binary → Compiled → Questions → Type 0
-AreForAll binary it questions =
+abbrev pub AreQuestionsOf : Binary → Compiled → Questions → Type 0
+AreQuestionsOf binary it questions =
     (answer : ℕ → Bool) → ((number : ℕ) → MayBe binary Either Either (λ value. ⊤) (leaf_at it.leaves number) (answer number))
     → comes_to answer questions ≡ holds_by answer (formula_of it.steps)
 

@@ -7,6 +7,7 @@ pub mod WorkedRows
 pub mod Query
 pub mod Filter
 pub mod Copies
+pub mod Making
 pub mod Meaning
 pub mod Questions
 pub mod Asking

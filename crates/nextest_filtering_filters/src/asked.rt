@@ -13,7 +13,7 @@ ghost use Rattle.nextest_filtering_filters.specs.declared.leaf.FiltersetLeaf.{Fi
 use crate::group_lookup::GroupLookup;
 use crate::leaf::FiltersetLeaf;
 use crate::query::{BinaryQuery, TestQuery};
-use crate::questions::{Goal, Questions};
+use crate::questions::{Next, Questions};
 use crate::values::Values;
 use nextest_filtering_ast::{NameMatcher, NameMatching};
 use std::alloc::{AllocError, Global};
@@ -151,22 +151,23 @@ pub(crate) fn answer(
     ensures value { IfOk result
         (λ value. (binary : Binary) (leaves : List FiltersetLeaf) (answer : ℕ → Bool)
         → AllZip (IsFor binary) leaves asked.old
-        → AreAnswers binary name.now default leaves answer → value ≡ comes_to answer questions.now) }
+        → AreAnswers binary name.now default leaves answer
+        → value ≡ comes_to answer questions.now) }
     ensures stays { (binary : Binary) (leaves : List FiltersetLeaf)
         → AllZip (IsFor binary) leaves asked.old → AllZip (IsFor binary) leaves asked.new }
 {
     let mut list = questions.list.as_slice();
-    let mut goal = questions.first;
+    let mut next = questions.first;
     loop {
-        let place = match goal {
-            Goal::Value(value) => return Ok(value),
-            Goal::Question(place) => place,
+        let place = match next {
+            Next::Value(value) => return Ok(value),
+            Next::Question(place) => place,
         };
         let Some(question) = list.get(place) else {
             return Ok(false);
         };
         let answer = on_name(asked, question.leaf, name, default)?;
-        goal = question.exits.of(answer);
+        next = question.exits.of(answer);
         list = &list[..place];
     }
 }

@@ -11,7 +11,6 @@ use crate::context::EvalContext;
 use crate::evaluator::BinaryEvaluator;
 use crate::group_lookup::GroupLookup;
 use crate::query::{BinaryQuery, TestQuery};
-use crate::readable::see_leaves;
 use nextest_filtering_ast::NameMatcher;
 use std::alloc::{AllocError, Global};
 
@@ -74,14 +73,7 @@ impl CompiledExpr {
             (λ matcher. ⊥)) (Some value)) names.now values.items) }
     {
         let mut evaluator = BinaryEvaluator::new(alloc, self, ecx, binary)?;
-        match evaluator.matches_binary()? {
-            Some(value) => {
-                see_leaves(self.leaves());
-                see_leaves(ecx.default_filter().leaves());
-                vec![in alloc; value; names.len()]
-            }
-            None => evaluator.matches_tests(alloc, names),
-        }
+        evaluator.matches_tests(alloc, names)
     }
 
     /// Whether the filter holds on a test, whose groups this look-up knows. It fails only on

@@ -1,9 +1,9 @@
 // A filter on a binary, asked of the binary's tests.
-ghost use Rattle.std.specs.Prelude.{◌≡◌, Bool, List, Some, IfOk};
+ghost use Rattle.std.specs.Prelude.{◌≡◌, ℕ, Bool, List, Some, IfOk, IfSome};
 ghost use Rattle.std.specs.List.{AllZip};
 ghost use Rattle.nextest_filtering_filters.specs.Formula.{Gives, IsValue};
 ghost use Rattle.nextest_filtering_filters.specs.Values.{IsSome};
-ghost use Rattle.nextest_filtering_filters.specs.Asking.{AreOn, AreLeafValues, IsFor, IsLeafValue, values_may};
+ghost use Rattle.nextest_filtering_filters.specs.Asking.{AreLeafValues, AreOn, IsFor, IsLeafValue, values_may};
 ghost use Rattle.nextest_filtering_filters.specs.Filter.{filter_of};
 ghost use Rattle.nextest_filtering_filters.specs.Meaning.{Either, MayBe};
 ghost use Rattle.nextest_filtering_filters.specs.Query.{Binary, binary_of, test_of};
@@ -14,7 +14,7 @@ use crate::compiled::CompiledExpr;
 use crate::group_lookup::GroupLookup;
 use crate::leaf::FiltersetLeaf;
 use crate::query::{BinaryQuery, TestQuery};
-use crate::questions::Questions;
+use crate::questions::{Next, Questions};
 use crate::readable::see_leaves;
 use crate::values::Values;
 use std::alloc::{AllocError, Global};
@@ -52,7 +52,7 @@ impl<'f> Drop for Part<'f> {
 impl<'f> Model for Part<'f> {
     ghost use Rattle.std.specs.List.{AllZip};
     ghost use Rattle.std.specs.Prelude.{All};
-    ghost use Rattle.nextest_filtering_filters.specs.Asking.{AreForAll, IsFor, PartOf};
+    ghost use Rattle.nextest_filtering_filters.specs.Asking.{AreQuestionsOf, IsFor, PartOf};
     ghost use Rattle.nextest_filtering_filters.specs.Deciding.{HasReadable};
     ghost use Rattle.nextest_filtering_filters.specs.Query.{binary_of};
 
@@ -60,11 +60,12 @@ impl<'f> Model for Part<'f> {
 
     ghost view = { λ it. record { filter = it.filter.now; binary = binary_of it.binary } };
 
-    // What is asked is asked of the predicates, each of which has an answer, and the questions come to
-    // what the filter is.
-    ghost invariant = { λ it. AllZip (IsFor (binary_of it.binary)) it.filter.now.leaves it.asked.items
+    // What is asked is asked of the predicates, each of which has an answer, and the questions come
+    // to what the filter is.
+    ghost invariant = { λ it.
+        AllZip (IsFor (binary_of it.binary)) it.filter.now.leaves it.asked.items
         × All HasReadable it.filter.now.leaves
-        × AreForAll (binary_of it.binary) it.filter.now it.questions };
+        × AreQuestionsOf (binary_of it.binary) it.filter.now it.questions };
 }
 
 // What each predicate is on a binary, or asks of its tests.
@@ -128,7 +129,8 @@ fn values_on_test<G: GroupLookup>(
     values: &mut Vec<Values>,
 ) -> Result<(), AllocError>
     ensures values { IfOk result (λ _. (binary : Binary) (leaves : List FiltersetLeaf)
-        → AllZip (IsFor binary) leaves asked.old → AllZip (AreLeafValues binary (test_of test.now).name
+        → AllZip (IsFor binary) leaves asked.old
+        → AllZip (AreLeafValues binary (test_of test.now).name
         (G.member groups.now (test_of test.now)) default) leaves values.new.items) }
     ensures stays { (binary : Binary) (leaves : List FiltersetLeaf)
         → AllZip (IsFor binary) leaves asked.old → AllZip (IsFor binary) leaves asked.new }
@@ -183,6 +185,19 @@ impl<'f> Part<'f> {
         self.filter
             .formula()
             .value(self.values.as_slice(), &mut self.waiting)
+    }
+
+    // What the filter is on each of the binary's tests whose groups nobody knows, whatever the
+    // default filter is, where the binary tells it.
+    pub(crate) fn known(&self) -> Option<bool>
+        ensures { IfSome result (λ value. (name : List ℕ) (default : Bool) → IsValue
+            (Gives (IsLeafValue self.now.binary name (λ m. ⊥) default)
+            (filter_of self.now.filter)) (Some value)) }
+    {
+        match self.questions.first {
+            Next::Value(value) => Some(value),
+            Next::Question(_) => None,
+        }
     }
 
     // Whether the filter holds on a test of the binary, where the default filter is `default`.

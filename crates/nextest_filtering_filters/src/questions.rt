@@ -1,6 +1,7 @@
 // A formula, asked question by question: just those whose answers matter.
-ghost use Rattle.std.specs.Prelude.{◌≡◌, ℕ, Bool, List, All, IfOk, IsTrue, Some, length, reverse};
+ghost use Rattle.std.specs.Prelude.{◌≡◌, ◌↔◌, ℕ, Bool, List, All, IfOk, IsTrue, Some, length, reverse};
 ghost use Rattle.nextest_filtering_filters.specs.Formula.{Formula as FormulaOf};
+ghost use Rattle.nextest_filtering_filters.specs.Making as making;
 ghost use Rattle.nextest_filtering_filters.specs.Questions as words;
 ghost use Rattle.nextest_filtering_filters.specs.Steps.{after_step, formula_of};
 ghost use Rattle.nextest_filtering_filters.specs.Values.{IsSome, may_by, values_at};
@@ -12,7 +13,7 @@ use std::alloc::{AllocError, Global};
 
 // What is left of a formula behind an answer.
 #[derive(Clone, Copy)]
-pub(crate) enum Goal {
+pub(crate) enum Next {
     // It is so, or isn't.
     Value(bool),
     // The question at this place.
@@ -22,13 +23,13 @@ pub(crate) enum Goal {
 // Where a part of a formula leads.
 #[derive(Clone, Copy)]
 pub(crate) struct Exits {
-    pub(crate) if_true: Goal,
-    pub(crate) if_false: Goal,
+    pub(crate) if_true: Next,
+    pub(crate) if_false: Next,
 }
 
 impl Exits {
     // Where an answer leads.
-    pub(crate) fn of(&self, answer: bool) -> Goal
+    pub(crate) fn of(&self, answer: bool) -> Next
         ensures { result ≡ words.exit_of self.now answer }
     {
         if answer { self.if_true } else { self.if_false }
@@ -48,9 +49,9 @@ pub(crate) enum Pending {
     // There.
     Exits(Exits),
     // Where it is so, to what was made last; else there.
-    Both(Goal),
+    Both(Next),
     // Where it is so, there; else to what was made last.
-    Either(Goal),
+    Either(Next),
 }
 
 // A formula, asked question by question.
@@ -58,23 +59,23 @@ pub(crate) enum Pending {
 pub(crate) struct Questions {
     pub(crate) list: Vec<Question>,
     // What is asked first.
-    pub(crate) first: Goal,
+    pub(crate) first: Next,
 }
 
-// Whether two goals are one.
-fn are_one(one: Goal, other: Goal) -> bool
-    ensures { IsTrue result → one ≡ other }
+// Whether both lead to the same.
+fn are_one(one: Next, other: Next) -> bool
+    ensures { IsTrue result ↔ (one ≡ other) }
 {
     match (one, other) {
-        (Goal::Value(value), Goal::Value(beside)) => value == beside,
-        (Goal::Question(place), Goal::Question(beside)) => place == beside,
+        (Next::Value(value), Next::Value(beside)) => value == beside,
+        (Next::Question(place), Next::Question(beside)) => place == beside,
         _ => false,
     }
 }
 
 // Where the last part that is pending leads, where this was made last.
-fn exits_of(pending: Option<Pending>, last: Goal) -> Exits
-    ensures { result ≡ words.exits_of last pending }
+fn exits_of(pending: Option<Pending>, last: Next) -> Exits
+    ensures { result ≡ making.exits_of last pending }
 {
     match pending {
         Some(Pending::Exits(exits)) => exits,
@@ -95,19 +96,19 @@ fn exits_of(pending: Option<Pending>, last: Goal) -> Exits
 
 // What is left where a leaf of these values leads there: a new question, if its answer matters and
 // isn't known.
-fn goal_of(
+fn next_of(
     leaf: usize,
     values: Values,
     exits: Exits,
     list: &mut Vec<Question>,
-) -> Result<Goal, AllocError>
-    requires { words.AreWithin (length list.old.items) exits }
-    ensures goal { IfOk result (λ goal. (answer : ℕ → Bool)
+) -> Result<Next, AllocError>
+    requires { making.AreWithin (length list.old.items) exits }
+    ensures next { IfOk result (λ made. (answer : ℕ → Bool)
         → may_by (λ _. values) leaf (answer leaf)
-        → words.at_goal (words.outcomes answer list.new.items) goal
+        → words.at_next (words.outcomes answer list.new.items) made
         ≡ words.at_exits (words.outcomes answer list.old.items) exits (answer leaf)) }
-    ensures within { IfOk result (words.IsWithin (length list.new.items)) }
-    ensures kept { IfOk result (λ _. words.Keeps list.old.items list.new.items) }
+    ensures within { IfOk result (making.IsWithin (length list.new.items)) }
+    ensures kept { IfOk result (λ _. making.Keeps list.old.items list.new.items) }
 {
     match values.one() {
         Some(value) => Ok(exits.of(value)),
@@ -115,7 +116,7 @@ fn goal_of(
         None => {
             let place = list.len();
             list.push(Question { leaf, exits })?;
-            Ok(Goal::Question(place))
+            Ok(Next::Question(place))
         }
     }
 }
@@ -124,27 +125,27 @@ fn goal_of(
 fn step_back(
     step: FormulaStep,
     leaves: &[Values],
-    last: Goal,
+    last: Next,
     pending: &mut Vec<Pending>,
     list: &mut Vec<Question>,
-) -> Result<Goal, AllocError>
+) -> Result<Next, AllocError>
     requires some { All IsSome leaves.now }
-    requires last { words.IsWithin (length list.old.items) last }
-    requires pending { All (words.IsPendingWithin (length list.old.items)) pending.old.items }
-    ensures reach { IfOk result (λ goal. (answer : ℕ → Bool)
+    requires last { making.IsWithin (length list.old.items) last }
+    requires pending { All (making.IsPendingWithin (length list.old.items)) pending.old.items }
+    ensures reach { IfOk result (λ made. (answer : ℕ → Bool)
         → ((number : ℕ) → may_by (values_at leaves.now) number (answer number))
         → (formulas next : List (FormulaOf ℕ)) → after_step step formulas ≡ Some next
         → let before = words.outcomes answer list.old.items in
         let after = words.outcomes answer list.new.items in
-        words.reach answer after (reverse pending.new.items) (words.at_goal after goal) formulas
-        ≡ words.reach answer before (reverse pending.old.items) (words.at_goal before last) next) }
-    ensures last { IfOk result (words.IsWithin (length list.new.items)) }
+        making.reach answer after (reverse pending.new.items) (words.at_next after made) formulas
+        ≡ making.reach answer before (reverse pending.old.items) (words.at_next before last) next) }
+    ensures last { IfOk result (making.IsWithin (length list.new.items)) }
     ensures pending { IfOk result
-        (λ _. All (words.IsPendingWithin (length list.new.items)) pending.new.items) }
+        (λ _. All (making.IsPendingWithin (length list.new.items)) pending.new.items) }
 {
     let exits = exits_of(pending.pop(), last);
     match step {
-        FormulaStep::Leaf(leaf) => goal_of(leaf, values_of(leaves, leaf), exits, list),
+        FormulaStep::Leaf(leaf) => next_of(leaf, values_of(leaves, leaf), exits, list),
         FormulaStep::Not => {
             pending.push(Pending::Exits(Exits {
                 if_true: exits.if_false,
@@ -181,10 +182,10 @@ impl Formula {
         let mut list = Vec::new(alloc);
         let mut pending = Vec::new(alloc);
         pending.push(Pending::Exits(Exits {
-            if_true: Goal::Value(true),
-            if_false: Goal::Value(false),
+            if_true: Next::Value(true),
+            if_false: Next::Value(false),
         }))?;
-        let mut first = Goal::Value(false);
+        let mut first = Next::Value(false);
         let mut left = self.steps.as_slice();
         while let Some((step, front)) = left.split_last() {
             first = step_back(*step, leaves, first, &mut pending, &mut list)?;

@@ -2,16 +2,16 @@ use Rattle.std.proofs.Common.{◌≡◌, ℕ, Bool, List, length}
 use Rattle.std.specs.List.{AllZip}
 use Rattle.nextest_filtering_filters.specs.Asking.{AreAnswers, IsFor}
 use Rattle.nextest_filtering_filters.specs.Query.{Binary}
-use Rattle.nextest_filtering_filters.specs.Questions.{at_goal, comes_to, outcomes}
+use Rattle.nextest_filtering_filters.specs.Questions.{at_next, comes_to, outcomes}
 use Rattle.nextest_filtering_filters.specs.declared.leaf.FiltersetLeaf.{FiltersetLeaf}
 use Rattle.nextest_filtering_filters.proofs.asked.answer.Given as goal
 
-abbrev pub invariant-loop-goal : goal.invariant-loop-goal
-invariant-loop-goal l = record {
+abbrev pub invariant-loop-next : goal.invariant-loop-next
+invariant-loop-next l = record {
   stays : (binary : Binary) (leaves : List FiltersetLeaf) → AllZip (IsFor binary) leaves l.initial.asked → AllZip (IsFor binary) leaves l.asked;
   comes : (binary : Binary) (leaves : List FiltersetLeaf) (answer : ℕ → Bool) → AllZip (IsFor binary) leaves l.initial.asked → AreAnswers binary l.name l.default leaves answer
-      → at_goal (outcomes answer l.list) l.goal ≡ comes_to answer l.questions;
+      → at_next (outcomes answer l.list) l.next ≡ comes_to answer l.questions;
 }
 
-abbrev pub decreases-loop-goal : goal.decreases-loop-goal
-decreases-loop-goal l = length l.list
+abbrev pub decreases-loop-next : goal.decreases-loop-next
+decreases-loop-next l = length l.list

@@ -15,12 +15,12 @@ returns-in-Leaf-clause-reach c =
     let parts = taken_within (length list) before.items middle c.pop.result c.args.last c.exits_of-exits.result c.pop.ensures.items c.requires.pending c.requires.last c.exits_of-exits.ensures in
     ok_both _ _ _
     (λ made told keeps. λ answer may. let come = words.outcomes answer list in
-    let later = words.outcomes answer c.goal_of.new.list.items in
-    subst (Reaches answer come later before.items middle (words.at_goal come c.args.last) (words.at_goal later made)) (sym c.in-Leaf.is)
-    (leaf_back answer list c.goal_of.new.list.items before.items middle c.pop.result c.args.last made c.exits_of-exits.result number c.pop.ensures.items
+    let later = words.outcomes answer c.next_of.new.list.items in
+    subst (Reaches answer come later before.items middle (words.at_next come c.args.last) (words.at_next later made)) (sym c.in-Leaf.is)
+    (leaf_back answer list c.next_of.new.list.items before.items middle c.pop.result c.args.last made c.exits_of-exits.result number c.pop.ensures.items
     (λ none. let nothing = none_of c.pop.result _ _ c.pop.ensures.cases none in omega (arith, nothing.0, before.ok.0)) parts.0 c.exits_of-exits.ensures keeps
     (told answer (same_may (values_at c.args.leaves.now) number c.values_of.result (answer number) c.values_of.ensures.values (may number)))))
-    c.goal_of.result c.goal_of.ensures.goal c.goal_of.ensures.kept
+    c.next_of.result c.next_of.ensures.next c.next_of.ensures.kept
 
 pub returns-in_ok-push-in-Not-clause-pending : goal.returns-in_ok-push-in-Not-clause-pending
 returns-in_ok-push-in-Not-clause-pending c =
