@@ -10,7 +10,8 @@ use Rattle.nextest_config_elements_values.specs.declared.config_duration.ConfigD
 use Rattle.nextest_config_elements_toml.specs.Reading.{Reading, ◌>>=◌, leaf, required, optional, defaulted}
 use Rattle.nextest_config_elements_deserialize.specs.Accepted.{HasText, IsFixed, IsExponential, IsTableOf}
 use Rattle.nextest_config_elements_deserialize.specs.Laws.{AcceptedPolicy}
-use Rattle.nextest_config_elements_deserialize.specs.Retries.{no_delay, backoff, varies_nothing, fixed_in, is_shorter, exponential_in, policy_by, policy_in, only_count, plain_policy}
+use Rattle.nextest_config_elements_values.specs.Retries.{without_delay}
+use Rattle.nextest_config_elements_deserialize.specs.Retries.{no_delay, backoff, varies_nothing, fixed_in, is_shorter, exponential_in, policy_by, policy_in, plain_policy}
 use Rattle.nextest_config_elements_deserialize.specs.Values.{number_32, positive_32, truth, duration, positive_duration}
 use Rattle.nextest_config_elements_deserialize.specs.declared.backoff.Backoff.{Backoff}
 use Rattle.nextest_config_elements_deserialize.specs.declared.backoff.Backoff.TheVariants as delays
@@ -167,15 +168,15 @@ table_read members (Exponential count delay jitter longest) is =
 
 -- a count alone
 read_plain : (given : Data) (policy : RetryPolicy) → plain_policy given ≡ Ok policy
-    → (count : ℕ) × (number_32 given ≡ Some count) × (policy ≡ only_count count)
+    → (count : ℕ) × (number_32 given ≡ Some count) × (policy ≡ without_delay count)
 read_plain given policy e =
-    let count = taken (leaf number_32 given) (λ (it : ℕ). Ok (only_count it)) policy e in
-    (count.between, leaf_is (number_32 given) count.between count.read, sym (ok_is (only_count count.between) policy count.on))
+    let count = taken (leaf number_32 given) (λ (it : ℕ). Ok (without_delay it)) policy e in
+    (count.between, leaf_is (number_32 given) count.between count.read, sym (ok_is (without_delay count.between) policy count.on))
 
-plain_read : (given : Data) (policy : RetryPolicy) → (count : ℕ) × (number_32 given ≡ Some count) × (policy ≡ only_count count)
+plain_read : (given : Data) (policy : RetryPolicy) → (count : ℕ) × (number_32 given ≡ Some count) × (policy ≡ without_delay count)
     → plain_policy given ≡ Ok policy
 plain_read given policy is =
-    step (leaf number_32 given) (λ (it : ℕ). Ok (only_count it)) is.0 (is_leaf (number_32 given) is.0 is.1) ∙ ap Ok (sym is.2)
+    step (leaf number_32 given) (λ (it : ℕ). Ok (without_delay it)) is.0 (is_leaf (number_32 given) is.0 is.1) ∙ ap Ok (sym is.2)
 
 pub accepted_policy : AcceptedPolicy
 accepted_policy (table members) policy = (read_table members policy, table_read members policy)

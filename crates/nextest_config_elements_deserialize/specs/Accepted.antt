@@ -1,12 +1,13 @@
 -- Which values are accepted, by what stands under their keys and in no order.
 use Rattle.std.specs.Prelude.{◌≡◌, ℕ, ◌<◌, ◌≤◌, ◌⊎◌, Bool, true, false, List, codes, Option, None, Some, option_and_then}
 use Rattle.toml.specs.Data.{Data, string, table, Members, get_member}
+use Rattle.nextest_config_elements_values.specs.Retries.{without_delay}
 use Rattle.nextest_config_elements_values.specs.declared.retries.RetryPolicy.{RetryPolicy}
 use Rattle.nextest_config_elements_values.specs.declared.retries.RetryPolicy.TheVariants.{Fixed, Exponential}
 use Rattle.nextest_config_elements_values.specs.declared.timeouts.SlowTimeout.{SlowTimeout}
 use Rattle.nextest_config_elements_values.specs.declared.config_duration.ConfigDuration.{ConfigDuration}
 use Rattle.nextest_config_elements_choices.specs.declared.timeouts.SlowTimeoutResult.TheVariants as slow
-use Rattle.nextest_config_elements_deserialize.specs.Retries.{no_delay, only_count}
+use Rattle.nextest_config_elements_deserialize.specs.Retries.{no_delay}
 use Rattle.nextest_config_elements_deserialize.specs.Timeouts.{ten_seconds, only_period}
 use Rattle.nextest_config_elements_deserialize.specs.Values.{number_32, positive_32, positive, truth, duration, positive_duration}
 use Rattle.nextest_config_elements_deserialize.specs.Words.{slow_result}
@@ -57,7 +58,7 @@ IsTableOf members (Exponential count delay jitter longest) = IsExponential membe
 -- a value is a policy: a table that sets it, or its count alone
 abbrev pub IsRetryPolicy : Data → RetryPolicy → Type 0
 IsRetryPolicy (table members) policy = IsTableOf members policy
-IsRetryPolicy given policy = (count : ℕ) × (number_32 given ≡ Some count) × (policy ≡ only_count count)
+IsRetryPolicy given policy = (count : ℕ) × (number_32 given ≡ Some count) × (policy ≡ without_delay count)
 
 -- a table sets when something is slow
 pub record IsSlowTable (members : Members) (timeout : SlowTimeout) : Type 0 where

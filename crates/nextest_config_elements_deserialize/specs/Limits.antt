@@ -1,7 +1,8 @@
 -- When failing tests stop a run: a truth value alone, or a table.
-use Rattle.std.specs.Prelude.{Bool, true, false, pos, codes, Option, None, Some, Ok, option_map, if◌then◌else◌}
+use Rattle.std.specs.Prelude.{pos, codes, Option, None, Some, Ok, option_map, if◌then◌else◌}
 use Rattle.std.specs.Str.{bytes_eq}
 use Rattle.toml.specs.Data.{Data, string, integer, table, Members}
+use Rattle.nextest_config_elements_choices.specs.MaxFail.{of_fail_fast}
 use Rattle.nextest_config_elements_choices.specs.declared.max_fail.MaxFail.{MaxFail}
 use Rattle.nextest_config_elements_choices.specs.declared.max_fail.MaxFail.TheVariants.{Count, All}
 use Rattle.nextest_config_elements_choices.specs.declared.max_fail.TerminateMode.{TerminateMode}
@@ -30,16 +31,11 @@ limit_in members = do
   mode ← defaulted (codes "terminate") terminate_mode Wait members
   Ok (stopped_at found mode)
 
--- the first failing test stops a run, or none does
-abbrev pub limit_of_switch : Bool → MaxFail
-limit_of_switch true = Count 1 Wait
-limit_of_switch false = All
-
 -- a truth value switches
 abbrev pub switch_in : Data → Reading MaxFail
 switch_in given = do
   stops ← leaf truth given
-  Ok (limit_of_switch stops)
+  Ok (of_fail_fast stops)
 
 -- a table, or a truth value alone
 abbrev pub fail_fast_in : Data → Reading MaxFail

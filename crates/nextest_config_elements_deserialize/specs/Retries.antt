@@ -1,6 +1,7 @@
 -- How a failing test is tried again: a count alone, or a table.
 use Rattle.std.specs.Prelude.{ℕ, ◌==◌, Bool, false, ◌&&◌, [], ◌∷◌, codes, Option, None, Some, Ok, Err, nat_lt, if◌then◌else◌}
 use Rattle.toml.specs.Data.{Data, table, Members}
+use Rattle.nextest_config_elements_values.specs.Retries.{without_delay}
 use Rattle.nextest_config_elements_values.specs.declared.retries.RetryPolicy.{RetryPolicy}
 use Rattle.nextest_config_elements_values.specs.declared.retries.RetryPolicy.TheVariants.{Fixed, Exponential}
 use Rattle.nextest_config_elements_values.specs.declared.config_duration.ConfigDuration.{ConfigDuration}
@@ -55,15 +56,11 @@ policy_in members = do
   found ← required (codes "backoff") backoff members
   policy_by found members
 
--- so many more attempts, without delay
-abbrev pub only_count : ℕ → RetryPolicy
-only_count count = Fixed count no_delay false
-
 -- an integer is a count alone
 abbrev pub plain_policy : Data → Reading RetryPolicy
 plain_policy given = do
   count ← leaf number_32 given
-  Ok (only_count count)
+  Ok (without_delay count)
 
 -- a table, or a count alone
 abbrev pub retry_policy_in : Data → Reading RetryPolicy

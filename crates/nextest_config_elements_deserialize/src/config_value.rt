@@ -22,7 +22,7 @@ pub trait ConfigValue<Rule>: Drop {
         ensures { result ≡ meaning (view value.now) };
 }
 
-/// A value that has no parts.
+/// A value that has no parts. An `Err` where it isn't one, or where there was no memory.
 pub fn whole<Rule, T: ConfigValue<Rule>>(
     alloc: Global,
     value: &Value,
@@ -36,7 +36,8 @@ pub fn whole<Rule, T: ConfigValue<Rule>>(
     }
 }
 
-/// The value of a key that must stand.
+/// The value of a key that must stand. An `Err` where it is missing or isn't one, or where there was
+/// no memory.
 pub fn required<Rule, T: ConfigValue<Rule>>(
     alloc: Global,
     table: &Table,
@@ -51,7 +52,8 @@ pub fn required<Rule, T: ConfigValue<Rule>>(
     }
 }
 
-/// The value of a key that may be left out.
+/// The value of a key that may be left out. An `Err` where what stands isn't one, or where there was
+/// no memory.
 pub fn optional<Rule, T: ConfigValue<Rule>>(
     alloc: Global,
     table: &Table,
@@ -66,7 +68,8 @@ pub fn optional<Rule, T: ConfigValue<Rule>>(
     }
 }
 
-/// The value of a key for which something else stands where it is left out.
+/// The value of a key for which something else stands where it is left out. An `Err` where what
+/// stands isn't one, or where there was no memory.
 pub fn defaulted<Rule, T: ConfigValue<Rule>>(
     alloc: Global,
     table: &Table,

@@ -57,12 +57,5 @@ fn stopped_at(limit: Limit, terminate: TerminateMode) -> MaxFail
 fn switch_in(alloc: Global, value: &Value, path: &[&str]) -> Result<MaxFail, ValueError>
     ensures { Gives path.now result (read.switch_in (view value.now)) }
 {
-    if whole::<Any, bool>(alloc, value, path)? {
-        Ok(MaxFail::Count {
-            max_fail: 1,
-            terminate: TerminateMode::Wait,
-        })
-    } else {
-        Ok(MaxFail::All)
-    }
+    Ok(MaxFail::from_fail_fast(whole::<Any, bool>(alloc, value, path)?))
 }

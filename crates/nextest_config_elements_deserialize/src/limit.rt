@@ -1,4 +1,4 @@
-// How many failing tests a run goes on with.
+// How many failing tests stop a run.
 use crate::config_value::ConfigValue;
 use crate::values::Any;
 use toml::Value;

@@ -35,12 +35,8 @@ pub fn deserialize_retry_policy(
 fn plain_policy(alloc: Global, value: &Value, path: &[&str]) -> Result<RetryPolicy, ValueError>
     ensures { Gives path.now result (read.plain_policy (view value.now)) }
 {
-    let count: u32 = whole::<Any, u32>(alloc, value, path)?;
-    Ok(RetryPolicy::Fixed {
-        count,
-        delay: ConfigDuration::from_nanos(0),
-        jitter: false,
-    })
+    let count = whole::<Any, u32>(alloc, value, path)?;
+    Ok(RetryPolicy::new_without_delay(count))
 }
 
 // What a table says.

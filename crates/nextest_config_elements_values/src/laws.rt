@@ -1,4 +1,5 @@
-//! What holds of all priorities. The law is the contract of a function without parameters.
+//! What holds of all priorities, and of all texts of durations. Each function does nothing, and its
+//! contract is the law.
 ghost use Rattle.nextest_config_elements_values.specs.Laws.{GreaterFirst};
 ghost use Rattle.nextest_config_elements_values.specs.DurationLaws.{OneDuration, NanosOfDurations};
 

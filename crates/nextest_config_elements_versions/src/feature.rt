@@ -24,7 +24,7 @@ pub enum ConfigExperimental {
 pub struct UnknownFeature;
 
 impl ConfigExperimental {
-    /// The feature of a name.
+    /// The feature of a name. An `Err` where none has it.
     pub fn from_text(text: &str) -> Result<ConfigExperimental, UnknownFeature>
         ensures { KnownBy text.now result }
     {

@@ -2,7 +2,7 @@
 //! nothing, and its contract is the law.
 ghost use Rattle.nextest_config_elements_versions.specs.Laws.{OneConfig, EachComes, Partition, PartitionOfSources, Associative, Neutral, ShortVersion};
 
-/// A list comes to one result.
+/// A list comes to at most one result.
 pub fn one_config()
     ensures { OneConfig }
 {}

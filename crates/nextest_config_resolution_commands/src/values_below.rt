@@ -46,7 +46,7 @@ fn path_below(
     Ok(whole)
 }
 
-/// The value of a key that may be left out, by the reader of its type.
+/// The value of a key that may be left out, by the reader of its type, whose `Err` it has.
 pub fn optional_value<T: DeserializeValue>(
     alloc: Global,
     table: &Table,
@@ -61,8 +61,8 @@ pub fn optional_value<T: DeserializeValue>(
     }
 }
 
-/// The value of a key that must stand, by the reader of its type. Where it is missing, `expected`
-/// says what may stand there.
+/// The value of a key that must stand, by the reader of its type, whose `Err` it has. Where it is
+/// missing, an `Err` says by `expected` what may stand there.
 pub fn required_value<T: DeserializeValue>(
     alloc: Global,
     table: &Table,
@@ -81,7 +81,7 @@ pub fn required_value<T: DeserializeValue>(
 }
 
 /// The value of a key for which something else stands where it is left out, by the reader of its
-/// type.
+/// type, whose `Err` it has.
 pub fn defaulted_value<T: DeserializeValue>(
     alloc: Global,
     table: &Table,

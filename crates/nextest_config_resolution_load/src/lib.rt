@@ -1,5 +1,5 @@
-//! The load of a configuration: its files, one over the other, by the rules that each must keep, in
-//! their order.
+//! The load of a configuration: its files, one over the other, by rules that `load` tells in their
+//! order.
 //!
 //! Each file, the lowest first, must have been read, must be TOML, must have only values that their
 //! keys can have, may define groups and scripts of its own alone, and scripts only where their

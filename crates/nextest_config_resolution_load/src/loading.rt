@@ -101,7 +101,7 @@ pub fn load_with_warnings<R: Languages, W: ConfigWarnings>(
     }
 }
 
-// What sources come to, before it is asked which groups there are and how profiles inherit.
+// What sources come to, before it is asked what their rules name and how profiles inherit.
 fn read_sources<'s, R: Languages>(
     alloc: Global,
     built_in: &Table,

@@ -1,4 +1,4 @@
-//! What holds of merged trees.
+//! What holds of merged trees. Each function does nothing, and its contract is the law.
 ghost use Rattle.nextest_config_resolution_merge.specs.Laws.{MergedByOver, OneStanding};
 
 /// Files of which each is over the lower ones have at each path what the highest file that has
@@ -7,7 +7,7 @@ pub fn merged_by_over()
     ensures { MergedByOver }
 {}
 
-/// At a path of a merged tree stands one thing.
+/// At a path of a merged tree stands at most one thing.
 pub fn one_standing()
     ensures { OneStanding }
 {}

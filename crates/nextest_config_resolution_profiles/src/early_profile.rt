@@ -74,7 +74,9 @@ impl<'c, F: Filters, S: Specs> Model for EarlyProfile<'c, F, S> {
     } };
 
     // The default filter and those of rules serve as such, and no rule asks for groups.
-    ghost invariant = { λ it. AreAskable F.serves_as_default F.asks_groups it.default_filter.filter.now (rules_in it.rules.items) (rules_in it.script_rules.items) };
+    ghost invariant = { λ it.
+        AreAskable F.serves_as_default F.asks_groups it.default_filter.filter.now
+        (rules_in it.rules.items) (rules_in it.script_rules.items) };
 }
 
 impl<'c, F: Filters, S: Specs> EarlyProfile<'c, F, S> {

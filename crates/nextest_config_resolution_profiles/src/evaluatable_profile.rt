@@ -93,8 +93,10 @@ impl<'c, F: Filters, S: Specs> Model for EvaluatableProfile<'c, F, S> {
       scripts = it.scripts.now;
     } };
 
-    // The default filter serves as one, and no rule asks for groups.
-    ghost invariant = { λ it. AreAskable F.serves_as_default F.asks_groups it.default_filter.filter.now (rules_in it.rules.items) (rules_in it.script_rules.items) };
+    // The default filter and those of rules serve as such, and no rule asks for groups.
+    ghost invariant = { λ it.
+        AreAskable F.serves_as_default F.asks_groups it.default_filter.filter.now
+        (rules_in it.rules.items) (rules_in it.script_rules.items) };
 }
 
 impl<'c, F: Filters, S: Specs> EvaluatableProfile<'c, F, S> {

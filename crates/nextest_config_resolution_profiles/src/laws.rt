@@ -80,18 +80,19 @@ pub fn same_chain()
     ensures { SameChain }
 {}
 
-/// Its text is a TOML document, and says just what its tree has.
+/// The text of the built-in configuration is a TOML document, and says just what its tree has.
 pub fn written_as()
     ensures { WrittenAs DEFAULT_CONFIG.now }
 {}
 
-/// It is read as the values of its two profiles: `default` sets each setting that has a fallback,
-/// and to that, and `default-miri` sets nothing. It has neither rules nor groups.
+/// The built-in configuration is read as the values of its two profiles: `default` sets each
+/// setting that has a fallback, and to that, and `default-miri` sets nothing. It has neither rules
+/// nor groups.
 pub fn read_as()
     ensures { ReadAs }
 {}
 
-/// Its profiles keep the rules of inheritance.
+/// The profiles of the built-in configuration keep the rules of inheritance.
 pub fn accepted()
     ensures { Accepted }
 {}

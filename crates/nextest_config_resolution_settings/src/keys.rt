@@ -1,5 +1,5 @@
-// The settings, by their keys: one type for each, of which no value is made. And those of a
-// profile.
+//! The settings, by their keys: one type for each, of which no value is made. And those of a
+//! profile.
 use crate::layers::{Sets, Setting};
 use nextest_config_elements_choices::{
     FinalStatusLevel, FlakyResult, MaxFail, StatusLevel, TestOutputDisplay,

@@ -18,19 +18,25 @@ impl<'i> Model for Faults<'i> {
 
     ghost Value = { FaultsSoFar };
 
-    ghost view = { λ f. record { input = f.input.now; list = f.list.items; hopeless = f.hopeless } };
+    ghost view = { λ f. record {
+      input = f.input.now;
+      list = f.list.items;
+      hopeless = f.hopeless;
+    } };
 
-    ghost invariant = { λ f. AreFaultsOf f.input.now f.list.items × (f.hopeless ≡ true → 0 < length f.list.items) };
+    ghost invariant = { λ f. AreFaultsOf f.input.now f.list.items
+        × (f.hopeless ≡ true → 0 < length f.list.items) };
 }
 
 impl<'i> Faults<'i> {
-    ghost use Rattle.std.specs.Prelude.{◌≡◌, ◌+◌, ◌-◌, ◌<◌, ◌≤◌, true, OnOk, OnErr, length};
+    ghost use Rattle.std.specs.Prelude.{◌≡◌, ◌+◌, ◌++◌, ◌∷◌, ◌-◌, ◌<◌, ◌≤◌, [], true, false, OnOk, OnErr, length};
     ghost use Rattle.nextest_filtering_arguments.specs.Faults.{AreFaultsOf, IsFaultOf, IsSuffix, here, within, count};
 
     /// No faults so far.
     pub fn new(alloc: Global, input: &'i str) -> Self
         ensures input { result.input ≡ input.now }
         ensures none { count result ≡ 0 }
+        ensures hopeful { result.hopeless ≡ false }
     {
         Faults {
             input,
@@ -69,10 +75,12 @@ impl<'i> Faults<'i> {
         }
     }
 
-    /// One fault more.
+    /// Adds a fault behind the others. It fails only on allocation, and then nothing changes.
     pub fn report(&mut self, fault: ParseSingleError) -> Result<(), AllocError>
         requires fault { IsFaultOf self.old.input fault }
         ensures input { self.new.input ≡ self.old.input }
+        ensures fault { OnOk result (self.new.list ≡ self.old.list ++ fault ∷ []) }
+        ensures kept { OnErr result (self.new.list ≡ self.old.list) }
         ensures ok { OnOk result (count self.new ≡ count self.old + 1) }
         ensures err { OnErr result (count self.new ≡ count self.old) }
         ensures hopeless { self.new.hopeless ≡ self.old.hopeless }

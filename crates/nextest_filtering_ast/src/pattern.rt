@@ -27,7 +27,8 @@ impl Model for Pattern {
 
     ghost view = { λ p. regex_source (arc_value p.regex) };
 
-    ghost invariant = { λ p. (regex_config (arc_value p.regex) ≡ default_config) × IsReadFromSource (arc_value p.regex) };
+    ghost invariant = { λ p. (regex_config (arc_value p.regex) ≡ default_config)
+        × IsReadFromSource (arc_value p.regex) };
 }
 
 // Code that drops one calls this, and doesn't look into it.
@@ -59,7 +60,8 @@ impl<T: Drop> From<AllocFailed<T>> for PatternError {
 }
 
 impl Pattern {
-    /// Reads a regular expression. `Syntax` comes exactly where the text isn't one.
+    /// The regular expression that `text` is. `Syntax` says that it is none, and `OutOfMemory` says
+    /// nothing of the text.
     pub fn new(alloc: Global, text: &str) -> Result<Pattern, PatternError>
         ensures text { IfOk result (λ it. it ≡ text.now) }
         ensures read { IfOk result (λ it. IsRegex text.now) }
@@ -74,7 +76,7 @@ impl Pattern {
         }
     }
 
-    /// What it takes to look for it in texts.
+    /// What it takes to look for it in texts. It fails only on allocation.
     pub fn matcher(&self, alloc: Global) -> Result<PatternMatcher<'_>, AllocError>
         ensures { IfOk result (λ it. it ≡ self.now) }
     {

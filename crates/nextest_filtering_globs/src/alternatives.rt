@@ -83,8 +83,8 @@ pub fn before_word<'a>(word: &[GlobToken], text: &'a [char]) -> Option<&'a [char
     Some(rest)
 }
 
-/// Whether each token behind the first one matches one character. `false` promises nothing, and
-/// only time hangs on it.
+/// Whether each token behind the first one matches one character. Nothing is promised of the
+/// answer, and only time depends on it.
 pub fn has_single_end(tokens: &[GlobToken]) -> bool {
     for token in tokens.iter().skip(1) {
         if !is_single(token) {

@@ -28,7 +28,7 @@ pub trait Form<Whole>: Drop {
         ensures { Gives result (reading (data_of value.now)) };
 }
 
-/// A member that must stand; null is none.
+/// A member that must stand; null is none. An `Err` as of `from_value`, and where it is missing.
 pub fn required<Whole, T: Form<Whole>>(
     alloc: Global,
     object: &JsonValue<'_, '_>,
@@ -42,7 +42,7 @@ pub fn required<Whole, T: Form<Whole>>(
     }
 }
 
-/// A member that may be absent, for which something else then stands.
+/// A member that may be absent, for which something else then stands. An `Err` as of `from_value`.
 pub fn defaulted<Whole, T: Form<Whole>>(
     alloc: Global,
     object: &JsonValue<'_, '_>,
@@ -57,7 +57,7 @@ pub fn defaulted<Whole, T: Form<Whole>>(
     }
 }
 
-/// A member that may be absent.
+/// A member that may be absent. An `Err` as of `from_value`.
 pub fn optional<Whole, T: Form<Whole>>(
     alloc: Global,
     object: &JsonValue<'_, '_>,
@@ -71,7 +71,8 @@ pub fn optional<Whole, T: Form<Whole>>(
     }
 }
 
-/// A member that is a list; where it is absent, the list is empty. Null is no list.
+/// A member that is a list; where it is absent, the list is empty. Null is no list. An `Err` as of
+/// `from_value`.
 pub fn listed_member<Whole, T: Form<Whole>>(
     alloc: Global,
     object: &JsonValue<'_, '_>,
@@ -149,7 +150,8 @@ fn are_so_many(items: JsonItems<'_, '_>, count: usize) -> bool
     more.next().is_none()
 }
 
-/// The item at a position of a list; the time grows with the position.
+/// The item at a position of a list; the time grows with the position. An `Err` as of `from_value`,
+/// and where the list has no such position.
 pub fn element<Whole, T: Form<Whole>>(
     alloc: Global,
     list: &JsonValue<'_, '_>,
@@ -186,7 +188,7 @@ fn nth<'t, 'a>(items: JsonItems<'t, 'a>, count: usize) -> Option<JsonValue<'t, '
     more.next()
 }
 
-/// The items in their order.
+/// The items in their order. An `Err` as of `from_value`, for the first item that has one.
 pub fn each<Whole, T: Form<Whole>>(
     alloc: Global,
     items: JsonItems<'_, '_>,
@@ -213,7 +215,7 @@ impl<Whole, T: Form<Whole>> Form<Whole> for Listing<T> {
     }
 }
 
-/// A text.
+/// A text. An `Err` where the value is none, or where there was no memory.
 pub fn text(alloc: Global, value: &JsonValue<'_, '_>) -> Result<Text, Fault>
     ensures { Gives result (read.text (data_of value.now)) }
 {
@@ -223,7 +225,7 @@ pub fn text(alloc: Global, value: &JsonValue<'_, '_>) -> Result<Text, Fault>
     }
 }
 
-/// A truth value.
+/// A truth value. An `Err` where the value is none.
 pub fn truth(alloc: Global, value: &JsonValue<'_, '_>) -> Result<bool, Fault>
     ensures { Gives result (read.leaf as_bool (data_of value.now)) }
 {

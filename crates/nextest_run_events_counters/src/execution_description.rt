@@ -132,7 +132,8 @@ pub fn level_of_result(ended: &ExecutionResultDescription) -> StatusLevel
     }
 }
 
-/// The level of that line in the summary of a run, where the attempt wasn't slow.
+/// The level, in the summary of a run, of the line of a lone attempt with this result that wasn't
+/// slow.
 pub fn final_level_of_result(ended: &ExecutionResultDescription) -> FinalStatusLevel
     ensures { result ≡ final_level_of_result ended.now }
 {

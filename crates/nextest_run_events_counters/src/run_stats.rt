@@ -1,5 +1,5 @@
 // The counters of a run.
-ghost use Rattle.std.specs.Prelude.{◌≡◌, ◌^◌, ◌<◌, ◌⊎◌, ◌↔◌, IsTrue};
+ghost use Rattle.std.specs.Prelude.{◌≡◌, ◌^◌, ◌<◌, ◌⊎◌, ◌↔◌, IsTrue, nat_lt};
 
 use super::summary::{FinalRunStats, RunStatsFailureKind};
 use nextest_run_events_results::CancelReason;
@@ -56,12 +56,26 @@ impl RunStats {
 
     /// Whether a setup script or a test failed.
     pub fn has_failures(&self) -> bool
-        requires scripts_fit { failed_setup_script_count self.now < 2 ^ 64 }
-        requires tests_fit { failed_count self.now < 2 ^ 64 }
         ensures { IsTrue result
             ↔ ((0 < failed_setup_script_count self.now) ⊎ (0 < failed_count self.now)) }
     {
-        self.failed_setup_script_count() > 0 || self.failed_count() > 0
+        self.has_failed_scripts() || self.has_failed_tests()
+    }
+
+    // Whether a setup script failed.
+    fn has_failed_scripts(&self) -> bool
+        ensures { result ≡ nat_lt 0 (failed_setup_script_count self.now) }
+    {
+        self.setup_scripts_failed > 0
+            || self.setup_scripts_exec_failed > 0
+            || self.setup_scripts_timed_out > 0
+    }
+
+    // Whether a test failed.
+    fn has_failed_tests(&self) -> bool
+        ensures { result ≡ nat_lt 0 (failed_count self.now) }
+    {
+        self.failed > 0 || self.exec_failed > 0 || self.failed_timed_out > 0
     }
 
     /// How many setup scripts failed, could not be started, or took too long.
@@ -83,22 +97,20 @@ impl RunStats {
     /// What the counters come to at the end of a run: scripts are looked at before tests, failures
     /// before what did not finish.
     pub fn summarize_final(&self) -> FinalRunStats
-        requires scripts_fit { failed_setup_script_count self.now < 2 ^ 64 }
-        requires tests_fit { failed_count self.now < 2 ^ 64 }
         ensures { result ≡ summary_of self.now }
     {
         let at_tests = RunStatsFailureKind::Test {
             initial_run_count: self.initial_run_count,
             not_run: self.initial_run_count.saturating_sub(self.finished_count),
         };
-        if self.failed_setup_script_count() > 0 {
+        if self.has_failed_scripts() {
             self.summarize_failure(RunStatsFailureKind::SetupScript)
         } else if self.setup_scripts_finished_count < self.setup_scripts_initial_count {
             FinalRunStats::Cancelled {
                 reason: self.cancel_reason,
                 kind: RunStatsFailureKind::SetupScript,
             }
-        } else if self.failed_count() > 0 {
+        } else if self.has_failed_tests() {
             self.summarize_failure(at_tests)
         } else if self.finished_count < self.initial_run_count {
             FinalRunStats::Cancelled {

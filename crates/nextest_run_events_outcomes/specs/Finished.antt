@@ -1,6 +1,6 @@
 -- What the counters of a finished run, or stress run, come to.
-use Rattle.std.specs.Prelude.{◌^◌, ◌<◌, ⊤, nat_lt, if◌then◌else◌}
-use Rattle.nextest_run_events_counters.specs.Summary.{failed_setup_script_count, failed_count, summary_of}
+use Rattle.std.specs.Prelude.{nat_lt, if◌then◌else◌}
+use Rattle.nextest_run_events_counters.specs.Summary.{summary_of}
 use Rattle.nextest_run_events_counters.specs.declared.summary.FinalRunStats.{FinalRunStats}
 use Rattle.nextest_run_events_counters.specs.declared.summary.FinalRunStats.TheVariants as summed
 use Rattle.nextest_run_events_outcomes.specs.declared.stress_stats.StressRunStats.{StressRunStats}
@@ -25,13 +25,3 @@ stress_summary_of stats = if nat_lt 0 stats.failed_count then stressed.Failed el
 abbrev pub final_stats_of : RunFinishedStats → FinalRunStats
 final_stats_of (Single stats) = summary_of stats
 final_stats_of (Stress stats) = stats.last_final_stats
-
--- the failed scripts of a single run can be counted
-abbrev pub ScriptsFit : RunFinishedStats → Type 0
-ScriptsFit (Single stats) = failed_setup_script_count stats < 2 ^ 64
-ScriptsFit (Stress stats) = ⊤
-
--- the failed tests of a single run can be counted
-abbrev pub TestsFit : RunFinishedStats → Type 0
-TestsFit (Single stats) = failed_count stats < 2 ^ 64
-TestsFit (Stress stats) = ⊤

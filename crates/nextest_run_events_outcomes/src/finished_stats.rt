@@ -14,12 +14,10 @@ pub enum RunFinishedStats {
 }
 
 impl RunFinishedStats {
-    ghost use Rattle.nextest_run_events_outcomes.specs.Finished.{final_stats_of, ScriptsFit, TestsFit};
+    ghost use Rattle.nextest_run_events_outcomes.specs.Finished.{final_stats_of};
 
     /// What the counters of the run come to, of a stress run those of its last sub-run.
     pub fn final_stats(&self) -> FinalRunStats
-        requires scripts_fit { ScriptsFit self.now }
-        requires tests_fit { TestsFit self.now }
         ensures { result ≡ final_stats_of self.now }
     {
         match self {

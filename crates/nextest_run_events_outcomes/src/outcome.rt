@@ -12,7 +12,7 @@ pub enum RunOutcome {
     Success,
     /// No test was run, nothing failed and nothing was cut short.
     NoTestsRun,
-    /// The run was cut short, and nothing failed.
+    /// The run was cut short: nothing failed, or a reason from outside stands over what failed.
     Cancelled {
         /// At what.
         step: RunFailureStep,

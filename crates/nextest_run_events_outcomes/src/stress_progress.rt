@@ -73,7 +73,7 @@ impl StressProgress {
     }
 
     /// The id of the next sub-run of the run `run_id`: `RUN:@stress-N`, N being how many were
-    /// completed.
+    /// completed. It fails only on allocation.
     pub fn unique_id(&self, alloc: Global, run_id: &Uuid) -> Result<Text, AllocError>
         ensures { IfOk result (λ text. text ≡ sub_run_id run_id.now self.now) }
     {

@@ -99,7 +99,7 @@ impl Drop for ChildOutputDescription {
 
 impl ChildOutputDescription {
     /// How many bytes standard output and standard error have, each `None` where it wasn't
-    /// captured. Both streams in one count as standard output.
+    /// captured. Both streams in one count as standard output. The output must be loaded.
     pub fn stdout_stderr_len(&self) -> (Option<u64>, Option<u64>)
         requires { self.now ≢ ChildOutputDescription.NotLoaded }
         ensures { result ≡ stream_lengths self.now }

@@ -16,7 +16,7 @@ use Rattle.test_runner_core_reporter.specs.Parts.{Part, Said}
 use Rattle.test_runner_core_reporter.specs.RunEnd.{LF, TAB}
 use Rattle.test_runner_core_workspace.specs.Lister.{Answer}
 use Rattle.test_runner_core_workspace.specs.declared.record.Binary.{Binary}
-use Rattle.test_runner_core.specs.Headline.{Filters, Headline, LineHeadline, ListsExactly, SelectsExactly, StreamHeadline}
+use Rattle.test_runner_core.specs.Headline.{Filters, Headline, LineHeadline, ListsExactly, RefusesUnplanned, SelectsExactly, StreamHeadline}
 use Rattle.test_runner_core.specs.Outcome.{LineComposed, StreamComposed, table_of}
 use Rattle.test_runner_core.specs.Report.{Composed, IsWritten, Reports, refused_plan}
 use Rattle.test_runner_core.specs.declared.judge_fault.JudgeFault.{JudgeFault}
@@ -38,13 +38,25 @@ lists_exactly_by : (answer : Binary → Answer) (inputs : Inputs) (plan : Plan) 
 lists_exactly_by answer inputs plan built =
     record { some = filters_of answer inputs plan built; exactly = λ by. lists_exactly answer inputs plan by.choice by.force built by.sets by.in_force }
 
+-- inputs that were refused once are refused for nothing else
+pub refuses_unplanned : (answer : Binary → Answer) (inputs : Inputs) (found : PlanFault) (code : ℕ) (before after : Option (List ℕ)) → Plans answer inputs (Err found)
+    → IsWritten (refused_plan found) before after → code ≡ status_of found → RefusesUnplanned answer inputs code before after
+refuses_unplanned answer inputs found code before after refuses written status = λ refusal also.
+    let same = plans_once answer inputs (Err found) (Err refusal) refuses also in (
+      subst (λ (p : List Part). IsWritten p before after) (ap (λ (name : List ℕ). Said (codes "refused" ++ TAB ∷ name ++ LF ∷ []) ∷ []) same.0) written,
+      status ∙ same.1,
+    )
+
+-- and those that have a plan for nothing
+pub planned_refuses_none : (answer : Binary → Answer) (inputs : Inputs) (plan : Plan) → Builds answer inputs (Ok plan) → (result : Result ℕ JudgeFault) (before after : Option (List ℕ))
+    → IfOk result (λ code. RefusesUnplanned answer inputs code before after)
+planned_refuses_none answer inputs plan built (Ok code) before after = λ refusal also. absurd (never_planned answer inputs plan refusal also built)
+planned_refuses_none answer inputs plan built (Err e) before after = tt
+
 refuses_so : (answer : Binary → Answer) (inputs : Inputs) (log : List Item) (parts : List Part) (code : ℕ) (before after : Option (List ℕ)) (refusal : PlanFault)
     → Composed answer inputs log parts code → IsWritten parts before after → Plans answer inputs (Err refusal) → IsWritten (refused_plan refusal) before after × (code ≡ status_of refusal)
 refuses_so answer inputs log parts code before after refusal (inl (other, refuses, is, status)) written also =
-    let same = plans_once answer inputs (Err other) (Err refusal) refuses also in (
-      subst (λ (p : List Part). IsWritten p before after) (is ∙ ap (λ (name : List ℕ). Said (codes "refused" ++ TAB ∷ name ++ LF ∷ []) ∷ []) same.0) written,
-      status ∙ same.1,
-    )
+    refuses_unplanned answer inputs other code before after refuses (subst (λ (p : List Part). IsWritten p before after) is written) status refusal also
 refuses_so answer inputs log parts code before after refusal (inr (plan, built, judged)) written also = absurd (never_planned answer inputs plan refusal also built)
 
 plans_else : (answer : Binary → Answer) (inputs : Inputs) (log : List Item) (parts : List Part) (code : ℕ) → Composed answer inputs log parts code

@@ -43,6 +43,12 @@ pub record ListsExactly (inputs : Inputs) (plan : Plan) : Type 0 where
   pub exactly : (by : Filters inputs) (binary : Binary)
       → Contains inputs.workspace.binaries binary → Contains plan.listed binary.id ↔ AllCanHold inputs.workspace by.force binary
 
+-- inputs without a plan are refused for the first check that they break, by one line and by its
+-- status
+abbrev pub RefusesUnplanned : (Binary → Answer) → Inputs → ℕ → Option (List ℕ) → Option (List ℕ) → Type 0
+RefusesUnplanned answer inputs code before after =
+    (refusal : PlanFault) → Plans answer inputs (Err refusal) → IsWritten (refused_plan refusal) before after × (code ≡ status_of refusal)
+
 -- The promises, in the order of the headline. Inputs are refused exactly for the first check that
 -- they break, by one line and by its status; all others have a plan. The plan selects and lists
 -- exactly what it is to. What is written is the report of the plan's run by the log, up to its
@@ -51,7 +57,7 @@ pub record ListsExactly (inputs : Inputs) (plan : Plan) : Type 0 where
 -- with the one final text that is due to it. Wherever the log is cut, and whoever stopped the run,
 -- the status is no milder.
 pub record Headline (answer : Binary → Answer) (inputs : Inputs) (log : List Item) (code : ℕ) (before after : Option (List ℕ)) : Type 0 where
-  pub refuses : (refusal : PlanFault) → Plans answer inputs (Err refusal) → IsWritten (refused_plan refusal) before after × (code ≡ status_of refusal)
+  pub refuses : RefusesUnplanned answer inputs code before after
   pub plans : ((refusal : PlanFault) → ¬ Plans answer inputs (Err refusal)) → (plan : Plan) × Builds answer inputs (Ok plan)
   pub selects : (plan : Plan) → Builds answer inputs (Ok plan) → SelectsExactly answer inputs plan
   pub lists : (plan : Plan) → Builds answer inputs (Ok plan) → ListsExactly inputs plan

@@ -5,7 +5,7 @@ ghost use Rattle.test_runner_core_inputs.specs.Reading.{read_inputs};
 ghost use Rattle.test_runner_core_log_reader.specs.Feeds.{before_feed};
 ghost use Rattle.test_runner_core_log_reader.specs.Items.{items};
 ghost use Rattle.test_runner_core.specs.Faults.{CountsReadFailures, CountsWriteFailures, lacks_memory};
-ghost use Rattle.test_runner_core.specs.Headline.{Headline, StreamHeadline};
+ghost use Rattle.test_runner_core.specs.Headline.{Headline, RefusesUnplanned, StreamHeadline};
 ghost use Rattle.test_runner_core.specs.Outcome.{HasNoPlan, ReportsStream, table_of};
 ghost use Rattle.test_runner_core.specs.Inside.{IsGotOf};
 ghost use Rattle.test_runner_core.specs.Report.{Begun, Composed, HasSoFar, Reports, ReportsLog};
@@ -26,16 +26,22 @@ use test_runner_core_workspace::{Lister, TableLister};
 
 /// Judges the run of inputs by a log, writes its report and answers its exit status. The lister is
 /// asked once for each listed binary, in the workspace's order, up to the first whose answer is
-/// refused, and for none where the inputs are refused before; nothing of the log is read where the
-/// inputs have no plan. Whenever the log is asked for more, all is written that the whole lines so
-/// far come to. A failed read or write is never tried again. Where no line is refused, the log
-/// agrees with an assignment and has no stop, and the run is complete, the status is that
-/// assignment's due status, and where no script of the assignment stops the run and its failing
-/// tests don't reach the limit the report ends with the final text of plan and assignment, in
-/// whatever order the tests ran; where the log is cut, or has a stop, the status is that or a more
-/// severe one. After a failed read the report has what the whole lines come to that were got; after
-/// a failed write, or where there is no memory, a prefix of what it would have been. Where there is
-/// no memory the lister was asked for a prefix of the listed binaries.
+/// refused, and for none where the inputs are refused before. Where the inputs have no plan,
+/// nothing of the log is read, and the report is the one line of the refusal, whatever is known of
+/// the log.
+/// Whenever the log is asked for more, all is written that the whole lines so far come to. Where no
+/// line is refused, the log agrees with an assignment and has no stop, and the run is complete, the
+/// status is that assignment's due status, and where no script of the assignment stops the run and
+/// its failing tests don't reach the limit the report ends with the final text of plan and
+/// assignment, in whatever order the tests ran; where the log is cut, or has a stop, the status is
+/// that or a more severe one.
+///
+/// # Errors
+///
+/// `Read` after a failed read: the report has what the whole lines come to that were got. `Write`
+/// after a failed write and `Memory` where there is no memory: the report has a prefix of what it
+/// would have been. A failed read or write is never tried again. Where there is no memory the
+/// lister was asked for a prefix of the listed binaries.
 pub fn judge<L: Lister, R: LogReader, W: ReportWriter>(
     alloc: Global,
     inputs: &Inputs,
@@ -48,6 +54,8 @@ pub fn judge<L: Lister, R: LogReader, W: ReportWriter>(
     requires writes_fit { W.failures report.old < 2 ^ 62 }
     ensures reports { ReportsLog (L.answer lister.old) inputs.now result (R.left log.old)
         (R.left log.new) (W.taken report.old) (W.taken report.new) }
+    ensures refuses { IfOk result (λ code. RefusesUnplanned (L.answer lister.old) inputs.now code
+        (W.taken report.old) (W.taken report.new)) }
     ensures headline { IfOk result (λ code. IfSome (R.left log.old) (λ bytes.
         Headline (L.answer lister.old) inputs.now (items 0 bytes) code
         (W.taken report.old) (W.taken report.new))) }
@@ -78,6 +86,8 @@ fn reported<L: Lister, R: LogReader, W: ReportWriter>(
     requires writes_fit { W.failures report.old < 2 ^ 62 }
     ensures reports { ReportsLog (L.answer lister.old) inputs.now result (R.left log.old)
         (R.left log.new) (W.taken report.old) (W.taken report.new) }
+    ensures refuses { IfOk result (λ code. RefusesUnplanned (L.answer lister.old) inputs.now code
+        (W.taken report.old) (W.taken report.new)) }
     ensures stays { (other : Binary) → L.answer lister.new other ≡ L.answer lister.old other }
     ensures asks { AsksWith (L.answer lister.old) inputs.now (lacks_memory result)
         (L.asked lister.old) (L.asked lister.new) }
@@ -100,6 +110,10 @@ fn reported<L: Lister, R: LogReader, W: ReportWriter>(
 /// inputs, with the tests of each binary, and the rest is the log. A first line of more than
 /// 16,777,216 bytes is no inputs. Where the first line is no inputs or they have no plan, the
 /// reader is called for that line alone.
+///
+/// # Errors
+///
+/// As of `judge`.
 pub fn judge_stream<R: LogReader, W: ReportWriter>(
     alloc: Global,
     input: &mut R,
@@ -167,7 +181,8 @@ fn judge_by_table<R: LogReader, W: ReportWriter>(
     ensures reports { Reports result
         (λ parts code. IfSome (R.left log.old) (λ bytes.
         Composed (table_of inputs) inputs (items_ahead lines.old bytes) parts code))
-        (λ parts. (front : List (List ℕ)) × IsGotOf lines.old (R.left log.old) (R.left log.new) front
+        (λ parts. (front : List (List ℕ))
+        × IsGotOf lines.old (R.left log.old) (R.left log.new) front
         × HasSoFar (table_of inputs) inputs front parts)
         (λ parts. IfSome (R.left log.old) (λ bytes.
         Begun (table_of inputs) inputs (items_ahead lines.old bytes) parts))

@@ -70,7 +70,7 @@ pub fn built_plan()
 /// tests of one workspace, choose one profile, for the same platforms, and their files agree but in
 /// profiles other than the chosen one, its parents and `default`, and both have a plan, then it is
 /// one plan, and a log has one exit status and one report, warnings aside.
-pub fn isolated()
+pub fn isolation()
     ensures plan { IsolatesPlans }
     ensures report { IsolatesReports }
 {}

@@ -2,7 +2,8 @@
 use sha2::{Digest, Sha256};
 use std::hash::{BuildHasher, DefaultHasher, Hasher};
 
-/// Digests the texts that a hash table is to tell apart, for a `KeyedState`.
+/// Digests the texts that a hash table is to tell apart, for a `KeyedState`. Nothing is proved of
+/// it: only how evenly a table fills depends on it.
 #[derive(Drop)]
 pub struct TextsDigest {
     digest: Sha256,

@@ -20,6 +20,7 @@ use Rattle.nextest_filtering_filters.specs.declared.known_groups.KnownGroups.The
 use Rattle.nextest_filtering_graph.specs.Graph.{Graph}
 use Rattle.nextest_filtering_ast.specs.Meaning.{MatchesName}
 use Rattle.nextest_filtering_ast.specs.Tree.{Leaf, Matcher, Tree, binary_id, binary_name, built_for, default_filter, dependencies, dependents, difference, everything, group, intersection, kind, matching, negation, nothing, package_name, parens, set, test_name, union}
+use Rattle.nextest_filtering_syntax.proofs.Trees.{one_tree}
 use Rattle.test_runner_core_inputs.specs.declared.inputs.Inputs.{Inputs}
 use Rattle.test_runner_core_listing.specs.Answers.{Answers, query_of, seen_test}
 use Rattle.test_runner_core_plan.specs.declared.plan.Plan.{Plan}
@@ -39,7 +40,7 @@ use Rattle.test_runner_core_planning.specs.Checks as check
 use Rattle.test_runner_core_planning.specs.Checks.{IsFound, Keeps, Planned, SetsAll, has_too_many}
 use Rattle.test_runner_core_planning.specs.Filtering.{AreAnswersOf, AreOfFilterset, Choice, InForce, IsChosen, IsOfGroup, IsTaken, context_of, graph_of, unless_ignored}
 use Rattle.test_runner_core_planning.specs.Inside.{IsPassed}
-use Rattle.test_runner_core_planning.specs.Laws.{DefaultTwice, and_default, with_filterset}
+use Rattle.test_runner_core_planning.specs.Laws.{DefaultOnce, DefaultTwice, and_default, with_filterset}
 use Rattle.test_runner_core_planning.specs.Plan.{IsPlanOf, IsPlanned, warnings_in, warnings_of}
 use Rattle.test_runner_core_planning.specs.Refusals.{of_pass}
 use Rattle.test_runner_core_planning.specs.declared.plan_fault.PlanFault.TheVariants as refused
@@ -133,6 +134,9 @@ module _ (graph : Graph) (binary : query.Binary) (Name Group : Matcher → Bool 
 told_alike : {A B : Type 0} → A ↔ B → (value : Bool) → Tells A value → Tells B value
 told_alike same value tells = ((λ e. same.0 (tells.0 e)), (λ b. tells.1 (same.1 b)))
 
+turned : {A B : Type 0} → A ↔ B → B ↔ A
+turned same = (same.1, same.0)
+
 -- they answer the same
 answers_alike : (workspace : WorkspaceRecord) (of_test : query.Test → PlanSettings) (cx : Context) (known : KnownGroups) (t default : Tree) (answers : Answers) → IsFree cx purpose.DefaultFilter known default
     → AreAnswersOf workspace of_test (record { filters = t ∷ default ∷ []; default = default }) answers
@@ -142,6 +146,17 @@ answers_alike workspace of_test cx known t default answers free are = record {
   selects = λ binary name.
       let test = seen_test binary name in
       told_alike (all_alike (graph_of workspace) test.binary (λ m. Tells (MatchesName m test.name)) (λ m. Tells (IsOfGroup of_test test m)) cx known default free t) (answers.selects binary name)
+      (are.selects binary name);
+}
+
+answers_back : (workspace : WorkspaceRecord) (of_test : query.Test → PlanSettings) (cx : Context) (known : KnownGroups) (t default : Tree) (answers : Answers) → IsFree cx purpose.DefaultFilter known default
+    → AreAnswersOf workspace of_test (record { filters = with_default t ∷ default ∷ []; default = default }) answers
+    → AreAnswersOf workspace of_test (record { filters = t ∷ default ∷ []; default = default }) answers
+answers_back workspace of_test cx known t default answers free are = record {
+  lists = λ binary. told_alike (turned (all_alike (graph_of workspace) (query_of binary) Either Either cx known default free t)) (answers.lists binary) (are.lists binary);
+  selects = λ binary name.
+      let test = seen_test binary name in
+      told_alike (turned (all_alike (graph_of workspace) test.binary (λ m. Tells (MatchesName m test.name)) (λ m. Tells (IsOfGroup of_test test m)) cx known default free t)) (answers.selects binary name)
       (are.selects binary name);
 }
 
@@ -277,3 +292,64 @@ module _ (answer : Binary → Answer) (inputs : Inputs) (text : List ℕ) (given
 
 pub default_twice : DefaultTwice
 default_twice answer inputs text plan given kept (it, planned, is) = (it, planned_twice answer inputs text given kept it planned, plan_twice answer inputs text given kept it plan is)
+
+-- ---- and back
+
+module _ (answer : Binary → Answer) (inputs : Inputs) (text : List ℕ) (tree : Tree) (given : inputs.filterset ≡ Some text) (kept : inputs.ignore_default_filter ≡ false) where
+  abbrev beside : Inputs
+  beside = with_filterset (Some (and_default text)) inputs
+
+  chosen_once : (choice : Choice) (answers : Answers) → IsTaken inputs.workspace choice.run.known_groups text tree → IsChosen beside choice (Ok answers) → IsChosen inputs choice (Ok answers)
+  chosen_once choice answers taken (force, is, are) =
+      let known = choice.run.known_groups in
+      let of = is.filterset in
+      let one : of.0 ≡ with_default tree = one_tree (and_default text) of.0 (with_default tree) of.1.0 (reads_with_default text tree taken.0) in
+      let filters : force.filters ≡ with_default tree ∷ force.default ∷ [] =
+      is.all ∙ ap (λ (chosen : List Tree). chosen ++ unless_ignored inputs.ignore_default_filter force.default) of.2
+      ∙ ap (λ (ignored : Bool). of.0 ∷ unless_ignored ignored force.default) kept ∙ ap (λ (first : Tree). first ∷ force.default ∷ []) one in
+      let same : force ≡ record { filters = with_default tree ∷ force.default ∷ []; default = force.default } = λ i. record { filters = filters i; default = force.default } in (
+        record { filters = tree ∷ force.default ∷ []; default = force.default },
+        record {
+          default = is.default;
+          chosen = tree ∷ [];
+          filterset = subst (λ (f : Option (List ℕ)). AreOfFilterset inputs.workspace known f (tree ∷ [])) (sym given) (tree, taken, refl);
+          all = ap (λ (ignored : Bool). tree ∷ unless_ignored ignored force.default) (sym kept);
+        },
+        answers_back inputs.workspace choice.of_test (context_of inputs.workspace) groups.Unavailable tree force.default answers is.default.1
+            (subst (λ (it : InForce). AreAnswersOf inputs.workspace choice.of_test it answers) same are),
+      )
+
+  found_once : (it : Planned) → IsTaken inputs.workspace it.choice.run.known_groups text tree → IsFound answer beside it → IsFound answer inputs it
+  found_once it taken found = record {
+    answers = record {
+      sets = sets_same inputs.filterset beside it.choice found.answers.sets;
+      chosen = chosen_once it.choice it.answers taken found.answers.chosen;
+    };
+    found = found.found;
+  }
+
+  plan_once : (it : Planned) (plan : Plan) → IsPlanOf beside it plan → IsPlanOf inputs it plan
+  plan_once it plan is = record {
+    tests = is.tests;
+    order = is.order;
+    skipped = is.skipped;
+    listed = is.listed;
+    limit = is.limit;
+    levels = is.levels;
+    scripts = same_names plan.scripts
+        (λ id. (enabled_same inputs.filterset beside it.found.tests id, enabled_same (Some (and_default text)) inputs it.found.tests id)) is.scripts;
+    warnings = is.warnings ∙ warnings_same inputs.filterset beside;
+  }
+
+  planned_once : (it : Planned) → IsTaken inputs.workspace it.choice.run.known_groups text tree → IsPlanned answer beside it → IsPlanned answer inputs it
+  planned_once it taken planned =
+      let passed = passed_of answer beside planned.kept.1.0 in
+      plans_found answer inputs it
+      (passed_same inputs.filterset beside (record { workspace = not_refused answer beside planned.kept.0; passed = passed.0; passes = passed.1 }))
+      (found_once it taken planned.found) (few_tries answer beside it planned.kept.1.1.1.1.1.0 planned.found)
+
+pub default_once : DefaultOnce
+default_once answer inputs text tree plan given kept accepted (it, planned, is) =
+    let other = with_filterset (Some (and_default text)) inputs in
+    let taken = accepted it.choice (sets_same inputs.filterset other it.choice planned.found.answers.sets) in
+    (it, planned_once answer inputs text tree given kept it taken planned, plan_once answer inputs text tree given kept it plan is)

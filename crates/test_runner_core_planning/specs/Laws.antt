@@ -2,6 +2,7 @@
 use Rattle.std.specs.Prelude.{◌≡◌, ◌≢◌, ◌↔◌, ◌⊎◌, ◌+◌, ℕ, false, List, ◌++◌, codes, map, Option, Some, Ok, Err}
 use Rattle.std.specs.List.{AllPairs, Contains}
 use Rattle.nextest_config_elements_values.specs.Retries.{count_of}
+use Rattle.nextest_filtering_ast.specs.Tree.{Tree}
 use Rattle.nextest_run_events_results.specs.declared.instance.OwnedTestInstanceId.{OwnedTestInstanceId}
 use Rattle.test_runner_core_inputs.specs.declared.inputs.Inputs.{Inputs}
 use Rattle.test_runner_core_listing.specs.Answers.{seen_test}
@@ -12,7 +13,7 @@ use Rattle.test_runner_core_settings.specs.Laws.{AgreeInFiles}
 use Rattle.test_runner_core_workspace.specs.Lister.{Answer}
 use Rattle.test_runner_core_workspace.specs.declared.record.Binary.{Binary}
 use Rattle.test_runner_core_planning.specs.Checks.{SetsAll}
-use Rattle.test_runner_core_planning.specs.Filtering.{AllCanHold, AllHold, AreInForce, Choice, InForce, context_of}
+use Rattle.test_runner_core_planning.specs.Filtering.{AllCanHold, AllHold, AreInForce, Choice, InForce, IsTaken, context_of}
 use Rattle.test_runner_core_planning.specs.Plan.{Builds}
 use Rattle.test_runner_core_planning.specs.declared.plan_error.PlanError.TheVariants.{Refused}
 use Rattle.test_runner_core_planning.specs.declared.plan_fault.PlanFault.{PlanFault}
@@ -69,6 +70,13 @@ abbrev pub DefaultTwice : Type 0
 DefaultTwice =
     (answer : Binary → Answer) (inputs : Inputs) (text : List ℕ) (plan : Plan) → inputs.filterset ≡ Some text → inputs.ignore_default_filter ≡ false
     → Builds answer inputs (Ok plan) → Builds answer (with_filterset (Some (and_default text)) inputs) (Ok plan)
+
+-- and back: a filterset that is taken has the plan that it has with the default filter beside it
+abbrev pub DefaultOnce : Type 0
+DefaultOnce =
+    (answer : Binary → Answer) (inputs : Inputs) (text : List ℕ) (tree : Tree) (plan : Plan) → inputs.filterset ≡ Some text → inputs.ignore_default_filter ≡ false
+    → ((choice : Choice) → SetsAll inputs choice → IsTaken inputs.workspace choice.run.known_groups text tree)
+    → Builds answer (with_filterset (Some (and_default text)) inputs) (Ok plan) → Builds answer inputs (Ok plan)
 
 -- a test of a plan has the settings that are set for it in its binary, and one try more than these
 -- have retries

@@ -1,5 +1,5 @@
 //! What holds of every plan that is built. Each function does nothing, and its contract is the law.
-ghost use Rattle.test_runner_core_planning.specs.Laws.{Decided, DefaultTwice, HasExactlyTheWanted, HasNoneTwice, HaveTheirSettings, IsolatesPlans, ListsExactly, NotPlannedAndRefused, OnePlan, Roads};
+ghost use Rattle.test_runner_core_planning.specs.Laws.{Decided, DefaultOnce, DefaultTwice, HasExactlyTheWanted, HasNoneTwice, HaveTheirSettings, IsolatesPlans, ListsExactly, NotPlannedAndRefused, OnePlan, Roads};
 
 /// Inputs have at most one plan.
 pub fn one_plan()
@@ -25,9 +25,10 @@ pub fn roads()
 {}
 
 /// Where the default filter is in force, a filterset may ask for it too: inputs with a filterset F
-/// and inputs with `(F) and default()` have the same plan.
+/// that is accepted and inputs with `(F) and default()` have the same plan, if one of both has one.
 pub fn default_twice()
-    ensures { DefaultTwice }
+    ensures twice { DefaultTwice }
+    ensures once { DefaultOnce }
 {}
 
 /// Each test of a plan has the settings that are set for it in its binary.
@@ -51,7 +52,7 @@ pub fn selected_once()
 /// tests of one workspace, choose one profile, for the same platforms, and their files agree but in
 /// profiles other than the chosen one, its parents and `default`, and both have a plan, then it is
 /// one plan, warnings aside.
-pub fn isolated()
+pub fn isolation()
     ensures plan { IsolatesPlans }
 {}
 

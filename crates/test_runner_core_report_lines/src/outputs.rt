@@ -27,8 +27,8 @@ pub(crate) fn push_outputs(text: &mut String, ended: &KeptRecord) -> Result<(), 
 
 // Adds what an attempt or a script wrote, or why it could not be started.
 fn push_written(text: &mut String, written: Written<'_>) -> Result<(), AllocError>
-    ensures ok { OnOk result
-        (string_bytes text.new ≡ string_bytes text.old ++ written_text (written_meant written.entry)) }
+    ensures ok { OnOk result (string_bytes text.new
+        ≡ string_bytes text.old ++ written_text (written_meant written.entry)) }
     ensures grows { Extends (string_bytes text.old) (string_bytes text.new) }
 {
     push_stream(text, "out", written.out())?;
@@ -80,8 +80,8 @@ fn push_hex_line(text: &mut String, word: &str, bytes: &[u8]) -> Result<(), Allo
 
 // Adds the line that says why an attempt or a script could not be started.
 fn push_message(text: &mut String, written: Written<'_>) -> Result<(), AllocError>
-    ensures ok { OnOk result
-        (string_bytes text.new ≡ string_bytes text.old ++ message_line (written_meant written.entry)) }
+    ensures ok { OnOk result (string_bytes text.new
+        ≡ string_bytes text.old ++ message_line (written_meant written.entry)) }
     ensures grows { Extends (string_bytes text.old) (string_bytes text.new) }
 {
     match written {

@@ -104,7 +104,8 @@ pub fn report_script<W: ReportWriter>(
     status: Option<&SetupScriptExecuteStatus<LiveSpec>>,
 ) -> Result<(), ReportFault>
     requires writes_fit { W.failures report.old < 2 ^ 63 }
-    ensures writes { WritesParts result (Said (script_text id.now (script_record_in status.entry)) ∷ [])
+    ensures writes { WritesParts result
+        (Said (script_text id.now (script_record_in status.entry)) ∷ [])
         (W.taken report.old) (string_bytes text.old) (W.taken report.new) (string_bytes text.new) }
     ensures failures { CountsWriteFailures result
         (W.failures report.old) (W.failures report.new) (W.last_failed report.new) }

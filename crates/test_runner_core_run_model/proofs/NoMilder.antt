@@ -12,7 +12,7 @@ use Rattle.test_runner_core_run_model.specs.Assignment.{Assignment, fails, some_
 use Rattle.test_runner_core_run_model.specs.State.{TestState, State, initial, counts, is_finished}
 use Rattle.test_runner_core_run_model.specs.Counters.{status}
 use Rattle.test_runner_core_run_model.specs.Runs.{IsNoMilder}
-use Rattle.test_runner_core_run_model.specs.Laws.{EndsNoMilder, HasFourExactlyWhereDue}
+use Rattle.test_runner_core_run_model.specs.Laws.{AgreesWhereCut, EndsNoMilder, HasFourExactlyWhereDue}
 use Rattle.test_runner_core_run_model.proofs.Counting.{counts_all, all_counted}
 use Rattle.test_runner_core_run_model.proofs.FirstSuccess.{finished_counts}
 use Rattle.test_runner_core_run_model.proofs.TestStates.{plan_of, AllBeside}
@@ -144,6 +144,10 @@ holding_ends plan assigned state ok holds = by_script (list_any fails_told state
 pub ends_no_milder : EndsNoMilder
 ends_no_milder plan assigned run last ok happens agrees =
     holding_ends plan assigned last ok (run_holds plan assigned (initial plan) run last (holds_initial plan assigned ok) happens agrees)
+
+pub agrees_where_cut : AgreesWhereCut
+agrees_where_cut assigned state [] more agrees = tt
+agrees_where_cut assigned state (event ∷ before) more agrees = (agrees.0, λ mid taken. agrees_where_cut assigned mid before more (agrees.1 mid taken))
 
 -- 4 is comparable with itself alone
 four_alone : (now due : ℕ) → IsNoMilder now due → (now ≡ 4) ↔ (due ≡ 4)

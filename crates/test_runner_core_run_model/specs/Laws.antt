@@ -34,6 +34,10 @@ EndsNoMilder =
     → IsPlan plan → Run (initial plan) events last → Agrees assigned (initial plan) events
     → IsNoMilder (status last) (due_status plan assigned)
 
+-- wherever events that agree with an assignment are cut, those before the cut agree with it
+abbrev pub AgreesWhereCut : Type 0
+AgreesWhereCut = (assigned : Assignment) (state : State) (events more : List Event) → Agrees assigned state (events ++ more) → Agrees assigned state events
+
 -- and it has status 4 exactly where 4 is due
 abbrev pub HasFourExactlyWhereDue : Type 0
 HasFourExactlyWhereDue =

@@ -1,6 +1,6 @@
-// What holds of all runs, and of the first success among tries. Each law is the contract of a
-// function without parameters.
-ghost use Rattle.test_runner_core_run_model.specs.Laws.{EndsWithDueStatus, EndsNoMilder, HasFourExactlyWhereDue, RefusesScripts, RefusesStarts, KeepsAReason, SucceedsWhole, EndsInOneState, ReachesTheOneState, StopsWhereDue, HasNext, HasAtMost, ReachesAnEnd, HasReasonsFirst, FindsFirstSuccess, HasOneFirstSuccess};
+//! What holds of all runs, and of the first success among tries. Each function does nothing, and
+//! its contract is the law.
+ghost use Rattle.test_runner_core_run_model.specs.Laws.{EndsWithDueStatus, AgreesWhereCut, EndsNoMilder, HasFourExactlyWhereDue, RefusesScripts, RefusesStarts, KeepsAReason, SucceedsWhole, EndsInOneState, ReachesTheOneState, StopsWhereDue, HasNext, HasAtMost, ReachesAnEnd, HasReasonsFirst, FindsFirstSuccess, HasOneFirstSuccess};
 ghost use Rattle.test_runner_core_run_model.specs.WorkedRows.{WorkedRows};
 
 /// Any complete run that agrees with an assignment and holds no stop event ends with that
@@ -11,8 +11,9 @@ pub fn due_status()
 
 /// Any run that agrees with an assignment, cut wherever it is and whoever told it to stop, has that
 /// assignment's due status or a graver one (100 is graver than 0, 105 than both). It has 4 exactly
-/// where 4 is due.
+/// where 4 is due. A run that agrees does so wherever it is cut.
 pub fn no_milder()
+    ensures cut { AgreesWhereCut }
     ensures no_milder { EndsNoMilder }
     ensures selected_nothing { HasFourExactlyWhereDue }
 {}

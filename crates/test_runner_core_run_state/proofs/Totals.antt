@@ -11,8 +11,8 @@ use Rattle.nextest_config_elements_choices.specs.declared.timeouts.FlakyResult.T
 use Rattle.nextest_config_elements_choices.specs.declared.timeouts.LeakTimeoutResult.TheVariants as leak
 use Rattle.nextest_config_elements_choices.specs.declared.timeouts.SlowTimeoutResult.TheVariants as timeout
 use Rattle.nextest_run_events_counters.specs.Rows as rows
-use Rattle.nextest_run_events_counters.specs.Rows.{Finished, fails_test, fails_script}
-use Rattle.nextest_run_events_counters.specs.Summary.{failed_count, failed_setup_script_count}
+use Rattle.nextest_run_events_counters.specs.Rows.{Finished, fails_test}
+use Rattle.nextest_run_events_counters.specs.Summary.{failed_count}
 use Rattle.nextest_run_events_counters.specs.declared.run_stats.RunStats.{RunStats}
 use Rattle.nextest_run_events_results.specs.declared.cancel_reason.CancelReason.{CancelReason}
 use Rattle.nextest_run_events_results.specs.declared.result.ExecutionResultDescription.{ExecutionResultDescription}
@@ -72,14 +72,6 @@ sum_three p q r s (x ∷ xs) each =
     by_tests a b c d h =
         let i = as_number a in let j = as_number b in let k = as_number c in let l = as_number d in omega (arith, h, i, j, k, l)
 
-script_once : (result : ExecutionResultDescription) → from_bool (rows.script_failed result) + from_bool (rows.script_exec_failed result) + from_bool (rows.script_timed_out result) ≡ from_bool (fails_script result)
-script_once ended.Pass = refl
-script_once (ended.Leak leak.Pass) = refl
-script_once (ended.Leak leak.Fail) = refl
-script_once (ended.Fail failure leaked) = refl
-script_once ended.ExecFail = refl
-script_once (ended.Timeout judged) = refl
-
 test_once : (test : Finished) → from_bool (rows.is_failed test) + from_bool (rows.exec_failed test) + from_bool (rows.failed_timed_out test) ≡ from_bool (fails_test test)
 test_once test = by_result test.result test.late test.flaky
   where
@@ -116,26 +108,13 @@ counted_as test = by_finished (is_finished test) (last_record test.records)
 pub failed_is : (state : State) → failed_count (counters state) ≡ failed_weight state.tests
 failed_is state = sum_three (counts rows.is_failed) (counts rows.exec_failed) (counts rows.failed_timed_out) (counts fails_test) state.tests counted_as
 
-pub failed_scripts_is : (state : State) → failed_setup_script_count (counters state) ≡ count_by (λ ending. fails_script ending.result) state.scripts
-failed_scripts_is state =
-    sum_three (λ ending. rows.script_failed ending.result) (λ ending. rows.script_exec_failed ending.result) (λ ending. rows.script_timed_out ending.result) (λ ending. fails_script ending.result) state.scripts
-    (λ ending. script_once ending.result)
-
--- no more fail than are to run, and than ended
+-- no more fail than are to run
 pub failed_fits : (scripts : ScriptState) (tests : List TestState) (stats : RunStats) (limit : MaxFail) → Counts scripts tests stats limit → failed_count stats ≤ stats.initial_run_count
 failed_fits scripts tests stats limit own =
     let state = state_of scripts tests stats limit in
     let number : failed_count stats ≡ failed_weight tests = ap failed_count own ∙ failed_is state in
     let most : failed_weight tests ≤ length tests = count_by-le-length (counts fails_test) tests in
     let all : stats.initial_run_count ≡ length tests = ap (λ (s : RunStats). s.initial_run_count) own in
-    omega (arith, number, most, all)
-
-pub failed_scripts_fit : (scripts : ScriptState) (tests : List TestState) (stats : RunStats) (limit : MaxFail) → Counts scripts tests stats limit → failed_setup_script_count stats ≤ stats.setup_scripts_finished_count
-failed_scripts_fit scripts tests stats limit own =
-    let state = state_of scripts tests stats limit in
-    let number : failed_setup_script_count stats ≡ count_by (λ (ending : Record). fails_script ending.result) scripts.ended = ap failed_setup_script_count own ∙ failed_scripts_is state in
-    let most = count_by-le-length (λ (ending : Record). fails_script ending.result) scripts.ended in
-    let all : stats.setup_scripts_finished_count ≡ length scripts.ended = ap (λ (s : RunStats). s.setup_scripts_finished_count) own in
     omega (arith, number, most, all)
 
 -- ---- at the start

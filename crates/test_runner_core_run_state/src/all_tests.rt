@@ -121,9 +121,11 @@ impl<A: KeepAttempts> AllTests<A> {
     ) -> bool
         requires { IsRunningAt self.old place }
         ensures after { (state : State) → state.reason ≡ reason
-            → ChangesAt place (λ test. after_attempt state test (A.record_of ending)) self.old self.new }
+            → ChangesAt place
+            (λ test. after_attempt state test (A.record_of ending)) self.old self.new }
         ensures finished { (state : State) (test : TestState) → state.reason ≡ reason
-            → slice_get self.old place ≡ Some test → result ≡ finishes state test (A.record_of ending) }
+            → slice_get self.old place ≡ Some test
+            → result ≡ finishes state test (A.record_of ending) }
         ensures bound { length self.old < 2 ^ 63 }
     {
         let finished = end_at(&mut self.tests, alloc, place, ending, reason);
@@ -207,7 +209,8 @@ fn end_at<A: KeepAttempts>(
     ensures after { (state : State) → state.reason ≡ reason → ChangesAt place
         (λ test. after_attempt state test (A.record_of ending)) tests.old.items tests.new.items }
     ensures finished { (state : State) (test : TestState) → state.reason ≡ reason
-        → slice_get tests.old.items place ≡ Some test → result ≡ finishes state test (A.record_of ending) }
+        → slice_get tests.old.items place ≡ Some test
+        → result ≡ finishes state test (A.record_of ending) }
 {
     let test = &mut tests[place];
     test.end(alloc, ending, reason)

@@ -39,7 +39,11 @@ impl Model for KeptStatuses {
 
     ghost Value = { StatusesState };
 
-    ghost view = { λ s. record { statuses = statuses_in s.attempts; room = room_in s.attempts; rule = rule_in s.attempts } };
+    ghost view = { λ s. record {
+      statuses = statuses_in s.attempts;
+      room = room_in s.attempts;
+      rule = rule_in s.attempts;
+    } };
 
     ghost invariant = { λ s. KeepsAttempts s.attempts };
 }

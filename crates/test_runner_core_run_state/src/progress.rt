@@ -101,7 +101,7 @@ impl<A: KeepAttempts> Progress<A> {
         })
     }
 
-    /// An attempt of the test at a place starts: reserves the room of its status. An `Err` says why
+    /// An attempt of the test at a place starts: reserves the room of its end. An `Err` says why
     /// it can't start now, or that there was no memory, and leaves everything as it was.
     pub fn start(&mut self, test: usize) -> Result<(), StartFault>
         ensures { Starts self.old test result self.new }
@@ -284,8 +284,6 @@ impl<A: KeepAttempts> Progress<A> {
     pub fn summary(&self) -> FinalRunStats
         ensures { result ≡ summary self.now }
     {
-        // No more fail than there are: so the numbers of failures fit their type.
-        let _counts = (self.scripts.ended(), self.tests.len());
         self.stats.summarize_final()
     }
 

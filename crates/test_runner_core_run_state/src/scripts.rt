@@ -21,9 +21,13 @@ impl Model for Scripts {
 
     ghost Value = { ScriptState };
 
-    ghost view = { λ s. record { planned = s.planned; ended = map script_record_of s.statuses.items } };
+    ghost view = { λ s. record {
+      planned = s.planned;
+      ended = map script_record_of s.statuses.items;
+    } };
 
-    ghost invariant = { λ s. KeepsScripts (map script_record_of s.statuses.items) s.statuses.items s.planned (vec_capacity s.statuses) };
+    ghost invariant = { λ s. KeepsScripts (map script_record_of s.statuses.items)
+        s.statuses.items s.planned (vec_capacity s.statuses) };
 }
 
 impl Scripts {

@@ -61,8 +61,8 @@ impl<'a, A: KeepAttempts> Model for PlanRun<'a, A> {
 }
 
 impl<'a, A: KeepAttempts> PlanRun<'a, A> {
-    /// The run in which nothing ended. Makes the room for each script's record and each test's
-    /// state, and only want of memory refuses it.
+    /// The run in which nothing ended. Makes the room for each script's status and each test's
+    /// state. It fails only on allocation.
     pub fn new(alloc: Global, plan: &'a Plan) -> Result<PlanRun<'a, A>, AllocError>
         ensures { IfOk result (λ session. session ≡ session_of plan.now) }
     {
@@ -81,7 +81,7 @@ impl<'a, A: KeepAttempts> PlanRun<'a, A> {
         })
     }
 
-    /// An attempt of a test starts: reserves the room of its record. An `Err` says why it can't
+    /// An attempt of a test starts: reserves the room of its end. An `Err` says why it can't
     /// start now, or that there was no memory, and leaves everything as it was.
     pub fn start(&mut self, test: TestInstanceId<'_>) -> Result<(), StartFault>
         ensures plan { self.new.plan ≡ self.old.plan }

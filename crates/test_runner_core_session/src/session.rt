@@ -25,7 +25,8 @@ pub struct Fate<'s> {
 /// clause it is the plan, and the state of the run.
 pub type Session<'a> = PlanRun<'a, KeptStatuses>;
 
-/// The same, but attempts are kept as records, in less memory: what `judge` does.
+/// A run of a plan, which is lent, that keeps the ended attempts of its tests as records, in less
+/// memory: what `judge` does. In a clause it is the plan, and the state of the run.
 pub type RecordSession<'a> = PlanRun<'a, KeptRecords>;
 
 impl<'a> Session<'a> {

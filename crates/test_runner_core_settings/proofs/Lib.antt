@@ -4,7 +4,6 @@ pub mod Profile
 pub mod Chosen
 pub mod Enabled
 pub mod Passing
-mod Shown
 pub mod Isolated
 pub mod Limits
 pub mod Once

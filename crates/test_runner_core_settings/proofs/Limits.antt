@@ -10,7 +10,8 @@ use Rattle.nextest_config_elements_choices.specs.declared.max_fail.MaxFail.{MaxF
 use Rattle.nextest_config_elements_choices.specs.declared.max_fail.TerminateMode.{TerminateMode}
 use Rattle.nextest_config_elements_choices.specs.declared.max_fail.TerminateMode.TheVariants.{Wait}
 use Rattle.nextest_config_elements_toml.specs.Reading.{Path, Reading, ◌>>=◌, defaulted, leaf, required, under}
-use Rattle.nextest_config_elements_deserialize.specs.Limits.{fail_fast_in, limit, limit_in, stopped_at, switch_in, limit_of_switch}
+use Rattle.nextest_config_elements_choices.specs.MaxFail.{of_fail_fast}
+use Rattle.nextest_config_elements_deserialize.specs.Limits.{fail_fast_in, limit, limit_in, stopped_at, switch_in}
 use Rattle.nextest_config_elements_deserialize.specs.Values.{above_none, truth}
 use Rattle.nextest_config_elements_deserialize.specs.Words.{terminate_mode}
 use Rattle.nextest_config_resolution_load.specs.Checks.{MergedConfig, config_in, merged_in}
@@ -91,7 +92,7 @@ table_limit members =
     (under_holds (codes "max-fail") (option_map_or (leaf limit) (get_member (codes "max-fail") members) (Err [])) _ (found_above (get_member (codes "max-fail") members)))
     (λ found stops. next_holds (mode_in members) (λ mode. Ok (stopped_at found mode)) (λ mode. ⊤) IsOneAtLeast (anything (mode_in members)) (λ mode _. stops mode))
 
-switches : (stops : Bool) → IsOneAtLeast (limit_of_switch stops)
+switches : (stops : Bool) → IsOneAtLeast (of_fail_fast stops)
 switches true = omega arith
 switches false = tt
 

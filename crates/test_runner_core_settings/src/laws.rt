@@ -15,7 +15,7 @@ pub fn one_test()
 
 /// Profiles outside of the chosen one's chain, and their rules, change nothing of what is set for a
 /// run, or for a test, or of which setup scripts tests need.
-pub fn isolated()
+pub fn isolation()
     ensures run { Isolated }
     ensures tests { IsolatesTests }
     ensures scripts { IsolatesScripts }

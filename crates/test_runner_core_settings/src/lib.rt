@@ -10,7 +10,6 @@ mod pass_error;
 mod platforms;
 mod settings_error;
 mod settings_fault;
-mod shown_path;
 mod sources;
 mod warning;
 

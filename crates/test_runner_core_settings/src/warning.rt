@@ -4,8 +4,8 @@ ghost use Rattle.semver.specs.Identifiers.{parts_of};
 ghost use Rattle.test_runner_core_settings.specs.Evaluation.{version_warnings};
 ghost use Rattle.test_runner_core_settings.specs.Warnings.{version_text};
 
-use crate::shown_path::ShownPath;
 use nextest_config_elements_versions::{NextestVersionEval, VersionOrigin};
+use nextest_config_resolution_warnings::Shown;
 use nextest_text::{Listing, Text};
 use nextest_version::PlainVersion;
 use semver::Version;
@@ -59,7 +59,7 @@ fn warning(
     ensures { IfOk result (λ told. told
         ≡ version_text role.now asked.now (parts_of current.now) source.now.path end.now ∷ []) }
 {
-    let path = ShownPath(source.path.as_str());
+    let path = Shown(source.path.as_str());
     let text = format!(in alloc; "version {role} {asked} current {current} by {path}{end}")?;
     let mut told = Listing::new(alloc);
     told.push(Text::from(text))?;

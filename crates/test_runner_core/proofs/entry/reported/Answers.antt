@@ -5,6 +5,7 @@ use Rattle.test_runner_core_reporter.proofs.Told.{front_none}
 use Rattle.test_runner_core.specs.Faults.{lacks_memory}
 use Rattle.test_runner_core.specs.Inside.{IsBegun, IsGot, IsJudged}
 use Rattle.test_runner_core.specs.Report.{Begun, Composed, GotTo, refused_plan}
+use Rattle.test_runner_core.proofs.Headline.{planned_refuses_none, refuses_unplanned}
 use Rattle.test_runner_core.proofs.OneReport.{never_planned}
 use Rattle.test_runner_core.proofs.Reported.{all_is_written, asked_as, asked_in_part, asks_all, asks_with, begun_of, got_from_beginning, got_of, if_known, judged_composed, refused_as, refused_begun, refused_composed, reports_as, reports_front}
 use Rattle.test_runner_core.proofs.entry.reported.Goals as goal
@@ -98,3 +99,17 @@ pub returns-in-Err-OutOfMemory-clause-reports : goal.returns-in-Err-OutOfMemory-
 returns-in-Err-OutOfMemory-clause-reports g c =
     let answer = g.L.Lister.answer c.args.lister.now in
     ([], if_known (λ bytes. Begun answer c.args.inputs.now (items 0 bytes) []) (g.R.LogReader.left c.args.log.now) (λ bytes. inl refl), front_none [] (g.W.ReportWriter.taken c.args.report.now) [])
+
+pub returns-in-Ok-clause-refuses : goal.returns-in-Ok-clause-refuses
+returns-in-Ok-clause-refuses g c =
+    planned_refuses_none (g.L.Lister.answer c.args.lister.now) c.args.inputs.now c.in-Ok.plan c.in-Ok.ensures.builds c.judge_plan.result (g.W.ReportWriter.taken c.args.report.now) (g.W.ReportWriter.taken c.judge_plan.new.report)
+
+pub returns-in_ok-refuse_plan-in-Err-Refused-clause-refuses : goal.returns-in_ok-refuse_plan-in-Err-Refused-clause-refuses
+returns-in_ok-refuse_plan-in-Err-Refused-clause-refuses g c =
+    let answer = g.L.Lister.answer c.args.lister.now in
+    let inputs = c.args.inputs.now in
+    let refusal = c.in-Err-Refused.refusal in
+    let told = c.in_ok-refuse_plan-in-Err-Refused.ensures in
+    refuses_unplanned answer inputs refusal c.in_ok-refuse_plan-in-Err-Refused.field-0 (g.W.ReportWriter.taken c.args.report.now) (g.W.ReportWriter.taken c.refuse_plan.new.report)
+    (refused_as answer inputs c.in-Err-Refused.field-0 refusal c.in-Err-Refused.field-0-is c.in-Err-Refused.ensures.builds)
+    (all_is_written (refused_plan refusal) (g.W.ReportWriter.taken c.args.report.now) (g.W.ReportWriter.taken c.refuse_plan.new.report) told.writes) told.code
