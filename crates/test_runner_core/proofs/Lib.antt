@@ -16,4 +16,5 @@ pub mod Written
 mod Whole
 mod Aside
 mod Isolated
+mod Statuses
 pub mod SomeReport

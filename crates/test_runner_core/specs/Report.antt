@@ -1,6 +1,7 @@
 -- The report of inputs and a log, and its exit status.
 use Rattle.std.specs.Prelude.{◌≡◌, ◌⊎◌, ℕ, ◌+◌, List, [], ◌∷◌, ◌++◌, map, length, codes, decimal, Option, None, Some, Result, Ok, Err, IfSome}
 use Rattle.std.specs.Io.KnownBytes.{Appends}
+use Rattle.std.specs.List.{Contains}
 use Rattle.test_runner_core_inputs.specs.declared.inputs.Inputs.{Inputs}
 use Rattle.test_runner_core_inputs.specs.declared.inputs_error.InputsRefusal.{InputsRefusal}
 use Rattle.test_runner_core_inputs.specs.declared.inputs_error.InputsRefusal.TheVariants as unread
@@ -53,6 +54,10 @@ ending plan last (Some found) = refused_line found
 abbrev pub exit_status : State → Option RefusedLine → ℕ
 exit_status last None = status last
 exit_status last (Some found) = 96
+
+-- the exit statuses that are ever answered
+abbrev pub IsStatus : ℕ → Type 0
+IsStatus code = Contains (0 ∷ 4 ∷ 92 ∷ 96 ∷ 100 ∷ 105 ∷ []) code
 
 -- what lines report: the warnings of the plan, and the progress of the run that they lead
 pub record SoFar (plan : Plan) (front : List (List ℕ)) (last : State) (parts : List Part) : Type 0 where

@@ -8,7 +8,7 @@ ghost use Rattle.test_runner_core.specs.Faults.{CountsReadFailures, CountsWriteF
 ghost use Rattle.test_runner_core.specs.Headline.{Headline, RefusesUnplanned, StreamHeadline};
 ghost use Rattle.test_runner_core.specs.Outcome.{HasNoPlan, ReportsStream, table_of};
 ghost use Rattle.test_runner_core.specs.Inside.{IsGotOf};
-ghost use Rattle.test_runner_core.specs.Report.{Begun, Composed, HasSoFar, Reports, ReportsLog};
+ghost use Rattle.test_runner_core.specs.Report.{Begun, Composed, HasSoFar, IsStatus, Reports, ReportsLog};
 ghost use Rattle.test_runner_core_log_reader.specs.Cursor.{items_ahead};
 ghost use Rattle.test_runner_core_planning.specs.Plan.{AsksWith, Builds, Plans};
 ghost use Rattle.test_runner_core_planning.specs.declared.plan_fault.PlanFault.{PlanFault};
@@ -56,6 +56,7 @@ pub fn judge<L: Lister, R: LogReader, W: ReportWriter>(
         (R.left log.new) (W.taken report.old) (W.taken report.new) }
     ensures refuses { IfOk result (λ code. RefusesUnplanned (L.answer lister.old) inputs.now code
         (W.taken report.old) (W.taken report.new)) }
+    ensures status { IfOk result IsStatus }
     ensures headline { IfOk result (λ code. IfSome (R.left log.old) (λ bytes.
         Headline (L.answer lister.old) inputs.now (items 0 bytes) code
         (W.taken report.old) (W.taken report.new))) }
@@ -88,6 +89,7 @@ fn reported<L: Lister, R: LogReader, W: ReportWriter>(
         (R.left log.new) (W.taken report.old) (W.taken report.new) }
     ensures refuses { IfOk result (λ code. RefusesUnplanned (L.answer lister.old) inputs.now code
         (W.taken report.old) (W.taken report.new)) }
+    ensures status { IfOk result IsStatus }
     ensures stays { (other : Binary) → L.answer lister.new other ≡ L.answer lister.old other }
     ensures asks { AsksWith (L.answer lister.old) inputs.now (lacks_memory result)
         (L.asked lister.old) (L.asked lister.new) }
@@ -124,6 +126,7 @@ pub fn judge_stream<R: LogReader, W: ReportWriter>(
     requires writes_fit { W.failures report.old < 2 ^ 62 }
     ensures reports { ReportsStream result (R.left input.old) (R.left input.new)
         (W.taken report.old) (W.taken report.new) }
+    ensures status { IfOk result IsStatus }
     ensures headline { IfOk result (λ code. IfSome (R.left input.old) (λ bytes.
         StreamHeadline bytes code (W.taken report.old) (W.taken report.new))) }
     ensures unread { IfSome (R.left input.old) (λ bytes. HasNoPlan (read_inputs (before_feed bytes))
@@ -148,6 +151,7 @@ fn stream_reported<R: LogReader, W: ReportWriter>(
     requires writes_fit { W.failures report.old < 2 ^ 62 }
     ensures reports { ReportsStream result (R.left input.old) (R.left input.new)
         (W.taken report.old) (W.taken report.new) }
+    ensures status { IfOk result IsStatus }
     ensures unread { IfSome (R.left input.old) (λ bytes. HasNoPlan (read_inputs (before_feed bytes))
         → R.calls input.new ≤ R.calls input.old + first_line_reads) }
     ensures reads { R.calls input.new ≤ R.calls input.old + first_line_reads + log_reads }
@@ -187,6 +191,7 @@ fn judge_by_table<R: LogReader, W: ReportWriter>(
         (λ parts. IfSome (R.left log.old) (λ bytes.
         Begun (table_of inputs) inputs (items_ahead lines.old bytes) parts))
         (W.taken report.old) (W.taken report.new) }
+    ensures status { IfOk result IsStatus }
     ensures unread { (refusal : PlanFault) → Plans (table_of inputs) inputs (Err refusal)
         → R.calls log.new ≡ R.calls log.old }
     ensures reads { R.calls log.new ≤ R.calls log.old + log_reads }

@@ -1,11 +1,12 @@
-use Rattle.std.proofs.Common.{List, ℕ, [], IfSome, refl, inl}
+use Rattle.std.proofs.Common.{List, ℕ, [], IfSome, refl, inl, sym, subst}
 use Rattle.test_runner_core_log_reader.specs.Cursor.{items_ahead}
 use Rattle.test_runner_core_reporter.proofs.Told.{front_none}
 use Rattle.test_runner_core.specs.Inside.{IsBegun, IsGot, IsGotOf, IsJudged}
 use Rattle.test_runner_core.specs.Outcome.{table_of}
-use Rattle.test_runner_core.specs.Report.{Begun, Composed, HasSoFar, refused_plan}
+use Rattle.test_runner_core.specs.Report.{Begun, Composed, HasSoFar, IsStatus, refused_plan}
 use Rattle.test_runner_core.proofs.OneReport.{never_planned}
 use Rattle.test_runner_core.proofs.Reported.{all_is_written, begun_of, got_of, if_known, judged_composed, refused_as, refused_begun, refused_composed, reports_as, reports_front}
+use Rattle.test_runner_core.proofs.Statuses.{of_refusal}
 use Rattle.test_runner_core.proofs.entry.judge_by_table.Goals as goal
 
 pub returns-in-Ok-clause-reports : goal.returns-in-Ok-clause-reports
@@ -56,3 +57,6 @@ pub returns-in-Err-OutOfMemory-clause-reports : goal.returns-in-Err-OutOfMemory-
 returns-in-Err-OutOfMemory-clause-reports g c =
     let inputs = c.args.inputs in
     ([], if_known (λ bytes. Begun (table_of inputs) inputs (items_ahead c.args.lines.now bytes) []) (g.R.LogReader.left c.args.log.now) (λ bytes. inl refl), front_none [] (g.W.ReportWriter.taken c.args.report.now) [])
+
+pub returns-in_ok-refuse_plan-in-Err-Refused-clause-status : goal.returns-in_ok-refuse_plan-in-Err-Refused-clause-status
+returns-in_ok-refuse_plan-in-Err-Refused-clause-status g c = subst IsStatus (sym c.in_ok-refuse_plan-in-Err-Refused.ensures.code) (of_refusal c.in-Err-Refused.refusal)

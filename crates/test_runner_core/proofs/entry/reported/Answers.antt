@@ -1,13 +1,14 @@
-use Rattle.std.proofs.Common.{[], IfSome, Ok, Err, true, false, refl, inl, subst}
+use Rattle.std.proofs.Common.{[], IfSome, Ok, Err, true, false, refl, inl, subst, sym}
 use Rattle.test_runner_core_log_reader.specs.Cursor.{Cursor, items_ahead}
 use Rattle.test_runner_core_log_reader.specs.Items.{items}
 use Rattle.test_runner_core_reporter.proofs.Told.{front_none}
 use Rattle.test_runner_core.specs.Faults.{lacks_memory}
 use Rattle.test_runner_core.specs.Inside.{IsBegun, IsGot, IsJudged}
-use Rattle.test_runner_core.specs.Report.{Begun, Composed, GotTo, refused_plan}
+use Rattle.test_runner_core.specs.Report.{Begun, Composed, GotTo, IsStatus, refused_plan}
 use Rattle.test_runner_core.proofs.Headline.{planned_refuses_none, refuses_unplanned}
 use Rattle.test_runner_core.proofs.OneReport.{never_planned}
 use Rattle.test_runner_core.proofs.Reported.{all_is_written, asked_as, asked_in_part, asks_all, asks_with, begun_of, got_from_beginning, got_of, if_known, judged_composed, refused_as, refused_begun, refused_composed, reports_as, reports_front}
+use Rattle.test_runner_core.proofs.Statuses.{of_refusal}
 use Rattle.test_runner_core.proofs.entry.reported.Goals as goal
 
 pub returns-in-Ok-clause-reports : goal.returns-in-Ok-clause-reports
@@ -113,3 +114,6 @@ returns-in_ok-refuse_plan-in-Err-Refused-clause-refuses g c =
     refuses_unplanned answer inputs refusal c.in_ok-refuse_plan-in-Err-Refused.field-0 (g.W.ReportWriter.taken c.args.report.now) (g.W.ReportWriter.taken c.refuse_plan.new.report)
     (refused_as answer inputs c.in-Err-Refused.field-0 refusal c.in-Err-Refused.field-0-is c.in-Err-Refused.ensures.builds)
     (all_is_written (refused_plan refusal) (g.W.ReportWriter.taken c.args.report.now) (g.W.ReportWriter.taken c.refuse_plan.new.report) told.writes) told.code
+
+pub returns-in_ok-refuse_plan-in-Err-Refused-clause-status : goal.returns-in_ok-refuse_plan-in-Err-Refused-clause-status
+returns-in_ok-refuse_plan-in-Err-Refused-clause-status g c = subst IsStatus (sym c.in_ok-refuse_plan-in-Err-Refused.ensures.code) (of_refusal c.in-Err-Refused.refusal)

@@ -1,11 +1,12 @@
-use Rattle.std.proofs.Common.{◌≡◌, Err, string_bytes, ap, ◌∙◌, subst}
+use Rattle.std.proofs.Common.{◌≡◌, Err, string_bytes, sym, ap, ◌∙◌, subst}
 use Rattle.std.proofs.lemmas.Result.{err_from_is_err_and}
 use Rattle.test_runner_core_plan.specs.declared.plan.Plan.{Plan}
 use Rattle.test_runner_core_session.specs.Session.{SessionState}
 use Rattle.test_runner_core_reporter.specs.Writes.{WritesAll, WritesPrefix}
 use Rattle.test_runner_core.specs.Inside.{JudgesLines, KeepsJudged}
-use Rattle.test_runner_core.specs.Report.{ending}
+use Rattle.test_runner_core.specs.Report.{IsStatus, ending}
 use Rattle.test_runner_core.proofs.Kept.{ended_as, exit_as, unended_as}
+use Rattle.test_runner_core.proofs.Statuses.{of_report}
 use Rattle.test_runner_core.proofs.Whole.{reports_none, reports_unended, reports_unjudged, reports_whole}
 use Rattle.test_runner_core.proofs.whole_report.judge_plan.Goals as goal
 
@@ -65,3 +66,6 @@ returns-clause-reports g c =
     (ended_as c.args.plan.now session.run judged.0 found (taken c.judge_lines.new.report) (string_bytes c.judge_lines.new.text) (taken c.end_report.new.report) (string_bytes c.end_report.new.text) judged.1 ended)
     c.in_ok-end_report.ensures.empty
     (c.in_ok-end_report.ensures.code ∙ exit_as c.args.plan.now judged.0 session.run found judged.1)
+
+pub returns-clause-status : goal.returns-clause-status
+returns-clause-status g c = subst IsStatus (sym c.in_ok-end_report.ensures.code) (of_report c.judge_lines.new.session.run c.in_ok-found.found)
