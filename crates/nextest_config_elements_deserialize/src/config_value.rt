@@ -36,8 +36,8 @@ pub fn whole<Rule, T: ConfigValue<Rule>>(
     }
 }
 
-/// The value of a key that must stand. An `Err` where it is missing or isn't one, or where there was
-/// no memory.
+/// The value of a key that must stand. An `Err` where it is missing or isn't one, or where there
+/// was no memory.
 pub fn required<Rule, T: ConfigValue<Rule>>(
     alloc: Global,
     table: &Table,
@@ -52,8 +52,8 @@ pub fn required<Rule, T: ConfigValue<Rule>>(
     }
 }
 
-/// The value of a key that may be left out. An `Err` where what stands isn't one, or where there was
-/// no memory.
+/// The value of a key that may be left out. An `Err` where what stands isn't one, or where there
+/// was no memory.
 pub fn optional<Rule, T: ConfigValue<Rule>>(
     alloc: Global,
     table: &Table,

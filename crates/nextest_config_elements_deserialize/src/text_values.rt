@@ -11,8 +11,8 @@ use nextest_text::{Listing, Text};
 use std::alloc::Global;
 use toml::{Table, Value};
 
-/// The text under a key that may be left out. An `Err` where what stands is none, or where there was
-/// no memory.
+/// The text under a key that may be left out. An `Err` where what stands is none, or where there
+/// was no memory.
 pub fn optional_text(
     alloc: Global,
     table: &Table,
@@ -28,8 +28,8 @@ pub fn optional_text(
     }
 }
 
-/// A list of texts. An `Err` at the first item that is none, or where the value is no list, or where
-/// there was no memory.
+/// A list of texts. An `Err` at the first item that is none, or where the value is no list, or
+/// where there was no memory.
 pub fn deserialize_texts(
     alloc: Global,
     value: &Value,

@@ -58,9 +58,9 @@ pub fn read(alloc: Global, text: &str) -> Result<Reading, AllocError>
 }
 
 impl ParsedExpr {
-    /// The tree of a filterset; where none could be made, an `Err` has its faults. An `Err` for want
-    /// of memory says nothing of the text. It is lenient: a tree that could be made in spite of
-    /// faults is answered without them, so use `read` where they matter.
+    /// The tree of a filterset; where none could be made, an `Err` has its faults. An `Err` for
+    /// want of memory says nothing of the text. It is lenient: a tree that could be made in spite
+    /// of faults is answered without them, so use `read` where they matter.
     pub fn parse(alloc: Global, text: &str) -> Result<ParsedExpr, ParseError>
         ensures { Parses text.now result }
     {

@@ -22,7 +22,7 @@ pub trait JsonForm: Form<RunEvents> {
     // What is known of each value that a program has: a number has as many bits as its type.
     ghost fits: { Self → Type 0 };
 
-    /// The value as JSON. Only want of memory refuses it.
+    /// The value as JSON. It fails only on allocation.
     fn to_json(&self, alloc: Global) -> Result<Value, AllocError>
         ensures { IfOk result (λ written. view written ≡ form self.now) };
 

@@ -82,8 +82,8 @@ fn note_part(stdout: &[u8]) -> Option<ByteSubslice<'_>>
 }
 
 impl<'a> TestOutputErrorSlice<'a> {
-    /// The part of the outputs that tells of their error; `None` where there is none. An output that
-    /// was not captured is `None`. Takes no memory, and time in proportion to the outputs.
+    /// The part of the outputs that tells of their error; `None` where there is none. An output
+    /// that was not captured is `None`. Takes no memory, and time in proportion to the outputs.
     pub fn heuristic_extract(stdout: Option<&'a [u8]>, stderr: Option<&'a [u8]>) -> Option<Self>
         ensures slice { IsSlice (bytes_of_output (option_copied stdout.entry))
             (bytes_of_output (option_copied stderr.entry)) result }

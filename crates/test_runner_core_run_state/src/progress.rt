@@ -75,8 +75,8 @@ impl<A: KeepAttempts> Model for Progress<A> {
 
 impl<A: KeepAttempts> Progress<A> {
     /// The run in which nothing ended, of so many scripts and of these tests, where `skipped`
-    /// others were skipped. Makes the room for each script's status and each test's state, and only
-    /// want of memory refuses it.
+    /// others were skipped. Makes the room for each script's status and each test's state. It fails
+    /// only on allocation.
     pub fn new(
         alloc: Global,
         scripts: usize,
