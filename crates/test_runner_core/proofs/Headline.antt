@@ -1,5 +1,5 @@
 -- What a call reports keeps the headline.
-use Rattle.std.proofs.Common.{◌≡◌, ℕ, List, ◌∷◌, ◌++◌, codes, [], Option, Some, None, IfOk, IfSome, Result, Ok, Err, ap, ◌∙◌, subst, inl, inr}
+use Rattle.std.proofs.Common.{◌≡◌, ℕ, List, ◌∷◌, ◌++◌, codes, [], Option, Some, None, IfOk, Result, Ok, Err, ap, ◌∙◌, subst, inl, inr}
 use Rattle.test_runner_core_inputs.specs.Reading.{read_inputs}
 use Rattle.test_runner_core_inputs.specs.declared.inputs.Inputs.{Inputs}
 use Rattle.test_runner_core_inputs.specs.declared.inputs_error.InputsRefusal.{InputsRefusal}
@@ -18,7 +18,7 @@ use Rattle.test_runner_core_workspace.specs.Lister.{Answer}
 use Rattle.test_runner_core_workspace.specs.declared.record.Binary.{Binary}
 use Rattle.test_runner_core.specs.Headline.{Filters, Headline, LineHeadline, ListsExactly, RefusesUnplanned, SelectsExactly, StreamHeadline}
 use Rattle.test_runner_core.specs.Outcome.{LineComposed, StreamComposed, table_of}
-use Rattle.test_runner_core.specs.Report.{Composed, IsWritten, Reports, refused_plan}
+use Rattle.test_runner_core.specs.Report.{Composed, IsWritten, OfLeft, Reports, refused_plan}
 use Rattle.test_runner_core.specs.declared.judge_fault.JudgeFault.{JudgeFault}
 use Rattle.test_runner_core.proofs.Due.{ends_no_milder, ends_with_due_status}
 use Rattle.test_runner_core.proofs.OneEnd.{ends_as_due}
@@ -39,19 +39,13 @@ lists_exactly_by answer inputs plan built =
     record { some = filters_of answer inputs plan built; exactly = λ by. lists_exactly answer inputs plan by.choice by.force built by.sets by.in_force }
 
 -- inputs that were refused once are refused for nothing else
-pub refuses_unplanned : (answer : Binary → Answer) (inputs : Inputs) (found : PlanFault) (code : ℕ) (before after : Option (List ℕ)) → Plans answer inputs (Err found)
+refuses_unplanned : (answer : Binary → Answer) (inputs : Inputs) (found : PlanFault) (code : ℕ) (before after : Option (List ℕ)) → Plans answer inputs (Err found)
     → IsWritten (refused_plan found) before after → code ≡ status_of found → RefusesUnplanned answer inputs code before after
 refuses_unplanned answer inputs found code before after refuses written status = λ refusal also.
     let same = plans_once answer inputs (Err found) (Err refusal) refuses also in (
       subst (λ (p : List Part). IsWritten p before after) (ap (λ (name : List ℕ). Said (codes "refused" ++ TAB ∷ name ++ LF ∷ []) ∷ []) same.0) written,
       status ∙ same.1,
     )
-
--- and those that have a plan for nothing
-pub planned_refuses_none : (answer : Binary → Answer) (inputs : Inputs) (plan : Plan) → Builds answer inputs (Ok plan) → (result : Result ℕ JudgeFault) (before after : Option (List ℕ))
-    → IfOk result (λ code. RefusesUnplanned answer inputs code before after)
-planned_refuses_none answer inputs plan built (Ok code) before after = λ refusal also. absurd (never_planned answer inputs plan refusal also built)
-planned_refuses_none answer inputs plan built (Err e) before after = tt
 
 refuses_so : (answer : Binary → Answer) (inputs : Inputs) (log : List Item) (parts : List Part) (code : ℕ) (before after : Option (List ℕ)) (refusal : PlanFault)
     → Composed answer inputs log parts code → IsWritten parts before after → Plans answer inputs (Err refusal) → IsWritten (refused_plan refusal) before after × (code ≡ status_of refusal)
@@ -91,25 +85,26 @@ answered : (IsReport : List Part → ℕ → Type 0) (IsGot IsBegun : List Part 
 answered IsReport IsGot IsBegun P (Ok code) before after (parts, is, written) holds = holds parts code is written
 answered IsReport IsGot IsBegun P (Err e) before after reports holds = tt
 
-known_keeps : (answer : Binary → Answer) (inputs : Inputs) (left : Option (List ℕ)) (parts : List Part) (code : ℕ) (before after : Option (List ℕ))
-    → IfSome left (λ bytes. Composed answer inputs (items 0 bytes) parts code) → IsWritten parts before after → IfSome left (λ bytes. Headline answer inputs (items 0 bytes) code before after)
-known_keeps answer inputs None parts code before after composed written = tt
-known_keeps answer inputs (Some bytes) parts code before after composed written = keeps_headline answer inputs (items 0 bytes) parts code before after composed written
+log_keeps : (answer : Binary → Answer) (inputs : Inputs) (left : Option (List ℕ)) (parts : List Part) (code : ℕ) (before after : Option (List ℕ))
+    → OfLeft left (λ bytes. Composed answer inputs (items 0 bytes) parts code) → IsWritten parts before after → OfLeft left (λ bytes. Headline answer inputs (items 0 bytes) code before after)
+log_keeps answer inputs None parts code before after (bytes, composed) written = (bytes, keeps_headline answer inputs (items 0 bytes) parts code before after composed written)
+log_keeps answer inputs (Some bytes) parts code before after composed written = keeps_headline answer inputs (items 0 bytes) parts code before after composed written
 
 pub headline : (answer : Binary → Answer) (inputs : Inputs) (left : Option (List ℕ)) (IsGot IsBegun : List Part → Type 0) (result : Result ℕ JudgeFault) (before after : Option (List ℕ))
-    → Reports result (λ parts code. IfSome left (λ bytes. Composed answer inputs (items 0 bytes) parts code)) IsGot IsBegun before after
-    → IfOk result (λ code. IfSome left (λ bytes. Headline answer inputs (items 0 bytes) code before after))
+    → Reports result (λ parts code. OfLeft left (λ bytes. Composed answer inputs (items 0 bytes) parts code)) IsGot IsBegun before after
+    → IfOk result (λ code. OfLeft left (λ bytes. Headline answer inputs (items 0 bytes) code before after))
 headline answer inputs left IsGot IsBegun result before after reports =
-    answered _ IsGot IsBegun _ result before after reports (λ parts code composed written. known_keeps answer inputs left parts code before after composed written)
+    answered _ IsGot IsBegun _ result before after reports (λ parts code composed written. log_keeps answer inputs left parts code before after composed written)
 
-known_stream_keeps : (left : Option (List ℕ)) (parts : List Part) (code : ℕ) (before after : Option (List ℕ))
-    → IfSome left (λ bytes. StreamComposed bytes parts code) → IsWritten parts before after → IfSome left (λ bytes. StreamHeadline bytes code before after)
-known_stream_keeps None parts code before after composed written = tt
-known_stream_keeps (Some bytes) parts code before after composed written =
+stream_keeps : (left : Option (List ℕ)) (parts : List Part) (code : ℕ) (before after : Option (List ℕ))
+    → OfLeft left (λ bytes. StreamComposed bytes parts code) → IsWritten parts before after → OfLeft left (λ bytes. StreamHeadline bytes code before after)
+stream_keeps None parts code before after (bytes, composed) written =
+    (bytes, line_keeps_headline (read_inputs (before_feed bytes)) (items 0 (behind_feed bytes)) parts code before after composed written)
+stream_keeps (Some bytes) parts code before after composed written =
     line_keeps_headline (read_inputs (before_feed bytes)) (items 0 (behind_feed bytes)) parts code before after composed written
 
 pub stream_headline : (left : Option (List ℕ)) (IsGot IsBegun : List Part → Type 0) (result : Result ℕ JudgeFault) (before after : Option (List ℕ))
-    → Reports result (λ parts code. IfSome left (λ bytes. StreamComposed bytes parts code)) IsGot IsBegun before after
-    → IfOk result (λ code. IfSome left (λ bytes. StreamHeadline bytes code before after))
+    → Reports result (λ parts code. OfLeft left (λ bytes. StreamComposed bytes parts code)) IsGot IsBegun before after
+    → IfOk result (λ code. OfLeft left (λ bytes. StreamHeadline bytes code before after))
 stream_headline left IsGot IsBegun result before after reports =
-    answered _ IsGot IsBegun _ result before after reports (λ parts code composed written. known_stream_keeps left parts code before after composed written)
+    answered _ IsGot IsBegun _ result before after reports (λ parts code composed written. stream_keeps left parts code before after composed written)

@@ -1,3 +1,4 @@
+pub mod Left
 pub mod Checking
 pub mod Course
 pub mod Kept

@@ -1,8 +1,10 @@
 -- From what was reported, to what a call of `judge` reports.
-use Rattle.std.proofs.Common.{◌≡◌, ℕ, Bool, true, false, List, [], ◌++◌, Option, Some, None, IfSome, Result, Ok, Err, refl, sym, ap, ◌∙◌, subst, inl, inr, append-nil}
+use Rattle.std.proofs.Common.{◌≡◌, ℕ, Bool, true, false, List, [], ◌++◌, Option, Result, Ok, Err, refl, sym, ap, ◌∙◌, subst, inl, inr, append-nil}
 use Rattle.std.specs.Io.KnownBytes.{Appends}
 use Rattle.std.specs.Result.{IsErrAnd}
 use Rattle.std.proofs.lemmas.Result.{err_from_is_err_and}
+use Rattle.test_runner_core_streams.specs.Left.{OfBytes, OfSomeBytes}
+use Rattle.test_runner_core_log_reader.proofs.Left.{gives_some}
 use Rattle.test_runner_core_inputs.specs.declared.inputs.Inputs.{Inputs}
 use Rattle.test_runner_core_log_reader.specs.Cursor.{Cursor, items_ahead}
 use Rattle.test_runner_core_log_reader.specs.Items.{Item}
@@ -60,16 +62,14 @@ reports_as (Err fault.Memory) IsReport AlsoReport IsHad AlsoHad IsStarted AlsoSt
 
 -- the report of a plan is one of the inputs that it was built of
 pub judged_composed : (answer : Binary → Answer) (inputs : Inputs) (plan : Plan) (begin : Cursor) (known : Option (List ℕ)) → Builds answer inputs (Ok plan) → (parts : List Part) (code : ℕ) → IsJudged plan begin known parts code
-    → IfSome known (λ bytes. Composed answer inputs (items_ahead begin bytes) parts code)
-judged_composed answer inputs plan begin None built parts code judged = tt
-judged_composed answer inputs plan begin (Some bytes) built parts code judged = inr (plan, built, judged)
+    → OfBytes known (λ bytes. Composed answer inputs (items_ahead begin bytes) parts code)
+judged_composed answer inputs plan begin known built parts code judged = (judged.0, judged.1, inr (plan, built, judged.2))
 
 pub begun_of : (answer : Binary → Answer) (inputs : Inputs) (plan : Plan) (begin : Cursor) (known : Option (List ℕ)) → Builds answer inputs (Ok plan) → (parts : List Part) → IsBegun plan begin known parts
-    → IfSome known (λ bytes. Begun answer inputs (items_ahead begin bytes) parts)
-begun_of answer inputs plan begin None built parts begun = tt
-begun_of answer inputs plan begin (Some bytes) built parts (inl nothing) = inl nothing
-begun_of answer inputs plan begin (Some bytes) built parts (inr (inl (front, (rest, (whole, (last, so_far)))))) = inr (inl (front, (rest, (whole, (plan, built, (last, so_far))))))
-begun_of answer inputs plan begin (Some bytes) built parts (inr (inr (code, judged))) = inr (inr (code, inr (plan, built, judged)))
+    → OfBytes known (λ bytes. Begun answer inputs (items_ahead begin bytes) parts)
+begun_of answer inputs plan begin known built parts (inl nothing) = let some = gives_some known in (some.0, some.1, inl nothing)
+begun_of answer inputs plan begin known built parts (inr (inl (front, (rest, (log, (last, so_far)))))) = (log.0, log.1, inr (inl (front, (rest, (log.2, (plan, built, (last, so_far)))))))
+begun_of answer inputs plan begin known built parts (inr (inr (code, judged))) = (judged.0, judged.1, inr (inr (code, inr (plan, built, judged.2))))
 
 pub got_of : (answer : Binary → Answer) (inputs : Inputs) (plan : Plan) (begin : Cursor) (known left : Option (List ℕ)) → Builds answer inputs (Ok plan) → (parts : List Part) → IsGot plan begin known left parts
     → (front : List (List ℕ)) × IsGotOf begin known left front × HasSoFar answer inputs front parts
@@ -78,11 +78,16 @@ got_of answer inputs plan begin known left built parts (front, got, (last, so_fa
 -- what was got of a log from its beginning
 pub got_from_beginning : (answer : Binary → Answer) (inputs : Inputs) (begin : Cursor) (known left : Option (List ℕ)) → begin ≡ record { line = []; waiting = []; handed = 0 } → (parts : List Part)
     → (front : List (List ℕ)) × IsGotOf begin known left front × HasSoFar answer inputs front parts
-    → IfSome known (λ bytes. IfSome left (λ rest. GotTo answer inputs bytes rest parts))
-got_from_beginning answer inputs begin None left fresh parts had = tt
-got_from_beginning answer inputs begin (Some bytes) None fresh parts had = tt
-got_from_beginning answer inputs begin (Some bytes) (Some rest) fresh parts (front, got, told) =
-    (got.0, ap (λ (c : Cursor). c.waiting ++ bytes) (sym fresh) ∙ got.1, subst (λ (lines : List (List ℕ)). HasSoFar answer inputs lines parts) (sym got.2) told)
+    → OfSomeBytes known left (λ bytes rest. GotTo answer inputs bytes rest parts)
+got_from_beginning answer inputs begin known left fresh parts (front, (rest, left_gives, (bytes, gives, got)), told) = (
+  rest,
+  left_gives,
+  (
+    bytes,
+    gives,
+    (got.0, ap (λ (c : Cursor). c.waiting ++ bytes) (sym fresh) ∙ got.1, subst (λ (lines : List (List ℕ)). HasSoFar answer inputs lines parts) (sym got.2) told),
+  ),
+)
 
 -- inputs that have no plan
 pub refused_composed : (answer : Binary → Answer) (inputs : Inputs) (refusal : PlanFault) (log : List Item) (code : ℕ) → Plans answer inputs (Err refusal) → code ≡ status_of refusal
@@ -91,15 +96,6 @@ refused_composed answer inputs refusal log code is status = inl (refusal, is, re
 
 pub refused_begun : (answer : Binary → Answer) (inputs : Inputs) (refusal : PlanFault) (log : List Item) → Plans answer inputs (Err refusal) → Begun answer inputs log (refused_plan refusal)
 refused_begun answer inputs refusal log is = inr (inr (status_of refusal, refused_composed answer inputs refusal log (status_of refusal) is refl))
-
--- where the bytes are known
-pub if_known : (P : List ℕ → Type 0) (known : Option (List ℕ)) → ((bytes : List ℕ) → P bytes) → IfSome known P
-if_known P None holds = tt
-if_known P (Some bytes) holds = holds bytes
-
-pub as_known : (P Q : List ℕ → Type 0) (known : Option (List ℕ)) → ((bytes : List ℕ) → P bytes → Q bytes) → IfSome known P → IfSome known Q
-as_known P Q None also holds = tt
-as_known P Q (Some bytes) also holds = also bytes holds
 
 -- all were asked for, whatever came after
 pub asks_all : (result : Result ℕ JudgeFault) (old ids new : List (List ℕ)) → AsksFor false old ids new → AsksFor (lacks_memory result) old ids new

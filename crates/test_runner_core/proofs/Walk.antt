@@ -4,6 +4,8 @@ use Rattle.std.specs.Io.KnownBytes.{Appends}
 use Rattle.std.specs.Result.{IsErrAnd}
 use Rattle.std.proofs.lemmas.Result.{err_from_is_err_and}
 use Rattle.std.proofs.lemmas.List.{map-append, length-append}
+use Rattle.test_runner_core_streams.specs.Left.{WhateverFollows}
+use Rattle.test_runner_core_log_reader.proofs.Left.{gives_some}
 use Rattle.test_runner_core_log_reader.proofs.WholeLines.{TakesLines, got_lines, takes_kept, takes_line}
 use Rattle.test_runner_core_log_reader.specs.Calls.{Hands, HandsAhead, KeepsAhead}
 use Rattle.test_runner_core_log_reader.specs.Cursor.{Cursor, bytes_received, items_ahead}
@@ -25,7 +27,7 @@ use Rattle.test_runner_core_reporter.specs.declared.fault.ReportFault.TheVariant
 use Rattle.test_runner_core_reporter.proofs.KeptReports.{all_as, front_as}
 use Rattle.test_runner_core_reporter.proofs.Told.{all_then, front_then, moves_then}
 use Rattle.test_runner_core.specs.Faults.{fault_of_reporting}
-use Rattle.test_runner_core.specs.Inside.{BegunLines, GotLines, HandsNext, IsGotOf, IsLogOf, JudgesLine, JudgesLines, KeepsJudged, kept_event}
+use Rattle.test_runner_core.specs.Inside.{BegunLines, GotLines, HandsNext, IsLogOf, JudgesLine, JudgesLines, KeepsJudged, kept_event}
 use Rattle.test_runner_core.specs.declared.judge_fault.JudgeFault.{JudgeFault}
 use Rattle.test_runner_core.specs.declared.judge_fault.JudgeFault.TheVariants as fault
 use Rattle.test_runner_core.specs.declared.refused_line.RefusedLine.{RefusedLine}
@@ -35,15 +37,12 @@ use Rattle.test_runner_core.specs.declared.refused_line.LineRefusal.{LineRefusal
 use Rattle.test_runner_core.proofs.Course.{so_far_more, so_far_none, so_far_same}
 use Rattle.test_runner_core.proofs.Kept.{forgets_as, refuses_as, steps_as}
 
--- the items ahead are what these lines leave of the log, where its bytes are known
+-- the items ahead are what these lines leave of the log
 abbrev pub LeavesAhead : Cursor → Option (List ℕ) → List (List ℕ) → Cursor → Option (List ℕ) → Type 0
-LeavesAhead begin None front cursor left = Unit {0}
-LeavesAhead begin (Some log) front cursor None = ⊥
-LeavesAhead begin (Some log) front cursor (Some left) = items_ahead begin log ≡ map Line front ++ items_ahead cursor left
+LeavesAhead begin known front cursor left = WhateverFollows known left (λ log behind. items_ahead begin log ≡ map Line front ++ items_ahead cursor behind)
 
 pub nothing_ahead : (begin : Cursor) (known : Option (List ℕ)) → LeavesAhead begin known [] begin known
-nothing_ahead begin None = tt
-nothing_ahead begin (Some log) = refl
+nothing_ahead begin known = λ behind gives. (behind, gives, refl)
 
 -- where the judging of a log is: these lines are judged, what they report is reported, and what a
 -- report needs is kept of their run
@@ -68,57 +67,55 @@ pub record Walking (plan : Plan) (begin : Cursor) (known before : Option (List �
   pub unfailed_writes : write_failures ≡ first_write_failures
   pub counted : number ≤ cursor.handed + 1
 
--- what the log is, where a line was handed out
+-- what the log may go on with
 rest_behind : Cursor → Option (List ℕ) → List Item
-rest_behind cursor None = []
-rest_behind cursor (Some left) = items_ahead cursor left
+rest_behind cursor left = items_ahead cursor (gives_some left).0
 
 log_at_line : (begin old new : Cursor) (known left rest : Option (List ℕ)) (front : List (List ℕ)) → LeavesAhead begin known front old left → Hands old left new rest (Ok found_is.Line)
     → IsLogOf begin known front (Line new.line ∷ rest_behind new rest)
 unfolding rest_behind
-log_at_line begin old new None left rest front ahead hands = tt
-log_at_line begin old new (Some log) None rest front ahead hands = absurd ahead
-log_at_line begin old new (Some log) (Some left) None front ahead hands = absurd hands
-log_at_line begin old new (Some log) (Some left) (Some rest) front ahead hands = ahead ∙ ap (λ (t : List Item). map Line front ++ t) hands
+log_at_line begin old new known left rest front ahead hands =
+    let some = gives_some rest in
+    let at = hands some.0 some.1 in
+    let log = ahead at.0 at.1 in
+    (log.0, log.1, log.2 ∙ ap (λ (t : List Item). map Line front ++ t) at.2)
 
 log_past_line : (begin old new : Cursor) (known left rest : Option (List ℕ)) (front : List (List ℕ)) → LeavesAhead begin known front old left → Hands old left new rest (Ok found_is.Line)
     → LeavesAhead begin known (front ++ new.line ∷ []) new rest
-log_past_line begin old new None left rest front ahead hands = tt
-log_past_line begin old new (Some log) None rest front ahead hands = absurd ahead
-log_past_line begin old new (Some log) (Some left) None front ahead hands = absurd hands
-log_past_line begin old new (Some log) (Some left) (Some rest) front ahead hands =
-    ahead ∙ ap (λ (t : List Item). map Line front ++ t) hands
-    ∙ sym (append_assoc (map Line front) (Line new.line ∷ []) (items_ahead new rest))
-    ∙ ap (λ (t : List Item). t ++ items_ahead new rest) (sym (map-append Line front (new.line ∷ [])))
+log_past_line begin old new known left rest front ahead hands = λ behind gives.
+    let at = hands behind gives in
+    let log = ahead at.0 at.1 in (
+      log.0,
+      log.1,
+      log.2 ∙ ap (λ (t : List Item). map Line front ++ t) at.2
+          ∙ sym (append_assoc (map Line front) (Line new.line ∷ []) (items_ahead new behind))
+          ∙ ap (λ (t : List Item). t ++ items_ahead new behind) (sym (map-append Line front (new.line ∷ []))),
+    )
 
 -- the same with that line among those before
 log_behind_line : (begin old new : Cursor) (known left rest : Option (List ℕ)) (front : List (List ℕ)) → LeavesAhead begin known front old left → Hands old left new rest (Ok found_is.Line)
     → IsLogOf begin known (front ++ new.line ∷ []) (rest_behind new rest)
 unfolding rest_behind
-log_behind_line begin old new None left rest front ahead hands = tt
-log_behind_line begin old new (Some log) None rest front ahead hands = absurd ahead
-log_behind_line begin old new (Some log) (Some left) None front ahead hands = absurd hands
-log_behind_line begin old new (Some log) (Some left) (Some rest) front ahead hands = log_past_line begin old new (Some log) (Some left) (Some rest) front ahead hands
+log_behind_line begin old new known left rest front ahead hands =
+    let some = gives_some rest in log_past_line begin old new known left rest front ahead hands some.0 some.1
 
 log_at_fault : (begin old new : Cursor) (known left rest : Option (List ℕ)) (front : List (List ℕ)) (fault : LineFault) → LeavesAhead begin known front old left
     → Hands old left new rest (Ok (found_is.Refused fault)) → IsLogOf begin known front (Refused fault ∷ [])
-log_at_fault begin old new None left rest front fault ahead hands = tt
-log_at_fault begin old new (Some log) None rest front fault ahead hands = absurd ahead
-log_at_fault begin old new (Some log) (Some left) None front fault ahead hands = absurd hands
-log_at_fault begin old new (Some log) (Some left) (Some rest) front fault ahead hands = ahead ∙ ap (λ (t : List Item). map Line front ++ t) hands.0
+log_at_fault begin old new known left rest front fault ahead hands =
+    let at = hands.2 in
+    let log = ahead at.0 at.1 in
+    (log.0, log.1, log.2 ∙ ap (λ (t : List Item). map Line front ++ t) at.2.0)
 
 log_at_end : (begin old new : Cursor) (known left rest : Option (List ℕ)) (front : List (List ℕ)) → LeavesAhead begin known front old left
     → Hands old left new rest (Ok found_is.End) → IsLogOf begin known front []
-log_at_end begin old new None left rest front ahead hands = tt
-log_at_end begin old new (Some log) None rest front ahead hands = absurd ahead
-log_at_end begin old new (Some log) (Some left) None front ahead hands = absurd hands
-log_at_end begin old new (Some log) (Some left) (Some rest) front ahead hands = ahead ∙ ap (λ (t : List Item). map Line front ++ t) hands.0
+log_at_end begin old new known left rest front ahead hands =
+    let at = hands.2 in
+    let log = ahead at.0 at.1 in
+    (log.0, log.1, log.2 ∙ ap (λ (t : List Item). map Line front ++ t) at.2.0)
 
 log_somewhere : (begin cursor : Cursor) (known left : Option (List ℕ)) (front : List (List ℕ)) → LeavesAhead begin known front cursor left → IsLogOf begin known front (rest_behind cursor left)
 unfolding rest_behind
-log_somewhere begin cursor None left front ahead = tt
-log_somewhere begin cursor (Some log) None front ahead = absurd ahead
-log_somewhere begin cursor (Some log) (Some left) front ahead = ahead
+log_somewhere begin cursor known left front ahead = let some = gives_some left in ahead some.0 some.1
 
 -- the opening of a plan is reported, where nothing waited before
 pub told_from_nothing : (plan lent : Plan) (before after : Option (List ℕ)) (waited waits : List ℕ) → lent ≡ plan → waited ≡ [] → WritesAll (opening lent) before waited after waits
@@ -247,7 +244,7 @@ read_failed plan begin known before session cursor next left rest middle after m
       front = here.front;
       rest = rest_behind cursor left;
       whole = log_somewhere begin cursor known left here.front here.items;
-      got = lines_got begin next known rest here.front (takes_kept begin cursor next known left rest here.front here.bytes kept) plain;
+      got = got_lines begin next known rest here.front (takes_kept begin cursor next known left rest here.front here.bytes kept) plain;
       last = here.real;
       parts = here.parts;
       so_far = here.so_far;
@@ -256,11 +253,6 @@ read_failed plan begin known before session cursor next left rest middle after m
           let whole = sym (append-nil all.written) ∙ all.whole ∙ append-nil here.told.told in
           (here.told.told, here.told.text, subst (λ (t : List ℕ). Appends before after t) whole all.taken);
     }
-  where
-    lines_got : (old new : Cursor) (log left : Option (List ℕ)) (front : List (List ℕ)) → TakesLines old log front new left → IsPlain new.waiting → IsGotOf old log left front
-    lines_got old new None left front taken clean = tt
-    lines_got old new (Some log) None front taken clean = absurd taken
-    lines_got old new (Some log) (Some left) front taken clean = got_lines old new log left front taken clean
 
 -- where a write fails, or there is no memory
 pub next_failed : (plan : Plan) (begin : Cursor) (known before : Option (List ℕ)) (session : SessionState) (cursor : Cursor) (left middle after : Option (List ℕ)) (mid : List ℕ) (number : ℕ)

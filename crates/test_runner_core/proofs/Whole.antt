@@ -1,5 +1,5 @@
 -- What a whole report comes to, by what its parts reported.
-use Rattle.std.proofs.Common.{◌≡◌, ℕ, List, [], ◌∷◌, ◌++◌, Option, Some, None, Ok, Err, take, drop, codes, refl, sym, ap, ◌∙◌, subst, inl, inr, append_assoc, append-nil}
+use Rattle.std.proofs.Common.{◌≡◌, ℕ, List, [], ◌∷◌, ◌++◌, Option, Ok, Err, take, drop, codes, refl, sym, ap, ◌∙◌, subst, inl, inr, append_assoc, append-nil}
 use Rattle.std.specs.Io.KnownBytes.{Appends}
 use Rattle.std.proofs.lemmas.List.{take-append-drop}
 use Rattle.test_runner_core_log_reader.specs.Cursor.{Cursor}
@@ -57,20 +57,23 @@ all_written parts before after waits all none =
 -- judged lines and the ending make up the whole report
 pub whole_judged : (plan : Plan) (last : State) (found : Option RefusedLine) (begin : Cursor) (known before after : Option (List ℕ)) (waits : List ℕ)
     → (judged : JudgedLines plan last found begin known before after waits) → IsJudged plan begin known (judged.parts ++ ending plan last found) (exit_status last found)
-whole_judged plan last found begin None before after waits judged = tt
-whole_judged plan last found begin (Some bytes) before after waits judged =
-    record {
-      front = judged.front;
-      rest = judged.rest;
-      whole = judged.whole;
-      last = last;
-      told = judged.parts;
-      so_far = judged.so_far;
-      found = found;
-      finds = judged.finds;
-      composed = refl;
-      status = refl;
-    }
+whole_judged plan last found begin known before after waits judged =
+    let log = judged.whole in (
+      log.0,
+      log.1,
+      record {
+        front = judged.front;
+        rest = judged.rest;
+        whole = log.2;
+        last = last;
+        told = judged.parts;
+        so_far = judged.so_far;
+        found = found;
+        finds = judged.finds;
+        composed = refl;
+        status = refl;
+      },
+    )
 
 -- what is answered where the ending is reported, and nothing waits
 pub reports_whole : (plan : Plan) (last : State) (found : Option RefusedLine) (begin : Cursor) (known left before middle after : Option (List ℕ)) (mid waits : List ℕ) (code : ℕ)

@@ -1,5 +1,6 @@
 -- What the parts of judging answer and leave.
-use Rattle.std.specs.Prelude.{◌≡◌, ◌⊎◌, ℕ, ◌+◌, ◌≤◌, List, true, [], ◌++◌, map, length, Option, None, Some, Result, Ok, Err, ⊤}
+use Rattle.std.specs.Prelude.{◌≡◌, ◌⊎◌, ℕ, ◌+◌, ◌≤◌, List, true, [], ◌++◌, map, length, Option, None, Some, Result, Ok, Err}
+use Rattle.test_runner_core_streams.specs.Left.{OfBytes, OfSomeBytes}
 use Rattle.test_runner_core_line_syntax.specs.Spelling.{Spells}
 use Rattle.test_runner_core_line_syntax.specs.declared.log_line.LogLine.{LogLine}
 use Rattle.test_runner_core_log_reader.specs.Calls.{Hands, HandsAhead, HandsBytes, KeepsAhead, idle_reads}
@@ -85,16 +86,13 @@ ReadsNext (Err (fault.Write cause)) old before new after = after ≡ before
 ReadsNext (Err fault.Memory) old before new after =
     (after ≡ before) ⊎ ((after + bytes_received old ≤ before + bytes_received new + 1) × (bytes_received new + 1 ≤ log_reads))
 
--- the items ahead are these lines and then the rest, where the reader's bytes are known
+-- the items ahead are these lines and then the rest
 abbrev pub IsLogOf : Cursor → Option (List ℕ) → List (List ℕ) → List Item → Type 0
-IsLogOf begin None front rest = ⊤
-IsLogOf begin (Some bytes) front rest = items_ahead begin bytes ≡ map Line front ++ rest
+IsLogOf begin known front rest = OfBytes known (λ bytes. items_ahead begin bytes ≡ map Line front ++ rest)
 
 -- these are the whole lines of what was got
 abbrev pub IsGotOf : Cursor → Option (List ℕ) → Option (List ℕ) → List (List ℕ) → Type 0
-IsGotOf begin None left front = ⊤
-IsGotOf begin (Some bytes) None front = ⊥
-IsGotOf begin (Some bytes) (Some left) front = (got : List ℕ) × (begin.waiting ++ bytes ≡ got ++ left) × (whole_lines got ≡ front)
+IsGotOf begin known left front = OfSomeBytes known left (λ bytes behind. (got : List ℕ) × (begin.waiting ++ bytes ≡ got ++ behind) × (whole_lines got ≡ front))
 
 -- the lines up to the first that is refused were judged, and what they report was reported
 pub record JudgedLines (plan : Plan) (last : State) (found : Option RefusedLine) (begin : Cursor) (known before after : Option (List ℕ)) (waits : List ℕ) : Type 0 where
@@ -140,8 +138,7 @@ JudgesLines (Err fault.Memory) plan last begin known left before after waits = B
 
 -- the same of the items ahead and the bytes got, as parts of a report
 abbrev pub IsJudged : Plan → Cursor → Option (List ℕ) → List Part → ℕ → Type 0
-IsJudged plan begin None parts code = ⊤
-IsJudged plan begin (Some bytes) parts code = Judged plan (items_ahead begin bytes) parts code
+IsJudged plan begin known parts code = OfBytes known (λ bytes. Judged plan (items_ahead begin bytes) parts code)
 
 abbrev pub IsGot : Plan → Cursor → Option (List ℕ) → Option (List ℕ) → List Part → Type 0
 IsGot plan begin known left parts = (front : List (List ℕ)) × IsGotOf begin known left front × ((last : State) × SoFar plan front last parts)

@@ -1,5 +1,5 @@
 -- What exit status and final text say of the run that a log reports, and the report of a stream.
-use Rattle.std.specs.Prelude.{◌≡◌, ◌⊎◌, ◌↔◌, ℕ, true, List, [], ◌++◌, map, Option, Result, Ok, Err, ⊤, IfSome}
+use Rattle.std.specs.Prelude.{◌≡◌, ◌⊎◌, ◌↔◌, ℕ, true, List, [], ◌++◌, map, Option, Result, Ok, Err, ⊤}
 use Rattle.std.specs.Io.KnownBytes.{Appends}
 use Rattle.std.specs.List.{AllByRecursion}
 use Rattle.test_runner_core_inputs.specs.Reading.{read_inputs}
@@ -21,7 +21,7 @@ use Rattle.test_runner_core_reporter.specs.Parts.{IsTextOf, Part}
 use Rattle.test_runner_core_workspace.specs.Lister.{Answer, table_answer}
 use Rattle.test_runner_core_workspace.specs.declared.record.Binary.{Binary}
 use Rattle.test_runner_core.specs.Judging.{Leads}
-use Rattle.test_runner_core.specs.Report.{Begun, Composed, HasSoFar, Reports, refused_inputs}
+use Rattle.test_runner_core.specs.Report.{Begun, Composed, HasSoFar, OfLeft, Reports, refused_inputs}
 use Rattle.test_runner_core.specs.declared.judge_fault.JudgeFault.{JudgeFault}
 
 -- the run of these inputs by a log: no line of the log is refused
@@ -113,9 +113,9 @@ abbrev pub StreamGotTo : List ℕ → List ℕ → List Part → Type 0
 StreamGotTo bytes rest parts = (got : List ℕ) × (bytes ≡ got ++ rest) × StreamHasSoFar got parts
 
 -- of a stream, of which these bytes are left to be read before the call and after it, what is
--- written
+-- written. Where they aren't known, it is the report of some stream
 abbrev pub ReportsStream : Result ℕ JudgeFault → Option (List ℕ) → Option (List ℕ) → Option (List ℕ) → Option (List ℕ) → Type 0
 ReportsStream result left rest before after =
-    Reports result (λ parts code. IfSome left (λ bytes. StreamComposed bytes parts code))
-    (λ parts. IfSome left (λ bytes. IfSome rest (λ behind. StreamGotTo bytes behind parts)))
-    (λ parts. IfSome left (λ bytes. StreamBegun bytes parts)) before after
+    Reports result (λ parts code. OfLeft left (λ bytes. StreamComposed bytes parts code))
+    (λ parts. OfLeft left (λ bytes. OfLeft rest (λ behind. StreamGotTo bytes behind parts)))
+    (λ parts. OfLeft left (λ bytes. StreamBegun bytes parts)) before after

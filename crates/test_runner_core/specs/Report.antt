@@ -1,5 +1,5 @@
 -- The report of inputs and a log, and its exit status.
-use Rattle.std.specs.Prelude.{◌≡◌, ◌⊎◌, ℕ, ◌+◌, List, [], ◌∷◌, ◌++◌, map, length, codes, decimal, Option, None, Some, Result, Ok, Err, IfSome}
+use Rattle.std.specs.Prelude.{◌≡◌, ◌⊎◌, ℕ, ◌+◌, List, [], ◌∷◌, ◌++◌, map, length, codes, decimal, Option, None, Some, Result, Ok, Err}
 use Rattle.std.specs.Io.KnownBytes.{Appends}
 use Rattle.std.specs.List.{Contains}
 use Rattle.test_runner_core_inputs.specs.declared.inputs.Inputs.{Inputs}
@@ -114,10 +114,15 @@ Reports (Err (fault.Read cause)) IsReport IsGot IsBegun before after = (parts : 
 Reports (Err (fault.Write cause)) IsReport IsGot IsBegun before after = (parts : List Part) × IsBegun parts × WritesPrefix parts before [] after
 Reports (Err fault.Memory) IsReport IsGot IsBegun before after = (parts : List Part) × IsBegun parts × WritesPrefix parts before [] after
 
--- of inputs and a log, of whose bytes these are left to be read before the call and after it, what
--- is written
+-- it holds of the bytes that a reader has left, where they are known, else of some bytes
+abbrev pub OfLeft : Option (List ℕ) → (List ℕ → Type 0) → Type 0
+OfLeft None Holds = (bytes : List ℕ) × Holds bytes
+OfLeft (Some bytes) Holds = Holds bytes
+
+-- of inputs and a log, of which these bytes are left to be read before the call and after it, what
+-- is written. Where they aren't known, it is the report of some log
 abbrev pub ReportsLog : (Binary → Answer) → Inputs → Result ℕ JudgeFault → Option (List ℕ) → Option (List ℕ) → Option (List ℕ) → Option (List ℕ) → Type 0
 ReportsLog answer inputs result left rest before after =
-    Reports result (λ parts code. IfSome left (λ bytes. Composed answer inputs (items 0 bytes) parts code))
-    (λ parts. IfSome left (λ bytes. IfSome rest (λ behind. GotTo answer inputs bytes behind parts)))
-    (λ parts. IfSome left (λ bytes. Begun answer inputs (items 0 bytes) parts)) before after
+    Reports result (λ parts code. OfLeft left (λ bytes. Composed answer inputs (items 0 bytes) parts code))
+    (λ parts. OfLeft left (λ bytes. OfLeft rest (λ behind. GotTo answer inputs bytes behind parts)))
+    (λ parts. OfLeft left (λ bytes. Begun answer inputs (items 0 bytes) parts)) before after

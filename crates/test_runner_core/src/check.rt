@@ -1,9 +1,10 @@
 // The first line of a log that is refused whatever the plan.
-ghost use Rattle.std.specs.Prelude.{◌≡◌, ◌+◌, ◌^◌, ◌<◌, ◌≤◌, IfOk, IfSome};
+ghost use Rattle.std.specs.Prelude.{◌≡◌, ◌+◌, ◌^◌, ◌<◌, ◌≤◌, IfOk};
 ghost use Rattle.test_runner_core_log_reader.specs.Limits.{log_reads};
 ghost use Rattle.test_runner_core_log_reader.specs.Items.{items};
 ghost use Rattle.test_runner_core_log_reader.specs.Calls.{TellsFailure};
 ghost use Rattle.test_runner_core.specs.Check.{FirstRefused, IsReading};
+ghost use Rattle.test_runner_core.specs.Report.{OfLeft};
 
 use crate::refused_line::{LineRefusal, RefusedLine, refusal_for, refused_at};
 use std::alloc::Global;
@@ -11,9 +12,14 @@ use test_runner_core_line_syntax::{LentLine, SpellingError};
 use test_runner_core_log_reader::{LogFault, LogLines, Next};
 use test_runner_core_streams::LogReader;
 
-/// Finds the first line of a log that is refused whatever the plan; `None` where every line is
-/// empty or spells an event. Fails where the reader fails or there is no memory for a line; what
-/// was read until then is lost.
+/// The first line of a log that is refused whatever the plan; `None` where every line is empty or
+/// spells an event. The log is that of the bytes that the reader has left; where these aren't
+/// known, it is some log.
+///
+/// # Errors
+///
+/// `Read` where the reader fails, `Memory` where there is no memory for a line; what was read until
+/// then is lost.
 pub fn first_refused<R: LogReader>(
     alloc: Global,
     reader: &mut R,
@@ -21,7 +27,7 @@ pub fn first_refused<R: LogReader>(
     requires calls_fit { R.calls reader.old < 2 ^ 62 }
     requires failures_fit { R.failures reader.old < 2 ^ 62 }
     ensures found { IfOk result
-        (λ found. IfSome (R.left reader.old) (λ log. FirstRefused 1 (items 0 log) found)) }
+        (λ found. OfLeft (R.left reader.old) (λ log. FirstRefused 1 (items 0 log) found)) }
     ensures reads { R.calls reader.new ≤ R.calls reader.old + log_reads }
     ensures failures { TellsFailure result (R.failures reader.old) (R.failures reader.new)
         (R.last_failed reader.new) }

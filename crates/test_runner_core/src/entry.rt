@@ -1,14 +1,15 @@
 // The two ways to judge a run: of inputs and a log, and of one stream that has both.
 ghost use Rattle.std.specs.Prelude.{◌≡◌, ℕ, ◌+◌, ◌^◌, ◌<◌, ◌≤◌, List, IfOk, IfSome, Err};
 ghost use Rattle.test_runner_core_log_reader.specs.Limits.{first_line_reads, log_reads};
+ghost use Rattle.test_runner_core_streams.specs.Left.{OfBytes};
 ghost use Rattle.test_runner_core_inputs.specs.Reading.{read_inputs};
 ghost use Rattle.test_runner_core_log_reader.specs.Feeds.{before_feed};
 ghost use Rattle.test_runner_core_log_reader.specs.Items.{items};
 ghost use Rattle.test_runner_core.specs.Faults.{CountsReadFailures, CountsWriteFailures, lacks_memory};
-ghost use Rattle.test_runner_core.specs.Headline.{Headline, RefusesUnplanned, StreamHeadline};
+ghost use Rattle.test_runner_core.specs.Headline.{Headline, StreamHeadline};
 ghost use Rattle.test_runner_core.specs.Outcome.{HasNoPlan, ReportsStream, table_of};
 ghost use Rattle.test_runner_core.specs.Inside.{IsGotOf};
-ghost use Rattle.test_runner_core.specs.Report.{Begun, Composed, HasSoFar, IsStatus, Reports, ReportsLog};
+ghost use Rattle.test_runner_core.specs.Report.{Begun, Composed, HasSoFar, IsStatus, OfLeft, Reports, ReportsLog};
 ghost use Rattle.test_runner_core_log_reader.specs.Cursor.{items_ahead};
 ghost use Rattle.test_runner_core_planning.specs.Plan.{AsksWith, Builds, Plans};
 ghost use Rattle.test_runner_core_planning.specs.declared.plan_fault.PlanFault.{PlanFault};
@@ -27,14 +28,17 @@ use test_runner_core_workspace::{Lister, TableLister};
 /// Judges the run of inputs by a log, writes its report and answers its exit status. The lister is
 /// asked once for each listed binary, in the workspace's order, up to the first whose answer is
 /// refused, and for none where the inputs are refused before. Where the inputs have no plan,
-/// nothing of the log is read, and the report is the one line of the refusal, whatever is known of
-/// the log.
-/// Whenever the log is asked for more, all is written that the whole lines so far come to. Where no
-/// line is refused, the log agrees with an assignment and has no stop, and the run is complete, the
-/// status is that assignment's due status, and where no script of the assignment stops the run and
-/// its failing tests don't reach the limit the report ends with the final text of plan and
-/// assignment, in whatever order the tests ran; where the log is cut, or has a stop, the status is
-/// that or a more severe one.
+/// nothing of the log is read, and the report is the one line of the refusal. Whenever the log is
+/// asked for more, all is written that the whole lines so far come to.
+///
+/// Where no line is refused, the log agrees with an assignment and has no stop, and the run is
+/// complete, the status is that assignment's due status, and where no script of the assignment
+/// stops the run and its failing tests don't reach the limit the report ends with the final text of
+/// plan and assignment, in whatever order the tests ran; where the log is cut, or has a stop, the
+/// status is that or a more severe one.
+///
+/// The log is that of the bytes that the reader has left. Where these aren't known, as those of
+/// standard input aren't, all this holds of some log.
 ///
 /// # Errors
 ///
@@ -54,42 +58,10 @@ pub fn judge<L: Lister, R: LogReader, W: ReportWriter>(
     requires writes_fit { W.failures report.old < 2 ^ 62 }
     ensures reports { ReportsLog (L.answer lister.old) inputs.now result (R.left log.old)
         (R.left log.new) (W.taken report.old) (W.taken report.new) }
-    ensures refuses { IfOk result (λ code. RefusesUnplanned (L.answer lister.old) inputs.now code
-        (W.taken report.old) (W.taken report.new)) }
     ensures status { IfOk result IsStatus }
-    ensures headline { IfOk result (λ code. IfSome (R.left log.old) (λ bytes.
+    ensures headline { IfOk result (λ code. OfLeft (R.left log.old) (λ bytes.
         Headline (L.answer lister.old) inputs.now (items 0 bytes) code
         (W.taken report.old) (W.taken report.new))) }
-    ensures stays { (other : Binary) → L.answer lister.new other ≡ L.answer lister.old other }
-    ensures asks { AsksWith (L.answer lister.old) inputs.now (lacks_memory result)
-        (L.asked lister.old) (L.asked lister.new) }
-    ensures unread { (refusal : PlanFault) → Plans (L.answer lister.old) inputs.now (Err refusal)
-        → R.calls log.new ≡ R.calls log.old }
-    ensures reads { R.calls log.new ≤ R.calls log.old + log_reads }
-    ensures read_failures { CountsReadFailures result (R.failures log.old) (R.failures log.new)
-        (R.last_failed log.new) }
-    ensures write_failures { CountsWriteFailures result (W.failures report.old)
-        (W.failures report.new) (W.last_failed report.new) }
-{
-    reported(alloc, inputs, lister, log, report)
-}
-
-// Does what `judge` does: what follows from the report alone is said there.
-fn reported<L: Lister, R: LogReader, W: ReportWriter>(
-    alloc: Global,
-    inputs: &Inputs,
-    lister: &mut L,
-    log: &mut R,
-    report: &mut W,
-) -> Result<u8, JudgeFault>
-    requires calls_fit { R.calls log.old < 2 ^ 62 }
-    requires failures_fit { R.failures log.old < 2 ^ 62 }
-    requires writes_fit { W.failures report.old < 2 ^ 62 }
-    ensures reports { ReportsLog (L.answer lister.old) inputs.now result (R.left log.old)
-        (R.left log.new) (W.taken report.old) (W.taken report.new) }
-    ensures refuses { IfOk result (λ code. RefusesUnplanned (L.answer lister.old) inputs.now code
-        (W.taken report.old) (W.taken report.new)) }
-    ensures status { IfOk result IsStatus }
     ensures stays { (other : Binary) → L.answer lister.new other ≡ L.answer lister.old other }
     ensures asks { AsksWith (L.answer lister.old) inputs.now (lacks_memory result)
         (L.asked lister.old) (L.asked lister.new) }
@@ -111,11 +83,15 @@ fn reported<L: Lister, R: LogReader, W: ReportWriter>(
 /// Judges the run of one stream: its bytes up to the first line feed, or to its end, are the JSON
 /// inputs, with the tests of each binary, and the rest is the log. A first line of more than
 /// 16,777,216 bytes is no inputs. Where the first line is no inputs or they have no plan, the
-/// reader is called for that line alone.
+/// reader is called for that line alone. The stream is that of the bytes that the reader has left;
+/// where these aren't known, all this holds of some stream.
 ///
 /// # Errors
 ///
-/// As of `judge`.
+/// `Read` after a failed read: the report has what the whole lines come to that were got, which is
+/// nothing before the first line feed. `Write` after a failed write and `Memory` where there is no
+/// memory: the report has a prefix of what it would have been. A failed read or write is never
+/// tried again.
 pub fn judge_stream<R: LogReader, W: ReportWriter>(
     alloc: Global,
     input: &mut R,
@@ -127,7 +103,7 @@ pub fn judge_stream<R: LogReader, W: ReportWriter>(
     ensures reports { ReportsStream result (R.left input.old) (R.left input.new)
         (W.taken report.old) (W.taken report.new) }
     ensures status { IfOk result IsStatus }
-    ensures headline { IfOk result (λ code. IfSome (R.left input.old) (λ bytes.
+    ensures headline { IfOk result (λ code. OfLeft (R.left input.old) (λ bytes.
         StreamHeadline bytes code (W.taken report.old) (W.taken report.new))) }
     ensures unread { IfSome (R.left input.old) (λ bytes. HasNoPlan (read_inputs (before_feed bytes))
         → R.calls input.new ≤ R.calls input.old + first_line_reads) }
@@ -140,7 +116,7 @@ pub fn judge_stream<R: LogReader, W: ReportWriter>(
     stream_reported(alloc, input, report)
 }
 
-// The same of one stream.
+// Does what `judge_stream` does: what follows from the report alone is said there.
 fn stream_reported<R: LogReader, W: ReportWriter>(
     alloc: Global,
     input: &mut R,
@@ -183,12 +159,12 @@ fn judge_by_table<R: LogReader, W: ReportWriter>(
     requires failures_fit { R.failures log.old < 2 ^ 62 }
     requires writes_fit { W.failures report.old < 2 ^ 62 }
     ensures reports { Reports result
-        (λ parts code. IfSome (R.left log.old) (λ bytes.
+        (λ parts code. OfBytes (R.left log.old) (λ bytes.
         Composed (table_of inputs) inputs (items_ahead lines.old bytes) parts code))
         (λ parts. (front : List (List ℕ))
         × IsGotOf lines.old (R.left log.old) (R.left log.new) front
         × HasSoFar (table_of inputs) inputs front parts)
-        (λ parts. IfSome (R.left log.old) (λ bytes.
+        (λ parts. OfBytes (R.left log.old) (λ bytes.
         Begun (table_of inputs) inputs (items_ahead lines.old bytes) parts))
         (W.taken report.old) (W.taken report.new) }
     ensures status { IfOk result IsStatus }

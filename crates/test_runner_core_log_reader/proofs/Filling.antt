@@ -1,12 +1,14 @@
 -- What a read behind the bytes that wait leaves.
-use Rattle.std.proofs.Common.{◌≡◌, ℕ, ◌+◌, ◌-◌, ◌≤◌, List, [], ◌++◌, length, take, drop, Option, Some, None, Result, Ok, Err, OnErr, refl, sym, ap, ◌∙◌, subst, arith, append_assoc, append-nil, length-append}
+use Rattle.std.proofs.Common.{◌≡◌, ℕ, ◌+◌, ◌-◌, ◌≤◌, List, [], ◌++◌, length, take, drop, Option, Result, Ok, Err, OnErr, refl, sym, ap, ◌∙◌, subst, arith, append_assoc, append-nil, length-append}
 use Rattle.std.specs.List.{slice_range}
 use Rattle.std.specs.Io.KnownBytes.{Consumes, Keeps}
 use Rattle.std.proofs.lemmas.Slice.{between_is}
 use Rattle.std.proofs.lemmas.List.{take_at}
 use Rattle.test_runner_core_log_reader.specs.Feeds.{IsPlain}
 use Rattle.test_runner_core_log_reader.specs.Cursor.{Cursor}
-use Rattle.test_runner_core_log_reader.specs.Calls.{KeepsAhead, WaitsMore}
+use Rattle.test_runner_core_streams.specs.Left.{WhateverFollows}
+use Rattle.test_runner_core_log_reader.specs.Calls.{WaitsMore}
+use Rattle.test_runner_core_log_reader.proofs.Left.{gives_consumed, gives_kept}
 use Rattle.test_runner_core_log_reader.proofs.Ranges.{range_join, take-range}
 
 -- what holds in any case holds at an `Err`
@@ -37,16 +39,15 @@ more_range xs zs start end begin count same =
     range_join zs begin (begin + (end - start)) (begin + (end - start) + count) (omega arith) (omega arith)
     ∙ ap (λ (ys : List ℕ). ys ++ slice_range zs (begin + (end - start)) (begin + (end - start) + count)) same
 
-pub ahead_moved : (old new : Cursor) (left rest : Option (List ℕ)) (moved : List ℕ) → new.waiting ≡ old.waiting ++ moved → Consumes left rest moved → KeepsAhead old left new rest
-ahead_moved old new None rest moved w h = tt
-ahead_moved old new (Some left) None moved w h = absurd h
-ahead_moved old new (Some left) (Some rest) moved w h =
-    ap (λ (ys : List ℕ). ys ++ rest) w ∙ append_assoc old.waiting moved rest ∙ ap (λ (ys : List ℕ). old.waiting ++ ys) (sym h)
+-- what is ahead stays, where the bytes that came wait behind those that waited
+pub ahead_moved : (old new : List ℕ) (left rest : Option (List ℕ)) (moved : List ℕ) → new ≡ old ++ moved → Consumes left rest moved
+    → WhateverFollows left rest (λ ahead behind. new ++ behind ≡ old ++ ahead)
+ahead_moved old new left rest moved w h =
+    λ behind gives. (moved ++ behind, gives_consumed left rest moved behind h gives, ap (λ (ys : List ℕ). ys ++ behind) w ∙ append_assoc old moved behind)
 
-pub ahead_kept : (old new : Cursor) (left rest : Option (List ℕ)) → new.waiting ≡ old.waiting → Keeps left rest → KeepsAhead old left new rest
-ahead_kept old new None rest w h = tt
-ahead_kept old new (Some left) None w h = absurd h
-ahead_kept old new (Some left) (Some rest) w h = ap (λ (ys : List ℕ). ys ++ rest) w ∙ ap (λ (ys : List ℕ). old.waiting ++ ys) h
+-- or where none came
+pub ahead_kept : (old new : List ℕ) (left rest : Option (List ℕ)) → new ≡ old → Keeps left rest → WhateverFollows left rest (λ ahead behind. new ++ behind ≡ old ++ ahead)
+ahead_kept old new left rest w h = λ behind gives. (behind, gives_kept left rest behind h gives, ap (λ (ys : List ℕ). ys ++ behind) w)
 
 pub waits_more : (old new : Cursor) (moved : List ℕ) (count : ℕ) → new.waiting ≡ old.waiting ++ moved → length moved ≡ count → WaitsMore old new count
 waits_more old new moved count w size =

@@ -1,5 +1,5 @@
 -- The first line of a stream, and what stays true while it is looked for.
-use Rattle.std.proofs.Common.{◌≡◌, ◌≢◌, ℕ, ◌+◌, ◌<◌, ◌≤◌, Bool, true, false, inl, inr, not, cond, eqb, List, [], ◌∷◌, ◌++◌, length, take, drop, Option, Some, None, IfSome, sym, ap, ◌∙◌, subst, arith, zero-add, append-nil, append_assoc, length-append}
+use Rattle.std.proofs.Common.{◌≡◌, ◌≢◌, ℕ, ◌+◌, ◌<◌, ◌≤◌, Bool, true, false, inl, inr, not, cond, eqb, List, [], ◌∷◌, ◌++◌, length, take, drop, Option, Some, None, refl, sym, ap, ◌∙◌, subst, arith, zero-add, append-nil, append_assoc, length-append}
 use Rattle.std.specs.Prelude.{◌⊎◌}
 use Rattle.std.specs.List.{position_or_len}
 use Rattle.std.proofs.lemmas.Bool.Decides.{eqb_tells}
@@ -12,6 +12,7 @@ use Rattle.test_runner_core_log_reader.specs.Feeds.{IsPlain, IsFirstFeed, before
 use Rattle.test_runner_core_log_reader.specs.Cursor.{Cursor, bytes_received}
 use Rattle.test_runner_core_log_reader.specs.Calls.{Cut, GetsPlain, KeepsAhead, PartsAtFirst, WaitsMore}
 use Rattle.test_runner_core_log_reader.proofs.Items.{is_no_feed}
+use Rattle.test_runner_core_log_reader.proofs.Left.{gives_some}
 
 -- where the first line feed stands behind plain bytes
 at_plain : (plain more : List ℕ) → IsPlain plain → position_or_len (λ byte. eqb byte 10) (plain ++ more) ≡ length plain + position_or_len (λ byte. eqb byte 10) more
@@ -93,41 +94,75 @@ pub record ReadingFirst (stream : Option (List ℕ)) (first_calls first_failures
   pub limit : bytes_received lines ≤ LOG_LIMIT + 1
   pub unfailed : failures ≡ first_failures
 
+-- known bytes stay known
+stays_known : (old new : Cursor) (left : List ℕ) → KeepsAhead old (Some left) new None → ⊥
+stays_known old new left ahead =
+    let few = ahead [] tt in
+    let more = ahead (0 ∷ []) tt in
+    let same : new.waiting ++ [] ≡ new.waiting ++ 0 ∷ [] = few.2 ∙ ap (λ (bytes : List ℕ). old.waiting ++ bytes) (few.1 ∙ sym more.1) ∙ sym more.2 in
+    absurd (omega (arith, ap length same, length-append new.waiting [], length-append new.waiting (0 ∷ [])))
+
 -- what was got where no line feed waited
 pub gets_plain : (stream rest : Option (List ℕ)) (mid last : Cursor) → KeepsAhead beginning stream last rest → IsPlain mid.waiting → WaitsMore mid last 0 → GetsPlain stream rest
 gets_plain None rest mid last ahead plain same = ([], tt, tt)
-gets_plain (Some bytes) None mid last ahead plain same = absurd ahead
+gets_plain (Some bytes) None mid last ahead plain same = absurd (stays_known beginning last bytes ahead)
 gets_plain (Some bytes) (Some rest) mid last ahead plain same =
     let size = same.size in
     let waiting : last.waiting ≡ mid.waiting = sym (take_all (length mid.waiting) last.waiting (omega arith)) ∙ same.front in
-    (last.waiting, sym ahead, subst IsPlain (sym waiting) plain)
+    let was = ahead rest refl in
+    (last.waiting, sym was.1 ∙ sym was.2, subst IsPlain (sym waiting) plain)
 
 -- a line that a line feed ends
 pub parts_at_feed : (stream rest : Option (List ℕ)) (mid new : Cursor) → KeepsAhead beginning stream mid rest → Cut (length new.line) mid new
-    → length new.line ≤ FIRST_LINE_LIMIT → IfSome stream (λ bytes. PartsAtFirst bytes (Some new) rest)
-parts_at_feed None rest mid new ahead line short = tt
-parts_at_feed (Some bytes) None mid new ahead line short = absurd ahead
-parts_at_feed (Some bytes) (Some rest) mid new ahead line short =
-    let whole : new.line ++ 10 ∷ (new.waiting ++ rest) ≡ bytes =
-    sym (append_assoc new.line (10 ∷ new.waiting) rest) ∙ ap (λ (xs : List ℕ). xs ++ rest) (sym line.whole) ∙ ahead in
-    let front : before_feed bytes ≡ new.line =
-    ap before_feed (sym whole) ∙ before_plain new.line (10 ∷ (new.waiting ++ rest)) line.plain ∙ append-nil new.line in (
-      sym front,
-      omega (arith, ap length front),
-      sym (ap behind_feed (sym whole) ∙ behind_plain new.line (10 ∷ (new.waiting ++ rest)) line.plain),
+    → length new.line ≤ FIRST_LINE_LIMIT → PartsAtFirst stream (Some new) rest
+parts_at_feed stream rest mid new ahead line short = λ behind gives.
+    let was = ahead behind gives in
+    let whole : new.line ++ 10 ∷ (new.waiting ++ behind) ≡ was.0 =
+    sym (append_assoc new.line (10 ∷ new.waiting) behind) ∙ ap (λ (xs : List ℕ). xs ++ behind) (sym line.whole) ∙ was.2 in
+    let front : before_feed was.0 ≡ new.line = ap before_feed (sym whole) ∙ before_line new.line (new.waiting ++ behind) line.plain in (
+      was.0,
+      was.1,
+      (
+        sym front,
+        omega (arith, ap length front),
+        sym (ap behind_feed (sym whole) ∙ behind_line new.line (new.waiting ++ behind) line.plain),
+      ),
     )
 
--- the last line, which the stream's end ends
+-- a line that is too long whatever follows
+pub parts_too_long : (stream rest : Option (List ℕ)) (lines : Cursor) → KeepsAhead beginning stream lines rest
+    → ((more : List ℕ) → FIRST_LINE_LIMIT < length (before_feed (lines.waiting ++ more))) → PartsAtFirst stream None rest
+parts_too_long stream rest lines ahead long =
+    let some = gives_some rest in
+    let was = ahead some.0 some.1 in
+    (was.0, was.1, subst (λ (bytes : List ℕ). FIRST_LINE_LIMIT < length (before_feed bytes)) was.2 (long some.0))
+
+-- where no byte came, what waits is what waited
+waits_still : (mid last : Cursor) → WaitsMore mid last 0 → last.waiting ≡ mid.waiting
+waits_still mid last more = let size = more.size in sym (take_all (length mid.waiting) last.waiting (omega arith)) ∙ more.front
+
+-- the last line, which the stream's end ends. Where the reader's bytes aren't known, it may give
+-- others behind it, as if there were a line feed
 pub parts_at_end : (stream rest : Option (List ℕ)) (mid last new : Cursor) → KeepsAhead beginning stream last rest → IsPlain mid.waiting → length mid.waiting ≤ FIRST_LINE_LIMIT
-    → WaitsMore mid last 0 → IsAtEnd rest → new.line ≡ last.waiting → new.waiting ≡ [] → IfSome stream (λ bytes. PartsAtFirst bytes (Some new) rest)
-parts_at_end None rest mid last new ahead plain short more over line empty = tt
-parts_at_end (Some bytes) None mid last new ahead plain short more over line empty = absurd ahead
-parts_at_end (Some bytes) (Some rest) mid last new ahead plain short more over line empty =
-    let size = more.size in
-    let same : last.waiting ≡ mid.waiting = sym (take_all (length mid.waiting) last.waiting (omega arith)) ∙ more.front in
-    let whole : mid.waiting ++ [] ≡ bytes = ap (λ (xs : List ℕ). xs ++ []) (sym same) ∙ ap (λ (xs : List ℕ). last.waiting ++ xs) (sym over) ∙ ahead in
+    → WaitsMore mid last 0 → IsAtEnd rest → new.line ≡ last.waiting → new.waiting ≡ [] → PartsAtFirst stream (Some new) rest
+parts_at_end None rest mid last new ahead plain short more over line empty = λ behind gives.
+    let is = line ∙ waits_still mid last more in
+    let front = before_line mid.waiting behind plain in (
+      mid.waiting ++ 10 ∷ behind,
+      tt,
+      (is ∙ sym front, omega (arith, ap length front), ap (λ (xs : List ℕ). xs ++ behind) empty ∙ sym (behind_line mid.waiting behind plain)),
+    )
+parts_at_end (Some bytes) None mid last new ahead plain short more over line empty = absurd (stays_known beginning last bytes ahead)
+parts_at_end (Some bytes) (Some rest) mid last new ahead plain short more over line empty = λ behind gives.
+    let same = waits_still mid last more in
+    let was = ahead rest refl in
+    let whole : mid.waiting ++ [] ≡ bytes = ap (λ (xs : List ℕ). xs ++ []) (sym same) ∙ ap (λ (xs : List ℕ). last.waiting ++ xs) (sym over) ∙ was.2 ∙ was.1 in
     let front : before_feed bytes ≡ mid.waiting = ap before_feed (sym whole) ∙ before_plain mid.waiting [] plain ∙ append-nil mid.waiting in (
-      line ∙ same ∙ sym front,
-      omega (arith, ap length front),
-      ap (λ (xs : List ℕ). xs ++ rest) empty ∙ over ∙ sym (ap behind_feed (sym whole) ∙ behind_plain mid.waiting [] plain),
+      bytes,
+      refl,
+      (
+        line ∙ same ∙ sym front,
+        omega (arith, ap length front),
+        ap (λ (xs : List ℕ). xs ++ behind) empty ∙ gives ∙ over ∙ sym (ap behind_feed (sym whole) ∙ behind_plain mid.waiting [] plain),
+      ),
     )

@@ -1,3 +1,4 @@
+pub mod Left
 pub mod Items
 pub mod Ranges
 pub mod Scanning

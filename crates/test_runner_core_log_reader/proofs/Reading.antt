@@ -11,9 +11,11 @@ use Rattle.test_runner_core_log_reader.specs.declared.fault.LineFault.TheVariant
 use Rattle.test_runner_core_log_reader.specs.declared.next.Next.TheVariants as found
 use Rattle.test_runner_core_log_reader.specs.declared.next.Scan.TheVariants as scanned
 use Rattle.test_runner_core_log_reader.specs.Feeds.{IsPlain}
-use Rattle.test_runner_core_log_reader.specs.Items.{Item, Line, Refused, line_fault, items}
+use Rattle.test_runner_core_streams.specs.Left.{MayGive}
+use Rattle.test_runner_core_log_reader.specs.Items.{Line, Refused, line_fault, items}
 use Rattle.test_runner_core_log_reader.specs.Cursor.{Cursor, bytes_received, items_ahead, tells_next}
-use Rattle.test_runner_core_log_reader.specs.Calls.{KeepsAhead, Hands, HandsItem, Scanned, WaitsMore, idle_reads, end_of}
+use Rattle.test_runner_core_log_reader.specs.Calls.{KeepsAhead, Hands, Scanned, WaitsMore, idle_reads, end_of}
+use Rattle.test_runner_core_log_reader.proofs.Left.{gives_none}
 use Rattle.test_runner_core_log_reader.proofs.Items.{items_line, items_end}
 
 -- what is ahead is what was ahead, each call brought a byte, none failed, and the log's limit
@@ -27,49 +29,44 @@ pub record Reading (old : Cursor) (left : Option (List ℕ)) (old_calls old_fail
   pub unread : tells_next old ≡ true → (calls ≡ old_calls) × (tells_next new ≡ true)
 
 pub ahead_refl : (cursor : Cursor) (left : Option (List ℕ)) → KeepsAhead cursor left cursor left
-ahead_refl cursor None = tt
-ahead_refl cursor (Some left) = refl
+ahead_refl cursor left = λ behind gives. (behind, gives, refl)
 
 pub ahead_unmoved : (old mid new : Cursor) (left rest : Option (List ℕ)) → KeepsAhead old left mid rest → new.waiting ≡ mid.waiting → KeepsAhead old left new rest
-ahead_unmoved old mid new None rest h w = tt
-ahead_unmoved old mid new (Some left) None h w = h
-ahead_unmoved old mid new (Some left) (Some rest) h w = ap (λ (ys : List ℕ). ys ++ rest) w ∙ h
+ahead_unmoved old mid new left rest h w = λ behind gives. let was = h behind gives in (was.0, was.1, ap (λ (ys : List ℕ). ys ++ behind) w ∙ was.2)
 
 pub ahead_then : (old mid new : Cursor) (left middle rest : Option (List ℕ)) → KeepsAhead old left mid middle → KeepsAhead mid middle new rest → KeepsAhead old left new rest
-ahead_then old mid new None middle rest a b = tt
-ahead_then old mid new (Some left) None rest a b = absurd a
-ahead_then old mid new (Some left) (Some middle) None a b = absurd b
-ahead_then old mid new (Some left) (Some middle) (Some rest) a b = b ∙ a
+ahead_then old mid new left middle rest a b = λ behind gives. let was = b behind gives in let first = a was.0 was.1 in (first.0, first.1, was.2 ∙ first.2)
 
 -- a line that was found is the first item
 pub hands_line : (old mid new : Cursor) (left rest : Option (List ℕ)) → KeepsAhead old left mid rest → mid.handed ≡ old.handed → Scanned scanned.Line mid new
     → Hands old left new rest (Ok found.Line)
-hands_line old mid new None rest ahead handed line = tt
-hands_line old mid new (Some left) None ahead handed line = absurd ahead
-hands_line old mid new (Some left) (Some rest) ahead handed line =
-    ap (λ (n : ℕ). items n (old.waiting ++ left)) (sym handed)
-    ∙ ap (items mid.handed) (sym ahead ∙ ap (λ (ys : List ℕ). ys ++ rest) line.0 ∙ append_assoc new.line (10 ∷ new.waiting) rest)
-    ∙ items_line mid.handed new.line (new.waiting ++ rest) line.1
-    ∙ ap (λ (o : Option LineFault). option_map_or (λ f. Refused f ∷ []) o (Line new.line ∷ items (mid.handed + length new.line + 1) (new.waiting ++ rest))) line.2
-    ∙ ap (λ (n : ℕ). Line new.line ∷ items n (new.waiting ++ rest)) (sym line.3)
+hands_line old mid new left rest ahead handed line = λ behind gives.
+    let was = ahead behind gives in (
+      was.0,
+      was.1,
+      ap (λ (n : ℕ). items n (old.waiting ++ was.0)) (sym handed)
+          ∙ ap (items mid.handed) (sym was.2 ∙ ap (λ (ys : List ℕ). ys ++ behind) line.0 ∙ append_assoc new.line (10 ∷ new.waiting) behind)
+          ∙ items_line mid.handed new.line (new.waiting ++ behind) line.1
+          ∙ ap (λ (o : Option LineFault). option_map_or (λ f. Refused f ∷ []) o (Line new.line ∷ items (mid.handed + length new.line + 1) (new.waiting ++ behind))) line.2
+          ∙ ap (λ (n : ℕ). Line new.line ∷ items n (new.waiting ++ behind)) (sym line.3),
+    )
 
--- at the end, what waits is all there is
-end_items : (before : ℕ) (waiting rest : List ℕ) (old : List Item) (new : Cursor) (o : Option LineFault) → line_fault before (length waiting) false ≡ o → IsPlain waiting → rest ≡ []
-    → old ≡ items before (waiting ++ rest) → HandsItem (Ok (end_of o)) new old (items before (waiting ++ rest))
-end_items before waiting rest old new None e plain none same =
-    (same ∙ ap (items before) (ap (λ (ys : List ℕ). waiting ++ ys) none ∙ append-nil waiting) ∙ items_end before waiting plain ∙ ap (λ (o : Option LineFault). option_map_or (λ f. Refused f ∷ []) o []) e, sym same)
-end_items before waiting rest old new (Some fault) e plain none same =
-    (same ∙ ap (items before) (ap (λ (ys : List ℕ). waiting ++ ys) none ∙ append-nil waiting) ∙ items_end before waiting plain ∙ ap (λ (o : Option LineFault). option_map_or (λ f. Refused f ∷ []) o []) e, sym same)
+-- at the end, what waits is all that is ahead
+hands_what_waits : (old new : Cursor) (left rest : Option (List ℕ)) (ahead : List ℕ) (o : Option LineFault) → MayGive left ahead → MayGive rest []
+    → items_ahead new [] ≡ items_ahead old ahead → items_ahead new [] ≡ option_map_or (λ f. Refused f ∷ []) o [] → Hands old left new rest (Ok (end_of o))
+hands_what_waits old new left rest ahead None gave gives same is = ([], gives, (ahead, gave, (sym same ∙ is, same)))
+hands_what_waits old new left rest ahead (Some fault) gave gives same is = ([], gives, (ahead, gave, (sym same ∙ is, same)))
 
 pub hands_end : (old mid new : Cursor) (left rest : Option (List ℕ)) → KeepsAhead old left new rest → new.handed ≡ old.handed → IsPlain mid.waiting → WaitsMore mid new 0 → IsAtEnd rest
     → Hands old left new rest (Ok (end_of (line_fault new.handed (length new.waiting) false)))
-hands_end old mid new None rest ahead handed plain more over = tt
-hands_end old mid new (Some left) None ahead handed plain more over = absurd ahead
-hands_end old mid new (Some left) (Some rest) ahead handed plain more over =
+hands_end old mid new left rest ahead handed plain more over =
     let size = more.size in
     let same : new.waiting ≡ mid.waiting = sym (take_all (length mid.waiting) new.waiting (omega arith)) ∙ more.front in
-    end_items new.handed new.waiting rest (items_ahead old left) new (line_fault new.handed (length new.waiting) false) refl (subst IsPlain (sym same) plain) over
-    (ap (λ (n : ℕ). items n (old.waiting ++ left)) (sym handed) ∙ ap (items new.handed) (sym ahead))
+    let gives = gives_none rest over in
+    let was = ahead [] gives in
+    hands_what_waits old new left rest was.0 (line_fault new.handed (length new.waiting) false) was.1 gives
+    (ap (items new.handed) was.2 ∙ ap (λ (n : ℕ). items n (old.waiting ++ was.0)) handed)
+    (ap (items new.handed) (append-nil new.waiting) ∙ items_end new.handed new.waiting (subst IsPlain (sym same) plain))
 
 -- below the limits, the end takes one call that brings no byte
 pub end_is_idle : (before size : ℕ) → before + size ≤ LOG_LIMIT → size ≤ LINE_LIMIT → idle_reads (Ok (end_of (line_fault before size false))) ≡ 1

@@ -1,7 +1,8 @@
 -- What a call of a reader of lines did.
-use Rattle.std.specs.Prelude.{◌≡◌, ℕ, ◌+◌, ◌<◌, ◌≤◌, Bool, true, length, List, [], ◌∷◌, ◌++◌, Option, None, Some, Result, Ok, Err, ⊤, take}
+use Rattle.std.specs.Prelude.{◌≡◌, ℕ, ◌+◌, ◌<◌, ◌≤◌, Bool, true, length, List, [], ◌∷◌, ◌++◌, Option, None, Some, Result, Ok, Err, take}
 use Rattle.std.specs.Io.KnownBytes.{Consumes}
-use Rattle.test_runner_core_log_reader.specs.Items.{Item, Line, Refused, line_fault}
+use Rattle.test_runner_core_streams.specs.Left.{OfBytes, OfSomeBytes, WhateverFollows}
+use Rattle.test_runner_core_log_reader.specs.Items.{Line, Refused, line_fault}
 use Rattle.test_runner_core_log_reader.specs.Cursor.{Cursor, bytes_received, items_ahead, Unmoved}
 use Rattle.test_runner_core_log_reader.specs.Feeds.{IsPlain, before_feed, behind_feed}
 use Rattle.test_runner_core_log_reader.specs.declared.limits.TheConstants.{FIRST_LINE_LIMIT, LINE_LIMIT, LOG_LIMIT}
@@ -16,31 +17,20 @@ use Rattle.test_runner_core_log_reader.specs.declared.next.Scan.TheVariants as s
 
 -- a line is the first item that was ahead, and the others still are; a refusal is all that was and
 -- is ahead; at the end nothing is. A call that fails leaves what is ahead
-abbrev pub HandsItem : Result Next LogFault → Cursor → List Item → List Item → Type 0
-HandsItem (Ok found.Line) new before after = before ≡ Line new.line ∷ after
-HandsItem (Ok (found.Refused fault)) new before after = (before ≡ Refused fault ∷ []) × (after ≡ before)
-HandsItem (Ok found.End) new before after = (before ≡ []) × (after ≡ before)
-HandsItem (Err fault) new before after = after ≡ before
-
--- the same of the items ahead, where the reader's bytes are known
 abbrev pub Hands : Cursor → Option (List ℕ) → Cursor → Option (List ℕ) → Result Next LogFault → Type 0
-Hands old None new rest result = ⊤
-Hands old (Some left) new None result = ⊥
-Hands old (Some left) new (Some rest) result = HandsItem result new (items_ahead old left) (items_ahead new rest)
+Hands old left new rest (Ok found.Line) = WhateverFollows left rest (λ ahead behind. items_ahead old ahead ≡ Line new.line ∷ items_ahead new behind)
+Hands old left new rest (Ok (found.Refused fault)) =
+    OfSomeBytes left rest (λ ahead behind. (items_ahead old ahead ≡ Refused fault ∷ []) × (items_ahead new behind ≡ items_ahead old ahead))
+Hands old left new rest (Ok found.End) = OfSomeBytes left rest (λ ahead behind. (items_ahead old ahead ≡ []) × (items_ahead new behind ≡ items_ahead old ahead))
+Hands old left new rest (Err fault) = WhateverFollows left rest (λ ahead behind. items_ahead new behind ≡ items_ahead old ahead)
 
--- what is ahead, the bytes that wait and those that the reader has left, stays, where the latter
--- are known
+-- what is ahead, the bytes that wait and those that the reader gives, stays
 abbrev pub KeepsAhead : Cursor → Option (List ℕ) → Cursor → Option (List ℕ) → Type 0
-KeepsAhead old None new rest = ⊤
-KeepsAhead old (Some left) new None = ⊥
-KeepsAhead old (Some left) new (Some rest) = new.waiting ++ rest ≡ old.waiting ++ left
+KeepsAhead old left new rest = WhateverFollows left rest (λ ahead behind. new.waiting ++ behind ≡ old.waiting ++ ahead)
 
--- a line and its line feed are the first bytes that were ahead, and the others still are, where the
--- reader's bytes are known
+-- a line and its line feed are the first bytes that were ahead, and the others still are
 abbrev pub TakesLine : Cursor → Option (List ℕ) → Cursor → Option (List ℕ) → Type 0
-TakesLine old None new rest = ⊤
-TakesLine old (Some left) new None = ⊥
-TakesLine old (Some left) new (Some rest) = (old.waiting ++ left ≡ new.line ++ 10 ∷ (new.waiting ++ rest)) × IsPlain new.line
+TakesLine old left new rest = WhateverFollows left rest (λ ahead behind. old.waiting ++ ahead ≡ new.line ++ 10 ∷ (new.waiting ++ behind)) × IsPlain new.line
 
 -- the bytes that were ahead lose a line that is handed out, and nothing else
 abbrev pub HandsAhead : Cursor → Option (List ℕ) → Cursor → Option (List ℕ) → Result Next LogFault → Type 0
@@ -71,7 +61,7 @@ abbrev pub IsUnread : {T : Type 0} → Result T LogFault → ℕ → ℕ → Typ
 IsUnread (Ok value) before after = after ≡ before
 IsUnread (Err fault) before after = ⊥
 
--- no line feed is among the bytes that a reader gave, where its bytes are known
+-- a reader gave bytes among which is no line feed
 abbrev pub GetsPlain : Option (List ℕ) → Option (List ℕ) → Type 0
 GetsPlain left rest = (got : List ℕ) × Consumes left rest got × IsPlain got
 
@@ -105,13 +95,15 @@ ScannedFirst scanned.Line old new = Cut (length new.line) old new × (length new
 ScannedFirst (scanned.Refused fault) old new = (rest : List ℕ) → FIRST_LINE_LIMIT < length (before_feed (old.waiting ++ rest))
 ScannedFirst scanned.Waits old new = Unmoved old new × IsPlain old.waiting × (length old.waiting ≤ FIRST_LINE_LIMIT)
 
--- a stream is parted at its first line, which isn't too long: it is the line, and what is behind it
--- is ahead. Nothing is said of the parts where it is too long
-abbrev pub PartsAtFirst : List ℕ → Option Cursor → Option (List ℕ) → Type 0
-PartsAtFirst bytes None rest = FIRST_LINE_LIMIT < length (before_feed bytes)
-PartsAtFirst bytes (Some lines) None = ⊥
-PartsAtFirst bytes (Some lines) (Some rest) =
+-- the line is the first of these bytes, and isn't too long, and what is behind it is ahead
+abbrev pub IsParted : Cursor → List ℕ → List ℕ → Type 0
+IsParted lines bytes rest =
     (lines.line ≡ before_feed bytes) × (length (before_feed bytes) ≤ FIRST_LINE_LIMIT) × (lines.waiting ++ rest ≡ behind_feed bytes)
+
+-- a stream is parted at its first line. Nothing is said of the parts where that is too long
+abbrev pub PartsAtFirst : Option (List ℕ) → Option Cursor → Option (List ℕ) → Type 0
+PartsAtFirst left None rest = OfBytes left (λ bytes. FIRST_LINE_LIMIT < length (before_feed bytes))
+PartsAtFirst left (Some lines) rest = WhateverFollows left rest (IsParted lines)
 
 -- bytes without a line feed wait, where they aren't past a limit
 abbrev pub scan_of : Option LineFault → Scan

@@ -69,8 +69,8 @@ impl LogLines {
     ) -> Result<Option<Self>, LogFault>
         requires calls_fit { R.calls reader.old + 2 ^ 31 ≤ 2 ^ 63 }
         requires failures_fit { R.failures reader.old < 2 ^ 63 }
-        ensures lines { IfOk result (λ lines.
-            IfSome (R.left reader.old) (λ bytes. PartsAtFirst bytes lines (R.left reader.new))) }
+        ensures lines { IfOk result
+            (λ lines. PartsAtFirst (R.left reader.old) lines (R.left reader.new)) }
         ensures fresh { IfOk result (λ lines. IfSome lines (λ it. it.handed ≡ 0)) }
         ensures cut { OnErr result (GetsPlain (R.left reader.old) (R.left reader.new)) }
         ensures reads { R.calls reader.new ≤ R.calls reader.old + first_line_reads }

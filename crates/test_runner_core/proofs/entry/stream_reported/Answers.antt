@@ -1,4 +1,5 @@
 use Rattle.std.proofs.Common.{◌≡◌, List, ℕ, [], Option, Ok, Err, IfSome, sym, subst, ap, ◌∙◌}
+use Rattle.test_runner_core_streams.specs.Left.{OfBytes}
 use Rattle.test_runner_core_inputs.specs.Calls.{Reads}
 use Rattle.test_runner_core_inputs.specs.Reading.{read_inputs}
 use Rattle.test_runner_core_inputs.specs.declared.inputs_error.InputsError.{InputsError}
@@ -7,7 +8,7 @@ use Rattle.test_runner_core_log_reader.specs.Cursor.{Cursor, items_ahead}
 use Rattle.test_runner_core_reporter.proofs.Told.{front_none}
 use Rattle.test_runner_core.specs.Inside.{IsGotOf}
 use Rattle.test_runner_core.specs.Outcome.{StreamBegun, StreamComposed, StreamGotTo, table_of}
-use Rattle.test_runner_core.specs.Report.{Begun, Composed, HasSoFar, refused_inputs}
+use Rattle.test_runner_core.specs.Report.{Begun, Composed, HasSoFar, OfLeft, refused_inputs}
 use Rattle.test_runner_core.proofs.Reported.{reports_as}
 use Rattle.test_runner_core.proofs.Stream.{begun_nothing, first_line_alone, first_line_fails, refused_begun, refused_parts, refused_stream, refused_ungot, stream_begun, stream_composed, stream_got}
 use Rattle.test_runner_core.proofs.entry.stream_reported.Goals as goal
@@ -24,12 +25,12 @@ returns-in-Ok-clause-reports g c =
     let last = g.R.LogReader.left c.judge_by_table.new.log in
     let lines = c.in-Some.lines in
     let inputs = c.in-Ok.inputs in
-    let parts = subst (λ (o : Option Cursor). IfSome known (λ bytes. PartsAtFirst bytes o rest)) c.in-Some.is c.in_ok-lines.ensures.lines in
+    let parts = subst (λ (o : Option Cursor). PartsAtFirst known o rest) c.in-Some.is c.in_ok-lines.ensures.lines in
     let fresh = subst (λ (o : Option Cursor). IfSome o (λ it. it.handed ≡ 0)) c.in-Some.is c.in_ok-lines.ensures.fresh in
     let read : read_inputs lines.line ≡ Ok inputs = ap read_inputs (sym c.line.ensures) ∙ c.in-Ok.ensures.exact in
-    reports_as c.judge_by_table.result (λ parts code. IfSome rest (λ bytes. Composed (table_of inputs) inputs (items_ahead lines bytes) parts code)) (λ parts code. IfSome known (λ bytes. StreamComposed bytes parts code))
-    (λ parts. (front : List (List ℕ)) × IsGotOf lines rest last front × HasSoFar (table_of inputs) inputs front parts) (λ parts. IfSome known (λ bytes. IfSome last (λ behind. StreamGotTo bytes behind parts)))
-    (λ parts. IfSome rest (λ bytes. Begun (table_of inputs) inputs (items_ahead lines bytes) parts)) (λ parts. IfSome known (λ bytes. StreamBegun bytes parts))
+    reports_as c.judge_by_table.result (λ parts code. OfBytes rest (λ bytes. Composed (table_of inputs) inputs (items_ahead lines bytes) parts code)) (λ parts code. OfLeft known (λ bytes. StreamComposed bytes parts code))
+    (λ parts. (front : List (List ℕ)) × IsGotOf lines rest last front × HasSoFar (table_of inputs) inputs front parts) (λ parts. OfLeft known (λ bytes. OfLeft last (λ behind. StreamGotTo bytes behind parts)))
+    (λ parts. OfBytes rest (λ bytes. Begun (table_of inputs) inputs (items_ahead lines bytes) parts)) (λ parts. OfLeft known (λ bytes. StreamBegun bytes parts))
     (g.W.ReportWriter.taken c.args.report.now) (g.W.ReportWriter.taken c.judge_by_table.new.report)
     (stream_composed inputs known rest lines parts fresh read) (stream_got inputs known rest last lines parts read) (stream_begun inputs known rest lines parts fresh read)
     c.judge_by_table.ensures.reports
@@ -38,7 +39,7 @@ pub returns-in-Ok-clause-unread : goal.returns-in-Ok-clause-unread
 returns-in-Ok-clause-unread g c =
     let known = g.R.LogReader.left c.args.input.now in
     let rest = g.R.LogReader.left c.behind_first_line.new.reader in
-    let parts = subst (λ (o : Option Cursor). IfSome known (λ bytes. PartsAtFirst bytes o rest)) c.in-Some.is c.in_ok-lines.ensures.lines in
+    let parts = subst (λ (o : Option Cursor). PartsAtFirst known o rest) c.in-Some.is c.in_ok-lines.ensures.lines in
     let read : read_inputs c.in-Some.lines.line ≡ Ok c.in-Ok.inputs = ap read_inputs (sym c.line.ensures) ∙ c.in-Ok.ensures.exact in
     first_line_alone c.in-Ok.inputs known rest c.in-Some.lines _ _ _ parts read c.behind_first_line.ensures.reads c.judge_by_table.ensures.unread
 
@@ -47,12 +48,12 @@ returns-in-Err-Refused-clause-reports g c =
     let known = g.R.LogReader.left c.args.input.now in
     let rest = g.R.LogReader.left c.behind_first_line.new.reader in
     let refusal = c.in-Err-Refused.refusal in
-    let parts = subst (λ (o : Option Cursor). IfSome known (λ bytes. PartsAtFirst bytes o rest)) c.in-Some.is c.in_ok-lines.ensures.lines in
+    let parts = subst (λ (o : Option Cursor). PartsAtFirst known o rest) c.in-Some.is c.in_ok-lines.ensures.lines in
     let read = subst (λ (e : InputsError). Reads c.line.result.now (Err e)) c.in-Err-Refused.field-0-is c.in-Err-Refused.ensures.exact in
     let refused = refused_parts refusal known rest c.in-Some.lines parts (ap read_inputs (sym c.line.ensures) ∙ read) in
-    reports_as c.refuse_inputs-in-Err-Refused.result (λ parts code. (parts ≡ refused_inputs refusal) × (code ≡ 96)) (λ parts code. IfSome known (λ bytes. StreamComposed bytes parts code))
-    (λ _. ⊥) (λ parts. IfSome known (λ bytes. IfSome rest (λ behind. StreamGotTo bytes behind parts)))
-    (λ parts. parts ≡ refused_inputs refusal) (λ parts. IfSome known (λ bytes. StreamBegun bytes parts))
+    reports_as c.refuse_inputs-in-Err-Refused.result (λ parts code. (parts ≡ refused_inputs refusal) × (code ≡ 96)) (λ parts code. OfLeft known (λ bytes. StreamComposed bytes parts code))
+    (λ _. ⊥) (λ parts. OfLeft known (λ bytes. OfLeft rest (λ behind. StreamGotTo bytes behind parts)))
+    (λ parts. parts ≡ refused_inputs refusal) (λ parts. OfLeft known (λ bytes. StreamBegun bytes parts))
     (g.W.ReportWriter.taken c.args.report.now) (g.W.ReportWriter.taken c.refuse_inputs-in-Err-Refused.new.report)
     (refused_stream refusal known refused) (refused_ungot known rest) (refused_begun refusal known refused)
     c.refuse_inputs-in-Err-Refused.ensures.reports

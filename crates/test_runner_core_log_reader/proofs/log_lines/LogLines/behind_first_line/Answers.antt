@@ -7,7 +7,7 @@ use Rattle.test_runner_core_log_reader.specs.Calls.{WaitsMore}
 use Rattle.test_runner_core_log_reader.specs.Feeds.{IsPlain}
 use Rattle.test_runner_core_log_reader.proofs.Filling.{on_err}
 use Rattle.test_runner_core_log_reader.proofs.Reading.{ahead_unmoved, ahead_then}
-use Rattle.test_runner_core_log_reader.proofs.FirstLine.{beginning, gets_plain, parts_at_feed, parts_at_end}
+use Rattle.test_runner_core_log_reader.proofs.FirstLine.{beginning, gets_plain, parts_at_feed, parts_at_end, parts_too_long}
 use Rattle.test_runner_core_log_reader.proofs.log_lines.LogLines.behind_first_line.Goals as goal
 
 first_received : (old new : Cursor) → old.handed ≡ 0 → Unmoved old new → length old.waiting ≤ FIRST_LINE_LIMIT → bytes_received new ≤ LOG_LIMIT
@@ -103,6 +103,10 @@ pub returns-in-Line-clause-lines : goal.returns-in-Line-clause-lines
 returns-in-Line-clause-lines g c =
     parts_at_feed (g.R.LogReader.left c.args.reader.now) (g.R.LogReader.left c.loop-lines.reader) c.loop-lines.lines c.scan_first.new.self
     c.loop-lines.invariant.ahead c.in-Line.ensures.0 c.in-Line.ensures.1
+
+pub returns-in-Refused-clause-lines : goal.returns-in-Refused-clause-lines
+returns-in-Refused-clause-lines g c =
+    parts_too_long (g.R.LogReader.left c.args.reader.now) (g.R.LogReader.left c.loop-lines.reader) c.loop-lines.lines c.loop-lines.invariant.ahead c.in-Refused.ensures
 
 pub returns-in_err-moved-clause-cut : goal.returns-in_err-moved-clause-cut
 returns-in_err-moved-clause-cut g c =

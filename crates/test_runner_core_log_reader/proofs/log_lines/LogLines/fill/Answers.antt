@@ -28,7 +28,7 @@ returns-in_err-count-clause-ahead g c =
     let x = c.self.inside in
     let same = kept_range x.buffer.items c.with_room.new.buffer.items c.read_behind.new.buffer.items x.start x.end c.in_ok-begin.begin c.in_ok-begin.ensures.bytes c.in_err-count.ensures.kept in
     let waiting : slice_range x.buffer.items x.start x.end ≡ c.args.self.now.waiting = ap (λ (v : Cursor). v.waiting) c.self.view_is in
-    ahead_kept c.args.self.now _ _ _ (same ∙ waiting) c.in_err-count.ensures.bytes
+    ahead_kept c.args.self.now.waiting _ _ _ (same ∙ waiting) c.in_err-count.ensures.bytes
 
 pub returns-in_err-count-clause-err : goal.returns-in_err-count-clause-err
 returns-in_err-count-clause-err g c =
@@ -68,7 +68,7 @@ returns-clause-ahead g c =
     let more = more_range x.buffer.items zs x.start x.end c.in_ok-begin.begin c.in_ok-count.count same in
     let bound = c.in_ok-count.ensures.bound in
     let taken : take c.in_ok-count.count (slice_range zs start (start + c.min-most.result)) ≡ moved = take-range zs start (start + c.min-most.result) c.in_ok-count.count (omega (arith, bound)) in
-    ahead_moved c.args.self.now _ (g.R.LogReader.left c.args.reader.now) (g.R.LogReader.left c.read_behind.new.reader) moved (more ∙ ap (λ (ys : List ℕ). ys ++ moved) waiting)
+    ahead_moved c.args.self.now.waiting _ (g.R.LogReader.left c.args.reader.now) (g.R.LogReader.left c.read_behind.new.reader) moved (more ∙ ap (λ (ys : List ℕ). ys ++ moved) waiting)
     (subst (Consumes (g.R.LogReader.left c.args.reader.now) (g.R.LogReader.left c.read_behind.new.reader)) taken c.in_ok-count.ensures.bytes.0)
 
 pub returns-clause-ok : goal.returns-clause-ok

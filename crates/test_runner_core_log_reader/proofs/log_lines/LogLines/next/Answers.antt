@@ -1,4 +1,4 @@
-use Rattle.std.proofs.Common.{◌≡◌, ℕ, ◌+◌, ◌<◌, ◌≤◌, ◌^◌, List, ◌∷◌, ◌++◌, length, Option, None, Some, Result, Ok, Err, refl, sym, ap, ◌∙◌, subst, arith, append_assoc, length-append}
+use Rattle.std.proofs.Common.{◌≡◌, ℕ, ◌+◌, ◌<◌, ◌≤◌, ◌^◌, List, ◌∷◌, ◌++◌, length, Option, Result, Ok, Err, refl, sym, ap, ◌∙◌, subst, arith, append_assoc, length-append}
 use Rattle.std.specs.Result.{IsErr}
 use Rattle.std.proofs.lemmas.List.{take_all}
 use Rattle.test_runner_core_log_reader.specs.Items.{items}
@@ -12,6 +12,7 @@ use Rattle.test_runner_core_log_reader.specs.declared.next.Next.{Next}
 use Rattle.test_runner_core_log_reader.specs.declared.next.Next.TheVariants as found
 use Rattle.test_runner_core_log_reader.specs.declared.next.Scan.TheVariants as scanned
 use Rattle.test_runner_core_log_reader.proofs.Filling.{on_err}
+use Rattle.test_runner_core_log_reader.proofs.Left.{gives_some}
 use Rattle.test_runner_core_log_reader.proofs.Ranges.{length-range}
 use Rattle.test_runner_core_log_reader.proofs.Reading.{ahead_refl, ahead_unmoved, ahead_then, hands_line, hands_end, end_is_idle}
 use Rattle.test_runner_core_log_reader.proofs.Telling.{tells_unmoved, never_waits}
@@ -45,30 +46,30 @@ calls_below calls before first here grown limit fit = omega arith
 
 -- the line that was found is the first of the bytes that were ahead
 takes_line : (old mid new : Cursor) (left rest : Option (List ℕ)) → KeepsAhead old left mid rest → Scanned scanned.Line mid new → TakesLine old left new rest
-takes_line old mid new None rest ahead line = tt
-takes_line old mid new (Some left) None ahead line = absurd ahead
-takes_line old mid new (Some left) (Some rest) ahead line =
-    (sym ahead ∙ ap (λ (ys : List ℕ). ys ++ rest) line.0 ∙ append_assoc new.line (10 ∷ new.waiting) rest, line.1)
+takes_line old mid new left rest ahead line = (
+  λ behind gives.
+      let was = ahead behind gives in
+      (was.0, was.1, sym was.2 ∙ ap (λ (ys : List ℕ). ys ++ behind) line.0 ∙ append_assoc new.line (10 ∷ new.waiting) behind),
+  line.1,
+)
 
 items_same : (old new : Cursor) (left rest : List ℕ) → new.waiting ++ rest ≡ old.waiting ++ left → new.handed ≡ old.handed → items_ahead new rest ≡ items_ahead old left
 items_same old new left rest ahead handed = ap (λ (n : ℕ). items n (new.waiting ++ rest)) handed ∙ ap (items old.handed) ahead
 
 hands_refused : (old mid new : Cursor) (left rest : Option (List ℕ)) (fault : LineFault) → KeepsAhead old left mid rest → mid.handed ≡ old.handed
     → Scanned (scanned.Refused fault) mid new → Hands old left new rest (Ok (found.Refused fault))
-hands_refused old mid new None rest fault ahead handed told = tt
-hands_refused old mid new (Some left) None fault ahead handed told = absurd ahead
-hands_refused old mid new (Some left) (Some rest) fault ahead handed told =
-    let same = items_same old mid left rest ahead handed in
-    let moved = items_same mid new rest rest (ap (λ (ys : List ℕ). ys ++ rest) told.0.waiting) told.0.handed in
-    (sym same ∙ told.1 rest, moved ∙ same)
+hands_refused old mid new left rest fault ahead handed told =
+    let some = gives_some rest in
+    let was = ahead some.0 some.1 in
+    let same = items_same old mid was.0 some.0 was.2 handed in
+    let moved = items_same mid new some.0 some.0 (ap (λ (ys : List ℕ). ys ++ some.0) told.0.waiting) told.0.handed in
+    (some.0, some.1, (was.0, was.1, (sym same ∙ told.1 some.0, moved ∙ same)))
 
 -- a call that fails hands out nothing
 hands_err : (old new : Cursor) (left rest : Option (List ℕ)) (result : Result Next LogFault) → IsErr result → KeepsAhead old left new rest → new.handed ≡ old.handed
     → Hands old left new rest result
-hands_err old new None rest result is ahead handed = tt
-hands_err old new (Some left) None result is ahead handed = absurd ahead
-hands_err old new (Some left) (Some rest) (Ok value) is ahead handed = cc
-hands_err old new (Some left) (Some rest) (Err fault) is ahead handed = items_same old new left rest ahead handed
+hands_err old new left rest (Ok value) is ahead handed = cc
+hands_err old new left rest (Err fault) is ahead handed = λ behind gives. let was = ahead behind gives in (was.0, was.1, items_same old new was.0 behind was.2 handed)
 
 ahead_err : (old new : Cursor) (left rest : Option (List ℕ)) (result : Result Next LogFault) → IsErr result → KeepsAhead old left new rest → HandsAhead old left new rest result
 ahead_err old new left rest (Ok value) is ahead = cc
