@@ -19,7 +19,6 @@ use Rattle.nextest_config_resolution_load.specs.declared.loaded_config.NamedProf
 use Rattle.nextest_config_resolution_merge.specs.Nesting.{OfSorted}
 use Rattle.nextest_config_resolution_merge.specs.Tree.{get_path, keys, keys_in, IsBefore, AreSorted}
 use Rattle.nextest_config_resolution_merge.proofs.Keys.{same_key, turned}
-use Rattle.nextest_config_resolution_merge.proofs.Nested.{no_texts}
 use Rattle.nextest_config_resolution_values.specs.File.{Named, profiles_at, profiles_in, profiles_of}
 use Rattle.nextest_config_elements_deserialize.specs.Paths.{profile_path}
 use Rattle.nextest_config_resolution_values.specs.Profile.{profile_of}
@@ -199,8 +198,13 @@ pub stops_seen : (name : List ℕ) (names : List (List ℕ)) (done : List Named)
 stops_seen name names done all it (value_error.Refused bad) e = stops name names done all it bad.path.keys e
 stops_seen name names done all it value_error.OutOfMemory e = tt
 
+abbrev is_nil : List (List ℕ) → Bool
+is_nil [] = true
+is_nil (text ∷ texts) = false
+
 pub some_texts : (names : List (Bor (List ℕ))) → (length names ≡ 0 → ⊥) → texts names ≡ [] → ⊥
-some_texts names some none = some (no_texts names none)
+some_texts [] some none = some refl
+some_texts (name ∷ names) some none = absurd (false≢true (ap is_nil none))
 
 pub no_names : (names : List (Bor (List ℕ))) → length names == 0 ≡ true → texts names ≡ []
 no_names [] e = refl

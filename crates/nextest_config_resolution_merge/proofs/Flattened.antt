@@ -67,7 +67,7 @@ pub sorted_push : (done : List Pair) (pair : Pair) → AllSorted done → IsSort
 sorted_push [] pair sorted here = (here, tt)
 sorted_push (first ∷ done) pair sorted here = (sorted.0, sorted_push done pair sorted.1 here)
 
-before_keys : (key : String Global) (pairs : List Pair) → AllByRecursion (λ other. string_cmp key other ≡ Less) (keys_of pairs) → IsBefore (string_bytes key) (members_view pairs)
+pub before_keys : (key : String Global) (pairs : List Pair) → AllByRecursion (λ other. string_cmp key other ≡ Less) (keys_of pairs) → IsBefore (string_bytes key) (members_view pairs)
 before_keys key [] before = tt
 before_keys key (pair ∷ pairs) before = (before.0, before_keys key pairs before.1)
 

@@ -1,7 +1,7 @@
 -- The keys of a table, by its ends.
 use Rattle.std.proofs.Common.{◌≡◌, ℕ, suc, ◌-◌, true, false, List, [], ◌∷◌, ◌++◌, map, length, slice_get, Option, None, Some, option_map, is_some, cond, refl, sym, ap, ◌∙◌, subst, arith, append_assoc, append-nil, Bor, Less}
 use Rattle.std.specs.Bool.{⊤}
-use Rattle.std.specs.Option.{option_copied, option_map_or}
+use Rattle.std.specs.Option.{option_map_or}
 use Rattle.std.specs.Ordering.{is_eq}
 use Rattle.std.specs.Str.{bytes_eq}
 use Rattle.std.proofs.lemmas.Bool.{false≢true}
@@ -9,7 +9,7 @@ use Rattle.std.proofs.lemmas.Map.Text.{is_eq-slice_cmp}
 use Rattle.toml.specs.Data.{Data, string, integer, float, boolean, datetime, array, table, Members, no_members, member}
 use Rattle.nextest_config_elements_toml.specs.Paths.{texts}
 use Rattle.nextest_config_elements_toml.specs.Reading.{Path}
-use Rattle.nextest_config_resolution_merge.specs.Nesting.{OfSorted, last_key, is_last, head_of, first_keys_of, shorter}
+use Rattle.nextest_config_resolution_merge.specs.Nesting.{OfSorted, last_key, is_last, first_keys_of, shorter}
 use Rattle.nextest_config_resolution_merge.specs.Tree.{End, along, behind, ends, ends_at, members_ends, keys, keys_in, IsBefore, IsSorted, AreSorted}
 use Rattle.nextest_config_resolution_merge.proofs.Keys.{key_cmp, same_key}
 use Rattle.nextest_config_resolution_merge.proofs.Nested.{drop_along}
@@ -23,19 +23,6 @@ last_text (key ∷ next ∷ all) last e =
     let count : suc (suc (length all)) - 1 ≡ suc (length all) = omega arith in
     let deeper : suc (length all) - 1 ≡ length all = omega arith in
     last_text (next ∷ all) last (rw deeper (subst (λ n. slice_get (key ∷ next ∷ all) n ≡ Some last) count e))
-
--- the key that a look-up gives
-copied_now : (result : Option (Bor (Bor (List ℕ)))) → option_map (λ it. it.now.now) result ≡ option_map (λ key. key.now) (option_copied result)
-copied_now None = refl
-copied_now (Some it) = refl
-
-first_text : (path : List (Bor (List ℕ))) → option_map (λ key. key.now) (slice_get path 0) ≡ head_of (texts path)
-first_text [] = refl
-first_text (key ∷ path) = refl
-
-pub got_head : (result : Option (Bor (Bor (List ℕ)))) (rest : List (Bor (List ℕ))) (path : Path) → option_copied result ≡ slice_get rest 0 → texts rest ≡ path
-    → option_map (λ it. it.now.now) result ≡ head_of path
-got_head result rest path e same = copied_now result ∙ ap (option_map (λ key. key.now)) e ∙ first_text rest ∙ ap head_of same
 
 same_bytes : (key : List ℕ) → bytes_eq key key ≡ true
 same_bytes key = sym (is_eq-slice_cmp key key) ∙ ap is_eq (same_key key)

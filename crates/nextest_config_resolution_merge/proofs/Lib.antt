@@ -1,6 +1,7 @@
 pub mod Keys
 pub mod Joined
 pub mod Walk
+pub mod Written
 pub mod Rising
 pub mod Going
 pub mod Parting

@@ -1,5 +1,5 @@
 -- The ends of a tree make it up again.
-use Rattle.std.proofs.Common.{◌≡◌, ℕ, suc, ◌+◌, arith, Bool, true, false, nat_le, append-nil, List, [], ◌∷◌, ◌++◌, map, drop, length, Option, None, Some, refl, sym, ap, ◌∙◌, Ordering, Less, Equal, Greater, String, Global, string_bytes, Bor}
+use Rattle.std.proofs.Common.{◌≡◌, ℕ, suc, ◌+◌, arith, Bool, true, false, nat_le, append-nil, List, [], ◌∷◌, ◌++◌, map, drop, length, Option, None, Some, refl, sym, ap, ◌∙◌, Ordering, Less, Equal, Greater, String, Global, string_bytes}
 use Rattle.std.specs.Bool.{⊤}
 use Rattle.std.proofs.lemmas.Bool.{false≢true, true≢false}
 use Rattle.std.proofs.lemmas.Bool.Decides.{nat_tests}
@@ -10,7 +10,6 @@ use Rattle.std.specs.String.{string_cmp}
 use Rattle.toml.specs.Data.{Data, string, integer, float, boolean, datetime, array, table, Members, no_members, member, get_member}
 use Rattle.toml.specs.View.{view, members_view}
 use Rattle.toml.specs.declared.value.Value.{Value}
-use Rattle.nextest_config_elements_toml.specs.Paths.{texts}
 use Rattle.nextest_config_elements_toml.specs.Reading.{Path}
 use Rattle.nextest_config_resolution_merge.specs.Entries.{end_of}
 use Rattle.nextest_config_resolution_merge.specs.declared.entry.Entry.{Entry}
@@ -107,14 +106,6 @@ mutual
       let behind_it : nest (members_ends more) ≡ more = nest_members more sorted.1.1 in
       nest_value key value (members_ends more) sorted.1.0 (ap (get_member key) behind_it ∙ get_before key more sorted.0)
       ∙ ap (with_member key value) behind_it ∙ set_before key value more sorted.0
-
-abbrev is_nil : Path → Bool
-is_nil [] = true
-is_nil (key ∷ path) = false
-
-pub no_texts : (path : List (Bor (List ℕ))) → texts path ≡ [] → length path ≡ 0
-no_texts [] none = refl
-no_texts (key ∷ path) none = absurd (false≢true (ap is_nil none))
 
 -- what stands somewhere, by its ends
 abbrev is_none : List End → Bool

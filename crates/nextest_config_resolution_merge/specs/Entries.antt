@@ -2,9 +2,9 @@
 use Rattle.std.specs.Prelude.{Bool, true, false, ◌&&◌, List, [], ◌∷◌}
 use Rattle.toml.specs.Data.{Data, table, no_members}
 use Rattle.toml.specs.View.{view}
-use Rattle.nextest_config_elements_toml.specs.Paths.{texts}
 use Rattle.nextest_config_resolution_merge.specs.Meeting.{meet}
 use Rattle.nextest_config_resolution_merge.specs.Tree.{End}
+use Rattle.nextest_config_resolution_merge.specs.Ways.{path_of}
 use Rattle.nextest_config_resolution_merge.specs.declared.entry.Ending.{Ending}
 use Rattle.nextest_config_resolution_merge.specs.declared.entry.Ending.TheVariants.{Leaf, EmptyTable}
 use Rattle.nextest_config_resolution_merge.specs.declared.entry.Entry.{Entry}
@@ -16,7 +16,7 @@ data_of (Leaf value) = view value.now
 data_of EmptyTable = table no_members
 
 abbrev pub end_of : Entry → End
-end_of it = (texts it.path.items, data_of it.ending)
+end_of it = (path_of it.path, data_of it.ending)
 
 -- a path comes before another, and doesn't lead to it
 abbrev pub is_before : Meeting → Bool

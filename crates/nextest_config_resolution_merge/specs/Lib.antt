@@ -6,4 +6,5 @@ pub mod Merged
 pub mod Merging
 pub mod Nesting
 pub mod Tree
+pub mod Ways
 pub mod Whole

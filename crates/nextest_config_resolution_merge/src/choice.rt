@@ -39,7 +39,7 @@ pub(crate) fn choose(higher: &[Entry<'_>], lower: &[Entry<'_>]) -> Choice
 fn chosen(higher: &Entry<'_>, lower: &Entry<'_>) -> Choice
     ensures { result ≡ choice_of (end_of higher.now) (end_of lower.now) }
 {
-    match meet(higher.path.as_slice(), lower.path.as_slice()) {
+    match meet(higher.path.way(), lower.path.way()) {
         Meeting::Before => Choice::TakeHigher,
         Meeting::After => Choice::TakeLower,
         Meeting::Same | Meeting::Below => Choice::PassLower,

@@ -1,4 +1,5 @@
 // What a tree ends in.
+use crate::path::SharedPath;
 use toml::Value;
 
 // A leaf or an empty table.
@@ -11,6 +12,6 @@ pub(crate) enum Ending<'a> {
 // What a tree ends in, and the path that leads to it.
 #[derive(Drop)]
 pub(crate) struct Entry<'a> {
-    pub(crate) path: Vec<&'a str>,
+    pub(crate) path: SharedPath<'a>,
     pub(crate) ending: Ending<'a>,
 }

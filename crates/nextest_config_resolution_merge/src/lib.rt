@@ -3,7 +3,8 @@
 //!
 //! A file is a tree of tables. It is kept as the list of what it ends in, the leaves and the empty
 //! tables, each with its path, a list of keys; the paths rise, key by key by their bytes, and none
-//! is above another. Nothing is copied: paths and leaves are lent from the files.
+//! is above another. Nothing is copied: keys and leaves are lent from the files, and all that stands
+//! in one table shares the keys that lead to the table.
 #![tactic(auto)]
 
 mod choice;
@@ -14,6 +15,7 @@ mod look_up;
 mod meeting;
 mod merged_tree;
 mod merging;
+mod path;
 mod reading_back;
 mod rebuilding;
 

@@ -9,6 +9,7 @@ ghost use Rattle.nextest_config_resolution_merge.specs.Tree.{End, along, ends, e
 
 use crate::entry::Entry;
 use crate::meeting::{Meeting, meet};
+use crate::path::Way;
 
 // The entries at a path and below it.
 pub(crate) fn run<'t, 'a>(entries: &'t [Entry<'a>], path: &[&str]) -> &'t [Entry<'a>]
@@ -52,7 +53,7 @@ fn until_after<'t, 'a>(entries: &'t [Entry<'a>], path: &[&str]) -> &'t [Entry<'a
 fn is_ahead(entry: &Entry<'_>, path: &[&str]) -> bool
     ensures { result ≡ ahead (texts path.now) (end_of entry.now) }
 {
-    match meet(entry.path.as_slice(), path) {
+    match meet(entry.path.way(), Way::whole(path)) {
         Meeting::Before | Meeting::Above => true,
         Meeting::Same | Meeting::Below | Meeting::After => false,
     }
@@ -62,7 +63,7 @@ fn is_ahead(entry: &Entry<'_>, path: &[&str]) -> bool
 fn is_within(entry: &Entry<'_>, path: &[&str]) -> bool
     ensures { result ≡ within (texts path.now) (end_of entry.now) }
 {
-    match meet(entry.path.as_slice(), path) {
+    match meet(entry.path.way(), Way::whole(path)) {
         Meeting::Same | Meeting::Below => true,
         Meeting::Before | Meeting::Above | Meeting::After => false,
     }

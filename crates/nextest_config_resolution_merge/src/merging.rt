@@ -18,7 +18,7 @@ pub(crate) fn joined<'a>(
 {
     higher.reverse();
     lower.reverse();
-    let mut entries = Vec::new(alloc);
+    let mut entries = Vec::with_capacity(alloc, higher.len().saturating_add(lower.len()))?;
     while let Some(choice) = next_choice(higher.as_slice(), lower.as_slice()) {
         take(&mut entries, &mut higher, &mut lower, choice)?;
     }

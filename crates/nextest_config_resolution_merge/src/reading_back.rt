@@ -9,7 +9,7 @@ ghost use Rattle.nextest_config_resolution_merge.specs.Nesting as words;
 ghost use Rattle.nextest_config_resolution_merge.specs.Tree.{along, ends_at};
 
 use crate::entry::Entry;
-use crate::rebuilding::{behind, rebuilt, value_of};
+use crate::rebuilding::{rebuilt, value_of};
 use std::alloc::{AllocError, Global};
 use toml::Value;
 
@@ -39,7 +39,7 @@ fn value_from(
     ensures { IfOk result
         (λ it. view it ≡ words.value_by depth (end_of first.now) (map end_of run.now)) }
 {
-    if first.path.len() <= depth {
+    if first.path.way().behind(depth).is_empty() {
         return value_of(alloc, &first.ending);
     }
     Ok(Value::Table(rebuilt(alloc, run, depth)?))
@@ -56,18 +56,18 @@ pub(crate) fn keys_in<'a>(
 {
     let mut keys = Vec::new(alloc);
     for entry in run {
-        push_new(&mut keys, behind(entry.path.as_slice(), depth).first())?;
+        push_new(&mut keys, entry.path.way().behind(depth).first())?;
     }
     Ok(keys)
 }
 
 // Adds a key that isn't the last one.
-fn push_new<'a>(keys: &mut Vec<&'a str>, key: Option<&&'a str>) -> Result<(), AllocError>
+fn push_new<'a>(keys: &mut Vec<&'a str>, key: Option<&'a str>) -> Result<(), AllocError>
     ensures { IfOk result (λ _. texts keys.new.items
-        ≡ words.with_key (texts keys.old.items) (option_map (λ it. it.now.now) key.entry)) }
+        ≡ words.with_key (texts keys.old.items) (option_map (λ it. it.now) key.entry)) }
 {
     match key {
-        Some(key) if !is_last(keys.as_slice(), key) => Ok(keys.push(*key)?),
+        Some(key) if !is_last(keys.as_slice(), key) => Ok(keys.push(key)?),
         _ => Ok(()),
     }
 }

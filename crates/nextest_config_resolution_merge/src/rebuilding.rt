@@ -1,14 +1,15 @@
 // A value from the entries that it ends in.
-ghost use Rattle.std.specs.Prelude.{◌≡◌, ◌∷◌, drop, map, option_map, IfOk};
-ghost use Rattle.toml.specs.Data.{Data, get_member};
+ghost use Rattle.std.specs.Prelude.{◌≡◌, ◌∷◌, map, option_map, IfOk};
 ghost use Rattle.toml.specs.View.{view, table_view};
-ghost use Rattle.nextest_config_elements_toml.specs.Paths.{texts};
 ghost use Rattle.nextest_config_resolution_merge.specs.Entries.{data_of, end_of};
 ghost use Rattle.nextest_config_resolution_merge.specs.Nesting as words;
 ghost use Rattle.nextest_config_resolution_merge.specs.Tree.{with_member};
+ghost use Rattle.nextest_config_resolution_merge.specs.Ways.{way_of};
 
 use crate::entry::{Ending, Entry};
+use crate::path::Way;
 use std::alloc::{AllocError, Global};
+use std::mem;
 use toml::{Table, Value};
 
 // The table of some entries, whose paths lead to it by so many keys.
@@ -19,22 +20,10 @@ pub(crate) fn rebuilt(alloc: Global, run: &[Entry<'_>], depth: usize) -> Result<
     let mut members = Table::new(alloc);
     for place in (0..run.len()).rev() {
         let entry = &run[place];
-        put(
-            alloc,
-            &mut members,
-            behind(entry.path.as_slice(), depth),
-            &entry.ending,
-        )?;
+        let path = entry.path.way().behind(depth);
+        put(alloc, &mut members, path, &entry.ending)?;
     }
     Ok(members)
-}
-
-// What is left of a path behind so many keys.
-pub(crate) fn behind<'p, 'a>(path: &'p [&'a str], depth: usize) -> &'p [&'a str]
-    ensures { texts result.now ≡ drop depth (texts path.now) }
-{
-    let (_, rest) = path.split_at(depth.min(path.len()));
-    rest
 }
 
 // Puts what stands at a path into a table.
@@ -42,11 +31,11 @@ pub(crate) fn behind<'p, 'a>(path: &'p [&'a str], depth: usize) -> &'p [&'a str]
 fn put(
     alloc: Global,
     members: &mut Table,
-    path: &[&str],
+    path: Way<'_, '_>,
     ending: &Ending<'_>,
 ) -> Result<(), AllocError>
     ensures { IfOk result (λ _. table_view members.new
-        ≡ words.with_value_at (texts path.now) (data_of ending.now) (table_view members.old)) }
+        ≡ words.with_value_at (way_of path.entry) (data_of ending.now) (table_view members.old)) }
 {
     match path.split_first() {
         None => Ok(()),
@@ -60,19 +49,42 @@ fn put_below(
     alloc: Global,
     members: &mut Table,
     key: &str,
-    rest: &[&str],
+    rest: Way<'_, '_>,
     ending: &Ending<'_>,
 ) -> Result<(), AllocError>
     ensures { IfOk result (λ _. table_view members.new ≡ words.with_value_at
-        (key.now ∷ texts rest.now) (data_of ending.now) (table_view members.old)) }
+        (key.now ∷ way_of rest.entry) (data_of ending.now) (table_view members.old)) }
 {
     if rest.is_empty() {
         return set(alloc, members, key, value_of(alloc, ending)?);
     }
-    let mut inner = taken(alloc, members, key)?;
+    match members.get_mut(key) {
+        Some(slot) => {
+            let former = mem::replace(slot, Value::Boolean(false));
+            *slot = Value::Table(put_inside(alloc, Some(former), rest, ending)?);
+            Ok(())
+        }
+        None => {
+            let inner = put_inside(alloc, None, rest, ending)?;
+            set(alloc, members, key, Value::Table(inner))
+        }
+    }
+}
+
+// The table that stands somewhere, with what stands at a path in it.
+#[cycle(put)]
+fn put_inside(
+    alloc: Global,
+    former: Option<Value>,
+    rest: Way<'_, '_>,
+    ending: &Ending<'_>,
+) -> Result<Table, AllocError>
+    ensures { IfOk result (λ it. table_view it ≡ words.with_value_at
+        (way_of rest.entry) (data_of ending.now) (words.inside (option_map view former))) }
+{
+    let mut inner = inside(alloc, former);
     put(alloc, &mut inner, rest, ending)?;
-    set(alloc, members, key, Value::Table(inner))?;
-    Ok(())
+    Ok(inner)
 }
 
 // Sets the value of a key.
@@ -82,17 +94,6 @@ fn set(alloc: Global, members: &mut Table, key: &str, value: Value) -> Result<()
 {
     drop(members.insert(String::from_str(alloc, key)?, value)?);
     Ok(())
-}
-
-// Takes the table at a key out, for another value; one with nothing in it where there is none.
-fn taken(alloc: Global, members: &mut Table, key: &str) -> Result<Table, AllocError>
-    ensures inner { IfOk result
-        (λ it. table_view it ≡ words.inside (get_member key.now (table_view members.old))) }
-    ensures left { IfOk result (λ _. (value : Data) → with_member key.now value
-        (table_view members.new) ≡ with_member key.now value (table_view members.old)) }
-{
-    let former = members.insert(String::from_str(alloc, key)?, Value::Boolean(false))?;
-    Ok(inside(alloc, former))
 }
 
 // The table that stands somewhere.

@@ -18,7 +18,7 @@ push_members-loop-key-preserved t c =
       done ++ pair ∷ [],
       all ∙ sym (append_assoc done (pair ∷ []) left),
       c.in_ok-push_value.ensures.ends ∙ rw (c.as_str.ensures.value, c.loop-key.invariant.2)
-          (added (texts c.args.path.now) (map end_of c.args.entries.now.items) done pair),
+          (added (texts c.args.above.now.value.items) (map end_of c.args.entries.now.items) done pair),
       sorted_push done pair c.loop-key.invariant.3 c.in_ok-push_value.ensures.sorted,
     )
 
@@ -31,7 +31,7 @@ push_members-returns-clause-sorted t c =
 pub push_table-returns-clause-ends : goal.push_table-returns-clause-ends
 push_table-returns-clause-ends t c =
     let some : length c.args.members.now.entries ≡ 0 → ⊥ = λ none. false≢true (sym c.if-is_empty.false ∙ c.is_empty.ensures.1 none) in
-    rw (table_ends c.args.members.now.entries some) (rw (c.as_slice.ensures.value) at c.push_members.ensures.ends)
+    rw (table_ends c.args.members.now.entries some) (rw (c.in_ok-above.ensures.ok) at c.push_members.ensures.ends)
 
 pub push_members-returns-clause-ends : goal.push_members-returns-clause-ends
 push_members-returns-clause-ends t c =
@@ -39,16 +39,18 @@ push_members-returns-clause-ends t c =
     let all : c.args.members.now.entries ≡ done = c.loop-key.invariant.1 ∙ ap (λ pairs. done ++ pairs) c.in-None.ensures.steps.0 ∙ append-nil done in
     rw all c.loop-key.invariant.2
 
-pub push_value-returns-in-Table : goal.push_value-returns-in-Table
-push_value-returns-in-Table t c = record {
-  ends = rw (c.in-Table.is, view-Table, ← c.in_ok-path.ensures) c.push_table.ensures.ends;
-  sorted = rw (c.in-Table.is, view-Table) c.push_table.ensures.sorted;
-}
+pub push_value-returns-in_ok-path-in-Table : goal.push_value-returns-in_ok-path-in-Table
+push_value-returns-in_ok-path-in-Table t c =
+    let at : texts c.in_ok-path-in-Table.path.items ≡ texts c.args.above.now.value.items ++ c.args.key.now ∷ [] =
+    c.in_ok-path-in-Table.ensures ∙ ap (λ keys. texts keys ++ c.args.key.now ∷ []) (c.as_slice.ensures.value ∙ ap (λ path. path.items) c.deref.ensures) in record {
+      ends = rw (c.in-Table.is, view-Table, ← at) c.push_table.ensures.ends;
+      sorted = rw (c.in-Table.is, view-Table) c.push_table.ensures.sorted;
+    }
 
 pub push_table-returns-then-is_empty : goal.push_table-returns-then-is_empty
 push_table-returns-then-is_empty t c =
     let none : length c.args.members.now.entries ≡ 0 = c.is_empty.ensures.0 c.if-is_empty.true in
     record {
-      ends = rw (empty_ends (texts c.args.path.items) c.args.members.now.entries none) c.push_entry.ensures;
+      ends = rw (empty_ends (texts c.args.path.items) c.args.members.now.entries none) (rw (append-nil c.in_ok-above.above.value.items, c.in_ok-above.ensures.ok) at c.push_entry.ensures);
       sorted = empty_sorted c.push_entry.result c.args.members.now.entries none;
     }

@@ -9,5 +9,5 @@ use Rattle.nextest_config_resolution_merge.proofs.flattening.+ends.Given as goal
 abbrev pub invariant-push_members-loop-key : goal.invariant-push_members-loop-key
 invariant-push_members-loop-key l =
     (done : List Pair) × (l.members.entries ≡ done ++ l.key-iterator)
-    × (map end_of l.entries.items ≡ map end_of l.initial.entries.items ++ map (along (texts l.path)) (members_ends (members_view done)))
+    × (map end_of l.entries.items ≡ map end_of l.initial.entries.items ++ map (along (texts l.above.value.items)) (members_ends (members_view done)))
     × AllSorted done

@@ -6,7 +6,7 @@ use Rattle.nextest_config_resolution_merge.proofs.merging.joined.Goals as goal
 
 pub loop-choice-init : goal.loop-choice-init
 loop-choice-init c =
-    rw (c.reverse.ensures.items, c.reverse-2.ensures.items, c.new-entries.ensures.items, stack_turned c.args.higher.items, stack_turned c.args.lower.items)
+    rw (c.reverse.ensures.items, c.reverse-2.ensures.items, c.in_ok-entries.ensures.items, stack_turned c.args.higher.items, stack_turned c.args.lower.items)
     (going_begins (map end_of c.args.higher.items) (map end_of c.args.lower.items))
 
 pub loop-choice-preserved : goal.loop-choice-preserved
