@@ -61,6 +61,13 @@ zip_set R [] (b ∷ ys) place old new less at one all = absurd all
 zip_set R (a ∷ xs) (b ∷ ys) zero old new less at one all = (one a (subst (R a) (sym at) all.0), all.1)
 zip_set R (a ∷ xs) (b ∷ ys) (suc place) old new less at one all = (all.0, zip_set R xs ys place old new (omega (arith, less)) at one all.1)
 
+-- what follows for two that stand side by side
+pub zip_weaker : {A B : Type 0} (R Q : A → B → Type 0) → ((x : A) (y : B) → R x y → Q x y) → (xs : List A) (ys : List B) → AllZip R xs ys → AllZip Q xs ys
+zip_weaker R Q holds [] [] all = tt
+zip_weaker R Q holds [] (y ∷ ys) all = absurd all
+zip_weaker R Q holds (x ∷ xs) [] all = absurd all
+zip_weaker R Q holds (x ∷ xs) (y ∷ ys) all = (holds x y all.0, zip_weaker R Q holds xs ys all.1)
+
 -- what holds of each of the second list
 pub all_second : {A B : Type 0} (R : A → B → Type 0) (P : B → Type 0) → ((x : A) (y : B) → R x y → P y) → (xs : List A) (ys : List B) → AllZip R xs ys → All P ys
 all_second R P holds xs [] all k d less = absurd (omega (arith, less))

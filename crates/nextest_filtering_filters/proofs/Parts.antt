@@ -1,7 +1,7 @@
 -- What a filter is by the values of its predicates.
 use Rattle.std.proofs.Common.{◌≡◌, ℕ, Bool, true, false, List, [], ◌∷◌, zero, suc, not, Option, None, Some, refl, sym, ◌∙◌, subst, inl, inr}
 use Rattle.std.specs.List.{All, AllZip, list_any}
-use Rattle.std.specs.Prelude.{◌||◌, IfSome}
+use Rattle.std.specs.Prelude.{◌||◌, IfSome, is_some}
 use Rattle.nextest_filtering_filters.specs.Formula.{AreValues, Formula, Gives, IsValue}
 use Rattle.nextest_filtering_filters.specs.Steps.{formula_of}
 use Rattle.nextest_filtering_filters.specs.Values.{IsSome, may_by, nowhere, values_at}
@@ -229,3 +229,8 @@ kept_of filter default binary (Some part) P kept so asked = subst (P default) ke
 pub kept_asks_not : (filter default : Compiled) (binary : Binary) (part : Option PartOf) → IsKept filter default binary part → list_any is_default default.leaves ≡ false → IfSome part (λ it. list_any is_default it.filter.leaves ≡ false)
 kept_asks_not filter default binary None kept none = tt
 kept_asks_not filter default binary (Some part) kept none = subst (λ (f : Compiled). list_any is_default f.leaves ≡ false) (sym kept.0) none
+
+-- where nothing is kept, the filter doesn't ask for it
+pub nothing_kept : (filter default : Compiled) (binary : Binary) (part : Option PartOf) → is_some part ≡ false → IsKept filter default binary part → list_any is_default filter.leaves ≡ false
+nothing_kept filter default binary None none kept = kept
+nothing_kept filter default binary (Some part) none kept = cc

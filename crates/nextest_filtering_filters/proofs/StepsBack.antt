@@ -7,7 +7,7 @@ use Rattle.std.proofs.lemmas.Option.{slice_get_read}
 use Rattle.std.proofs.lemmas.List.Elements.{All-head, All-nil, All-pop, All-push, All-tail}
 use Rattle.nextest_filtering_filters.specs.Formula.{Formula, Gives, both, both_gives, either, either_gives, leaf, leaf_gives, negated, negated_gives}
 use Rattle.nextest_filtering_filters.specs.Making.{AreWithin, IsPendingWithin, IsWithin, Keeps, at_pending, exits_of, reach}
-use Rattle.nextest_filtering_filters.specs.Questions.{at_exits, at_next, exit_of, holds_by, outcomes, outcomes_behind}
+use Rattle.nextest_filtering_filters.specs.Questions.{at_exits, at_next, decided, exit_of, holds_by, outcomes, outcomes_behind}
 use Rattle.nextest_filtering_filters.specs.Steps.{after, after_step, and_then}
 use Rattle.nextest_filtering_filters.specs.Values.{may_by, one_value, values_at}
 use Rattle.nextest_filtering_filters.specs.declared.questions.Exits.{Exits}
@@ -97,6 +97,17 @@ asked_at answer list place it within is = asked_behind answer [] list place plac
 
 pub asked_nowhere : (answer : ℕ → Bool) (list : List Question) (place : ℕ) → length list ≤ place → slice_index_or (outcomes answer list) place false ≡ false
 asked_nowhere answer list place beyond = past (outcomes answer list) place (omega (arith, beyond, as_many answer list))
+
+-- where both exits of the first question are values, its answer decides
+pub decided_by : (answer : ℕ → Bool) (list : List Question) (first : Next) (place : ℕ) (it : Question) (if_true if_false : Bool) → first ≡ to.Question place → place < length list → it ≡ get_or list place it
+    → it.exits.if_true ≡ to.Value if_true → it.exits.if_false ≡ to.Value if_false
+    → at_next (outcomes answer list) first ≡ decided (record { leaf = it.leaf; if_true = if_true; if_false = if_false }) (answer it.leaf)
+decided_by answer list first place it if_true if_false asked within is so not_so =
+    ap (at_next (outcomes answer list)) asked ∙ asked_at answer list place it within is ∙ by_answer (answer it.leaf)
+  where
+    by_answer : (holds : Bool) → at_exits (outcomes answer (take place list)) it.exits holds ≡ decided (record { leaf = it.leaf; if_true = if_true; if_false = if_false }) holds
+    by_answer true = ap (at_next (outcomes answer (take place list))) so
+    by_answer false = ap (at_next (outcomes answer (take place list))) not_so
 
 -- ---- behind more questions
 

@@ -1,6 +1,6 @@
 -- What is left to ask of a filter where its binary is known.
 use Rattle.std.specs.Prelude.{◌≡◌, ℕ, Bool, true, false, ⊤, List, Option, None, Some}
-use Rattle.std.specs.List.{list_any}
+use Rattle.std.specs.List.{AllZip, list_any}
 use Rattle.nextest_filtering_filters.specs.Formula.{AreValues}
 use Rattle.nextest_filtering_filters.specs.Questions.{comes_to, holds_by}
 use Rattle.nextest_filtering_filters.specs.Steps.{formula_of}
@@ -59,6 +59,13 @@ AreLeafValues binary name Member default it values = AreValues (IsLeafValue bina
 -- what predicates are on a test of this name, whose groups nobody knows, by their numbers
 abbrev pub AreAnswers : Binary → List ℕ → Bool → List FiltersetLeaf → (ℕ → Bool) → Type 0
 AreAnswers binary name default leaves answer = (number : ℕ) → IsLeafValue binary name (λ m. ⊥) default (leaf_at leaves number) (answer number)
+
+-- what questions come to that are asked of these, on a test of this name, whose groups nobody knows,
+-- where the default filter is so
+abbrev pub IsAnswer : List Asked → Questions → Bool → List ℕ → Bool → Type 0
+IsAnswer them questions default name value =
+    (binary : Binary) (leaves : List FiltersetLeaf) (answer : ℕ → Bool) → AllZip (IsFor binary) leaves them
+    → AreAnswers binary name default leaves answer → value ≡ comes_to answer questions
 
 -- questions that come to what a filter is, whatever its predicates may be on the binary
 abbrev pub AreQuestionsOf : Binary → Compiled → Questions → Type 0

@@ -1,6 +1,7 @@
 -- Formulas that are asked question by question: what they come to.
 use Rattle.std.specs.Prelude.{ℕ, Bool, false, not, ◌&&◌, ◌||◌, List, [], ◌∷◌, ◌++◌, slice_index_or, if◌then◌else◌}
 use Rattle.nextest_filtering_filters.specs.Formula.{Formula, leaf, negated, either, both}
+use Rattle.nextest_filtering_filters.specs.declared.questions.Decision.{Decision}
 use Rattle.nextest_filtering_filters.specs.declared.questions.Exits.{Exits}
 use Rattle.nextest_filtering_filters.specs.declared.questions.Next.{Next}
 use Rattle.nextest_filtering_filters.specs.declared.questions.Next.TheVariants as to
@@ -36,3 +37,7 @@ outcomes answer list = outcomes_behind answer [] list
 
 abbrev pub comes_to : (ℕ → Bool) → Questions → Bool
 comes_to answer it = at_next (outcomes answer it.list.items) it.first
+
+-- what the answer to a question that decides leaves
+abbrev pub decided : Decision → Bool → Bool
+decided it holds = if holds then it.if_true else it.if_false

@@ -1,19 +1,19 @@
 // What a predicate is on a binary, and who is asked of the binary's tests.
-ghost use Rattle.std.specs.Prelude.{◌≡◌, ℕ, Bool, List, IfOk};
+ghost use Rattle.std.specs.Prelude.{◌≡◌, ℕ, Bool, false, List, IfOk};
 ghost use Rattle.std.specs.List.{AllZip};
 ghost use Rattle.nextest_filtering_filters.specs.Filter.{leaf_at};
 ghost use Rattle.nextest_filtering_filters.specs.Formula.{AreValues};
 ghost use Rattle.nextest_filtering_filters.specs.Values.{IsSome, may_by};
-ghost use Rattle.nextest_filtering_filters.specs.Asking.{AreAnswers, IsFor, IsLeafValue, values_may};
+ghost use Rattle.nextest_filtering_filters.specs.Asking.{AreAnswers, IsAnswer, IsFor, IsLeafValue, values_may};
 ghost use Rattle.nextest_filtering_filters.specs.Meaning.{Either, MayBe, Tells};
 ghost use Rattle.nextest_filtering_filters.specs.Query.{Binary, binary_of, test_of};
-ghost use Rattle.nextest_filtering_filters.specs.Questions.{comes_to};
+ghost use Rattle.nextest_filtering_filters.specs.Questions.{comes_to, decided};
 ghost use Rattle.nextest_filtering_filters.specs.declared.leaf.FiltersetLeaf.{FiltersetLeaf};
 
 use crate::group_lookup::GroupLookup;
 use crate::leaf::FiltersetLeaf;
 use crate::query::{BinaryQuery, TestQuery};
-use crate::questions::{Next, Questions};
+use crate::questions::{Decision, Next, Questions};
 use crate::values::Values;
 use nextest_filtering_ast::{NameMatcher, NameMatching};
 use std::alloc::{AllocError, Global};
@@ -169,5 +169,69 @@ pub(crate) fn answer(
         let answer = on_name(asked, question.leaf, name, default)?;
         next = question.exits.of(answer);
         list = &list[..place];
+    }
+}
+
+// What a formula comes to on tests of these names, whose groups nobody knows, where the answer of
+// one predicate decides it and the default filter holds nowhere.
+fn decided_answers(
+    alloc: Global,
+    decision: Decision,
+    asked: &mut Asked<'_>,
+    names: &[&str],
+) -> Result<Vec<bool>, AllocError>
+    ensures values { IfOk result (λ values. AllZip (λ name value.
+        (binary : Binary) (leaf : FiltersetLeaf) (answer : Bool) → IsFor binary leaf asked.old
+        → IsLeafValue binary name.now (λ m. ⊥) false leaf answer
+        → value ≡ decided decision answer) names.now values.items) }
+    ensures stays { (binary : Binary) (leaf : FiltersetLeaf) → IsFor binary leaf asked.old
+        → IsFor binary leaf asked.new }
+{
+    let mut values = Vec::with_capacity(alloc, names.len())?;
+    for name in names {
+        values.push(decision.of(asked.on_name(name, false)?))?;
+    }
+    Ok(values)
+}
+
+// What a formula that is asked question by question comes to on tests of these names, whose groups
+// nobody knows, where the default filter holds nowhere.
+fn each_answer(
+    alloc: Global,
+    questions: &Questions,
+    asked: &mut [Asked<'_>],
+    names: &[&str],
+) -> Result<Vec<bool>, AllocError>
+    ensures values { IfOk result (λ values. AllZip
+        (λ name value. IsAnswer asked.old questions.now false name.now value)
+        names.now values.items) }
+    ensures stays { (binary : Binary) (leaves : List FiltersetLeaf)
+        → AllZip (IsFor binary) leaves asked.old → AllZip (IsFor binary) leaves asked.new }
+{
+    let mut values = Vec::with_capacity(alloc, names.len())?;
+    for name in names {
+        values.push(answer(questions, asked, name, false)?)?;
+    }
+    Ok(values)
+}
+
+// The same. Mostly one question is left, and then each name is just compared.
+pub(crate) fn answers(
+    alloc: Global,
+    questions: &Questions,
+    asked: &mut [Asked<'_>],
+    names: &[&str],
+) -> Result<Vec<bool>, AllocError>
+    ensures values { IfOk result (λ values. AllZip
+        (λ name value. IsAnswer asked.old questions.now false name.now value)
+        names.now values.items) }
+    ensures stays { (binary : Binary) (leaves : List FiltersetLeaf)
+        → AllZip (IsFor binary) leaves asked.old → AllZip (IsFor binary) leaves asked.new }
+{
+    match questions.decision() {
+        Some(decision) if decision.leaf < asked.len() => {
+            decided_answers(alloc, decision, &mut asked[decision.leaf], names)
+        }
+        _ => each_answer(alloc, questions, asked, names),
     }
 }

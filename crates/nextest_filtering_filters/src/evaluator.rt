@@ -246,9 +246,8 @@ impl<'f> BinaryEvaluator<'f> {
             names.now values.items) }
         ensures same { self.new ≡ self.old }
     {
-        // What the binary tells is the same on each test.
-        if let (None, Some(value)) = (&self.default, self.main.known()) {
-            return vec![in alloc; value; names.len()];
+        if self.default.is_none() {
+            return self.main.on_names(alloc, names);
         }
         let mut values = Vec::with_capacity(alloc, names.len())?;
         for name in names {

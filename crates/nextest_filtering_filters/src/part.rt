@@ -1,5 +1,5 @@
 // A filter on a binary, asked of the binary's tests.
-ghost use Rattle.std.specs.Prelude.{◌≡◌, ℕ, Bool, List, Some, IfOk, IfSome};
+ghost use Rattle.std.specs.Prelude.{◌≡◌, ℕ, Bool, false, List, Some, IfOk, IfSome};
 ghost use Rattle.std.specs.List.{AllZip};
 ghost use Rattle.nextest_filtering_filters.specs.Formula.{Gives, IsValue};
 ghost use Rattle.nextest_filtering_filters.specs.Values.{IsSome};
@@ -9,7 +9,7 @@ ghost use Rattle.nextest_filtering_filters.specs.Meaning.{Either, MayBe};
 ghost use Rattle.nextest_filtering_filters.specs.Query.{Binary, binary_of, test_of};
 ghost use Rattle.nextest_filtering_filters.specs.declared.leaf.FiltersetLeaf.{FiltersetLeaf};
 
-use crate::asked::{Asked, answer};
+use crate::asked::{Asked, answer, answers};
 use crate::compiled::CompiledExpr;
 use crate::group_lookup::GroupLookup;
 use crate::leaf::FiltersetLeaf;
@@ -189,7 +189,7 @@ impl<'f> Part<'f> {
 
     // What the filter is on each of the binary's tests whose groups nobody knows, whatever the
     // default filter is, where the binary tells it.
-    pub(crate) fn known(&self) -> Option<bool>
+    fn known(&self) -> Option<bool>
         ensures { IfSome result (λ value. (name : List ℕ) (default : Bool) → IsValue
             (Gives (IsLeafValue self.now.binary name (λ m. ⊥) default)
             (filter_of self.now.filter)) (Some value)) }
@@ -235,5 +235,24 @@ impl<'f> Part<'f> {
         ensures same { self.new ≡ self.old }
     {
         answer(&self.questions, self.asked.as_mut_slice(), name, default)
+    }
+
+    // The same for each of some tests, by their names and in their order, where the default filter
+    // holds nowhere.
+    pub(crate) fn on_names(
+        &mut self,
+        alloc: Global,
+        names: &[&str],
+    ) -> Result<Vec<bool>, AllocError>
+        ensures values { IfOk result (λ values. AllZip (λ name value. IsValue
+            (Gives (IsLeafValue self.old.binary name.now (λ m. ⊥) false)
+            (filter_of self.old.filter)) (Some value)) names.now values.items) }
+        ensures same { self.new ≡ self.old }
+    {
+        // What the binary tells is the same on each test.
+        if let Some(value) = self.known() {
+            return vec![in alloc; value; names.len()];
+        }
+        answers(alloc, &self.questions, self.asked.as_mut_slice(), names)
     }
 }

@@ -1,5 +1,5 @@
 // A formula, asked question by question: just those whose answers matter.
-ghost use Rattle.std.specs.Prelude.{◌≡◌, ◌↔◌, ℕ, Bool, List, All, IfOk, IsTrue, Some, length, reverse};
+ghost use Rattle.std.specs.Prelude.{◌≡◌, ◌↔◌, ℕ, Bool, List, All, IfOk, IfSome, IsTrue, Some, length, reverse};
 ghost use Rattle.nextest_filtering_filters.specs.Formula.{Formula as FormulaOf};
 ghost use Rattle.nextest_filtering_filters.specs.Making as making;
 ghost use Rattle.nextest_filtering_filters.specs.Questions as words;
@@ -60,6 +60,44 @@ pub(crate) struct Questions {
     pub(crate) list: Vec<Question>,
     // What is asked first.
     pub(crate) first: Next,
+}
+
+// A question whose answer alone decides what a formula comes to.
+#[derive(Clone, Copy)]
+pub(crate) struct Decision {
+    pub(crate) leaf: usize,
+    if_true: bool,
+    if_false: bool,
+}
+
+impl Decision {
+    // What the formula comes to by an answer.
+    pub(crate) fn of(&self, answer: bool) -> bool
+        ensures { result ≡ words.decided self.now answer }
+    {
+        if answer { self.if_true } else { self.if_false }
+    }
+}
+
+impl Questions {
+    // The first question, where no other follows it.
+    pub(crate) fn decision(&self) -> Option<Decision>
+        ensures { IfSome result (λ it. (answer : ℕ → Bool)
+            → words.comes_to answer self.now ≡ words.decided it (answer it.leaf)) }
+    {
+        let Next::Question(place) = self.first else {
+            return None;
+        };
+        let question = self.list.as_slice().get(place)?;
+        match (question.exits.if_true, question.exits.if_false) {
+            (Next::Value(if_true), Next::Value(if_false)) => Some(Decision {
+                leaf: question.leaf,
+                if_true,
+                if_false,
+            }),
+            _ => None,
+        }
+    }
 }
 
 // Whether both lead to the same.

@@ -1,3 +1,4 @@
+pub mod Codes
 pub mod Beginnings
 pub mod Splits
 pub mod Unique

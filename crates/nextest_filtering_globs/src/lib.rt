@@ -3,6 +3,7 @@
 #![tactic(auto)]
 
 mod alternatives;
+mod character;
 mod class;
 mod construct_error;
 mod edges;

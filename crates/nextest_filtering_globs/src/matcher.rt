@@ -4,7 +4,7 @@ ghost use Rattle.nextest_filtering_globs.specs.Meaning.{Matches};
 ghost use Rattle.nextest_filtering_globs.specs.Syntax.{IsGlob};
 
 use super::glob::GenericGlob;
-use super::matching::is_matched;
+use super::matching::{is_ascii_matched, is_matched};
 use super::places::read_characters;
 use std::alloc::{AllocError, Global};
 use std::marker::Model;
@@ -48,9 +48,19 @@ impl<'g> GlobMatcher<'g> {
         ensures spelled { IfOk result (λ _. IsGlob self.old.text self.old.tokens) }
         ensures same { self.new ≡ self.old }
     {
+        let tokens = self.glob.tokens();
+        if text.is_ascii() {
+            return is_ascii_matched(
+                tokens,
+                text.as_bytes(),
+                &mut self.characters,
+                &mut self.current,
+                &mut self.stack,
+            );
+        }
         read_characters(text, &mut self.characters)?;
         is_matched(
-            self.glob.tokens(),
+            tokens,
             self.characters.as_slice(),
             &mut self.current,
             &mut self.stack,

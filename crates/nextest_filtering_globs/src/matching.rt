@@ -4,8 +4,8 @@ ghost use Rattle.nextest_filtering_globs.specs.Meaning.{Matches};
 ghost use Rattle.nextest_filtering_globs.specs.Inside.{in_braces, ArePlain, AreSingle, IsBalanced};
 
 use super::alternatives::{before_word, first_alternative, has_single_end, split_alternatives};
-use super::edges::{before_singles, behind_singles};
-use super::places::{begin, has_last};
+use super::edges::{before_singles, within_ends};
+use super::places::{begin, has_last, read_bytes};
 use super::token::GlobToken;
 use super::walk::take_all;
 use super::words::behind_words;
@@ -124,6 +124,22 @@ fn is_choice_matched(
     }
 }
 
+// Whether the tokens match the whole text. Words between asterisks are looked for first.
+fn is_middle_matched(
+    tokens: &[GlobToken],
+    text: &[char],
+    current: &mut Vec<bool>,
+    stack: &mut Vec<bool>,
+) -> Result<bool, AllocError>
+    requires { IsBalanced tokens.now }
+    ensures { IfOk result (λ answer. IsTrue answer ↔ Matches tokens.now text.now) }
+{
+    let Some((left, rest)) = behind_words(tokens, text) else {
+        return Ok(false);
+    };
+    is_choice_matched(left, rest, current, stack)
+}
+
 /// Whether the tokens match the whole text. The first characters are compared with the first tokens
 /// one by one, so far as these match one character each, and so are the last ones. Then words
 /// between asterisks are looked for.
@@ -136,14 +152,27 @@ pub fn is_matched(
     requires { IsBalanced tokens.now }
     ensures { IfOk result (λ answer. IsTrue answer ↔ Matches tokens.now text.now) }
 {
-    let Some((left, rest)) = behind_singles(tokens, text) else {
+    let Some((left, rest)) = within_ends(tokens, text) else {
         return Ok(false);
     };
-    let Some((left, rest)) = before_singles(left, rest) else {
+    is_middle_matched(left, rest, current, stack)
+}
+
+/// Whether the tokens match the whole text, each byte of which is a character. Only what is left
+/// between its ends is read as characters.
+pub fn is_ascii_matched(
+    tokens: &[GlobToken],
+    text: &[u8],
+    characters: &mut Vec<char>,
+    current: &mut Vec<bool>,
+    stack: &mut Vec<bool>,
+) -> Result<bool, AllocError>
+    requires { IsBalanced tokens.now }
+    ensures { IfOk result (λ answer. IsTrue answer ↔ Matches tokens.now text.now) }
+{
+    let Some((left, rest)) = within_ends(tokens, text) else {
         return Ok(false);
     };
-    let Some((left, rest)) = behind_words(left, rest) else {
-        return Ok(false);
-    };
-    is_choice_matched(left, rest, current, stack)
+    read_bytes(rest, characters)?;
+    is_middle_matched(left, characters.as_slice(), current, stack)
 }

@@ -11,15 +11,12 @@ use std::alloc::AllocError;
 pub fn read_characters(text: &str, characters: &mut Vec<char>) -> Result<(), AllocError>
     ensures { OnOk result (characters.new.items ≡ chars text.now) }
 {
-    if text.is_ascii() {
-        return read_bytes(text.as_bytes(), characters);
-    }
     characters.clear();
     characters.extend(text.chars())
 }
 
-// Each byte as a character, in place of others.
-fn read_bytes(bytes: &[u8], characters: &mut Vec<char>) -> Result<(), AllocError>
+/// Each byte as a character, in place of others.
+pub fn read_bytes(bytes: &[u8], characters: &mut Vec<char>) -> Result<(), AllocError>
     ensures { OnOk result (characters.new.items ≡ bytes.now) }
 {
     characters.resize(bytes.len(), ' ')?;

@@ -3,7 +3,7 @@ use Rattle.nextest_filtering_globs.specs.Inside.{Leaves}
 use Rattle.nextest_filtering_globs.proofs.edges.behind_singles.Given as goal
 
 abbrev pub invariant-loop-token : goal.invariant-loop-token
-invariant-loop-token l = Leaves l.tokens l.text l.left l.rest
+invariant-loop-token g l = Leaves l.tokens (g.C.Character.codes l.text) l.left (g.C.Character.codes l.rest)
 
 abbrev pub decreases-loop-token : goal.decreases-loop-token
-decreases-loop-token l = length l.left
+decreases-loop-token g l = length l.left

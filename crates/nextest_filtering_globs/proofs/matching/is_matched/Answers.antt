@@ -6,12 +6,6 @@ use Rattle.nextest_filtering_globs.proofs.matching.is_matched.Goals as goal
 
 pub returns : goal.returns
 returns c =
-    let first = c.in-Some.ensures in
-    let last = c.in-Some-before_singles.ensures in
-    let words = c.in-Some-behind_words.ensures in
-    IfOk-weaker c.is_choice_matched.result _ (λ answer. IsTrue answer ↔ Matches c.args.tokens.now c.args.text.now)
-    (λ answer both. (
-      λ b. first.1.1 (last.1.1 (words.1.1 (both.0 b))),
-      λ m. both.1 (words.1.0 (last.1.0 (first.1.0 m))),
-    ))
-    c.is_choice_matched.ensures
+    let ends = c.in-Some.ensures in
+    IfOk-weaker c.is_middle_matched.result _ (λ answer. IsTrue answer ↔ Matches c.args.tokens.now c.args.text.now)
+    (λ answer both. (λ b. ends.1.1 (both.0 b), λ m. both.1 (ends.1.0 m))) c.is_middle_matched.ensures

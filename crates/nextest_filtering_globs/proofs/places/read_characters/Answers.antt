@@ -1,15 +1,8 @@
-use Rattle.std.proofs.Common.{◌++◌, ◌∙◌, sym, ap, chars}
+use Rattle.std.proofs.Common.{◌++◌, ◌∙◌, ap, chars}
 use Rattle.std.proofs.lemmas.Result.{on_ok_weaker}
-use Rattle.std.proofs.lemmas.Str.{chars-IsAscii}
 use Rattle.std.proofs.lemmas.Iterator.{YieldsList-from_chars}
 use Rattle.std.proofs.lemmas.Iterator.Adapters.{items_from_extend}
 use Rattle.nextest_filtering_globs.proofs.places.read_characters.Goals as goal
-
-pub returns-then-is_ascii : goal.returns-then-is_ascii
-returns-then-is_ascii c =
-    let text = c.args.text.now in
-    on_ok_weaker c.read_bytes.result
-    (λ read. read ∙ (c.as_bytes.ensures.value ∙ sym (chars-IsAscii text c.if-is_ascii.ensures.cases))) c.read_bytes.ensures
 
 pub returns : goal.returns
 returns c =

@@ -1,0 +1,11 @@
+-- Characters that stand for those of a text, one by one.
+use Rattle.std.proofs.Common.{◌≡◌, ℕ, List, [], ◌∷◌, ◌++◌, ap, ◌∙◌}
+
+-- the first one, and what is behind it
+pub first_code : {C : Type 0} (codes : List C → List ℕ) → ((front back : List C) → codes (front ++ back) ≡ codes front ++ codes back)
+    → (x : C) (c : ℕ) (rest : List C) → codes (x ∷ []) ≡ c ∷ [] → codes (x ∷ rest) ≡ c ∷ codes rest
+first_code codes joined x c rest one = joined (x ∷ []) rest ∙ ap (λ l. l ++ codes rest) one
+
+-- texts that are one begin alike
+pub first_same : (c d : ℕ) (text rest : List ℕ) → c ∷ text ≡ d ∷ rest → c ≡ d
+first_same c d text rest is = cc
