@@ -10,7 +10,6 @@ ghost use Rattle.nextest_filtering_filters.specs.Meaning.{Tells};
 ghost use Rattle.nextest_filtering_filters.specs.Query.{test_of};
 
 use crate::chain_rule::ChainRule;
-use nextest_config_elements_identifiers::TestGroup;
 use nextest_config_resolution_filters::Filters;
 use nextest_config_resolution_overrides::PlacedOverride;
 use nextest_config_resolution_settings::TestGroupRef;
@@ -91,21 +90,11 @@ fn group_by<'c, F: Filters, S>(
     match &rule.rule.placed.config.test_group {
         Some(group) => {
             if holds_on(alloc, rule, default, query)? {
-                return Ok(Some(lent_group(group)));
+                return Ok(Some(TestGroupRef::new(group)));
             }
             Ok(None)
         }
         None => Ok(None),
-    }
-}
-
-// A group, lent.
-fn lent_group(group: &TestGroup) -> TestGroupRef<'_>
-    ensures { group_of result ≡ group.now }
-{
-    match group {
-        TestGroup::Global => TestGroupRef::Global,
-        TestGroup::Custom(custom) => TestGroupRef::Custom(custom),
     }
 }
 

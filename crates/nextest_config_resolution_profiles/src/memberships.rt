@@ -50,7 +50,7 @@ impl PrecomputedGroupMembership {
             then text_of (group_of group.entry) else words.group_name self.old test)) }
     {
         let key = key_of(self.alloc, query)?;
-        let name = Text::from_str(self.alloc, name_of(group))?;
+        let name = Text::from_str(self.alloc, group.as_str())?;
         self.groups.insert(key, name)?;
         Ok(())
     }
@@ -88,16 +88,6 @@ fn key_of(alloc: Global, query: &TestQuery<'_>) -> Result<(Text, Text), AllocErr
 {
     let binary_id = Text::from_str(alloc, query.binary_query.binary_id)?;
     Ok((binary_id, Text::from_str(alloc, query.test_name)?))
-}
-
-// The name of a group.
-fn name_of(group: TestGroupRef<'_>) -> &str
-    ensures { result.now ≡ text_of (group_of group.entry) }
-{
-    match group {
-        TestGroupRef::Global => "@global",
-        TestGroupRef::Custom(custom) => custom.as_str(),
-    }
 }
 
 impl<'c, F: Filters, S: Specs> EvaluatableProfile<'c, F, S> {

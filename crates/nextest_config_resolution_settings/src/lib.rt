@@ -12,6 +12,7 @@
 
 mod default_filter;
 pub mod fallbacks;
+mod group_ref;
 pub mod keys;
 pub mod laws;
 mod layers;

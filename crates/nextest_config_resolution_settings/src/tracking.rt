@@ -22,7 +22,6 @@ use crate::source::{SettingSource, TrackSource};
 use crate::test_settings::{TestGroupRef, TestSettings};
 use crate::wrappers::wrapper_by;
 use nextest_config_elements_choices::NextestRunMode;
-use nextest_config_elements_identifiers::TestGroup;
 use nextest_config_elements_values::SlowTimeout;
 use nextest_config_resolution_overrides::PlacedOverride;
 use nextest_config_resolution_scripts::{NamedScript, PlacedScriptRule, WrapperScriptConfig};
@@ -163,17 +162,7 @@ fn test_group_by<'l, 'c, T: TrackSource<'c>>(layers: TestLayers<'l, 'c>) -> (Tes
         layers.chain,
     );
     match found {
-        Some(group) => (lent_group(group), source),
+        Some(group) => (TestGroupRef::new(group), source),
         None => (TestGroupRef::Global, source),
-    }
-}
-
-// A group, lent.
-fn lent_group(group: &TestGroup) -> TestGroupRef<'_>
-    ensures { group_of result ≡ group.now }
-{
-    match group {
-        TestGroup::Global => TestGroupRef::Global,
-        TestGroup::Custom(custom) => TestGroupRef::Custom(custom),
     }
 }

@@ -1,10 +1,5 @@
 // The groups of tests, by the settings that a profile has for them.
-ghost use Rattle.std.specs.Prelude.{◌≡◌};
-ghost use Rattle.nextest_config_elements_identifiers.specs.Groups.{text_of};
-ghost use Rattle.nextest_config_resolution_settings.specs.TestSettings.{group_of};
-
 use nextest_config_resolution_profiles::EvaluatableProfile;
-use nextest_config_resolution_settings::TestGroupRef;
 use nextest_filtering_ast::NameMatcher;
 use nextest_filtering_compiling::Filterset;
 use nextest_filtering_filters::{GroupLookup, TestQuery};
@@ -37,18 +32,8 @@ impl<'p, 'c> GroupLookup for ProfileGroups<'p, 'c> {
         matcher: &NameMatcher,
     ) -> Result<bool, AllocError> {
         match self.profile.group_for(self.alloc, test) {
-            Ok(group) => matcher.is_match(self.alloc, name_of(group)),
+            Ok(group) => matcher.is_match(self.alloc, group.as_str()),
             Err(error) => Err(error),
         }
-    }
-}
-
-// The name of a group.
-fn name_of(group: TestGroupRef<'_>) -> &str
-    ensures { result.now ≡ text_of (group_of group.entry) }
-{
-    match group {
-        TestGroupRef::Global => "@global",
-        TestGroupRef::Custom(custom) => custom.as_str(),
     }
 }

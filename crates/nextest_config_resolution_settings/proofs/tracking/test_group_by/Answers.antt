@@ -3,7 +3,7 @@ use Rattle.nextest_config_resolution_settings.specs.Fallbacks as fallback
 use Rattle.nextest_config_resolution_settings.proofs.tracking.test_group_by.Goals as goal
 
 pub returns-in-Some : goal.returns-in-Some
-returns-in-Some g c = let it = c.found_by-source.ensures fallback.test_group in rw c.lent_group.ensures (search (rules, it))
+returns-in-Some g c = let it = c.found_by-source.ensures fallback.test_group in rw c.new.ensures (search (rules, it))
 
 pub returns-in-None : goal.returns-in-None
 returns-in-None g c = let it = c.found_by-source.ensures fallback.test_group in search (rules, it)

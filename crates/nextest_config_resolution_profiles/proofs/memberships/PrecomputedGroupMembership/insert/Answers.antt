@@ -7,4 +7,4 @@ use Rattle.nextest_filtering_filters.specs.Query.{test_of}
 pub returns : goal.returns
 returns c = λ test.
     kept_name c.args.self.now.groups c.insert.new.self (test_of c.args.query.now) c.in_ok-key.key c.in_ok-name.name c.in_ok-key.ensures c.in_ok-insert.ensures.updates test
-    ∙ ap (λ (name : List ℕ). cond (have_one_name (test_of c.args.query.now) test) name (group_name c.args.self.now test)) (c.in_ok-name.ensures ∙ c.name_of.ensures)
+    ∙ ap (λ (name : List ℕ). cond (have_one_name (test_of c.args.query.now) test) name (group_name c.args.self.now test)) (c.in_ok-name.ensures ∙ c.as_str.ensures)

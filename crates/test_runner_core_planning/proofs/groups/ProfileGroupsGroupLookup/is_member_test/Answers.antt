@@ -6,4 +6,4 @@ use Rattle.test_runner_core_planning.proofs.groups.ProfileGroupsGroupLookup.is_m
 
 pub returns-in-Ok : goal.returns-in-Ok
 returns-in-Ok c =
-    tells_in c.args.self.now.profile.now (test_of c.args.test.now) (matcher_of c.args.matcher.now) (group_of c.in-Ok.group) c.name_of.result.now c.is_match.result c.in-Ok.ensures c.name_of.ensures c.is_match.ensures
+    tells_in c.args.self.now.profile.now (test_of c.args.test.now) (matcher_of c.args.matcher.now) (group_of c.in-Ok.group) c.as_str.result.now c.is_match.result c.in-Ok.ensures c.as_str.ensures c.is_match.ensures
