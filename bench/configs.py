@@ -15,7 +15,7 @@ import time
 
 ROOT = pathlib.Path(__file__).resolve().parent.parent
 LINE = (
-    "time_load: nextest_config_resolution_profiles nextest_config_resolution_load nextest_config_resolution_sources"
+    "time_load: nextest_config_resolution_profiles nextest_config_resolution_sources"
     " nextest_config_elements_versions nextest_config_elements_identifiers nextest_filtering_compiling nextest_filtering_graph"
     " test_runner_core_platforms nextest_text toml anyhow\n"
 )
@@ -25,15 +25,25 @@ PROGRAM = """//! Reads three files as TOML, or loads them one over the other.
 use anyhow::Result;
 use nextest_config_elements_identifiers::{ConfigSourceKind, ToolName};
 use nextest_config_elements_versions::FeatureSet;
-use nextest_config_resolution_load::LoadError;
 use nextest_config_resolution_profiles::NextestConfig;
 use nextest_config_resolution_sources::{ConfigSource, ConfigSourceOutcome};
 use nextest_filtering_compiling::{Filterset, ParseContext};
 use nextest_filtering_graph::PackageGraph;
 use nextest_text::Text;
+use std::alloc::Global;
 use std::fs;
 use std::process::ExitCode;
 use test_runner_core_platforms::PlatformSpec;
+
+// Whether the sources come to a configuration.
+fn is_loaded(alloc: Global, sources: &[ConfigSource]) -> Result<bool> {
+    let cx = ParseContext::new(alloc, PackageGraph::new(alloc, &[], &[])?)?;
+    let features = FeatureSet::default();
+    let config = NextestConfig::<Filterset, PlatformSpec>::from_sources(
+        alloc, "/", &cx, sources, features,
+    );
+    Ok(config.is_ok())
+}
 
 fn main(rt: HostRuntime) -> Result<ExitCode> {
     let alloc = rt.alloc();
@@ -53,13 +63,7 @@ fn main(rt: HostRuntime) -> Result<ExitCode> {
         }
     }
     if mode.as_str() == "load" {
-        let cx = ParseContext::new(alloc, PackageGraph::new(alloc, &[], &[])?)?;
-        let features = FeatureSet::default();
-        match NextestConfig::<Filterset, PlatformSpec>::from_sources(alloc, "/", &cx, sources.as_slice(), features) {
-            Ok(_) => println!(rt; "loaded")?,
-            Err(LoadError::Refused(fault)) => println!(rt; "refused {fault}")?,
-            Err(LoadError::OutOfMemory) => println!(rt; "memory")?,
-        }
+        println!(rt; "{}", is_loaded(alloc, sources.as_slice())?)?;
     }
     Ok(ExitCode::SUCCESS)
 }
