@@ -5,6 +5,7 @@ ghost use Rattle.nextest_filtering_globs.specs.Meaning.{Matches};
 ghost use Rattle.nextest_filtering_globs.specs.declared.token.GlobToken.{GlobToken};
 ghost use Rattle.nextest_filtering_globs.specs.declared.token.GlobToken.TheVariants as token;
 
+use super::character::Character;
 use super::edges::before_last;
 use super::fitting::is_single;
 use super::token::GlobToken;
@@ -65,11 +66,12 @@ pub fn first_alternative(tokens: &[GlobToken]) -> (&[GlobToken], Option<&[GlobTo
 }
 
 /// What is left of the text in front of its last characters, where the tokens fit these one by one.
-pub fn before_word<'a>(word: &[GlobToken], text: &'a [char]) -> Option<&'a [char]>
+pub fn before_word<'a, C: Character>(word: &[GlobToken], text: &'a [C]) -> Option<&'a [C]>
     requires { AreSingle word.now }
     ensures { MatchOption result
-        ((front : List GlobToken) → Matches (front ++ word.now) text.now → ⊥)
-        (λ rest. (front : List GlobToken) → Leaves (front ++ word.now) text.now front rest.now) }
+        ((front : List GlobToken) → Matches (front ++ word.now) (C.codes text.now) → ⊥)
+        (λ rest. (front : List GlobToken)
+        → Leaves (front ++ word.now) (C.codes text.now) front (C.codes rest.now)) }
 {
     let mut left = word;
     let mut rest = text;

@@ -1,5 +1,5 @@
 // Characters of a text, whichever way they are kept.
-ghost use Rattle.std.specs.Prelude.{◌≡◌, ◌∷◌, ◌++◌, [], ℕ, List, refl};
+ghost use Rattle.std.specs.Prelude.{◌≡◌, ◌∷◌, ◌++◌, [], ℕ, List, length, refl};
 
 /// A character of a text, or a byte that is one.
 pub trait Character: Copy {
@@ -10,8 +10,8 @@ pub trait Character: Copy {
     fn character(self) -> char
         ensures { codes (self ∷ []) ≡ result ∷ [] };
 
-    // None are none.
-    ghost none: { codes [] ≡ [] };
+    // As many as these are.
+    ghost counted: { (list : List Self) → length (codes list) ≡ length list };
 
     // One behind another, as the characters are.
     ghost joined: { (front back : List Self) → codes (front ++ back) ≡ codes front ++ codes back };
@@ -20,7 +20,7 @@ pub trait Character: Copy {
 impl Character for char {
     ghost codes = { λ characters. characters };
 
-    ghost none = { refl };
+    ghost counted = { λ list. refl };
 
     ghost joined = { λ front back. refl };
 
@@ -33,7 +33,7 @@ impl Character for char {
 impl Character for u8 {
     ghost codes = { λ bytes. bytes };
 
-    ghost none = { refl };
+    ghost counted = { λ list. refl };
 
     ghost joined = { λ front back. refl };
 

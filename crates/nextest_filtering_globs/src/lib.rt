@@ -14,6 +14,7 @@ mod matcher;
 mod matching;
 mod places;
 mod reading;
+mod scratch;
 mod token;
 mod walk;
 mod words;

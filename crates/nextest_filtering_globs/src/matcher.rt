@@ -4,8 +4,9 @@ ghost use Rattle.nextest_filtering_globs.specs.Meaning.{Matches};
 ghost use Rattle.nextest_filtering_globs.specs.Syntax.{IsGlob};
 
 use super::glob::GenericGlob;
-use super::matching::{is_ascii_matched, is_matched};
+use super::matching::is_matched;
 use super::places::read_characters;
+use super::scratch::Scratch;
 use std::alloc::{AllocError, Global};
 use std::marker::Model;
 
@@ -14,9 +15,9 @@ use std::marker::Model;
 #[derive(Debug, Drop)]
 pub struct GlobMatcher<'g> {
     glob: &'g GenericGlob,
+    // The characters of a text that isn't ASCII.
     characters: Vec<char>,
-    current: Vec<bool>,
-    stack: Vec<bool>,
+    scratch: Scratch,
 }
 
 impl<'g> Model for GlobMatcher<'g> {
@@ -35,8 +36,7 @@ impl<'g> GlobMatcher<'g> {
         GlobMatcher {
             glob,
             characters: Vec::new(alloc),
-            current: Vec::new(alloc),
-            stack: Vec::new(alloc),
+            scratch: Scratch::new(alloc),
         }
     }
 
@@ -50,21 +50,10 @@ impl<'g> GlobMatcher<'g> {
     {
         let tokens = self.glob.tokens();
         if text.is_ascii() {
-            return is_ascii_matched(
-                tokens,
-                text.as_bytes(),
-                &mut self.characters,
-                &mut self.current,
-                &mut self.stack,
-            );
+            return is_matched(tokens, text.as_bytes(), &mut self.scratch);
         }
         read_characters(text, &mut self.characters)?;
-        is_matched(
-            tokens,
-            self.characters.as_slice(),
-            &mut self.current,
-            &mut self.stack,
-        )
+        is_matched(tokens, self.characters.as_slice(), &mut self.scratch)
     }
 }
 

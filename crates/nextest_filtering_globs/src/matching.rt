@@ -4,8 +4,10 @@ ghost use Rattle.nextest_filtering_globs.specs.Meaning.{Matches};
 ghost use Rattle.nextest_filtering_globs.specs.Inside.{in_braces, ArePlain, AreSingle, IsBalanced};
 
 use super::alternatives::{before_word, first_alternative, has_single_end, split_alternatives};
+use super::character::Character;
 use super::edges::{before_singles, within_ends};
-use super::places::{begin, has_last, read_bytes};
+use super::places::{begin, has_last, read_each};
+use super::scratch::Scratch;
 use super::token::GlobToken;
 use super::walk::take_all;
 use super::words::behind_words;
@@ -39,14 +41,13 @@ fn is_asterisk(tokens: &[GlobToken]) -> bool
 
 // Whether the tokens match the whole text. Where there is none, or just an asterisk, no set of
 // places is made.
-fn is_left_matched(
+fn is_left_matched<C: Character>(
     tokens: &[GlobToken],
-    text: &[char],
-    current: &mut Vec<bool>,
-    stack: &mut Vec<bool>,
+    text: &[C],
+    scratch: &mut Scratch,
 ) -> Result<bool, AllocError>
     requires { IsBalanced tokens.now }
-    ensures { IfOk result (λ answer. IsTrue answer ↔ Matches tokens.now text.now) }
+    ensures { IfOk result (λ answer. IsTrue answer ↔ Matches tokens.now (C.codes text.now)) }
 {
     if tokens.is_empty() {
         return Ok(text.is_empty());
@@ -54,21 +55,26 @@ fn is_left_matched(
     if is_asterisk(tokens) {
         return Ok(true);
     }
-    is_walked(tokens, text, current, stack)
+    read_each(text, &mut scratch.characters)?;
+    is_walked(
+        tokens,
+        scratch.characters.as_slice(),
+        &mut scratch.current,
+        &mut scratch.stack,
+    )
 }
 
 // Whether the tokens match the whole text, with these of one character each at their end.
-fn is_ended_matched(
+fn is_ended_matched<C: Character>(
     front: &[GlobToken],
     alternative: &[GlobToken],
-    text: &[char],
-    current: &mut Vec<bool>,
-    stack: &mut Vec<bool>,
+    text: &[C],
+    scratch: &mut Scratch,
 ) -> Result<bool, AllocError>
     requires balanced { IsBalanced front.now }
     requires singles { AreSingle alternative.now }
     ensures { IfOk result
-        (λ answer. IsTrue answer ↔ Matches (front.now ++ alternative.now) text.now) }
+        (λ answer. IsTrue answer ↔ Matches (front.now ++ alternative.now) (C.codes text.now)) }
 {
     let Some(rest) = before_word(alternative, text) else {
         return Ok(false);
@@ -76,26 +82,25 @@ fn is_ended_matched(
     let Some((left, rest)) = before_singles(front, rest) else {
         return Ok(false);
     };
-    is_left_matched(left, rest, current, stack)
+    is_left_matched(left, rest, scratch)
 }
 
 // Whether the tokens match the whole text, with one of the alternatives at their end.
-fn is_some_matched(
+fn is_some_matched<C: Character>(
     front: &[GlobToken],
     alternatives: &[GlobToken],
-    text: &[char],
-    current: &mut Vec<bool>,
-    stack: &mut Vec<bool>,
+    text: &[C],
+    scratch: &mut Scratch,
 ) -> Result<bool, AllocError>
     requires balanced { IsBalanced front.now }
     requires plain { ArePlain alternatives.now }
-    ensures { IfOk result
-        (λ answer. IsTrue answer ↔ Matches (front.now ++ in_braces alternatives.now) text.now) }
+    ensures { IfOk result (λ answer.
+        IsTrue answer ↔ Matches (front.now ++ in_braces alternatives.now) (C.codes text.now)) }
 {
     let mut left = alternatives;
     loop {
         let (first, behind) = first_alternative(left);
-        if is_ended_matched(front, first, text, current, stack)? {
+        if is_ended_matched(front, first, text, scratch)? {
             return Ok(true);
         }
         let Some(more) = behind else {
@@ -107,72 +112,50 @@ fn is_some_matched(
 
 // Whether the tokens match the whole text. Alternatives at their end are tried one by one, where
 // this takes no longer than sets of places.
-fn is_choice_matched(
+fn is_choice_matched<C: Character>(
     tokens: &[GlobToken],
-    text: &[char],
-    current: &mut Vec<bool>,
-    stack: &mut Vec<bool>,
+    text: &[C],
+    scratch: &mut Scratch,
 ) -> Result<bool, AllocError>
     requires { IsBalanced tokens.now }
-    ensures { IfOk result (λ answer. IsTrue answer ↔ Matches tokens.now text.now) }
+    ensures { IfOk result (λ answer. IsTrue answer ↔ Matches tokens.now (C.codes text.now)) }
 {
     match split_alternatives(tokens) {
         Some((front, alternatives)) if has_single_end(front) => {
-            is_some_matched(front, alternatives, text, current, stack)
+            is_some_matched(front, alternatives, text, scratch)
         }
-        _ => is_left_matched(tokens, text, current, stack),
+        _ => is_left_matched(tokens, text, scratch),
     }
 }
 
 // Whether the tokens match the whole text. Words between asterisks are looked for first.
-fn is_middle_matched(
+fn is_middle_matched<C: Character>(
     tokens: &[GlobToken],
-    text: &[char],
-    current: &mut Vec<bool>,
-    stack: &mut Vec<bool>,
+    text: &[C],
+    scratch: &mut Scratch,
 ) -> Result<bool, AllocError>
     requires { IsBalanced tokens.now }
-    ensures { IfOk result (λ answer. IsTrue answer ↔ Matches tokens.now text.now) }
+    ensures { IfOk result (λ answer. IsTrue answer ↔ Matches tokens.now (C.codes text.now)) }
 {
     let Some((left, rest)) = behind_words(tokens, text) else {
         return Ok(false);
     };
-    is_choice_matched(left, rest, current, stack)
+    is_choice_matched(left, rest, scratch)
 }
 
 /// Whether the tokens match the whole text. The first characters are compared with the first tokens
 /// one by one, so far as these match one character each, and so are the last ones. Then words
 /// between asterisks are looked for.
-pub fn is_matched(
+pub fn is_matched<C: Character>(
     tokens: &[GlobToken],
-    text: &[char],
-    current: &mut Vec<bool>,
-    stack: &mut Vec<bool>,
+    text: &[C],
+    scratch: &mut Scratch,
 ) -> Result<bool, AllocError>
     requires { IsBalanced tokens.now }
-    ensures { IfOk result (λ answer. IsTrue answer ↔ Matches tokens.now text.now) }
+    ensures { IfOk result (λ answer. IsTrue answer ↔ Matches tokens.now (C.codes text.now)) }
 {
     let Some((left, rest)) = within_ends(tokens, text) else {
         return Ok(false);
     };
-    is_middle_matched(left, rest, current, stack)
-}
-
-/// Whether the tokens match the whole text, each byte of which is a character. Only what is left
-/// between its ends is read as characters.
-pub fn is_ascii_matched(
-    tokens: &[GlobToken],
-    text: &[u8],
-    characters: &mut Vec<char>,
-    current: &mut Vec<bool>,
-    stack: &mut Vec<bool>,
-) -> Result<bool, AllocError>
-    requires { IsBalanced tokens.now }
-    ensures { IfOk result (λ answer. IsTrue answer ↔ Matches tokens.now text.now) }
-{
-    let Some((left, rest)) = within_ends(tokens, text) else {
-        return Ok(false);
-    };
-    read_bytes(rest, characters)?;
-    is_middle_matched(left, characters.as_slice(), current, stack)
+    is_middle_matched(left, rest, scratch)
 }

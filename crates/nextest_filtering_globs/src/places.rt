@@ -3,6 +3,7 @@
 ghost use Rattle.std.specs.Prelude.{◌≡◌, ◌+◌, ◌-◌, ◌≤◌, ◌==◌, ◌↔◌, true, false, ◌++◌, length, take, replicate, chars, IsTrue, OnOk};
 ghost use Rattle.nextest_filtering_globs.specs.Inside.{fits, next_places, later, either_of, none_of, start_of, has_last};
 
+use super::character::Character;
 use super::fitting::fits;
 use super::token::GlobToken;
 use std::alloc::AllocError;
@@ -15,23 +16,15 @@ pub fn read_characters(text: &str, characters: &mut Vec<char>) -> Result<(), All
     characters.extend(text.chars())
 }
 
-/// Each byte as a character, in place of others.
-pub fn read_bytes(bytes: &[u8], characters: &mut Vec<char>) -> Result<(), AllocError>
-    ensures { OnOk result (characters.new.items ≡ bytes.now) }
+/// Each of these as a character, in place of others.
+pub fn read_each<C: Character>(text: &[C], characters: &mut Vec<char>) -> Result<(), AllocError>
+    ensures { OnOk result (characters.new.items ≡ C.codes text.now) }
 {
-    characters.resize(bytes.len(), ' ')?;
-    widen(bytes, characters.as_mut_slice());
-    Ok(())
-}
-
-// Each byte as a character.
-fn widen(bytes: &[u8], characters: &mut [char])
-    requires { length characters.old ≡ length bytes.now }
-    ensures { characters.new ≡ bytes.now }
-{
-    for (place, byte) in bytes.iter().enumerate() {
-        characters[place] = char::from(*byte);
+    characters.clear();
+    for c in text {
+        characters.push(c.character())?;
     }
+    Ok(())
 }
 
 /// The set that has just the place in front of the text, in place of another.

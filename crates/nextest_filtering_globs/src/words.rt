@@ -5,6 +5,7 @@ ghost use Rattle.nextest_filtering_globs.specs.Meaning.{Matches};
 ghost use Rattle.nextest_filtering_globs.specs.declared.token.GlobToken.{GlobToken};
 ghost use Rattle.nextest_filtering_globs.specs.declared.token.GlobToken.TheVariants as token;
 
+use super::character::Character;
 use super::edges::behind_first;
 use super::fitting::is_single;
 use super::token::GlobToken;
@@ -38,11 +39,11 @@ fn split_word(tokens: &[GlobToken]) -> Option<(&[GlobToken], &[GlobToken])>
 }
 
 // What is left of the text behind its first characters, where the tokens fit these one by one.
-fn behind_word<'a>(word: &[GlobToken], text: &'a [char]) -> Option<&'a [char]>
+fn behind_word<'a, C: Character>(word: &[GlobToken], text: &'a [C]) -> Option<&'a [C]>
     requires { AreSingle word.now }
     ensures { MatchOption result
-        ((more : List GlobToken) → Matches (word.now ++ more) text.now → ⊥)
-        (λ rest. GoesOn word.now text.now [] rest.now) }
+        ((more : List GlobToken) → Matches (word.now ++ more) (C.codes text.now) → ⊥)
+        (λ rest. GoesOn word.now (C.codes text.now) [] (C.codes rest.now)) }
 {
     let mut left = word;
     let mut rest = text;
@@ -57,13 +58,13 @@ fn behind_word<'a>(word: &[GlobToken], text: &'a [char]) -> Option<&'a [char]>
 }
 
 // The text from the first place on where the letter stands, or nothing of it.
-fn from_letter(letter: char, text: &[char]) -> &[char]
+fn from_letter<C: Character>(letter: char, text: &[C]) -> &[C]
     ensures within { length result.now ≤ length text.now }
-    ensures ahead { IsAhead (token.Literal letter ∷ []) text.now result.now }
+    ensures ahead { IsAhead (token.Literal letter ∷ []) (C.codes text.now) (C.codes result.now) }
 {
     let mut rest = text;
     while let Some((c, later)) = rest.split_first() {
-        if *c == letter {
+        if c.character() == letter {
             return rest;
         }
         rest = later;
@@ -72,9 +73,9 @@ fn from_letter(letter: char, text: &[char]) -> &[char]
 }
 
 // The text from a place on in front of which the word stands nowhere in it.
-fn from_first<'a>(word: &[GlobToken], text: &'a [char]) -> &'a [char]
+fn from_first<'a, C: Character>(word: &[GlobToken], text: &'a [C]) -> &'a [C]
     ensures within { length result.now ≤ length text.now }
-    ensures ahead { IsAhead word.now text.now result.now }
+    ensures ahead { IsAhead word.now (C.codes text.now) (C.codes result.now) }
 {
     match word.split_first() {
         Some((GlobToken::Literal(letter), _)) => from_letter(*letter, text),
@@ -83,11 +84,12 @@ fn from_first<'a>(word: &[GlobToken], text: &'a [char]) -> &'a [char]
 }
 
 // What is left of the text behind the first place where the word stands in it.
-fn behind_found<'a>(word: &[GlobToken], text: &'a [char]) -> Option<&'a [char]>
+fn behind_found<'a, C: Character>(word: &[GlobToken], text: &'a [C]) -> Option<&'a [C]>
     requires { AreSingle word.now }
     ensures { MatchOption result
-        ((more : List GlobToken) → Matches (token.ZeroOrMore ∷ (word.now ++ more)) text.now → ⊥)
-        (λ rest. IsFound word.now text.now rest.now) }
+        ((more : List GlobToken)
+        → Matches (token.ZeroOrMore ∷ (word.now ++ more)) (C.codes text.now) → ⊥)
+        (λ rest. IsFound word.now (C.codes text.now) (C.codes rest.now)) }
 {
     let mut rest = from_first(word, text);
     loop {
@@ -104,13 +106,13 @@ fn behind_found<'a>(word: &[GlobToken], text: &'a [char]) -> Option<&'a [char]>
 /// What is left of the tokens and of the text behind the first words between asterisks, each at the
 /// first place where it stands in the text: an asterisk takes up what lies before any later one.
 /// `None` says that some word stands nowhere, so the tokens don't match the text.
-pub fn behind_words<'a>(
+pub fn behind_words<'a, C: Character>(
     tokens: &'a [GlobToken],
-    text: &'a [char],
-) -> Option<(&'a [GlobToken], &'a [char])>
+    text: &'a [C],
+) -> Option<(&'a [GlobToken], &'a [C])>
     ensures { MatchOption result
-        (Matches tokens.now text.now → ⊥)
-        (λ left. Leaves tokens.now text.now left.0.now left.1.now) }
+        (Matches tokens.now (C.codes text.now) → ⊥)
+        (λ left. Leaves tokens.now (C.codes text.now) left.0.now (C.codes left.1.now)) }
 {
     let mut left = tokens;
     let mut rest = text;

@@ -5,7 +5,7 @@ use Rattle.nextest_filtering_globs.specs.Meaning.{Matches}
 use Rattle.nextest_filtering_globs.proofs.matching.is_matched.Goals as goal
 
 pub returns : goal.returns
-returns c =
+returns g c =
     let ends = c.in-Some.ensures in
-    IfOk-weaker c.is_middle_matched.result _ (λ answer. IsTrue answer ↔ Matches c.args.tokens.now c.args.text.now)
+    IfOk-weaker c.is_middle_matched.result _ (λ answer. IsTrue answer ↔ Matches c.args.tokens.now (g.C.Character.codes c.args.text.now))
     (λ answer both. (λ b. ends.1.1 (both.0 b), λ m. both.1 (ends.1.0 m))) c.is_middle_matched.ensures

@@ -5,10 +5,10 @@ use Rattle.nextest_filtering_globs.specs.Meaning.{Matches}
 use Rattle.nextest_filtering_globs.proofs.matching.is_some_matched.Given as goal
 
 abbrev pub invariant-loop-more : goal.invariant-loop-more
-invariant-loop-more l = record {
+invariant-loop-more g l = record {
   plain : ArePlain l.left;
-  same : Matches (l.front ++ in_braces l.alternatives) l.text ↔ Matches (l.front ++ in_braces l.left) l.text;
+  same : Matches (l.front ++ in_braces l.alternatives) (g.C.Character.codes l.text) ↔ Matches (l.front ++ in_braces l.left) (g.C.Character.codes l.text);
 }
 
 abbrev pub decreases-loop-more : goal.decreases-loop-more
-decreases-loop-more l = length l.left
+decreases-loop-more g l = length l.left

@@ -4,10 +4,10 @@ use Rattle.nextest_filtering_globs.specs.Inside.{IsAhead}
 use Rattle.nextest_filtering_globs.proofs.words.from_letter.Given as goal
 
 abbrev pub invariant-loop-c : goal.invariant-loop-c
-invariant-loop-c l = record {
+invariant-loop-c g l = record {
   within : length l.rest ≤ length l.text;
-  ahead : IsAhead (token.Literal l.letter ∷ []) l.text l.rest;
+  ahead : IsAhead (token.Literal l.letter ∷ []) (g.C.Character.codes l.text) (g.C.Character.codes l.rest);
 }
 
 abbrev pub decreases-loop-c : goal.decreases-loop-c
-decreases-loop-c l = length l.rest
+decreases-loop-c g l = length l.rest
