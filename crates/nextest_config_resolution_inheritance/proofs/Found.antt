@@ -166,7 +166,8 @@ module _ {P : Type 0} (name_of : P → Name) (parent_of : P → Option Name) whe
 
 -- ---- the profile of a name
 
-find_at : {X : Type 0} (test : X → Bool) (xs : List X) (k : ℕ) (d : X) → k < length xs → test (get_or xs k d) ≡ true
+-- the first that passes a test
+pub find_at : {X : Type 0} (test : X → Bool) (xs : List X) (k : ℕ) (d : X) → k < length xs → test (get_or xs k d) ≡ true
     → ((j : ℕ) → j < k → test (get_or xs j d) ≡ false) → find test xs ≡ Some (get_or xs k d)
 find_at test [] k d within it apart = absurd (omega (arith, within))
 find_at test (x ∷ xs) zero d within it apart = ap (λ (b : Bool). cond b (Some x) (find test xs)) it

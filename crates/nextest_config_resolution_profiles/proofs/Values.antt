@@ -1,23 +1,14 @@
 -- The values of profiles by their names.
-use Rattle.std.proofs.Common.{◌≡◌, ℕ, zero, suc, ◌<◌, List, [], ◌∷◌, length, get_or, map, Bool, true, false, cond, None, Some, option_map, find, refl, ap, sym, ◌∙◌, subst, arith}
+use Rattle.std.proofs.Common.{◌≡◌, ℕ, suc, ◌<◌, List, [], ◌∷◌, length, get_or, map, Bool, true, false, None, Some, option_map, refl, ap, sym, ◌∙◌, subst, arith}
 use Rattle.std.proofs.lemmas.List.{get_or-map, length-map}
 use Rattle.std.proofs.lemmas.Slice.Eq.{bytes_eq-Decides}
 use Rattle.std.specs.List.{All, Contains}
 use Rattle.std.specs.Str.{bytes_eq}
-use Rattle.nextest_config_resolution_inheritance.proofs.Found.{one_place}
+use Rattle.nextest_config_resolution_inheritance.proofs.Found.{find_at, one_place}
 use Rattle.nextest_config_resolution_inheritance.specs.Inheritance.{Profile, Rise, name_at}
 use Rattle.nextest_config_resolution_load.specs.Checks.{parents_of}
 use Rattle.nextest_config_resolution_values.specs.File.{Named}
 use Rattle.nextest_config_resolution_profiles.specs.Config.{values_of}
-
--- the first that passes a test
-find_at : {X : Type 0} (test : X → Bool) (xs : List X) (k : ℕ) (d : X) → k < length xs → test (get_or xs k d) ≡ true
-    → ((j : ℕ) → j < k → test (get_or xs j d) ≡ false) → find test xs ≡ Some (get_or xs k d)
-find_at test [] k d within it apart = absurd (omega (arith, within))
-find_at test (x ∷ xs) zero d within it apart = ap (λ (b : Bool). cond b (Some x) (find test xs)) it
-find_at test (x ∷ xs) (suc k) d within it apart =
-    ap (λ (b : Bool). cond b (Some x) (find test xs)) (apart 0 (omega arith))
-    ∙ find_at test xs k d (omega (arith, within)) it (λ j below. apart (suc j) (omega (arith, below)))
 
 name_of : (profiles : List Named) (k : ℕ) (d : Named) → k < length profiles → name_at (parents_of profiles) k ≡ (get_or profiles k d).0
 name_of profiles k d within = ap (λ (p : Profile). p.0) (get_or-map (λ (it : Named). (it.0, it.1.inherits)) profiles k d ([], None) within)

@@ -41,7 +41,8 @@ use Rattle.test_runner_core_planning.specs.declared.plan_error.PlanError.TheVari
 use Rattle.test_runner_core_planning.specs.declared.plan_fault.PlanFault.{PlanFault}
 use Rattle.test_runner_core_planning.specs.declared.plan_fault.PlanFault.TheVariants as refused
 use Rattle.test_runner_core_planning.proofs.Building.{plans_found, refused_before, refused_listing, refused_tries, refuses_configuration, refuses_filterset}
-use Rattle.test_runner_core_planning.proofs.Finite.{first_or, none_has, some_names, some_order}
+use Rattle.test_runner_core_planning.proofs.Elements.{has_cases, none_has}
+use Rattle.test_runner_core_planning.proofs.Finite.{some_names, some_order}
 use Rattle.test_runner_core_planning.proofs.Once.{keeps_workspace}
 use Rattle.test_runner_core_planning.proofs.TreesDecided.{IsKnownTree, known_tree, some_answers}
 
@@ -109,8 +110,8 @@ names_in [] = []
 names_in (rule ∷ rules) = rule.config.setup ++ names_in rules
 
 named_there : (rules : List PlacedScriptRule) (rule : PlacedScriptRule) (id : List ℕ) → Contains rules rule → Contains rule.config.setup id → Contains (names_in rules) id
-named_there [] rule id of names = absurd (none_has of)
-named_there (first ∷ rules) rule id of names = by_side (λ behind. named_there rules rule id behind names) (first_or first rule rules of)
+named_there [] rule id of names = absurd (none_has rule of)
+named_there (first ∷ rules) rule id of names = by_side (λ behind. named_there rules rule id behind names) (has_cases first rule rules of)
   where
     by_side : (Contains rules rule → Contains (names_in rules) id) → (first ≡ rule) ⊎ Contains rules rule → Contains (first.config.setup ++ names_in rules) id
     by_side more (inl same) = Contains-append_left first.config.setup (names_in rules) id (subst (λ (r : PlacedScriptRule). Contains r.config.setup id) (sym same) names)

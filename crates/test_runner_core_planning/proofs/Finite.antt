@@ -8,31 +8,13 @@ use Rattle.std.specs.List.Sorted.{IsPermutation, IsSorted}
 use Rattle.std.specs.Ordering.{eq_by_cmp, is_lt, nat_cmp, ordering_reverse}
 use Rattle.std.specs.declared.cmp.Ordering.{Ordering}
 use Rattle.std.specs.declared.cmp.Ordering.TheVariants.{Less, Equal, Greater}
-use Rattle.std.proofs.lemmas.List.Elements.{All-nil, All-cons, All-head, All-tail, All-weaker, Contains-append_cases, Contains-append_right}
+use Rattle.std.proofs.lemmas.List.Elements.{All-nil, All-cons, All-head, All-tail, All-weaker}
 use Rattle.std.proofs.lemmas.List.Kept.{AllPairs-cons, Contains-dedup, Contains-from_dedup, IsStrictlySortedBy-dedup}
 use Rattle.std.proofs.lemmas.List.Sorted.{Contains-permutation, IsPermutation-cons, IsPermutation-refl, IsPermutation-swap, IsPermutation-sym, IsPermutation-trans, ranks_by}
 use Rattle.std.proofs.lemmas.Map.Text.{is_eq-slice_cmp}
 use Rattle.std.proofs.lemmas.Slice.Eq.{bytes_eq-Decides}
 use Rattle.nextest_config_resolution_profiles.specs.Enabled.{AreNamesOf}
-
--- ---- elements
-
-pub first_has : {X : Type 0} (x : X) (xs : List X) → Contains (x ∷ xs) x
-first_has x xs = (0, omega arith, refl)
-
-pub rest_has : {X : Type 0} (x y : X) (xs : List X) → Contains xs y → Contains (x ∷ xs) y
-rest_has x y xs has = Contains-append_right (x ∷ []) xs y has
-
-pub none_has : {X : Type 0} {x : X} → Contains [] x → ⊥
-none_has (k, within, is) = omega (arith, within)
-
-pub first_or : {X : Type 0} (x y : X) (xs : List X) → Contains (x ∷ xs) y → (x ≡ y) ⊎ Contains xs y
-first_or x y xs has = by_side (Contains-append_cases (x ∷ []) xs y has)
-  where
-    by_side : Contains (x ∷ []) y ⊎ Contains xs y → (x ≡ y) ⊎ Contains xs y
-    by_side (inl (zero, within, is)) = inl is
-    by_side (inl (suc k, within, is)) = absurd (omega (arith, within))
-    by_side (inr behind) = inr behind
+use Rattle.test_runner_core_planning.proofs.Elements.{first_has, has_cases, none_has, rest_has}
 
 -- ---- those of some texts of which something is so
 
@@ -40,7 +22,7 @@ abbrev pub Exactly : (List ℕ → Type 0) → List (List ℕ) → List (List �
 Exactly Is ids kept = (id : List ℕ) → Contains kept id ↔ (Contains ids id × Is id)
 
 with_first : (Is : List ℕ → Type 0) (x : List ℕ) (ids kept : List (List ℕ)) → Exactly Is ids kept → Is x → Exactly Is (x ∷ ids) (x ∷ kept)
-with_first Is x ids kept exactly is id = ((λ has. to (first_or x id kept has)), (λ both. from (first_or x id ids both.0) both.1))
+with_first Is x ids kept exactly is id = ((λ has. to (has_cases x id kept has)), (λ both. from (has_cases x id ids both.0) both.1))
   where
     to : (x ≡ id) ⊎ Contains kept id → Contains (x ∷ ids) id × Is id
     to (inl same) = (subst (Contains (x ∷ ids)) same (first_has x ids), subst Is same is)
@@ -53,7 +35,7 @@ with_first Is x ids kept exactly is id = ((λ has. to (first_or x id kept has)),
 without_first : (Is : List ℕ → Type 0) (x : List ℕ) (ids kept : List (List ℕ)) → Exactly Is ids kept → ¬ Is x → Exactly Is (x ∷ ids) kept
 without_first Is x ids kept exactly never id = (
   (λ has. let both = (exactly id).0 has in (rest_has x id ids both.0, both.1)),
-  (λ both. from (first_or x id ids both.0) both.1),
+  (λ both. from (has_cases x id ids both.0) both.1),
 )
   where
     from : (x ≡ id) ⊎ Contains ids id → Is id → Contains kept id
@@ -62,7 +44,7 @@ without_first Is x ids kept exactly never id = (
 
 -- it can't be that there is no list of them
 pub kept_of : (Is : List ℕ → Type 0) (ids : List (List ℕ)) → ¬ ¬ ((kept : List (List ℕ)) × Exactly Is ids kept)
-kept_of Is [] never = never ([], λ id. ((λ has. absurd (none_has has)), (λ both. absurd (none_has both.0))))
+kept_of Is [] never = never ([], λ id. ((λ has. absurd (none_has id has)), (λ both. absurd (none_has id both.0))))
 kept_of Is (x ∷ ids) never =
     kept_of Is ids (λ (kept, exactly). never (kept, without_first Is x ids kept exactly (λ is. never (x ∷ kept, with_first Is x ids kept exactly is))))
 

@@ -1,6 +1,6 @@
 -- What trees of filtersets answer: something, where it is known which packages their predicates ask
 -- for; and it can't be that this isn't known.
-use Rattle.std.proofs.Common.{◌≡◌, ◌⊎◌, inl, inr, ℕ, zero, suc, Bool, true, false, true≢false, not, ◌&&◌, ◌||◌, List, [], ◌∷◌, map, Some, refl, sym, subst}
+use Rattle.std.proofs.Common.{◌≡◌, ◌⊎◌, inl, inr, ℕ, zero, suc, Bool, true, false, true≢false, not, ◌&&◌, ◌||◌, List, [], ◌∷◌, Some, refl, sym, subst}
 use Rattle.std.specs.Prelude.{⊤}
 use Rattle.std.specs.List.{All, Contains, list_any, slice_get}
 use Rattle.std.specs.Str.{bytes_eq}
@@ -16,7 +16,7 @@ use Rattle.nextest_filtering_filters.specs.Deciding.{AllLeaves, IsReadable}
 use Rattle.nextest_filtering_filters.specs.Formula.{Formula, Gives, both, both_gives, either, either_gives, leaf, leaf_gives, negated, negated_gives}
 use Rattle.nextest_filtering_filters.specs.Meaning.{Either, Never, Tells}
 use Rattle.nextest_filtering_filters.specs.Query as query
-use Rattle.nextest_filtering_graph.specs.Graph.{Graph}
+use Rattle.nextest_filtering_graph.specs.Graph.{Graph, ids}
 use Rattle.nextest_filtering_ast.specs.Grammar.{IsPattern, Conjunction, Expression, IsFilterset, ReadsArgument, Unary, a_group, a_negation, a_predicate, first_conjunction, first_operand, joint_of, next_conjunction, next_operand}
 use Rattle.nextest_filtering_ast.specs.Meaning.{MatchesName}
 use Rattle.nextest_filtering_ast.specs.Tree.{Leaf, Matcher, Subject, Tree, binary_id, binary_name, built_for, default_filter, dependencies, dependents, everything, group, kind, matching, nothing, package_name, test_name}
@@ -29,7 +29,8 @@ use Rattle.test_runner_core_plan.specs.declared.plan_settings.PlanSettings.{Plan
 use Rattle.test_runner_core_workspace.specs.declared.record.Binary.{Binary}
 use Rattle.test_runner_core_workspace.specs.declared.record.WorkspaceRecord.{WorkspaceRecord}
 use Rattle.test_runner_core_planning.specs.Filtering.{AllCanHold, AllHold, AreAnswersOf, InForce, IsOfGroup, graph_of}
-use Rattle.test_runner_core_planning.proofs.Finite.{first_has, kept_of, rest_has}
+use Rattle.test_runner_core_planning.proofs.Elements.{first_has, rest_has}
+use Rattle.test_runner_core_planning.proofs.Finite.{kept_of}
 
 -- ---- it is so, or isn't
 
@@ -234,19 +235,15 @@ mutual
   expression_read _ _ _ (first_conjunction t text rest read) = conjunction_read text t rest read
   expression_read _ _ _ (next_conjunction op a b text middle behind rest first reads second) = (expression_read text a middle first, conjunction_read behind b rest second)
 
--- the packages of a graph by their ids
-abbrev ids_in : List (List ℕ × List ℕ) → List (List ℕ)
-ids_in packages = map (λ it. it.0) packages
-
-id_there : (packages : List (List ℕ × List ℕ)) (place : ℕ) (it : List ℕ × List ℕ) → slice_get packages place ≡ Some it → Contains (ids_in packages) it.0
+id_there : (packages : List (List ℕ × List ℕ)) (place : ℕ) (it : List ℕ × List ℕ) → slice_get packages place ≡ Some it → Contains (ids packages) it.0
 id_there [] place it e = absurd (let h = e in cc)
-id_there (first ∷ packages) zero it e = subst (λ (p : List ℕ × List ℕ). Contains (ids_in (first ∷ packages)) p.0) (let h : first ≡ it = cc in h) (first_has first.0 (ids_in packages))
-id_there (first ∷ packages) (suc place) it e = rest_has first.0 it.0 (ids_in packages) (id_there packages place it e)
+id_there (first ∷ packages) zero it e = subst (λ (p : List ℕ × List ℕ). Contains (ids (first ∷ packages)) p.0) (let h : first ≡ it = cc in h) (first_has first.0 (ids packages))
+id_there (first ∷ packages) (suc place) it e = rest_has first.0 it.0 (ids packages) (id_there packages place it e)
 
-has_there : (graph : Graph) (id : List ℕ) (place : ℕ) → HasId graph id place → Contains (ids_in graph.packages) id
-has_there graph id place (it, at, is) = subst (Contains (ids_in graph.packages)) is (id_there graph.packages place it at)
+has_there : (graph : Graph) (id : List ℕ) (place : ℕ) → HasId graph id place → Contains (ids graph.packages) id
+has_there graph id place (it, at, is) = subst (Contains (ids graph.packages)) is (id_there graph.packages place it at)
 
-asked_there : (graph : Graph) (subject : Subject) (m : Matcher) (id : List ℕ) → AsksFor graph subject m id → Contains (ids_in graph.packages) id
+asked_there : (graph : Graph) (subject : Subject) (m : Matcher) (id : List ℕ) → AsksFor graph subject m id → Contains (ids graph.packages) id
 asked_there graph package_name m id (place, is, has) = has_there graph id place has
 asked_there graph dependencies m id (from, to, is, reaches, has) = has_there graph id to has
 asked_there graph dependents m id (from, to, has, reaches, is) = has_there graph id from has
@@ -258,7 +255,7 @@ asked_there graph group m id asks = absurd asks
 
 asked : (graph : Graph) (subject : Subject) (m : Matcher) → ¬ ¬ ((id : List ℕ) → (b : Bool) × Tells (AsksFor graph subject m id) b)
 asked graph subject m never =
-    kept_of (AsksFor graph subject m) (ids_in graph.packages) (λ (kept, exactly). never (λ id. (
+    kept_of (AsksFor graph subject m) (ids graph.packages) (λ (kept, exactly). never (λ id. (
       list_any (bytes_eq id) kept,
       ((λ e. ((exactly id).0 (among id kept e)).1), (λ asks. among_back id kept ((exactly id).1 (asked_there graph subject m id asks, asks)))),
     )))
