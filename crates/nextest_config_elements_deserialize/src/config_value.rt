@@ -1,11 +1,11 @@
 // What is read without memory, and how a table's values of it are read.
-ghost use Rattle.std.specs.Prelude.{◌≡◌, Option, option_map};
-ghost use Rattle.toml.specs.Data.{Data, get_member};
+ghost use Rattle.std.specs.Prelude.{◌≡◌, Option};
+ghost use Rattle.toml.specs.Data.{Data};
 ghost use Rattle.toml.specs.View.{view, table_view};
 ghost use Rattle.nextest_config_elements_toml.specs.Paths.{Gives};
 ghost use Rattle.nextest_config_elements_toml.specs.Reading as read;
 
-use nextest_config_elements_toml::{ValueError, refused, refused_below};
+use nextest_config_elements_toml::{ValueError, member, refused, refused_below};
 use std::alloc::Global;
 use toml::{Table, Value};
 
@@ -84,14 +84,6 @@ pub fn defaulted<Rule, T: ConfigValue<Rule>>(
         None => Ok(otherwise),
         Some(value) => below(alloc, value, path, key),
     }
-}
-
-/// What stands under a key of a table.
-#[tactic(auto, using(toml::proofs::Views::table_get))]
-pub fn member<'a>(table: &'a Table, key: &str) -> Option<&'a Value>
-    ensures { option_map (λ it. view it.now) result ≡ get_member key.now (table_view table.now) }
-{
-    table.get(key)
 }
 
 // The value of a key that stands.

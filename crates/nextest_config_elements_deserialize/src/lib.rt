@@ -22,7 +22,7 @@ mod timeouts;
 mod values;
 mod words;
 
-pub use config_value::{ConfigValue, defaulted, member, optional, required, whole};
+pub use config_value::{ConfigValue, defaulted, optional, required, whole};
 pub use deserialize_value::DeserializeValue;
 pub use fail_fast::deserialize_fail_fast;
 pub use junit::{deserialize_junit_flaky_fail_status, deserialize_report_skip_policy};

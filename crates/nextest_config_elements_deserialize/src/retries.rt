@@ -5,9 +5,9 @@ ghost use Rattle.nextest_config_elements_toml.specs.Paths.{Gives};
 ghost use Rattle.nextest_config_elements_deserialize.specs.Retries as read;
 
 use crate::backoff::Backoff;
-use crate::config_value::{defaulted, member, optional, required, whole};
+use crate::config_value::{defaulted, optional, required, whole};
 use crate::values::{Any, Positive};
-use nextest_config_elements_toml::{ValueError, refused_below};
+use nextest_config_elements_toml::{ValueError, member, refused_below};
 use nextest_config_elements_values::{ConfigDuration, RetryPolicy};
 use std::alloc::Global;
 use toml::{Table, Value};

@@ -5,8 +5,7 @@ ghost use Rattle.nextest_config_elements_toml.specs.Paths.{Gives};
 ghost use Rattle.nextest_config_elements_toml.specs.Reading.{optional};
 ghost use Rattle.nextest_config_elements_deserialize.specs.Keys.{texts_in, texts_of};
 
-use crate::config_value::member;
-use nextest_config_elements_toml::{ValueError, refused, refused_below};
+use nextest_config_elements_toml::{ValueError, member, refused, refused_below};
 use nextest_text::{Listing, Text};
 use std::alloc::Global;
 use toml::{Table, Value};

@@ -8,9 +8,11 @@
 mod bad_value;
 mod key_path;
 mod refusing;
+mod table;
 mod value_error;
 
 pub use bad_value::BadValue;
 pub use key_path::KeyPath;
 pub use refusing::{refused, refused_below};
+pub use table::member;
 pub use value_error::ValueError;

@@ -1,13 +1,12 @@
 // How the versions are read that a source asks for.
-ghost use Rattle.std.specs.Prelude.{◌≡◌, IfOk, option_map, codes};
+ghost use Rattle.std.specs.Prelude.{◌≡◌, IfOk, codes};
 ghost use Rattle.toml.specs.View.{view, table_view};
-ghost use Rattle.toml.specs.Data.{get_member};
 ghost use Rattle.nextest_config_elements_toml.specs.Paths.{Gives};
 ghost use Rattle.nextest_config_elements_toml.specs.Reading.{optional};
 ghost use Rattle.nextest_config_elements_versions.specs.Demand.{asked_version, both, version, versions};
 ghost use Rattle.nextest_version.specs.Reading.{version_of};
 
-use nextest_config_elements_toml::{ValueError, refused, refused_below};
+use nextest_config_elements_toml::{ValueError, member, refused, refused_below};
 use nextest_version::{PlainVersion, VersionError};
 use std::alloc::{AllocError, Global};
 use toml::{Table, Value};
@@ -79,13 +78,6 @@ fn optional_version(
         Some(version) => Ok(Some(version)),
         None => Err(refused_below(alloc, path, key, Some(given), EXPECTED)),
     }
-}
-
-// The value of a key.
-pub(crate) fn member<'a>(table: &'a Table, key: &str) -> Option<&'a Value>
-    ensures { option_map (λ it. view it.now) result ≡ get_member key.now (table_view table.now) }
-{
-    table.get(key)
 }
 
 // The version that a value is.

@@ -5,12 +5,12 @@ ghost use Rattle.nextest_config_elements_toml.specs.Paths.{Gives};
 ghost use Rattle.nextest_config_elements_versions.specs.Demand.{demand_of, experimental_in, nextest_version_in};
 ghost use Rattle.nextest_config_elements_versions.specs.Sources.{GivesDemand, IsRefusal, demand_in, read_for, version_source_of, unless_tool};
 
-use crate::asked_versions::{AskedVersions, deserialize_nextest_version, member};
+use crate::asked_versions::{AskedVersions, deserialize_nextest_version};
 use crate::features::deserialize_experimental;
 use crate::origin::VersionSource;
 use crate::source_fault::{VersionOnlyError, VersionSourceFault, VersionSourceReason};
 use nextest_config_elements_identifiers::ConfigSourceKind;
-use nextest_config_elements_toml::ValueError;
+use nextest_config_elements_toml::{ValueError, member};
 use nextest_text::{Listing, Text};
 use std::alloc::{AllocError, Global};
 use toml::Table;

@@ -7,8 +7,8 @@ ghost use Rattle.nextest_config_elements_toml.specs.Reading.{under};
 ghost use Rattle.nextest_config_elements_deserialize.specs.Keys.{optional_by};
 ghost use Rattle.nextest_config_resolution_commands.specs.Below.{IsBelow, defaulted_by, required_by};
 
-use nextest_config_elements_deserialize::{DeserializeValue, member};
-use nextest_config_elements_toml::{KeyPath, ValueError, refused_below};
+use nextest_config_elements_deserialize::DeserializeValue;
+use nextest_config_elements_toml::{KeyPath, ValueError, member, refused_below};
 use std::alloc::{AllocError, Global};
 use toml::{Table, Value};
 

@@ -15,8 +15,7 @@ ghost use Rattle.nextest_config_resolution_scripts.specs.Scripts.{old_scripts_at
 ghost use Rattle.nextest_config_resolution_values.specs.File.{store_dir_at};
 
 use crate::file_config::{FileConfig, ProfileRules};
-use nextest_config_elements_deserialize::member;
-use nextest_config_elements_toml::{BadValue, ValueError, refused};
+use nextest_config_elements_toml::{BadValue, ValueError, member, refused};
 use nextest_config_elements_versions::{deserialize_experimental, deserialize_nextest_version};
 use nextest_config_resolution_overrides::{
     NamedGroup, OverrideConfig, deserialize_overrides, deserialize_test_groups,

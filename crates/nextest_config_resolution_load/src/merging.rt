@@ -7,7 +7,7 @@ ghost use Rattle.nextest_config_resolution_load.specs.Checks.{as_setup, file_wit
 ghost use Rattle.nextest_config_resolution_load.specs.Files.{layered_in, members_in};
 
 use crate::placed_file::PlacedFile;
-use nextest_config_elements_deserialize::member;
+use nextest_config_elements_toml::member;
 use nextest_config_resolution_merge::MergedTree;
 use std::alloc::{AllocError, Global};
 use toml::{Table, Value};

@@ -5,8 +5,8 @@ ghost use Rattle.nextest_config_resolution_overrides.specs.Overrides.{bench_at, 
 ghost use Rattle.nextest_config_resolution_overrides.specs.Paths.{bench_path, override_path};
 ghost use Rattle.nextest_config_elements_deserialize.specs.Paths.{GivesAt};
 
-use nextest_config_elements_deserialize::{deserialize_slow_timeout, member};
-use nextest_config_elements_toml::{ValueError, refused};
+use nextest_config_elements_deserialize::deserialize_slow_timeout;
+use nextest_config_elements_toml::{ValueError, member, refused};
 use nextest_config_elements_values::SlowTimeout;
 use std::alloc::Global;
 use toml::{Table, Value};

@@ -11,8 +11,7 @@ use crate::override_config::OverrideConfig;
 use crate::spans::{
     ArgsToThreads, BenchToFlaky, JunitToRetries, args_to_threads, bench_to_flaky, junit_to_retries,
 };
-use nextest_config_elements_deserialize::member;
-use nextest_config_elements_toml::{ValueError, refused};
+use nextest_config_elements_toml::{ValueError, member, refused};
 use nextest_text::Listing;
 use std::alloc::Global;
 use toml::{Table, Value};

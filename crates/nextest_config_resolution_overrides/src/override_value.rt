@@ -7,8 +7,8 @@ ghost use Rattle.nextest_config_elements_deserialize.specs.Paths.{GivesAt};
 
 use crate::junit::{OverrideJunit, junit_in};
 use crate::platforms::{OverridePlatforms, platforms_of};
-use nextest_config_elements_deserialize::{DeserializeValue, member};
-use nextest_config_elements_toml::{ValueError, refused};
+use nextest_config_elements_deserialize::DeserializeValue;
+use nextest_config_elements_toml::{ValueError, member, refused};
 use std::alloc::Global;
 use toml::{Table, Value};
 

@@ -13,9 +13,9 @@ ghost use Rattle.nextest_config_resolution_scripts.specs.Scripts.{kinds_in, old_
 
 use crate::setup_script::SetupScriptConfig;
 use crate::wrapper_script::WrapperScriptConfig;
-use nextest_config_elements_deserialize::{DeserializeValue, member};
+use nextest_config_elements_deserialize::DeserializeValue;
 use nextest_config_elements_identifiers::InvalidIdentifier;
-use nextest_config_elements_toml::{BadValue, KeyPath, ValueError, refused};
+use nextest_config_elements_toml::{BadValue, KeyPath, ValueError, member, refused};
 use nextest_config_resolution_commands::{ScriptId, below};
 use nextest_text::{Listing, Text};
 use std::alloc::{AllocError, Global};

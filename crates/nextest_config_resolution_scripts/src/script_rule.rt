@@ -8,8 +8,8 @@ ghost use Rattle.nextest_config_elements_deserialize.specs.Paths.{GivesAt, profi
 ghost use Rattle.nextest_config_resolution_scripts.specs.Paths.{script_rules_path};
 ghost use Rattle.nextest_config_resolution_scripts.specs.Rules.{items_in, names_of, one_name, script_rule_in, script_rules_at, script_rules_of, setup_at};
 
-use nextest_config_elements_deserialize::{DeserializeValue, member, optional_text};
-use nextest_config_elements_toml::{ValueError, refused};
+use nextest_config_elements_deserialize::{DeserializeValue, optional_text};
+use nextest_config_elements_toml::{ValueError, member, refused};
 use nextest_config_resolution_commands::{ScriptId, below, optional_value};
 use nextest_config_resolution_overrides::OverridePlatforms;
 use nextest_text::{Listing, Text};

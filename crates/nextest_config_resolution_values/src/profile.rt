@@ -14,8 +14,7 @@ use crate::spans::{
     DefaultToFinal, FlakyToInherits, LeakToSlow, StatusToThreads, default_to_final,
     flaky_to_inherits, leak_to_slow, status_to_threads,
 };
-use nextest_config_elements_deserialize::member;
-use nextest_config_elements_toml::{ValueError, refused};
+use nextest_config_elements_toml::{ValueError, member, refused};
 use std::alloc::Global;
 use toml::{Table, Value};
 

@@ -6,8 +6,8 @@ ghost use Rattle.nextest_config_resolution_values.specs.Paths.{bench_path};
 ghost use Rattle.nextest_config_resolution_values.specs.Profile.{junit_in};
 
 use crate::junit::{ProfileJunit, junit_in};
-use nextest_config_elements_deserialize::{DeserializeValue, member};
-use nextest_config_elements_toml::{ValueError, refused};
+use nextest_config_elements_deserialize::DeserializeValue;
+use nextest_config_elements_toml::{ValueError, member, refused};
 use std::alloc::Global;
 use toml::{Table, Value};
 

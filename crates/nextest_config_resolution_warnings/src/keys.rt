@@ -4,8 +4,8 @@ ghost use Rattle.toml.specs.View.{table_view};
 ghost use Rattle.nextest_config_resolution_warnings.specs.Keys.{keys_of, seen_row};
 ghost use Rattle.nextest_config_resolution_warnings.specs.Places as places;
 
-use crate::member::member;
 use crate::place::Place;
+use nextest_config_elements_toml::member;
 use toml::{Table, Value};
 
 // A key, and what stands there.

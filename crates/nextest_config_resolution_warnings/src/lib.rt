@@ -5,7 +5,6 @@
 mod config_warning;
 mod default_warnings;
 mod keys;
-mod member;
 mod place;
 mod reserved;
 mod scripts;

@@ -3,7 +3,7 @@ ghost use Rattle.std.specs.Prelude.{◌≡◌, ◌++◌, [], ◌∷◌, IfOk, fi
 ghost use Rattle.toml.specs.View.{table_view, view};
 ghost use Rattle.nextest_config_resolution_warnings.specs.Reserved as reserved;
 
-use crate::member::member;
+use nextest_config_elements_toml::member;
 use nextest_text::{Listing, Text};
 use std::alloc::{AllocError, Global};
 use toml::{Table, Value};

@@ -3,7 +3,7 @@ ghost use Rattle.std.specs.Prelude.{◌≡◌};
 ghost use Rattle.toml.specs.View.{items_view, table_view, view};
 ghost use Rattle.nextest_config_resolution_warnings.specs.Scripts as scripts;
 
-use crate::member::member;
+use nextest_config_elements_toml::member;
 use toml::{Table, Value};
 
 // Whether a file defines scripts in the table that held them before.

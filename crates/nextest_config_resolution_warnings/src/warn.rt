@@ -5,12 +5,11 @@ ghost use Rattle.nextest_config_resolution_warnings.specs.Scripts.{empty_section
 ghost use Rattle.nextest_config_resolution_warnings.specs.Warn.{Warns, WarnsPrefix, old_scripts, script_warnings, section_warnings, unknown_warnings, warnings_of};
 ghost use Rattle.nextest_config_resolution_warnings.specs.declared.config_warning.ConfigWarning.TheVariants.{UnknownKey, UnknownReservedProfile};
 
-use crate::member::member;
 use crate::reserved::unknown_reserved_profiles;
 use crate::scripts::{defines_old_scripts, empty_in_profile};
 use crate::unknown::unknown_keys;
 use crate::warnings::ConfigWarnings;
-use nextest_config_elements_toml::KeyPath;
+use nextest_config_elements_toml::{KeyPath, member};
 use nextest_text::Text;
 use std::alloc::{AllocError, Global};
 use toml::{Table, Value};
