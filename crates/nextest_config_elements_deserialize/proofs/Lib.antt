@@ -3,4 +3,3 @@ pub mod Keys
 pub mod Parts
 pub mod Policies
 pub mod Slow
-pub mod Texts

@@ -1,11 +1,11 @@
 // Texts, and lists of them.
 ghost use Rattle.toml.specs.Data.{as_str};
-ghost use Rattle.toml.specs.View.{items_view, table_view, view};
+ghost use Rattle.toml.specs.View.{table_view, view};
 ghost use Rattle.nextest_config_elements_toml.specs.Paths.{Gives};
 ghost use Rattle.nextest_config_elements_toml.specs.Reading.{optional};
-ghost use Rattle.nextest_config_elements_deserialize.specs.Keys.{texts_in, texts_of};
+ghost use Rattle.nextest_config_elements_deserialize.specs.Keys.{texts_of};
 
-use nextest_config_elements_toml::{ValueError, member, refused, refused_below};
+use nextest_config_elements_toml::{ValueError, member, refused, refused_below, texts_in};
 use nextest_text::{Listing, Text};
 use std::alloc::Global;
 use toml::{Table, Value};
@@ -40,19 +40,4 @@ pub fn deserialize_texts(
         Value::Array(items) => texts_in(alloc, items.as_slice(), path),
         _ => Err(refused(alloc, path, Some(value), "an array of strings")),
     }
-}
-
-// Each item of a list is a text.
-fn texts_in(alloc: Global, items: &[Value], path: &[&str]) -> Result<Listing<Text>, ValueError>
-    ensures { Gives path.now result (texts_in 0 (items_view items.now)) }
-{
-    let mut texts = Listing::new(alloc);
-    for (place, item) in items.iter().enumerate() {
-        let Value::String(text) = item else {
-            let key = format!(in alloc; "{place}")?;
-            return Err(refused_below(alloc, path, key.as_str(), Some(item), "a string"));
-        };
-        texts.push(Text::from_str(alloc, text.as_str())?)?;
-    }
-    Ok(texts)
 }

@@ -1,1 +1,2 @@
 mod Dotted
+mod Texts

@@ -7,12 +7,14 @@
 
 mod bad_value;
 mod key_path;
+mod list;
 mod refusing;
 mod table;
 mod value_error;
 
 pub use bad_value::BadValue;
 pub use key_path::KeyPath;
+pub use list::texts_in;
 pub use refusing::{refused, refused_below};
 pub use table::member;
 pub use value_error::ValueError;

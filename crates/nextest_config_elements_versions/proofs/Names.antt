@@ -1,13 +1,13 @@
 -- How the names of features are read, one by one.
-use Rattle.std.proofs.Common.{◌≡◌, ℕ, ◌+◌, ◌<◌, length, get_or, drop, take, Bool, true, false, if◌then◌else◌, List, [], ◌∷◌, ◌++◌, None, Ok, Err, String, Global, string_bytes, decimal, refl, sym, ap, ◌∙◌}
-use Rattle.std.proofs.lemmas.List.{append_assoc, drop_more, take_more}
+use Rattle.std.proofs.Common.{◌≡◌, ℕ, ◌+◌, ◌<◌, length, get_or, take, Bool, true, false, if◌then◌else◌, List, [], ◌∷◌, ◌++◌, None, Ok, Err, String, Global, string_bytes, refl, sym, ap, ◌∙◌}
+use Rattle.std.proofs.lemmas.List.{append_assoc, take_more}
 use Rattle.std.proofs.lemmas.List.Elements.{filter-append}
 use Rattle.std.specs.Prelude.{is_none}
-use Rattle.toml.specs.Data.{Data, Items, item, Members, member, string, boolean, as_bool, as_str}
-use Rattle.toml.specs.View.{items_view, members_view, view}
+use Rattle.toml.specs.Data.{Data, Members, member, boolean, as_bool}
+use Rattle.toml.specs.View.{members_view, view}
 use Rattle.toml.specs.declared.value.Value.{Value}
 use Rattle.nextest_config_elements_toml.specs.Reading.{Reading}
-use Rattle.nextest_config_elements_versions.specs.Demand.{keys_in, names_in}
+use Rattle.nextest_config_elements_versions.specs.Demand.{keys_in}
 use Rattle.nextest_config_elements_versions.specs.Features.{feature_of, unknown_in}
 
 -- names, and then those that are read
@@ -23,29 +23,6 @@ name_first : (name : List ℕ) (names : List (List ℕ)) (read : Reading (List (
     → joined names (joined (name ∷ []) read) ≡ joined (names ++ name ∷ []) read
 name_first name names (Ok more) = ap Ok (sym (append_assoc names (name ∷ []) more))
 name_first name names (Err path) = refl
-
--- one more item of a list
-string_first : (place : ℕ) (name : List ℕ) (read : Reading (List (List ℕ))) (more : Items) → names_in (place + 1) more ≡ read
-    → names_in place (item (string name) more) ≡ joined (name ∷ []) read
-string_first place name (Ok names) more is = rw is refl
-string_first place name (Err path) more is = rw is refl
-
-pub names_more : (place : ℕ) (name : List ℕ) (names : List (List ℕ)) (more : Items)
-    → joined names (names_in place (item (string name) more)) ≡ joined (names ++ name ∷ []) (names_in (place + 1) more)
-names_more place name names more =
-    ap (joined names) (string_first place name (names_in (place + 1) more) more refl) ∙ name_first name names (names_in (place + 1) more)
-
-pub item_more : (names : List (List ℕ)) (told : List ℕ) (added : List (List ℕ)) (place : ℕ) (given : Value) (items : List Value)
-    → place < length items → given ≡ get_or items place given → view given ≡ string told → added ≡ names ++ told ∷ []
-    → joined names (names_in place (items_view (drop place items))) ≡ joined added (names_in (place + 1) (items_view (drop (place + 1) items)))
-item_more names told added place given items within is says adds =
-    let here : drop place items ≡ given ∷ drop (place + 1) items =
-    drop_more items place given within ∙ ap (λ (it : Value). it ∷ drop (place + 1) items) (sym is) in
-    rw (here, says, adds) (names_more place told names (items_view (drop (place + 1) items)))
-
-pub names_refused : (place : ℕ) (given : Data) (names : List (List ℕ)) (more : Items) → as_str given ≡ None
-    → joined names (names_in place (item given more)) ≡ Err (decimal place ∷ [])
-names_refused place given names more none = rw none refl
 
 -- one more key of a table
 true_first : (name : List ℕ) (read : Reading (List (List ℕ))) (more : Members) → keys_in more ≡ read

@@ -1,10 +1,10 @@
 -- What a source asks for: at most one required and one recommended version, and features by name.
-use Rattle.std.specs.Prelude.{ℕ, ◌+◌, Bool, true, false, List, [], ◌∷◌, ◌++◌, Option, None, Some, Ok, Err, codes, decimal}
+use Rattle.std.specs.Prelude.{ℕ, Bool, true, false, List, [], ◌∷◌, ◌++◌, Option, None, Some, Ok, Err, codes}
 use Rattle.std.specs.Option.{option_map_or, option_or}
-use Rattle.toml.specs.Data.{Data, string, array, table, Items, no_items, item, Members, no_members, member, as_bool, as_str, get_member}
+use Rattle.toml.specs.Data.{Data, string, array, table, Members, no_members, member, as_bool, get_member}
 use Rattle.semver.specs.Parse.{Parts}
 use Rattle.nextest_version.specs.Reading.{version_of}
-use Rattle.nextest_config_elements_toml.specs.Reading.{Reading, ◌>>=◌, leaf, optional, under}
+use Rattle.nextest_config_elements_toml.specs.Reading.{Reading, ◌>>=◌, leaf, optional, texts_in, under}
 use Rattle.nextest_config_elements_versions.specs.declared.asked_versions.AskedVersions.{AskedVersions}
 use Rattle.nextest_config_elements_versions.specs.declared.demand.VersionDemand.{VersionDemand}
 
@@ -33,14 +33,6 @@ versions (string text) = option_map_or (λ version. Ok (only_required version)) 
 versions (table members) = both members
 versions given = Err []
 
--- each name of a list is asked for
-abbrev pub names_in : ℕ → Items → Reading (List (List ℕ))
-names_in position no_items = Ok []
-names_in position (item given more) = do
-  name ← under (decimal position) (leaf as_str given)
-  names ← names_in (position + 1) more
-  Ok (name ∷ names)
-
 -- each key of a table that is true is asked for, one that is false isn't
 abbrev pub if_asked : Bool → List ℕ → List (List ℕ) → List (List ℕ)
 if_asked true name names = name ∷ names
@@ -55,7 +47,7 @@ keys_in (member name given more) = do
 
 -- `experimental`: the names of features
 abbrev pub features : Data → Reading (List (List ℕ))
-features (array items) = names_in 0 items
+features (array items) = texts_in 0 items
 features (table members) = keys_in members
 features given = Err []
 

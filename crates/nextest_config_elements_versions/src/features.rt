@@ -1,10 +1,10 @@
 // How the names of features are read.
-ghost use Rattle.std.specs.Prelude.{◌≡◌, ◌++◌, [], ◌∷◌, IfOk, decimal, if◌then◌else◌};
-ghost use Rattle.toml.specs.View.{view, items_view, table_view};
-ghost use Rattle.nextest_config_elements_toml.specs.Paths.{Gives, IsRefusedAt, texts};
-ghost use Rattle.nextest_config_elements_versions.specs.Demand.{features, keys_in, names_in};
+ghost use Rattle.std.specs.Prelude.{◌≡◌, ◌++◌, [], ◌∷◌, IfOk, if◌then◌else◌};
+ghost use Rattle.toml.specs.View.{view, table_view};
+ghost use Rattle.nextest_config_elements_toml.specs.Paths.{Gives};
+ghost use Rattle.nextest_config_elements_versions.specs.Demand.{features, keys_in};
 
-use nextest_config_elements_toml::{ValueError, refused, refused_below};
+use nextest_config_elements_toml::{ValueError, refused, refused_below, texts_in};
 use nextest_text::{Listing, Text};
 use std::alloc::{AllocError, Global};
 use toml::{Table, Value};
@@ -20,7 +20,7 @@ pub fn deserialize_experimental(
     ensures { Gives path.now result (features (view value.now)) }
 {
     match value {
-        Value::Array(items) => names_in(alloc, items.as_slice(), path),
+        Value::Array(items) => texts_in(alloc, items.as_slice(), path),
         Value::Table(table) => keys_in(alloc, table, path),
         _ => Err(refused(
             alloc,
@@ -28,30 +28,6 @@ pub fn deserialize_experimental(
             Some(value),
             "an array of strings, or a table of booleans",
         )),
-    }
-}
-
-// Each name of a list.
-fn names_in(alloc: Global, items: &[Value], path: &[&str]) -> Result<Listing<Text>, ValueError>
-    ensures { Gives path.now result (names_in 0 (items_view items.now)) }
-{
-    let mut names = Listing::new(alloc);
-    for (place, item) in items.iter().enumerate() {
-        let Value::String(name) = item else {
-            return Err(refused_at(alloc, path, place, item));
-        };
-        push_text(alloc, &mut names, name.as_str())?;
-    }
-    Ok(names)
-}
-
-// Refuses the item of a list at a place.
-fn refused_at(alloc: Global, path: &[&str], place: usize, item: &Value) -> ValueError
-    ensures { IsRefusedAt (texts path.now ++ decimal place ∷ []) result }
-{
-    match format!(in alloc; "{place}") {
-        Ok(key) => refused_below(alloc, path, key.as_str(), Some(item), "a string"),
-        Err(AllocError) => ValueError::OutOfMemory,
     }
 }
 

@@ -2,8 +2,7 @@
 use Rattle.std.proofs.Common.{◌≡◌, ℕ, ◌+◌, List, [], ◌∷◌, ◌++◌, None, Ok, Err, decimal, refl, sym, ap, ◌∙◌}
 use Rattle.std.proofs.lemmas.List.{append_assoc}
 use Rattle.toml.specs.Data.{Data, Items, item, string, as_str}
-use Rattle.nextest_config_elements_toml.specs.Reading.{Reading}
-use Rattle.nextest_config_elements_deserialize.specs.Keys.{texts_in}
+use Rattle.nextest_config_elements_toml.specs.Reading.{Reading, texts_in}
 
 -- texts, and then those that are read
 abbrev pub joined : List (List ℕ) → Reading (List (List ℕ)) → Reading (List (List ℕ))

@@ -1,8 +1,8 @@
 use Rattle.std.proofs.Common.{◌≡◌, drop}
 use Rattle.toml.specs.View.{items_view}
-use Rattle.nextest_config_elements_deserialize.specs.Keys.{texts_in}
-use Rattle.nextest_config_elements_deserialize.proofs.Texts.{joined}
-use Rattle.nextest_config_elements_deserialize.proofs.text_values.texts_in.Given as goal
+use Rattle.nextest_config_elements_toml.specs.Reading.{texts_in}
+use Rattle.nextest_config_elements_toml.proofs.Texts.{joined}
+use Rattle.nextest_config_elements_toml.proofs.list.texts_in.Given as goal
 
 -- the texts so far, and then those that are ahead
 abbrev pub invariant-loop-place : goal.invariant-loop-place
