@@ -92,9 +92,7 @@ fn named_text(
 fn bad_name(alloc: Global, name: &str, path: &[&str]) -> Result<BadValue, AllocError>
     ensures { IfOk result (λ bad. bad.path.keys ≡ texts path.now ++ name.now ∷ []) }
 {
-    Ok(BadValue {
-        path: KeyPath::of_keys(alloc, path, &[name])?,
-        expected: "the name of a variable, which doesn't begin with `NEXTEST`",
-        found: Text::from(format!(in alloc; "{name:?}")?),
-    })
+    let path = KeyPath::of_keys(alloc, path, &[name])?;
+    let expected = "the name of a variable, which doesn't begin with `NEXTEST`";
+    BadValue::of_key(alloc, path, name, expected)
 }

@@ -9,7 +9,7 @@ use nextest_config_elements_deserialize::deserialize_test_group_config;
 use nextest_config_elements_identifiers::{CustomTestGroup, InvalidIdentifier};
 use nextest_config_elements_toml::{BadValue, KeyPath, ValueError, refused};
 use nextest_config_elements_values::TestGroupConfig;
-use nextest_text::{Listing, Text};
+use nextest_text::Listing;
 use std::alloc::{AllocError, Global};
 use toml::{Table, Value};
 
@@ -82,9 +82,6 @@ fn name_of(alloc: Global, key: &str) -> Result<CustomTestGroup, ValueError>
 fn bad_name(alloc: Global, key: &str) -> Result<BadValue, AllocError>
     ensures { IfOk result (λ bad. bad.path.keys ≡ group_path key.now) }
 {
-    Ok(BadValue {
-        path: KeyPath::of_keys(alloc, &["test-groups", key], &[])?,
-        expected: "the name of a test group, an identifier",
-        found: Text::from(format!(in alloc; "{key:?}")?),
-    })
+    let path = KeyPath::of_keys(alloc, &["test-groups", key], &[])?;
+    BadValue::of_key(alloc, path, key, "the name of a test group, an identifier")
 }

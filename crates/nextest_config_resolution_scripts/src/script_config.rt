@@ -17,7 +17,7 @@ use nextest_config_elements_deserialize::DeserializeValue;
 use nextest_config_elements_identifiers::InvalidIdentifier;
 use nextest_config_elements_toml::{BadValue, KeyPath, ValueError, member, refused};
 use nextest_config_resolution_commands::{ScriptId, below};
-use nextest_text::{Listing, Text};
+use nextest_text::Listing;
 use std::alloc::{AllocError, Global};
 use std::fmt;
 use toml::{Table, Value};
@@ -311,9 +311,6 @@ fn id_of(alloc: Global, key: &str) -> Result<ScriptId, ValueError>
 fn bad_id(alloc: Global, key: &str) -> Result<BadValue, AllocError>
     ensures { IfOk result (λ bad. bad.path.keys ≡ []) }
 {
-    Ok(BadValue {
-        path: KeyPath::of_keys(alloc, &[], &[])?,
-        expected: "the name of a script, an identifier",
-        found: Text::from(format!(in alloc; "{key:?}")?),
-    })
+    let path = KeyPath::of_keys(alloc, &[], &[])?;
+    BadValue::of_key(alloc, path, key, "the name of a script, an identifier")
 }
