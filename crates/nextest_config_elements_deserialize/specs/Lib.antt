@@ -1,4 +1,5 @@
 pub mod Accepted
+pub mod Below
 pub mod Junit
 pub mod Keys
 pub mod Laws

@@ -20,6 +20,7 @@ mod text_values;
 mod threads;
 mod timeouts;
 mod values;
+mod values_below;
 mod words;
 
 pub use config_value::{ConfigValue, defaulted, optional, required, whole};
@@ -45,3 +46,4 @@ pub use timeouts::{
     deserialize_global_timeout, deserialize_leak_timeout, deserialize_slow_timeout,
 };
 pub use values::{Any, Positive};
+pub use values_below::{below, defaulted_value, optional_value, required_value};

@@ -10,7 +10,7 @@ use Rattle.nextest_config_elements_deserialize.proofs.Parts.{table_is, is_table}
 use Rattle.nextest_config_elements_deserialize.specs.Keys.{texts_of}
 use Rattle.nextest_config_elements_deserialize.specs.Tables.{IsTable}
 use Rattle.nextest_config_resolution_commands.specs.Accepted.{AreVariables, HasVariables, HasWords, IsCommand, IsCommandTable, IsPlainCommand, IsVariable}
-use Rattle.nextest_config_resolution_commands.specs.Below.{defaulted_by, required_by}
+use Rattle.nextest_config_elements_deserialize.specs.Below.{defaulted_by, required_by}
 use Rattle.nextest_config_resolution_commands.specs.Commands.{accepted_line, command_in, command_table, env_in, env_of, line_in, no_variables, plain_command, relative_to, variable_in, variables_in}
 use Rattle.nextest_config_resolution_commands.specs.Laws.{AcceptedCommand}
 use Rattle.nextest_config_resolution_commands.specs.Splitting.{words_of}

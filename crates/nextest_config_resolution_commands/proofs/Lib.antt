@@ -2,7 +2,6 @@ pub mod Accepting
 pub mod Bytes
 pub mod Characters
 pub mod Divided
-pub mod Giving
 pub mod Listed
 pub mod Pieced
 pub mod Stands

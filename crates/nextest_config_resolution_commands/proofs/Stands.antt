@@ -4,7 +4,7 @@ use Rattle.std.specs.Option.{option_map_or}
 use Rattle.toml.specs.Data.{Data, Members, get_member}
 use Rattle.nextest_config_elements_toml.specs.Reading.{Reading, under}
 use Rattle.nextest_config_resolution_commands.specs.Accepted.{MayBeOr, MustBe}
-use Rattle.nextest_config_resolution_commands.specs.Below.{defaulted_by, required_by}
+use Rattle.nextest_config_elements_deserialize.specs.Below.{defaulted_by, required_by}
 
 pub read_under : {A : Type 0} (key : List ℕ) (reading : Reading A) (x : A) → under key reading ≡ Ok x → reading ≡ Ok x
 read_under key (Ok y) x e = e

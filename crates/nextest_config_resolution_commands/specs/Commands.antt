@@ -6,7 +6,7 @@ use Rattle.toml.specs.Data.{Data, string, table, Members, no_members, member, as
 use Rattle.nextest_config_elements_toml.specs.Reading.{Reading, ◌>>=◌, defaulted, under}
 use Rattle.nextest_config_elements_deserialize.specs.Keys.{table_by, texts_of}
 use Rattle.nextest_config_elements_deserialize.specs.Words.{one_of}
-use Rattle.nextest_config_resolution_commands.specs.Below.{defaulted_by, required_by}
+use Rattle.nextest_config_elements_deserialize.specs.Below.{defaulted_by, required_by}
 use Rattle.nextest_config_resolution_commands.specs.Splitting.{words_of}
 use Rattle.nextest_config_resolution_commands.specs.declared.command_line.CommandLine.{CommandLine}
 use Rattle.nextest_config_resolution_commands.specs.declared.script_command.ScriptCommand.{ScriptCommand}

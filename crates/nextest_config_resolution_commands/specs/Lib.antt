@@ -1,5 +1,4 @@
 pub mod Accepted
-pub mod Below
 pub mod Commands
 pub mod Laws
 pub mod Programs

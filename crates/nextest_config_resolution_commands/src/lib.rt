@@ -8,12 +8,10 @@ mod reading;
 mod script_command;
 mod script_id;
 mod steps;
-mod values_below;
 mod variables;
 mod words;
 
 pub use reading::deserialize_script_command;
 pub use script_command::{ScriptCommand, ScriptCommandEnvMap, ScriptCommandRelativeTo};
 pub use script_id::ScriptId;
-pub use values_below::{below, defaulted_value, optional_value, required_value};
 pub use words::split_words;

@@ -6,8 +6,9 @@ ghost use Rattle.nextest_config_resolution_commands.specs.Commands as read;
 
 use crate::command_line::{CommandLine, line_in};
 use crate::script_command::{ScriptCommand, ScriptCommandEnvMap, ScriptCommandRelativeTo};
-use crate::values_below::{defaulted_value, required_value};
-use nextest_config_elements_deserialize::{Any, ConfigValue, DeserializeValue, defaulted};
+use nextest_config_elements_deserialize::{
+    Any, ConfigValue, DeserializeValue, defaulted, defaulted_value, required_value,
+};
 use nextest_config_elements_toml::ValueError;
 use nextest_text::Listing;
 use std::alloc::Global;

@@ -6,10 +6,9 @@ ghost use Rattle.nextest_config_elements_deserialize.specs.Paths.{GivesAt};
 
 use crate::bench::bench_at;
 use crate::junit::OverrideJunit;
-use crate::override_value::optional_value;
 use crate::platforms::OverridePlatforms;
 use nextest_config_elements_choices::{FlakyResult, TestOutputDisplay};
-use nextest_config_elements_deserialize::{Any, optional, optional_text};
+use nextest_config_elements_deserialize::{Any, optional, optional_text, optional_value};
 use nextest_config_elements_identifiers::TestGroup;
 use nextest_config_elements_toml::ValueError;
 use nextest_config_elements_values::{
@@ -87,11 +86,11 @@ pub(crate) fn junit_to_retries(
         (read.junit_to_retries (table_view table.now)) }
 {
     let path = ["profile", name, "overrides", place];
-    let junit = optional_value::<OverrideJunit>(alloc, name, place, table, "junit")?;
-    let leak_timeout = optional_value::<LeakTimeout>(alloc, name, place, table, "leak-timeout")?;
-    let platform = optional_value::<OverridePlatforms>(alloc, name, place, table, "platform")?;
+    let junit = optional_value::<OverrideJunit>(alloc, table, &path, "junit")?;
+    let leak_timeout = optional_value::<LeakTimeout>(alloc, table, &path, "leak-timeout")?;
+    let platform = optional_value::<OverridePlatforms>(alloc, table, &path, "platform")?;
     let priority = optional::<Any, TestPriority>(alloc, table, &path, "priority")?;
-    let retries = optional_value::<RetryPolicy>(alloc, name, place, table, "retries")?;
+    let retries = optional_value::<RetryPolicy>(alloc, table, &path, "retries")?;
     Ok(JunitToRetries {
         junit,
         leak_timeout,
@@ -113,10 +112,10 @@ pub(crate) fn args_to_threads(
         (read.args_to_threads (table_view table.now)) }
 {
     let path = ["profile", name, "overrides", place];
-    let arguments = optional_value::<Listing<Text>>(alloc, name, place, table, "run-extra-args")?;
-    let slow_timeout = optional_value::<SlowTimeout>(alloc, name, place, table, "slow-timeout")?;
+    let arguments = optional_value::<Listing<Text>>(alloc, table, &path, "run-extra-args")?;
+    let slow_timeout = optional_value::<SlowTimeout>(alloc, table, &path, "slow-timeout")?;
     let success_output = optional::<Any, TestOutputDisplay>(alloc, table, &path, "success-output")?;
-    let test_group = optional_value::<TestGroup>(alloc, name, place, table, "test-group")?;
+    let test_group = optional_value::<TestGroup>(alloc, table, &path, "test-group")?;
     let threads_required = optional::<Any, ThreadsRequired>(
         alloc,
         table,

@@ -17,7 +17,7 @@ use Rattle.nextest_config_elements_deserialize.specs.Values.{truth}
 use Rattle.nextest_config_resolution_commands.proofs.Accepting.{accepted_command}
 use Rattle.nextest_config_resolution_commands.proofs.Stands.{read_under, required_is, is_required, defaulted_is, is_defaulted}
 use Rattle.nextest_config_resolution_commands.specs.Accepted.{IsCommand, MayBeOr, MustBe}
-use Rattle.nextest_config_resolution_commands.specs.Below.{defaulted_by, required_by}
+use Rattle.nextest_config_elements_deserialize.specs.Below.{defaulted_by, required_by}
 use Rattle.nextest_config_resolution_commands.specs.Commands.{command_in}
 use Rattle.nextest_config_resolution_commands.specs.declared.script_command.ScriptCommand.{ScriptCommand}
 use Rattle.nextest_config_resolution_overrides.proofs.TableLaws.{platforms_is, is_platforms}

@@ -8,7 +8,7 @@ use Rattle.nextest_config_elements_deserialize.specs.Keys.{optional_by, table_by
 use Rattle.nextest_config_elements_deserialize.specs.Timeouts.{leak_timeout_in, slow_timeout_in}
 use Rattle.nextest_config_elements_deserialize.specs.Values.{truth}
 use Rattle.nextest_config_elements_deserialize.specs.Words.{one_of}
-use Rattle.nextest_config_resolution_commands.specs.Below.{defaulted_by, required_by}
+use Rattle.nextest_config_elements_deserialize.specs.Below.{defaulted_by, required_by}
 use Rattle.nextest_config_resolution_commands.specs.Commands.{command_in}
 use Rattle.nextest_config_resolution_overrides.specs.Groups.{name_of_identifier}
 use Rattle.nextest_config_resolution_scripts.specs.declared.script_config.NamedScript.{NamedScript}

@@ -13,10 +13,10 @@ ghost use Rattle.nextest_config_resolution_scripts.specs.Scripts.{kinds_in, old_
 
 use crate::setup_script::SetupScriptConfig;
 use crate::wrapper_script::WrapperScriptConfig;
-use nextest_config_elements_deserialize::DeserializeValue;
+use nextest_config_elements_deserialize::{DeserializeValue, below};
 use nextest_config_elements_identifiers::InvalidIdentifier;
 use nextest_config_elements_toml::{BadValue, KeyPath, ValueError, member, refused};
-use nextest_config_resolution_commands::{ScriptId, below};
+use nextest_config_resolution_commands::ScriptId;
 use nextest_text::Listing;
 use std::alloc::{AllocError, Global};
 use std::fmt;
@@ -268,7 +268,7 @@ fn scripts_in<T: DeserializeValue>(
 }
 
 // The script of a key of the table at a path.
-#[tactic(auto, using(nextest_config_resolution_commands::proofs::Giving::gives_below))]
+#[tactic(auto, using(nextest_config_elements_deserialize::proofs::Giving::gives_below))]
 fn script_at<T: DeserializeValue>(
     alloc: Global,
     key: &str,

@@ -8,9 +8,9 @@ ghost use Rattle.nextest_config_elements_deserialize.specs.Paths.{GivesAt, profi
 ghost use Rattle.nextest_config_resolution_scripts.specs.Paths.{script_rules_path};
 ghost use Rattle.nextest_config_resolution_scripts.specs.Rules.{items_in, names_of, one_name, script_rule_in, script_rules_at, script_rules_of, setup_at};
 
-use nextest_config_elements_deserialize::{DeserializeValue, optional_text};
+use nextest_config_elements_deserialize::{DeserializeValue, below, optional_text, optional_value};
 use nextest_config_elements_toml::{ValueError, member, refused};
-use nextest_config_resolution_commands::{ScriptId, below, optional_value};
+use nextest_config_resolution_commands::ScriptId;
 use nextest_config_resolution_overrides::OverridePlatforms;
 use nextest_text::{Listing, Text};
 use std::alloc::Global;
@@ -168,7 +168,7 @@ fn script_rule_in(
 }
 
 // The setup scripts that the table of a rule at a path names.
-#[tactic(auto, using(nextest_config_resolution_commands::proofs::Giving::gives_below))]
+#[tactic(auto, using(nextest_config_elements_deserialize::proofs::Giving::gives_below))]
 fn setup_at(alloc: Global, table: &Table, path: &[&str]) -> Result<Listing<ScriptId>, ValueError>
     ensures { Gives path.now result (setup_at (table_view table.now)) }
 {
@@ -216,7 +216,7 @@ fn items_in<T: DeserializeValue>(
 }
 
 // The item at a place of the list at a path.
-#[tactic(auto, using(nextest_config_resolution_commands::proofs::Giving::gives_below))]
+#[tactic(auto, using(nextest_config_elements_deserialize::proofs::Giving::gives_below))]
 fn item_at<T: DeserializeValue>(
     alloc: Global,
     place: usize,

@@ -7,12 +7,12 @@ ghost use Rattle.nextest_config_resolution_scripts.specs.Defined.{lets_through};
 ghost use Rattle.nextest_config_resolution_scripts.specs.Scripts.{has_all, junit_in, setup_script_in, slow_script, slow_script_in};
 
 use nextest_config_elements_choices::SlowTimeoutResult;
-use nextest_config_elements_deserialize::{Any, DeserializeValue, defaulted};
+use nextest_config_elements_deserialize::{
+    Any, DeserializeValue, defaulted, defaulted_value, optional_value, required_value,
+};
 use nextest_config_elements_toml::{ValueError, refused};
 use nextest_config_elements_values::{ConfigDuration, LeakTimeout, SlowTimeout};
-use nextest_config_resolution_commands::{
-    ScriptCommand, defaulted_value, optional_value, required_value,
-};
+use nextest_config_resolution_commands::ScriptCommand;
 use std::alloc::Global;
 use toml::{Table, Value};
 

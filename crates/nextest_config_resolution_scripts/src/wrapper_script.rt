@@ -5,9 +5,11 @@ ghost use Rattle.nextest_config_elements_toml.specs.Paths.{Gives};
 ghost use Rattle.nextest_config_elements_deserialize.specs.Keys.{table_by};
 ghost use Rattle.nextest_config_resolution_scripts.specs.Scripts.{wrapper_script_in};
 
-use nextest_config_elements_deserialize::{Any, ConfigValue, DeserializeValue, defaulted};
+use nextest_config_elements_deserialize::{
+    Any, ConfigValue, DeserializeValue, defaulted, required_value,
+};
 use nextest_config_elements_toml::{ValueError, refused};
-use nextest_config_resolution_commands::{ScriptCommand, required_value};
+use nextest_config_resolution_commands::ScriptCommand;
 use std::alloc::{AllocError, Global};
 use toml::{Table, Value};
 

@@ -8,12 +8,12 @@ ghost use Rattle.nextest_config_resolution_values.specs.Profile.{bench_in, confi
 use crate::bench::{ProfileBench, bench_of};
 use crate::junit::ProfileJunit;
 use crate::profile_config::ProfileConfig;
-use crate::profile_value::optional_value;
 use crate::settings::{ProfileOutput, ProfileRun, ProfileTest};
 use crate::spans::{
     DefaultToFinal, FlakyToInherits, LeakToSlow, StatusToThreads, default_to_final,
     flaky_to_inherits, leak_to_slow, status_to_threads,
 };
+use nextest_config_elements_deserialize::optional_value;
 use nextest_config_elements_toml::{ValueError, member, refused};
 use std::alloc::Global;
 use toml::{Table, Value};
@@ -33,7 +33,7 @@ pub fn deserialize_profile(
     let bench = bench_in(alloc, name, table)?;
     let first = default_to_final(alloc, name, table)?;
     let second = flaky_to_inherits(alloc, name, table)?;
-    let junit = optional_value::<ProfileJunit>(alloc, name, table, "junit")?;
+    let junit = optional_value::<ProfileJunit>(alloc, table, &["profile", name], "junit")?;
     let third = leak_to_slow(alloc, name, table)?;
     let last = status_to_threads(alloc, name, table)?;
     Ok(config_of(bench, first, second, junit, third, last))

@@ -3,11 +3,10 @@ ghost use Rattle.toml.specs.View.{table_view};
 ghost use Rattle.nextest_config_elements_deserialize.specs.Paths.{GivesAt, profile_path};
 ghost use Rattle.nextest_config_resolution_values.specs.Profile as read;
 
-use crate::profile_value::optional_value;
 use nextest_config_elements_choices::{
     FinalStatusLevel, FlakyResult, MaxFail, StatusLevel, TestOutputDisplay,
 };
-use nextest_config_elements_deserialize::{Any, optional, optional_text};
+use nextest_config_elements_deserialize::{Any, optional, optional_text, optional_value};
 use nextest_config_elements_toml::ValueError;
 use nextest_config_elements_values::{
     GlobalTimeout, LeakTimeout, RetryPolicy, SlowTimeout, TestThreads, ThreadsRequired,
@@ -63,7 +62,7 @@ pub(crate) fn default_to_final(
 {
     let path = ["profile", name];
     let default_filter = optional_text(alloc, table, &path, "default-filter")?;
-    let fail_fast = optional_value::<MaxFail>(alloc, name, table, "fail-fast")?;
+    let fail_fast = optional_value::<MaxFail>(alloc, table, &path, "fail-fast")?;
     let failure_output = optional::<Any, TestOutputDisplay>(alloc, table, &path, "failure-output")?;
     let final_status_level = optional::<Any, FinalStatusLevel>(
         alloc,
@@ -91,7 +90,7 @@ pub(crate) fn flaky_to_inherits(
 {
     let path = ["profile", name];
     let flaky_result = optional::<Any, FlakyResult>(alloc, table, &path, "flaky-result")?;
-    let global_timeout = optional_value::<GlobalTimeout>(alloc, name, table, "global-timeout")?;
+    let global_timeout = optional_value::<GlobalTimeout>(alloc, table, &path, "global-timeout")?;
     let inherits = optional_text(alloc, table, &path, "inherits")?;
     Ok(FlakyToInherits {
         flaky_result,
@@ -109,10 +108,11 @@ pub(crate) fn leak_to_slow(
 ) -> Result<LeakToSlow, ValueError>
     ensures { GivesAt (profile_path name.now) result (read.leak_to_slow (table_view table.now)) }
 {
-    let leak_timeout = optional_value::<LeakTimeout>(alloc, name, table, "leak-timeout")?;
-    let retries = optional_value::<RetryPolicy>(alloc, name, table, "retries")?;
-    let run_extra_args = optional_value::<Listing<Text>>(alloc, name, table, "run-extra-args")?;
-    let slow_timeout = optional_value::<SlowTimeout>(alloc, name, table, "slow-timeout")?;
+    let path = ["profile", name];
+    let leak_timeout = optional_value::<LeakTimeout>(alloc, table, &path, "leak-timeout")?;
+    let retries = optional_value::<RetryPolicy>(alloc, table, &path, "retries")?;
+    let run_extra_args = optional_value::<Listing<Text>>(alloc, table, &path, "run-extra-args")?;
+    let slow_timeout = optional_value::<SlowTimeout>(alloc, table, &path, "slow-timeout")?;
     Ok(LeakToSlow {
         leak_timeout,
         retries,

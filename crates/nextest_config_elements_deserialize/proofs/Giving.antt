@@ -6,7 +6,7 @@ use Rattle.nextest_config_elements_toml.specs.Paths.{Gives, at, texts}
 use Rattle.nextest_config_elements_toml.specs.Reading.{Path, Reading, under}
 use Rattle.nextest_config_elements_toml.specs.declared.value_error.ValueError.{ValueError}
 use Rattle.nextest_config_elements_toml.specs.declared.value_error.ValueError.TheVariants as error
-use Rattle.nextest_config_resolution_commands.specs.Below.{IsBelow}
+use Rattle.nextest_config_elements_deserialize.specs.Below.{IsBelow}
 
 -- a path and a key in front of where a reading refuses
 told_below : {A : Type 0} (path : Path) (key : List ℕ) (inner keys : Path) (reading : Reading A)

@@ -4,10 +4,10 @@ ghost use Rattle.toml.specs.Data.{get_member};
 ghost use Rattle.toml.specs.View.{table_view, view};
 ghost use Rattle.nextest_config_elements_toml.specs.Paths.{Gives, IsExpected, texts};
 ghost use Rattle.nextest_config_elements_toml.specs.Reading.{under};
+ghost use Rattle.nextest_config_elements_deserialize.specs.Below.{IsBelow, defaulted_by, required_by};
 ghost use Rattle.nextest_config_elements_deserialize.specs.Keys.{optional_by};
-ghost use Rattle.nextest_config_resolution_commands.specs.Below.{IsBelow, defaulted_by, required_by};
 
-use nextest_config_elements_deserialize::DeserializeValue;
+use crate::deserialize_value::DeserializeValue;
 use nextest_config_elements_toml::{KeyPath, ValueError, member, refused_below};
 use std::alloc::{AllocError, Global};
 use toml::{Table, Value};
