@@ -1,12 +1,19 @@
 -- The parts of a stream: its first line, and the log behind it.
-use Rattle.std.proofs.Common.{◌≡◌, ℕ, ◌≤◌, List, [], ◌∷◌, ◌++◌, Option, Some, None, IfSome, Result, Ok, Err, refl, sym, ap, ◌∙◌, subst, inl, inr, append_assoc, append-nil}
+use Rattle.std.proofs.Common.{◌≡◌, ℕ, ◌≤◌, List, [], ◌∷◌, ◌++◌, Option, Some, None, IfSome, Result, Ok, Err, refl, sym, ap, ◌∙◌, subst, inl, inr, append_assoc, append-nil, ◌<◌, ◌&&◌, Bool, false, cond, length, nat_le, arith}
 use Rattle.std.specs.Prelude.{◌⊎◌}
 use Rattle.std.specs.Result.{IsErrAnd}
+use Rattle.std.proofs.lemmas.Bool.Decides.{nat_tests}
 use Rattle.std.proofs.lemmas.Result.{err_from_is_err_and}
+use Rattle.std.specs.Option.{option_map_or}
+use Rattle.std.specs.Str.{is_utf8}
+use Rattle.serde_json.specs.Data.{Data}
+use Rattle.serde_json.specs.Read.{read}
 use Rattle.test_runner_core_streams.specs.Left.{OfBytes}
-use Rattle.test_runner_core_inputs.specs.Reading.{read_inputs}
+use Rattle.test_runner_core_inputs.specs.Given.{max_inputs_len, value_of}
+use Rattle.test_runner_core_inputs.specs.Reading.{inputs_of, read_inputs, refused_at}
 use Rattle.test_runner_core_inputs.specs.declared.inputs.Inputs.{Inputs}
 use Rattle.test_runner_core_inputs.specs.declared.inputs_error.InputsRefusal.{InputsRefusal}
+use Rattle.test_runner_core_inputs.specs.declared.inputs_error.InputsRefusal.TheVariants as inputs_as
 use Rattle.test_runner_core_log_reader.proofs.FirstLine.{before_line, behind_line, divides}
 use Rattle.test_runner_core_log_reader.proofs.Left.{gives_consumed, gives_some}
 use Rattle.test_runner_core_log_reader.specs.Calls.{GetsPlain, IsParted, PartsAtFirst}
@@ -14,6 +21,7 @@ use Rattle.test_runner_core_log_reader.specs.Cursor.{Cursor, items_ahead}
 use Rattle.test_runner_core_log_reader.specs.Feeds.{IsPlain, before_feed, behind_feed}
 use Rattle.test_runner_core_log_reader.specs.declared.fault.LogFault.{LogFault}
 use Rattle.test_runner_core_log_reader.specs.declared.fault.LogFault.TheVariants as unread
+use Rattle.test_runner_core_log_reader.specs.declared.limits.TheConstants.{FIRST_LINE_LIMIT}
 use Rattle.test_runner_core_log_reader.specs.Items.{Item, items, whole_lines}
 use Rattle.test_runner_core_planning.specs.Plan.{Plans}
 use Rattle.test_runner_core_planning.specs.declared.plan_fault.PlanFault.{PlanFault}
@@ -98,6 +106,17 @@ pub refused_parts : (refusal : InputsRefusal) (left rest : Option (List ℕ)) (l
     → OfBytes left (λ bytes. read_inputs (before_feed bytes) ≡ Err refusal)
 refused_parts refusal left rest lines parted read =
     let some = gives_some rest in let at = parted some.0 some.1 in (at.0, at.1, ap read_inputs (sym at.2.0) ∙ read)
+
+-- bytes that are too many are no inputs
+too_many : (bytes : List ℕ) → FIRST_LINE_LIMIT < length bytes → read_inputs bytes ≡ Err inputs_as.Syntax
+too_many bytes many =
+    let unfit : nat_le (length bytes) max_inputs_len ≡ false = grind (arith, nat_tests) in
+    let none : value_of bytes ≡ None = ap (λ (fits : Bool). cond (fits && is_utf8 bytes) (read bytes) None) unfit in
+    ap (λ (value : Option Data). option_map_or (λ given. refused_at (inputs_of given)) value (Err inputs_as.Syntax)) none
+
+-- so is a first line
+pub refused_long : (left : Option (List ℕ)) → OfBytes left (λ bytes. FIRST_LINE_LIMIT < length (before_feed bytes)) → OfBytes left (λ bytes. read_inputs (before_feed bytes) ≡ Err inputs_as.Syntax)
+refused_long left (bytes, gives, many) = (bytes, gives, too_many (before_feed bytes) many)
 
 -- where the first line can't be got, or there is no memory for it, nothing is reported
 pub got_nothing : (left rest : Option (List ℕ)) → GetsPlain left rest → OfLeft left (λ bytes. OfLeft rest (λ behind. StreamGotTo bytes behind []))

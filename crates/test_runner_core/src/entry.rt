@@ -113,29 +113,6 @@ pub fn judge_stream<R: LogReader, W: ReportWriter>(
     ensures write_failures { CountsWriteFailures result (W.failures report.old)
         (W.failures report.new) (W.last_failed report.new) }
 {
-    stream_reported(alloc, input, report)
-}
-
-// Does what `judge_stream` does: what follows from the report alone is said there.
-fn stream_reported<R: LogReader, W: ReportWriter>(
-    alloc: Global,
-    input: &mut R,
-    report: &mut W,
-) -> Result<u8, JudgeFault>
-    requires calls_fit { R.calls input.old < 2 ^ 62 }
-    requires failures_fit { R.failures input.old < 2 ^ 62 }
-    requires writes_fit { W.failures report.old < 2 ^ 62 }
-    ensures reports { ReportsStream result (R.left input.old) (R.left input.new)
-        (W.taken report.old) (W.taken report.new) }
-    ensures status { IfOk result IsStatus }
-    ensures unread { IfSome (R.left input.old) (λ bytes. HasNoPlan (read_inputs (before_feed bytes))
-        → R.calls input.new ≤ R.calls input.old + first_line_reads) }
-    ensures reads { R.calls input.new ≤ R.calls input.old + first_line_reads + log_reads }
-    ensures read_failures { CountsReadFailures result (R.failures input.old) (R.failures input.new)
-        (R.last_failed input.new) }
-    ensures write_failures { CountsWriteFailures result (W.failures report.old)
-        (W.failures report.new) (W.last_failed report.new) }
-{
     let Some(mut lines) = LogLines::behind_first_line(alloc, input)? else {
         return refuse_inputs(alloc, &InputsRefusal::Syntax, report);
     };
