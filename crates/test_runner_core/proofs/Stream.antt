@@ -6,11 +6,9 @@ use Rattle.std.proofs.lemmas.Bool.Decides.{nat_tests}
 use Rattle.std.proofs.lemmas.Result.{err_from_is_err_and}
 use Rattle.std.specs.Option.{option_map_or}
 use Rattle.std.specs.Str.{is_utf8}
-use Rattle.serde_json.specs.Data.{Data}
-use Rattle.serde_json.specs.Read.{read}
 use Rattle.test_runner_core_streams.specs.Left.{OfBytes}
 use Rattle.test_runner_core_inputs.specs.Given.{max_inputs_len, value_of}
-use Rattle.test_runner_core_inputs.specs.Reading.{inputs_of, read_inputs, refused_at}
+use Rattle.test_runner_core_inputs.specs.Reading.{read_inputs}
 use Rattle.test_runner_core_inputs.specs.declared.inputs.Inputs.{Inputs}
 use Rattle.test_runner_core_inputs.specs.declared.inputs_error.InputsRefusal.{InputsRefusal}
 use Rattle.test_runner_core_inputs.specs.declared.inputs_error.InputsRefusal.TheVariants as inputs_as
@@ -107,12 +105,19 @@ pub refused_parts : (refusal : InputsRefusal) (left rest : Option (List ℕ)) (l
 refused_parts refusal left rest lines parted read =
     let some = gives_some rest in let at = parted some.0 some.1 in (at.0, at.1, ap read_inputs (sym at.2.0) ∙ read)
 
+-- what is not to be read is none, whatever it would be
+unread_is_none : {A : Type 0} (fits utf8 : Bool) (it : Option A) → fits ≡ false → cond (fits && utf8) it None ≡ None
+unread_is_none fits utf8 it unfit = ap (λ (b : Bool). cond (b && utf8) it None) unfit
+
+-- and what is made of none is what stands in its place
+made_of_none : {A B : Type 0} (made : A → B) (it : Option A) (otherwise : B) → it ≡ None → option_map_or made it otherwise ≡ otherwise
+made_of_none made it otherwise none = ap (λ (it : Option _). option_map_or made it otherwise) none
+
 -- bytes that are too many are no inputs
 too_many : (bytes : List ℕ) → FIRST_LINE_LIMIT < length bytes → read_inputs bytes ≡ Err inputs_as.Syntax
 too_many bytes many =
     let unfit : nat_le (length bytes) max_inputs_len ≡ false = grind (arith, nat_tests) in
-    let none : value_of bytes ≡ None = ap (λ (fits : Bool). cond (fits && is_utf8 bytes) (read bytes) None) unfit in
-    ap (λ (value : Option Data). option_map_or (λ given. refused_at (inputs_of given)) value (Err inputs_as.Syntax)) none
+    made_of_none _ (value_of bytes) (Err inputs_as.Syntax) (unread_is_none (nat_le (length bytes) max_inputs_len) (is_utf8 bytes) _ unfit)
 
 -- so is a first line
 pub refused_long : (left : Option (List ℕ)) → OfBytes left (λ bytes. FIRST_LINE_LIMIT < length (before_feed bytes)) → OfBytes left (λ bytes. read_inputs (before_feed bytes) ≡ Err inputs_as.Syntax)
