@@ -83,7 +83,7 @@ FILTERSET = r"(test(~a) | test(/x\d+$/)) & !test(#*slow*{_b\,_c}) & (package(p*)
 
 
 def ruled(count):
-    """Tests of 300 binaries under the first overrides of bench/overrides.py, three groups, a default filter, a setup script and a filterset."""
+    """Tests of 300 binaries under so many overrides of bench/overrides.py, three groups, a default filter, a setup script and a filterset."""
     given = overrides.inputs(range(overrides.BINARIES), count, BESIDE_RULES.format(count))
     return json.dumps({**given, "filterset": FILTERSET}, separators=(",", ":"))
 
@@ -101,9 +101,13 @@ LOADS = {
     "flaky": ("1,000 tests that fail at first, 64 KiB of output each, then pass", lambda: flaky(1_000, 65_536)),
     "failing": ("1,000 tests that fail, 64 KiB of output each, all written", lambda: loads.failing(65_536)),
     "planned": ("300,000 tests of 300 binaries, planned, no log", lambda: (of_binaries(300_000, False)[0], "")),
+    "filtered": ("300,000 tests of 300 binaries under a filterset and a default filter, planned, no log; the plain program with `regex`", lambda: (ruled(0), "")),
     "ruled": ("300,000 tests of 300 binaries under 20 overrides and two filters, planned, no log", lambda: (ruled(20), "")),
     "regex": ("the same, the plain program with `regex`", lambda: (ruled(20), "")),
 }
+
+# Those in which the plain program has the crate `regex`.
+WITH_REGEX = ["filtered", "regex"]
 
 MANIFEST = """[package]
 name = "plain"
@@ -125,7 +129,7 @@ directory = "/usr/share/cargo/registry"
 def build_with_regex(room):
     """The plain program with the crate `regex` of Debian's packages, built in this folder."""
     folder = room / "with-regex"
-    shutil.copytree(ROOT / "bench/plain", folder)
+    shutil.copytree(ROOT / "bench/plain", folder, dirs_exist_ok=True)
     (folder / "Cargo.toml").write_text(MANIFEST)
     (folder / ".cargo").mkdir()
     (folder / ".cargo/config.toml").write_text(DEBIAN)
@@ -149,7 +153,7 @@ class Took:
 
 
 def compare(room, program, name, runs):
-    plain = build_with_regex(room) if name == "regex" else room / "plain"
+    plain = build_with_regex(room) if name in WITH_REGEX else room / "plain"
     shown, make = LOADS[name]
     inputs, log = make()
     (room / "load").write_text(f"{inputs}\n{log}")

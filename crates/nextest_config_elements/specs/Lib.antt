@@ -23,6 +23,7 @@ pub use Rattle.nextest_config_elements_values.specs.Laws as PriorityLaws
 pub use Rattle.nextest_config_elements_values.specs.Priority
 pub use Rattle.nextest_config_elements_values.specs.Retries
 pub use Rattle.nextest_config_elements_values.specs.Threads
+pub use Rattle.nextest_config_elements_values.specs.Timeouts
 -- reading: what a value is by its key, and where the first thing stands that is none
 pub use Rattle.nextest_config_elements_toml.specs.Paths
 pub use Rattle.nextest_config_elements_toml.specs.Reading
@@ -35,7 +36,7 @@ pub use Rattle.nextest_config_elements_deserialize.specs.Names
 pub use Rattle.nextest_config_elements_deserialize.specs.Priority as PriorityReadings
 pub use Rattle.nextest_config_elements_deserialize.specs.Retries as RetryReadings
 pub use Rattle.nextest_config_elements_deserialize.specs.Threads as ThreadReadings
-pub use Rattle.nextest_config_elements_deserialize.specs.Timeouts
+pub use Rattle.nextest_config_elements_deserialize.specs.Timeouts as TimeoutReadings
 pub use Rattle.nextest_config_elements_deserialize.specs.Values
 pub use Rattle.nextest_config_elements_deserialize.specs.Words
 -- versions and features: what sources ask for, what counts, what a version is by it

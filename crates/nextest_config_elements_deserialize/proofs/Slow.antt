@@ -9,7 +9,8 @@ use Rattle.nextest_config_elements_choices.specs.declared.timeouts.SlowTimeoutRe
 use Rattle.nextest_config_elements_toml.specs.Reading.{Reading, ◌>>=◌, leaf, required, optional, defaulted}
 use Rattle.nextest_config_elements_deserialize.specs.Accepted.{IsSlowTable}
 use Rattle.nextest_config_elements_deserialize.specs.Laws.{AcceptedSlowTimeout}
-use Rattle.nextest_config_elements_deserialize.specs.Timeouts.{ten_seconds, only_period, plain_slow, slow_in}
+use Rattle.nextest_config_elements_values.specs.Timeouts.{slow_after, ten_seconds}
+use Rattle.nextest_config_elements_deserialize.specs.Timeouts.{plain_slow, slow_in}
 use Rattle.nextest_config_elements_deserialize.specs.Values.{positive, duration, positive_duration}
 use Rattle.nextest_config_elements_deserialize.specs.Words.{slow_result}
 use Rattle.nextest_config_elements_deserialize.proofs.Keys.{taken, step, leaf_is, is_leaf, required_has, has_required, defaulted_has, has_defaulted, optional_has, has_optional}
@@ -58,18 +59,18 @@ table_read members timeout is =
 
 -- a period alone
 read_plain : (given : Data) (timeout : SlowTimeout) → plain_slow given ≡ Ok timeout
-    → (period : ConfigDuration) × (positive_duration given ≡ Some period) × (timeout ≡ only_period period)
+    → (period : ConfigDuration) × (positive_duration given ≡ Some period) × (timeout ≡ slow_after period)
 read_plain given timeout e =
-    let period = taken (leaf positive_duration given) (λ (it : ConfigDuration). Ok (only_period it)) timeout e in
-    (period.between, leaf_is (positive_duration given) period.between period.read, ok_is timeout (only_period period.between) period.on)
+    let period = taken (leaf positive_duration given) (λ (it : ConfigDuration). Ok (slow_after it)) timeout e in
+    (period.between, leaf_is (positive_duration given) period.between period.read, ok_is timeout (slow_after period.between) period.on)
   where
     ok_is : (one other : SlowTimeout) → ◌≡◌ {A = Reading SlowTimeout} (Ok other) (Ok one) → one ≡ other
     ok_is one other e = cc
 
-plain_read : (given : Data) (timeout : SlowTimeout) → (period : ConfigDuration) × (positive_duration given ≡ Some period) × (timeout ≡ only_period period)
+plain_read : (given : Data) (timeout : SlowTimeout) → (period : ConfigDuration) × (positive_duration given ≡ Some period) × (timeout ≡ slow_after period)
     → plain_slow given ≡ Ok timeout
 plain_read given timeout is =
-    step (leaf positive_duration given) (λ (it : ConfigDuration). Ok (only_period it)) is.0 (is_leaf (positive_duration given) is.0 is.1)
+    step (leaf positive_duration given) (λ (it : ConfigDuration). Ok (slow_after it)) is.0 (is_leaf (positive_duration given) is.0 is.1)
     ∙ ap Ok (sym is.2)
 
 pub accepted_slow_timeout : AcceptedSlowTimeout

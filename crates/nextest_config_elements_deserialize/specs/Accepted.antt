@@ -8,7 +8,7 @@ use Rattle.nextest_config_elements_values.specs.declared.timeouts.SlowTimeout.{S
 use Rattle.nextest_config_elements_values.specs.declared.config_duration.ConfigDuration.{ConfigDuration}
 use Rattle.nextest_config_elements_choices.specs.declared.timeouts.SlowTimeoutResult.TheVariants as slow
 use Rattle.nextest_config_elements_deserialize.specs.Retries.{no_delay}
-use Rattle.nextest_config_elements_deserialize.specs.Timeouts.{ten_seconds, only_period}
+use Rattle.nextest_config_elements_values.specs.Timeouts.{slow_after, ten_seconds}
 use Rattle.nextest_config_elements_deserialize.specs.Values.{number_32, positive_32, positive, truth, duration, positive_duration}
 use Rattle.nextest_config_elements_deserialize.specs.Words.{slow_result}
 
@@ -70,4 +70,4 @@ pub record IsSlowTable (members : Members) (timeout : SlowTimeout) : Type 0 wher
 -- a value is a slow timeout: a table that sets it, or its period alone
 abbrev pub IsSlowTimeout : Data → SlowTimeout → Type 0
 IsSlowTimeout (table members) timeout = IsSlowTable members timeout
-IsSlowTimeout given timeout = (period : ConfigDuration) × (positive_duration given ≡ Some period) × (timeout ≡ only_period period)
+IsSlowTimeout given timeout = (period : ConfigDuration) × (positive_duration given ≡ Some period) × (timeout ≡ slow_after period)

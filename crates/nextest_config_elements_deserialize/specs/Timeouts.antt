@@ -1,29 +1,21 @@
 -- How long something may take: a duration alone, or a table.
-use Rattle.std.specs.Prelude.{codes, None, Ok}
+use Rattle.std.specs.Prelude.{codes, Ok}
 use Rattle.toml.specs.Data.{Data, table, Members}
+use Rattle.nextest_config_elements_values.specs.Timeouts.{slow_after, ten_seconds}
 use Rattle.nextest_config_elements_values.specs.declared.timeouts.SlowTimeout.{SlowTimeout}
 use Rattle.nextest_config_elements_values.specs.declared.timeouts.LeakTimeout.{LeakTimeout}
 use Rattle.nextest_config_elements_values.specs.declared.timeouts.GlobalTimeout.{GlobalTimeout}
-use Rattle.nextest_config_elements_values.specs.declared.config_duration.ConfigDuration.{ConfigDuration}
 use Rattle.nextest_config_elements_choices.specs.declared.timeouts.LeakTimeoutResult.TheVariants as leak
 use Rattle.nextest_config_elements_choices.specs.declared.timeouts.SlowTimeoutResult.TheVariants as slow
 use Rattle.nextest_config_elements_toml.specs.Reading.{Reading, ◌>>=◌, leaf, required, optional, defaulted}
 use Rattle.nextest_config_elements_deserialize.specs.Values.{positive, duration, positive_duration}
 use Rattle.nextest_config_elements_deserialize.specs.Words.{leak_result, slow_result}
 
--- the grace period where none is set
-abbrev pub ten_seconds : ConfigDuration
-ten_seconds = record { nanos = 10_000_000_000 }
-
--- only a period: nothing is ended
-abbrev pub only_period : ConfigDuration → SlowTimeout
-only_period period = record { period = period; terminate_after = None; grace_period = ten_seconds; on_timeout = slow.Fail }
-
 -- a text is a period alone
 abbrev pub plain_slow : Data → Reading SlowTimeout
 plain_slow given = do
   period ← leaf positive_duration given
-  Ok (only_period period)
+  Ok (slow_after period)
 
 -- a table has a period, and may have the rest
 abbrev pub slow_in : Members → Reading SlowTimeout

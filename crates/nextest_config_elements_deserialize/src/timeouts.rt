@@ -30,24 +30,12 @@ pub fn deserialize_slow_timeout(
     }
 }
 
-// The grace period where none is set.
-fn ten_seconds() -> ConfigDuration
-    ensures { result ≡ read.ten_seconds }
-{
-    ConfigDuration::from_nanos(10_000_000_000)
-}
-
 // Only a period.
 fn plain_slow(alloc: Global, value: &Value, path: &[&str]) -> Result<SlowTimeout, ValueError>
     ensures { Gives path.now result (read.plain_slow (view value.now)) }
 {
     let period = whole::<Positive, ConfigDuration>(alloc, value, path)?;
-    Ok(SlowTimeout {
-        period,
-        terminate_after: None,
-        grace_period: ten_seconds(),
-        on_timeout: SlowTimeoutResult::Fail,
-    })
+    Ok(SlowTimeout::after(period))
 }
 
 // What a table says.
@@ -59,7 +47,7 @@ fn slow_in(alloc: Global, table: &Table, path: &[&str]) -> Result<SlowTimeout, V
         table,
         path,
         "grace-period",
-        ten_seconds(),
+        SlowTimeout::default_grace_period(),
     )?;
     let fail = SlowTimeoutResult::Fail;
     let on_timeout = defaulted::<Any, SlowTimeoutResult>(alloc, table, path, "on-timeout", fail)?;

@@ -8,3 +8,4 @@ pub mod Laws
 pub mod Priority
 pub mod Retries
 pub mod Threads
+pub mod Timeouts

@@ -1,4 +1,7 @@
 // How long something may take.
+ghost use Rattle.std.specs.Prelude.{◌≡◌};
+ghost use Rattle.nextest_config_elements_values.specs.Timeouts as timeouts;
+
 use crate::config_duration::ConfigDuration;
 use nextest_config_elements_choices::{LeakTimeoutResult, SlowTimeoutResult};
 
@@ -14,6 +17,27 @@ pub struct SlowTimeout {
     pub grace_period: ConfigDuration,
     /// What becomes of one that is ended so.
     pub on_timeout: SlowTimeoutResult,
+}
+
+impl SlowTimeout {
+    /// Slow after a period, and never ended for that.
+    pub fn after(period: ConfigDuration) -> SlowTimeout
+        ensures { result ≡ timeouts.slow_after period }
+    {
+        SlowTimeout {
+            period,
+            terminate_after: None,
+            grace_period: SlowTimeout::default_grace_period(),
+            on_timeout: SlowTimeoutResult::Fail,
+        }
+    }
+
+    /// The grace period where none is set: ten seconds.
+    pub fn default_grace_period() -> ConfigDuration
+        ensures { result ≡ timeouts.ten_seconds }
+    {
+        ConfigDuration::from_nanos(10_000_000_000)
+    }
 }
 
 /// How long handles may stay open behind a process that ended.

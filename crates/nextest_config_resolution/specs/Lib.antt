@@ -165,6 +165,7 @@ pub use Rattle.nextest_config_resolution_sources.specs.declared.paths.ConfigPath
 pub use Rattle.nextest_config_resolution_sources.specs.declared.source.ConfigSource
 pub use Rattle.nextest_config_resolution_sources.specs.declared.source.ConfigSourceOutcome
 pub use Rattle.nextest_config_resolution_merge.specs.declared.merged_tree.MergedTree
+pub use Rattle.nextest_config_resolution_merge.specs.declared.stands_at.StandsAt
 pub use Rattle.nextest_config_resolution_values.specs.declared.bench.ProfileBench
 pub use Rattle.nextest_config_resolution_values.specs.declared.profile_config.ProfileConfig
 pub use Rattle.nextest_config_resolution_values.specs.declared.junit.ProfileJunit

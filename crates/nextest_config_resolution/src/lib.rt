@@ -68,6 +68,7 @@ pub use nextest_config_resolution_load::RuleId;
 pub use nextest_config_resolution_load::load;
 pub use nextest_config_resolution_load::load_with_warnings;
 pub use nextest_config_resolution_merge::MergedTree;
+pub use nextest_config_resolution_merge::StandsAt;
 pub use nextest_config_resolution_overrides::NamedGroup;
 pub use nextest_config_resolution_overrides::OverrideConfig;
 pub use nextest_config_resolution_overrides::OverrideId;

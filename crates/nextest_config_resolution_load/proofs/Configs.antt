@@ -1,9 +1,7 @@
 -- Profiles and the store together.
 use Rattle.std.proofs.Common.{◌≡◌, ℕ, List, [], ◌∷◌, map, codes, Option, Ok, Err, refl, sym, ap, ◌∙◌, subst, nat_cmp}
-use Rattle.std.proofs.lemmas.Bool.{false≢true}
 use Rattle.std.specs.Cmp.Lexicographic.{slice_cmp}
 use Rattle.std.specs.List.Sorted.{IsStrictlySortedBy}
-use Rattle.std.specs.Result.{is_ok}
 use Rattle.toml.specs.Data.{table, Members, get_member}
 use Rattle.nextest_config_elements_toml.specs.Reading.{Reading, ◌>>=◌}
 use Rattle.nextest_config_elements_toml.specs.declared.bad_value.BadValue.{BadValue}

@@ -1,7 +1,7 @@
 -- What rules name is defined, in what sources come to.
-use Rattle.std.proofs.Common.{◌≡◌, ℕ, Bool, true, false, List, [], ◌∷◌, ◌++◌, Option, None, Some, Ok, refl, sym, ap, ◌∙◌, subst, append-nil}
-use Rattle.std.specs.Prelude.{reverse, ⊤}
-use Rattle.std.specs.List.{AllByRecursion, AllZip, flat_map}
+use Rattle.std.proofs.Common.{◌≡◌, ℕ, Bool, true, false, List, [], ◌∷◌, ◌++◌, Option, None, Some, refl, sym, ap, ◌∙◌, subst, append-nil}
+use Rattle.std.specs.Prelude.{reverse}
+use Rattle.std.specs.List.{AllByRecursion, flat_map}
 use Rattle.std.specs.Option.{IfSome}
 use Rattle.std.proofs.lemmas.Grind.{flat_map-append}
 use Rattle.std.proofs.lemmas.List.{reverse-append}
@@ -12,14 +12,13 @@ use Rattle.nextest_config_elements_toml.specs.Reading.{Reading}
 use Rattle.nextest_config_elements_versions.specs.declared.feature.FeatureSet.{FeatureSet}
 use Rattle.nextest_config_resolution_load.specs.Checks.{Check, MergedConfig, Refusal, default_checks, inheritance, merged_checks, must_hold, named_checks, parents_of, rules_of_source, rules_upward, script_rules_upward, unknown_group, unknown_script, unknown_wrapper}
 use Rattle.nextest_config_resolution_load.specs.Laws.{GroupsAreDefined, HasGroup, HasScripts, IsFound, ScriptsAreDefined}
-use Rattle.nextest_config_resolution_load.specs.Load.{AreReadBy, IsFilterBy, IsKept, IsLoadedAs, IsReadBy, IsSpecBy, merged_of}
+use Rattle.nextest_config_resolution_load.specs.Load.{AreReadBy, IsFilterBy, IsKept, IsLoadedAs, IsSpecBy, merged_of}
 use Rattle.nextest_config_resolution_load.specs.Rules.{Conditions, conditions_of, group_checks, group_checks_of, has_script, is_defined, script_checks, script_conditions_of, setup_check, wrapper_check}
 use Rattle.nextest_config_resolution_load.specs.declared.loaded_config.LoadedConfig.{LoadedConfig}
 use Rattle.nextest_config_resolution_load.specs.declared.loaded_rule.LoadedRule.{LoadedRule}
 use Rattle.nextest_config_resolution_load.proofs.Kept.{kept_before, kept_behind, kept_merged}
 use Rattle.nextest_config_resolution_overrides.specs.declared.groups.NamedGroup.{NamedGroup}
 use Rattle.nextest_config_resolution_overrides.specs.declared.override_id.OverrideId.{OverrideId}
-use Rattle.nextest_config_resolution_overrides.specs.declared.placed_override.PlacedOverride.{PlacedOverride}
 use Rattle.nextest_config_resolution_scripts.proofs.Finding.{named_is_found}
 use Rattle.nextest_config_resolution_scripts.specs.declared.script_config.NamedScript.{NamedScript}
 use Rattle.nextest_config_resolution_scripts.specs.declared.script_config.ScriptConfig.{ScriptConfig}

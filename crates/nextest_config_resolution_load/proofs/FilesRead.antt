@@ -1,6 +1,5 @@
 -- How a file is read, profile by profile.
-use Rattle.std.proofs.Common.{◌≡◌, ℕ, List, [], ◌∷◌, ◌++◌, Ok, Err, String, Global, string_bytes, nat_cmp, refl, sym, ap, ◌∙◌, get_or}
-use Rattle.std.proofs.lemmas.List.{append_assoc}
+use Rattle.std.proofs.Common.{◌≡◌, ℕ, List, [], ◌∷◌, ◌++◌, Ok, Err, String, Global, string_bytes, nat_cmp, refl, sym, ap, ◌∙◌}
 use Rattle.std.specs.Cmp.Lexicographic.{slice_cmp}
 use Rattle.std.specs.Ordering.{match_ordering}
 use Rattle.std.specs.declared.cmp.Ordering.{Ordering}
@@ -8,7 +7,7 @@ use Rattle.std.specs.declared.cmp.Ordering.TheVariants.{Less, Equal, Greater}
 use Rattle.toml.specs.View.{members_view, view}
 use Rattle.toml.specs.declared.value.Value.{Value}
 use Rattle.nextest_config_elements_toml.specs.Paths.{at}
-use Rattle.nextest_config_elements_toml.specs.Reading.{Path, Reading, ◌>>=◌, under}
+use Rattle.nextest_config_elements_toml.specs.Reading.{Path, Reading}
 use Rattle.nextest_config_elements_toml.specs.declared.bad_value.BadValue.{BadValue}
 use Rattle.nextest_config_elements_deserialize.specs.Paths.{profile_path}
 use Rattle.nextest_config_resolution_load.specs.File.{by_keys, first_key, first_path, rules_of_profile, profiles_in_file}

@@ -1,29 +1,27 @@
 -- The profiles of a merged tree, one after another.
-use Rattle.std.proofs.Common.{◌≡◌, ◌==◌, ◌<◌, ◌≤◌, get_or, ℕ, Bool, true, false, List, [], ◌∷◌, ◌++◌, map, codes, length, Bor, Option, None, Some, Ok, Err, refl, sym, ap, ◌∙◌, subst, append_assoc, append-nil, arith, nat_cmp, Less}
+use Rattle.std.proofs.Common.{◌≡◌, ◌<◌, ◌≤◌, get_or, ℕ, Bool, true, false, List, [], ◌∷◌, ◌++◌, map, codes, length, Option, None, Some, Ok, Err, refl, sym, ap, ◌∙◌, subst, append_assoc, append-nil, arith, nat_cmp, Less}
 use Rattle.std.proofs.lemmas.Bool.{false≢true, true≢false}
 use Rattle.std.proofs.lemmas.List.{get_or-map, length-map}
 use Rattle.std.specs.Bool.{⊤}
-use Rattle.std.proofs.lemmas.Bool.Decides.{nat_tests}
 use Rattle.std.specs.Cmp.Lexicographic.{slice_cmp}
 use Rattle.std.specs.List.{AllByRecursion}
 use Rattle.std.specs.List.Sorted.{IsStrictlySortedBy}
 use Rattle.std.specs.Result.{is_ok}
 use Rattle.toml.specs.Data.{Data, string, integer, float, boolean, datetime, array, table, Members, no_members, member, get_member}
 use Rattle.nextest_config_elements_toml.specs.Reading.{Path, Reading, under}
-use Rattle.nextest_config_elements_toml.specs.Paths.{texts}
+use Rattle.nextest_config_elements_toml.specs.Paths.{IsRefusedAt}
 use Rattle.nextest_config_elements_toml.specs.declared.value_error.ValueError.{ValueError}
 use Rattle.nextest_config_elements_toml.specs.declared.value_error.ValueError.TheVariants as value_error
 use Rattle.nextest_config_resolution_load.specs.Load.{named_of}
 use Rattle.nextest_config_resolution_load.specs.Reading.{GivesSeen, profile_at}
 use Rattle.nextest_config_resolution_load.specs.declared.loaded_config.NamedProfile.{NamedProfile}
 use Rattle.nextest_config_resolution_merge.specs.Nesting.{OfSorted}
-use Rattle.nextest_config_resolution_merge.specs.Tree.{get_path, keys, keys_in, IsBefore, AreSorted}
+use Rattle.nextest_config_resolution_merge.specs.Tree.{get_path, is_leaf, keys, IsBefore, AreSorted}
 use Rattle.nextest_config_resolution_merge.proofs.Keys.{same_key, turned}
 use Rattle.nextest_config_resolution_values.specs.File.{Named, profiles_at, profiles_in, profiles_of}
 use Rattle.nextest_config_elements_deserialize.specs.Paths.{profile_path}
 use Rattle.nextest_config_resolution_values.specs.Profile.{profile_of}
 use Rattle.nextest_config_resolution_values.specs.declared.profile_config.ProfileConfig.{ProfileConfig}
-use Rattle.nextest_config_resolution_load.proofs.Tops.{only_some}
 
 -- profiles behind others
 abbrev pub after : List Named → Reading (List Named) → Reading (List Named)
@@ -108,11 +106,9 @@ one_refused done name given more path e = by_parts (profile_of given) refl e whe
       ap (λ keys. Err keys) (ap (path_or path) (sym is ∙ e))
 
 -- what a profile's path leads to
-pub member_path : (name : List ℕ) (top all : Members) (given : Data) → get_path (codes "profile" ∷ []) (table top) ≡ Some (table all) → get_member name all ≡ Some given
+pub member_path : (name : List ℕ) (top all : Members) (given : Data) → get_member (codes "profile") top ≡ Some (table all) → get_member name all ≡ Some given
     → get_path (profile_path name) (table top) ≡ Some given
-member_path name top all given at found =
-    let there : get_member (codes "profile") top ≡ Some (table all) = sym (only_some (get_member (codes "profile") top)) ∙ at in
-    rw (there, found) refl
+member_path name top all given at found = rw (at, found) refl
 
 -- the first name that is left
 abbrev first_or : List ℕ → List (List ℕ) → List ℕ
@@ -170,47 +166,25 @@ ends done all it = by_left it.left it.keyed it.rest where
   by_left no_members e rest = rest ∙ ap Ok (append-nil done)
   by_left (member name given more) e rest = absurd (false≢true (ap is_none e))
 
-pub no_keys : (members : Members) → keys members ≡ [] → profiles_in members ≡ Ok []
-no_keys no_members e = refl
-no_keys (member name given more) e = absurd (false≢true (ap is_none e))
+-- a leaf is no table of profiles
+leaf_refused : (leaf : Data) → is_leaf leaf ≡ true → profiles_of (Some leaf) ≡ Err []
+leaf_refused (table members) e = absurd (false≢true e)
+leaf_refused (string text) e = refl
+leaf_refused (integer number) e = refl
+leaf_refused (float number) e = refl
+leaf_refused (boolean truth) e = refl
+leaf_refused (datetime time) e = refl
+leaf_refused (array items) e = refl
 
--- where there are keys there is a table
-pub record IsTableAt (found : Option Data) : Type 0 where
-  pub members : Members
-  pub is : found ≡ Some (table members)
-
-pub has_table : (found : Option Data) (names : List (List ℕ)) → names ≡ keys_in found → (names ≡ [] → ⊥) → IsTableAt found
-has_table None names e some = absurd (some e)
-has_table (Some (table members)) names e some = record { members = members; is = refl }
-has_table (Some (string text)) names e some = absurd (some e)
-has_table (Some (integer number)) names e some = absurd (some e)
-has_table (Some (float number)) names e some = absurd (some e)
-has_table (Some (boolean truth)) names e some = absurd (some e)
-has_table (Some (datetime time)) names e some = absurd (some e)
-has_table (Some (array items)) names e some = absurd (some e)
-
-pub profiles_there : (top all : Members) → get_path (codes "profile" ∷ []) (table top) ≡ Some (table all)
-    → under (codes "profile") (profiles_of (get_member (codes "profile") top)) ≡ under (codes "profile") (profiles_in all)
-profiles_there top all at = ap (λ found. under (codes "profile") (profiles_of found)) (sym (only_some (get_member (codes "profile") top)) ∙ at)
+pub leaf_seen : (told : ValueError) (found : Option Data) (leaf : Data) → found ≡ Some leaf → is_leaf leaf ≡ true → IsRefusedAt (codes "profile" ∷ []) told
+    → GivesSeen (map named_of) (Err told) (under (codes "profile") (profiles_of found))
+leaf_seen (value_error.Refused bad) found leaf e leafy at = rw (e, leaf_refused leaf leafy, at) refl
+leaf_seen value_error.OutOfMemory found leaf e leafy at = tt
 
 pub stops_seen : (name : List ℕ) (names : List (List ℕ)) (done : List Named) (all : Members) (it : Next name names done all) (told : ValueError)
     → GivesSeen named_of (Err told) (profile_at name it.given) → GivesSeen (map named_of) (Err told) (under (codes "profile") (profiles_in all))
 stops_seen name names done all it (value_error.Refused bad) e = stops name names done all it bad.path.keys e
 stops_seen name names done all it value_error.OutOfMemory e = tt
-
-abbrev is_nil : List (List ℕ) → Bool
-is_nil [] = true
-is_nil (text ∷ texts) = false
-
-pub some_texts : (names : List (Bor (List ℕ))) → (length names ≡ 0 → ⊥) → texts names ≡ [] → ⊥
-some_texts [] some none = some refl
-some_texts (name ∷ names) some none = absurd (false≢true (ap is_nil none))
-
-pub no_names : (names : List (Bor (List ℕ))) → length names == 0 ≡ true → texts names ≡ []
-no_names [] e = refl
-no_names (name ∷ names) e =
-    let none : (length (name ∷ names) == 0) ≡ false = grind (arith, nat_tests) in
-    absurd (false≢true (sym none ∙ e))
 
 -- the names of what is read are the keys
 abbrev named_in : Reading (List Named) → List (List ℕ) → List (List ℕ)

@@ -1,18 +1,17 @@
 -- The files of some sources, one after another.
-use Rattle.std.proofs.Common.{◌≡◌, ℕ, ◌+◌, ◌<◌, ◌≤◌, length, get_or, take, map, List, [], ◌∷◌, ◌++◌, Option, None, Some, flat_map, filter_map, refl, sym, ap, ◌∙◌, subst, append-nil, arith}
+use Rattle.std.proofs.Common.{◌≡◌, ℕ, ◌+◌, ◌<◌, ◌≤◌, length, get_or, take, map, List, [], ◌∷◌, ◌++◌, Option, None, Some, flat_map, filter_map, refl, sym, ap, ◌∙◌, subst, append-nil}
 use Rattle.std.proofs.lemmas.List.{take_all}
 use Rattle.std.proofs.lemmas.List.Elements.{filter_map-append}
 use Rattle.std.proofs.lemmas.Grind.{flat_map-append}
 use Rattle.std.specs.Borrow.{Bor}
-use Rattle.std.specs.List.{AllByRecursion, cons_option}
+use Rattle.std.specs.List.{cons_option}
 use Rattle.std.specs.Option.{option_to_list}
 use Rattle.toml.specs.Data.{Members}
-use Rattle.nextest_config_resolution_load.specs.Checks.{file_of, source_checks}
+use Rattle.nextest_config_resolution_load.specs.Checks.{file_of}
 use Rattle.nextest_config_resolution_load.specs.Files.{members_in, warnings_of_file}
-use Rattle.nextest_config_resolution_load.specs.Load.{IsFilterBy, IsKept, IsSpecBy}
-use Rattle.nextest_config_resolution_load.specs.Reading.{AreReadFiles, AreRulesOf, IsReadFile}
+use Rattle.nextest_config_resolution_load.specs.Load.{IsFilterBy, IsSpecBy}
+use Rattle.nextest_config_resolution_load.specs.Reading.{AreReadFiles, AreRulesOf}
 use Rattle.nextest_config_resolution_load.specs.Warn.{warnings_at, warnings_for}
-use Rattle.nextest_config_resolution_load.specs.declared.placed_file.PlacedFile.{PlacedFile}
 use Rattle.nextest_config_resolution_load.specs.declared.placed_file.ReadFiles.{ReadFiles}
 use Rattle.nextest_config_resolution_load.proofs.Passing.{taken_more}
 use Rattle.nextest_config_resolution_sources.specs.declared.source.ConfigSource.{ConfigSource}

@@ -1,10 +1,11 @@
 -- What stands at the keys of a merged tree, and how it is read.
 use Rattle.std.proofs.Common.{◌≡◌, ℕ, List, [], ◌∷◌, Option, None, Some, Result, Ok, Err, option_map, Bor, refl, sym, ap, ◌∙◌, subst}
 use Rattle.std.specs.Option.{option_and_then, option_copied}
+use Rattle.std.specs.Result.{IsErrAnd}
 use Rattle.toml.specs.Data.{Data}
 use Rattle.toml.specs.View.{view}
 use Rattle.toml.specs.declared.value.Value.{Value}
-use Rattle.nextest_config_elements_toml.specs.Reading.{Path, Reading, under}
+use Rattle.nextest_config_elements_toml.specs.Reading.{Reading, under}
 use Rattle.nextest_config_elements_toml.specs.Paths.{at, Gives}
 use Rattle.nextest_config_elements_toml.specs.declared.bad_value.BadValue.{BadValue}
 use Rattle.nextest_config_elements_toml.specs.declared.value_error.ValueError.{ValueError}
@@ -38,3 +39,9 @@ pub seen_at : {A : Type 0} (key : List ℕ) (result : Result A ValueError) (read
 seen_at key (Ok x) reading e = ap (under key) e
 seen_at key (Err (value_error.Refused bad)) reading e = sym (at_key key reading) ∙ e
 seen_at key (Err value_error.OutOfMemory) reading e = tt
+
+-- what is refused further down, handed on
+pub handed_on : {A B : Type 0} (view : A → B) (result : Result A ValueError) (told : ValueError) (reading : Reading B) → IsErrAnd result (λ error. error ≡ told)
+    → GivesSeen view (Err told) reading → GivesSeen view result reading
+handed_on view (Ok x) told reading is given = absurd is
+handed_on view (Err error) told reading is given = subst (λ it. GivesSeen view (Err it) reading) (sym is) given

@@ -1,5 +1,5 @@
 -- How checks are gone through: all are kept, or the first that is broken is told.
-use Rattle.std.specs.Prelude.{◌≡◌, ℕ, List, [], ◌∷◌, Result, Ok, Err, ⊤}
+use Rattle.std.specs.Prelude.{◌≡◌, ℕ, List, Result, Ok, Err, ⊤}
 use Rattle.std.specs.List.{AllByRecursion}
 use Rattle.nextest_config_resolution_load.specs.Checks.{Check, Refusal}
 use Rattle.nextest_config_resolution_load.specs.Load.{BreaksFirst, IsFilterBy, IsKept, IsSpecBy, reason_of}

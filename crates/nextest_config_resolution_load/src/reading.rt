@@ -1,13 +1,14 @@
 // What a merged tree says.
 ghost use Rattle.std.specs.Prelude.{◌≡◌, [], ◌∷◌, codes, map, option_map, Some};
-ghost use Rattle.toml.specs.Data.{Data, table, Members};
-ghost use Rattle.toml.specs.View.{table_view, view};
+ghost use Rattle.toml.specs.Data.{Data, table, get_member, Members};
+ghost use Rattle.toml.specs.View.{view};
+ghost use Rattle.nextest_config_elements_toml.specs.Paths.{texts};
 ghost use Rattle.nextest_config_elements_toml.specs.Reading.{under};
 ghost use Rattle.nextest_config_resolution_overrides.specs.Groups.{groups_at};
 ghost use Rattle.nextest_config_resolution_scripts.specs.Scripts.{scripts_at};
-ghost use Rattle.nextest_config_resolution_merge.specs.Tree.{get_path, keys, keys_in};
+ghost use Rattle.nextest_config_resolution_merge.specs.Tree.{get_path, keys};
 ghost use Rattle.nextest_config_resolution_merge.specs.Whole.{IsTree};
-ghost use Rattle.nextest_config_resolution_values.specs.File.{profiles_at, profiles_in, profiles_of, store_dir_at};
+ghost use Rattle.nextest_config_resolution_values.specs.File.{profiles_at, profiles_in, store_dir_at};
 ghost use Rattle.nextest_config_elements_deserialize.specs.Paths.{profile_path};
 ghost use Rattle.nextest_config_resolution_load.specs.Checks.{config_in};
 ghost use Rattle.nextest_config_resolution_load.specs.Load.{named_of};
@@ -15,40 +16,29 @@ ghost use Rattle.nextest_config_resolution_load.specs.Reading.{GivesSeen, profil
 
 use crate::loaded_config::{NamedProfile, ReadConfig};
 use nextest_config_elements_toml::{ValueError, refused};
-use nextest_config_resolution_merge::MergedTree;
+use nextest_config_resolution_merge::{MergedTree, StandsAt};
 use nextest_config_resolution_overrides::{NamedGroup, deserialize_test_groups};
 use nextest_config_resolution_scripts::{ScriptConfig, deserialize_scripts};
 use nextest_config_resolution_values::{deserialize_profile_value, deserialize_store_dir};
 use nextest_text::{Listing, Text};
 use std::alloc::Global;
-use toml::{Table, Value};
+use toml::Value;
 
 // What a tree says of profiles, scripts, the store and groups.
 pub(crate) fn read_config(alloc: Global, tree: &MergedTree<'_>) -> Result<ReadConfig, ValueError>
     ensures { (top : Members) → IsTree tree.now (table top)
         → GivesSeen values_of result (config_in top) }
 {
-    let profiles = match read_profiles(alloc, tree) {
-        Ok(profiles) => profiles,
-        Err(error) => return Err(error),
-    };
-    let scripts = match read_scripts(alloc, tree) {
-        Ok(scripts) => scripts,
-        Err(error) => return Err(error),
-    };
-    let store_dir = match read_store_dir(alloc, tree) {
-        Ok(store_dir) => store_dir,
-        Err(error) => return Err(error),
-    };
-    match read_groups(alloc, tree) {
-        Ok(groups) => Ok(ReadConfig {
-            profiles,
-            groups,
-            scripts,
-            store_dir,
-        }),
-        Err(error) => Err(error),
-    }
+    let profiles = read_profiles(alloc, tree)?;
+    let scripts = read_scripts(alloc, tree)?;
+    let store_dir = read_store_dir(alloc, tree)?;
+    let groups = read_groups(alloc, tree)?;
+    Ok(ReadConfig {
+        profiles,
+        groups,
+        scripts,
+        store_dir,
+    })
 }
 
 // The scripts.
@@ -83,50 +73,29 @@ fn read_profiles(alloc: Global, tree: &MergedTree<'_>) -> Result<Listing<NamedPr
     ensures { (top : Members) → IsTree tree.now (table top)
         → GivesSeen (map named_of) result (profiles_at top) }
 {
-    let found = tree.keys_at(alloc, &["profile"])?;
-    let names = found.as_slice();
-    if names.is_empty() {
-        return read_none(alloc, tree);
+    match tree.at(alloc, &["profile"])? {
+        StandsAt::Nothing => Ok(Listing::new(alloc)),
+        StandsAt::Leaf(other) => Err(refused(alloc, &["profile"], Some(other), "a table")),
+        StandsAt::Table(names) => read_each(alloc, tree, names.as_slice()),
     }
+}
+
+// The profiles of a table, which has them under these names.
+fn read_each(
+    alloc: Global,
+    tree: &MergedTree<'_>,
+    names: &[&str],
+) -> Result<Listing<NamedProfile>, ValueError>
+    ensures { (top all : Members) → IsTree tree.now (table top)
+        → get_member (codes "profile") top ≡ Some (table all) → texts names.now ≡ keys all
+        → GivesSeen (map named_of) result (under (codes "profile") (profiles_in all)) }
+{
     let mut profiles = Listing::new(alloc);
     for name in names {
-        match read_profile(alloc, tree, name) {
-            Ok(profile) => profiles.push(profile)?,
-            Err(error) => return Err(error),
-        }
+        let profile = read_profile(alloc, tree, name)?;
+        profiles.push(profile)?;
     }
     Ok(profiles)
-}
-
-// What there is where no profile stands.
-fn read_none(alloc: Global, tree: &MergedTree<'_>) -> Result<Listing<NamedProfile>, ValueError>
-    ensures { (top : Members)
-        → IsTree tree.now (table top) → keys_in (get_path (codes "profile" ∷ []) (table top)) ≡ []
-        → GivesSeen (map named_of) result (profiles_at top) }
-{
-    let found = tree.value_at(alloc, &["profile"])?;
-    no_profiles(alloc, found.as_ref())
-}
-
-// What there is by what stands where profiles would, which has no key.
-fn no_profiles(alloc: Global, found: Option<&Value>) -> Result<Listing<NamedProfile>, ValueError>
-    ensures { keys_in (option_map (λ it. view it.now) found.entry) ≡ []
-        → GivesSeen (map named_of) result
-        (under (codes "profile") (profiles_of (option_map (λ it. view it.now) found.entry))) }
-{
-    match found {
-        None => Ok(Listing::new(alloc)),
-        Some(Value::Table(members)) => no_members(alloc, members),
-        Some(other) => Err(refused(alloc, &["profile"], Some(other), "a table")),
-    }
-}
-
-// What there is by a table that has no key.
-fn no_members(alloc: Global, members: &Table) -> Result<Listing<NamedProfile>, ValueError>
-    ensures { keys (table_view members.now) ≡ [] → GivesSeen (map named_of) result
-        (under (codes "profile") (profiles_in (table_view members.now))) }
-{
-    Ok(Listing::new(alloc))
 }
 
 // The profile of a name.

@@ -1,16 +1,16 @@
 -- The keys of a table, by its ends.
-use Rattle.std.proofs.Common.{◌≡◌, ℕ, suc, ◌-◌, true, false, List, [], ◌∷◌, ◌++◌, map, length, slice_get, Option, None, Some, option_map, is_some, cond, refl, sym, ap, ◌∙◌, subst, arith, append_assoc, append-nil, Bor, Less}
+use Rattle.std.proofs.Common.{◌≡◌, ℕ, suc, ◌-◌, true, false, List, [], ◌∷◌, ◌++◌, map, length, slice_get, Some, option_map, is_some, cond, refl, sym, ap, ◌∙◌, subst, arith, append_assoc, append-nil, Bor, Less}
 use Rattle.std.specs.Bool.{⊤}
 use Rattle.std.specs.Option.{option_map_or}
 use Rattle.std.specs.Ordering.{is_eq}
 use Rattle.std.specs.Str.{bytes_eq}
 use Rattle.std.proofs.lemmas.Bool.{false≢true}
 use Rattle.std.proofs.lemmas.Map.Text.{is_eq-slice_cmp}
-use Rattle.toml.specs.Data.{Data, string, integer, float, boolean, datetime, array, table, Members, no_members, member}
+use Rattle.toml.specs.Data.{table, Members, no_members, member}
 use Rattle.nextest_config_elements_toml.specs.Paths.{texts}
 use Rattle.nextest_config_elements_toml.specs.Reading.{Path}
-use Rattle.nextest_config_resolution_merge.specs.Nesting.{OfSorted, last_key, is_last, first_keys_of, shorter}
-use Rattle.nextest_config_resolution_merge.specs.Tree.{End, along, behind, ends, ends_at, members_ends, keys, keys_in, IsBefore, IsSorted, AreSorted}
+use Rattle.nextest_config_resolution_merge.specs.Nesting.{last_key, is_last, first_keys_of, shorter}
+use Rattle.nextest_config_resolution_merge.specs.Tree.{End, along, behind, ends, ends_at, members_ends, keys, IsBefore, AreSorted}
 use Rattle.nextest_config_resolution_merge.proofs.Keys.{key_cmp, same_key}
 use Rattle.nextest_config_resolution_merge.proofs.Nested.{drop_along}
 use Rattle.nextest_config_resolution_merge.proofs.Walk.{Begins, some_end}
@@ -73,17 +73,11 @@ begins_new : (members : Members) → IsNew [] members
 begins_new no_members = tt
 begins_new (member key value more) = refl
 
-gathered_ends : (tree : Data) → IsSorted tree → first_keys_of [] (ends tree) ≡ keys_in (Some tree)
-gathered_ends (table (member key value more)) sorted = gathered_members [] (member key value more) sorted refl
-gathered_ends (table no_members) sorted = refl
-gathered_ends (string text) sorted = refl
-gathered_ends (integer number) sorted = refl
-gathered_ends (float number) sorted = refl
-gathered_ends (boolean truth) sorted = refl
-gathered_ends (datetime time) sorted = refl
-gathered_ends (array items) sorted = refl
+gathered_ends : (members : Members) → AreSorted members → first_keys_of [] (ends (table members)) ≡ keys members
+gathered_ends (member key value more) sorted = gathered_members [] (member key value more) sorted refl
+gathered_ends no_members sorted = refl
 
--- what is gathered of the ends at a path are the keys of what stands there
-pub keys_found : (path : Path) (found : Option Data) → OfSorted found → first_keys_of [] (map (shorter (length path)) (map (along path) (ends_at found))) ≡ keys_in found
-keys_found path None sorted = refl
-keys_found path (Some tree) sorted = ap (first_keys_of []) (drop_along path (ends tree)) ∙ gathered_ends tree sorted
+-- what is gathered of the ends at a path are the keys of the table there
+pub keys_found : (path : Path) (members : Members) → AreSorted members
+    → first_keys_of [] (map (shorter (length path)) (map (along path) (ends_at (Some (table members))))) ≡ keys members
+keys_found path members sorted = ap (first_keys_of []) (drop_along path (ends (table members))) ∙ gathered_ends members sorted

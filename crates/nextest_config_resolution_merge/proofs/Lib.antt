@@ -9,5 +9,6 @@ pub mod Flattened
 pub mod Runs
 pub mod Nested
 pub mod Gathered
+pub mod Seen
 pub mod Looked
 pub mod Standings

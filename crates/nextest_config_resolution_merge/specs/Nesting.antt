@@ -1,10 +1,10 @@
 -- The table that ends make up.
-use Rattle.std.specs.Prelude.{ℕ, Bool, false, List, [], ◌∷◌, ◌++◌, length, drop, map, nat_le, Option, None, Some, ⊤, if◌then◌else◌}
+use Rattle.std.specs.Prelude.{ℕ, Bool, false, ◌&&◌, List, [], ◌∷◌, ◌++◌, length, drop, map, nat_le, Option, None, Some, ⊤, if◌then◌else◌}
 use Rattle.std.specs.Option.{option_map_or}
 use Rattle.std.specs.Str.{bytes_eq}
 use Rattle.toml.specs.Data.{Data, table, Members, no_members, get_member}
 use Rattle.nextest_config_elements_toml.specs.Reading.{Path}
-use Rattle.nextest_config_resolution_merge.specs.Tree.{End, with_member, IsSorted}
+use Rattle.nextest_config_resolution_merge.specs.Tree.{End, with_member, is_leaf, IsSorted}
 
 -- an end without the first keys of its path
 abbrev pub shorter : ℕ → End → End
@@ -34,6 +34,10 @@ OfSorted (Some tree) = IsSorted tree
 -- what some ends stand for below so many keys, by the first of them
 abbrev pub value_by : ℕ → End → List End → Data
 value_by depth first all = if nat_le (length first.0) depth then first.1 else table (nest (map (shorter depth) all))
+
+-- what an end stands for below so many keys, if its path has no more and it is no table
+abbrev pub leaf_at : ℕ → End → Option Data
+leaf_at depth end = if nat_le (length end.0) depth && is_leaf end.1 then Some end.1 else None
 
 -- the last of some keys
 abbrev pub last_key : List (List ℕ) → Option (List ℕ)

@@ -42,14 +42,10 @@ abbrev pub ends_at : Option Data → List End
 ends_at (Some tree) = ends tree
 ends_at None = []
 
--- the keys of a table; anything else has none
+-- the keys of a table
 abbrev pub keys : Members → List (List ℕ)
 keys no_members = []
 keys (member key value more) = key ∷ keys more
-
-abbrev pub keys_in : Option Data → List (List ℕ)
-keys_in (Some (table members)) = keys members
-keys_in other = []
 
 -- the members with another value at a key
 abbrev pub with_member : List ℕ → Data → Members → Members

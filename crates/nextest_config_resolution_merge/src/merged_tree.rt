@@ -6,7 +6,8 @@ use crate::entry::Entry;
 use crate::flattening::push_table;
 use crate::look_up::run;
 use crate::merging::joined;
-use crate::reading_back::{keys_in, value_in};
+use crate::reading_back::{standing_in, value_in};
+use crate::stands_at::StandsAt;
 use std::alloc::{AllocError, Global};
 use toml::{Table, Value};
 
@@ -24,8 +25,8 @@ impl<'a> MergedTree<'a> {
     ghost use Rattle.toml.specs.Data.{Data, table};
     ghost use Rattle.toml.specs.View.{view, table_view};
     ghost use Rattle.nextest_config_elements_toml.specs.Paths.{texts};
-    ghost use Rattle.nextest_config_resolution_merge.specs.Tree.{over, get_path, keys_in};
-    ghost use Rattle.nextest_config_resolution_merge.specs.Whole.{IsTree};
+    ghost use Rattle.nextest_config_resolution_merge.specs.Tree.{over, get_path};
+    ghost use Rattle.nextest_config_resolution_merge.specs.Whole.{IsSeenAs, IsTree};
 
     /// The tree of one file. It fails only on allocation.
     pub fn from_table(alloc: Global, members: &'a Table) -> Result<MergedTree<'a>, AllocError>
@@ -58,13 +59,12 @@ impl<'a> MergedTree<'a> {
         value_in(alloc, run(self.entries.as_slice(), path), path.len())
     }
 
-    /// The keys of the table at a path, by their bytes; none where no table stands. It fails only
-    /// on allocation.
-    pub fn keys_at(&self, alloc: Global, path: &[&str]) -> Result<Vec<&'a str>, AllocError>
+    /// What stands at a path; of a table, its keys. It takes a time that is linear in all that
+    /// stands below the path, but for the search for it. It fails only on allocation.
+    pub fn at(&self, alloc: Global, path: &[&str]) -> Result<StandsAt<'a>, AllocError>
         ensures { (tree : Data) → IsTree self.now tree
-            → IfOk result (λ it. texts it.items ≡ keys_in (get_path (texts path.now) tree)) }
+            → IfOk result (IsSeenAs (get_path (texts path.now) tree)) }
     {
-        let keys = keys_in(alloc, run(self.entries.as_slice(), path), path.len())?;
-        Ok(keys)
+        standing_in(alloc, run(self.entries.as_slice(), path), path.len())
     }
 }

@@ -7,9 +7,11 @@ ghost use Rattle.nextest_config_elements_toml.specs.Reading.{Path};
 ghost use Rattle.nextest_config_resolution_merge.specs.Entries.{end_of};
 ghost use Rattle.nextest_config_resolution_merge.specs.Nesting as words;
 ghost use Rattle.nextest_config_resolution_merge.specs.Tree.{along, ends_at};
+ghost use Rattle.nextest_config_resolution_merge.specs.Whole.{IsSeenAs};
 
-use crate::entry::Entry;
+use crate::entry::{Ending, Entry};
 use crate::rebuilding::{rebuilt, value_of};
+use crate::stands_at::StandsAt;
 use std::alloc::{AllocError, Global};
 use toml::Value;
 
@@ -45,12 +47,39 @@ fn value_from(
     Ok(Value::Table(rebuilt(alloc, run, depth)?))
 }
 
-// The first keys below so many, each once.
-pub(crate) fn keys_in<'a>(
+// What the entries stand for whose paths lead to it by so many keys.
+pub(crate) fn standing_in<'a>(
     alloc: Global,
     run: &[Entry<'a>],
     depth: usize,
-) -> Result<Vec<&'a str>, AllocError>
+) -> Result<StandsAt<'a>, AllocError>
+    ensures { (path : Path) (found : Option Data) → length path ≡ depth
+        → words.OfSorted found → map end_of run.now ≡ map (along path) (ends_at found)
+        → IfOk result (IsSeenAs found) }
+{
+    let Some((first, _)) = run.split_first() else {
+        return Ok(StandsAt::Nothing);
+    };
+    match leaf_at(first, depth) {
+        Some(value) => Ok(StandsAt::Leaf(value)),
+        None => Ok(StandsAt::Table(keys_in(alloc, run, depth)?)),
+    }
+}
+
+// What an entry ends in, if that is no table and its path has no more than so many keys.
+fn leaf_at<'a>(entry: &Entry<'a>, depth: usize) -> Option<&'a Value>
+    ensures { option_map (λ it. view it.now) result ≡ words.leaf_at depth (end_of entry.now) }
+{
+    let is_above = !entry.path.way().behind(depth).is_empty();
+    match &entry.ending {
+        Ending::Leaf(Value::Table(_)) | Ending::EmptyTable => None,
+        Ending::Leaf(_) if is_above => None,
+        Ending::Leaf(value) => Some(*value),
+    }
+}
+
+// The first keys below so many, each once.
+fn keys_in<'a>(alloc: Global, run: &[Entry<'a>], depth: usize) -> Result<Vec<&'a str>, AllocError>
     ensures { IfOk result (λ it.
         texts it.items ≡ words.first_keys_of [] (map (words.shorter depth) (map end_of run.now))) }
 {

@@ -6,7 +6,6 @@ pub mod Enabling
 pub mod Ending
 pub mod Filtered
 pub mod Inheriting
-pub mod Putting
 pub mod Found
 pub mod Holding
 pub mod Keeping

@@ -1,17 +1,10 @@
 -- Tables that are made of rows.
 use Rattle.std.specs.Prelude.{ℕ, List, fold}
 use denote.Ref.{Bor}
-use Rattle.std.specs.Cmp.Lexicographic.{slice_cmp}
-use Rattle.std.specs.Ordering.{nat_cmp, match_ordering}
-use Rattle.toml.specs.Data.{Data, string, integer, boolean, array, no_items, Members, no_members, member}
+use Rattle.toml.specs.Data.{Data, string, integer, boolean, array, no_items, Members, no_members}
+use Rattle.nextest_config_resolution_merge.specs.Tree.{with_member}
 use Rattle.nextest_config_resolution_profiles.specs.declared.rows.Plain.{Plain}
 use Rattle.nextest_config_resolution_profiles.specs.declared.rows.Plain.TheVariants.{Text, Number, Flag, NoItems}
-
--- the members with a value at a key, in the order of the keys
-abbrev pub put_member : List ℕ → Data → Members → Members
-put_member key value no_members = member key value no_members
-put_member key value (member other old more) =
-    match_ordering (slice_cmp nat_cmp key other) (member key value (member other old more)) (member other value more) (member other old (put_member key value more))
 
 -- a value without members
 abbrev pub data_of : Plain → Data
@@ -25,7 +18,7 @@ abbrev pub Row : Type 0
 Row = Bor (List ℕ) × Plain
 
 abbrev pub put_row : Members → Row → Members
-put_row members row = put_member row.0.now (data_of row.1) members
+put_row members row = with_member row.0.now (data_of row.1) members
 
 -- the table of some rows
 abbrev pub members_in : List Row → Members

@@ -2,7 +2,8 @@
 ghost use Rattle.std.specs.Prelude.{◌≡◌, IfOk, OnOk};
 ghost use Rattle.toml.specs.Data.{table};
 ghost use Rattle.toml.specs.View.{table_view, view};
-ghost use Rattle.nextest_config_resolution_profiles.specs.Rows.{data_of, members_in, put_member};
+ghost use Rattle.nextest_config_resolution_merge.specs.Tree.{with_member};
+ghost use Rattle.nextest_config_resolution_profiles.specs.Rows.{data_of, members_in};
 
 use std::alloc::{AllocError, Global};
 use toml::value::Array;
@@ -41,7 +42,7 @@ pub(crate) fn put_table(
     inner: Table,
 ) -> Result<(), AllocError>
     ensures { OnOk result (table_view into.new
-        ≡ put_member key.now (table (table_view inner)) (table_view into.old)) }
+        ≡ with_member key.now (table (table_view inner)) (table_view into.old)) }
 {
     put(alloc, into, key, Value::from(inner))
 }
@@ -61,7 +62,7 @@ fn value_of(alloc: Global, plain: Plain<'_>) -> Result<Value, AllocError>
 // Puts a value under a key, in the place of what stands there.
 fn put(alloc: Global, into: &mut Table, key: &str, value: Value) -> Result<(), AllocError>
     ensures { OnOk result
-        (table_view into.new ≡ put_member key.now (view value) (table_view into.old)) }
+        (table_view into.new ≡ with_member key.now (view value) (table_view into.old)) }
 {
     let key = String::from_str(alloc, key)?;
     into.insert(key, value)?;

@@ -1,6 +1,7 @@
 -- Which value a setting has that no layer sets.
-use Rattle.std.specs.Prelude.{ℕ, ℤ, Bool, true, false, List, [], codes, None, pos}
+use Rattle.std.specs.Prelude.{ℕ, ℤ, Bool, true, false, List, [], codes, pos}
 use Rattle.nextest_config_elements_values.specs.Retries.{without_delay}
+use Rattle.nextest_config_elements_values.specs.Timeouts.{slow_after}
 use Rattle.nextest_config_elements_values.specs.declared.junit.JunitFlakyFailStatus.{JunitFlakyFailStatus}
 use Rattle.nextest_config_elements_values.specs.declared.junit.JunitFlakyFailStatus.TheVariants as status
 use Rattle.nextest_config_elements_values.specs.declared.junit.ReportSkipPolicy.{ReportSkipPolicy}
@@ -30,14 +31,10 @@ use Rattle.nextest_config_elements_choices.specs.declared.status_level.StatusLev
 use Rattle.nextest_config_elements_choices.specs.declared.timeouts.FlakyResult.{FlakyResult}
 use Rattle.nextest_config_elements_choices.specs.declared.timeouts.FlakyResult.TheVariants as flaky
 use Rattle.nextest_config_elements_choices.specs.declared.timeouts.LeakTimeoutResult.TheVariants as leak
-use Rattle.nextest_config_elements_choices.specs.declared.timeouts.SlowTimeoutResult.TheVariants as slow
 
 -- durations
 abbrev pub hundred_milliseconds : ConfigDuration
 hundred_milliseconds = record { nanos = 100_000_000 }
-
-abbrev pub ten_seconds : ConfigDuration
-ten_seconds = record { nanos = 10_000_000_000 }
 
 abbrev pub sixty_seconds : ConfigDuration
 sixty_seconds = record { nanos = 60_000_000_000 }
@@ -72,10 +69,6 @@ retries = without_delay 0
 
 abbrev pub threads_required : ThreadsRequired
 threads_required = taken.Count 1
-
--- after a period, and nothing is ended for that
-abbrev pub slow_after : ConfigDuration → SlowTimeout
-slow_after period = record { period = period; terminate_after = None; grace_period = ten_seconds; on_timeout = slow.Fail }
 
 abbrev pub slow_timeout : NextestRunMode → SlowTimeout
 slow_timeout mode.Test = slow_after sixty_seconds

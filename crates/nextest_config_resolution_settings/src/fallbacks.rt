@@ -115,8 +115,8 @@ pub fn slow_timeout(mode: NextestRunMode) -> SlowTimeout
     ensures { result ≡ fallback.slow_timeout mode }
 {
     match mode {
-        NextestRunMode::Test => slow_after(ConfigDuration::from_nanos(60_000_000_000)),
-        NextestRunMode::Benchmark => slow_after(thirty_years()),
+        NextestRunMode::Test => SlowTimeout::after(ConfigDuration::from_nanos(60_000_000_000)),
+        NextestRunMode::Benchmark => SlowTimeout::after(thirty_years()),
     }
 }
 
@@ -151,16 +151,4 @@ fn thirty_years() -> ConfigDuration
     ensures { result ≡ fallback.thirty_years }
 {
     ConfigDuration::from_nanos(946_728_000_000_000_000)
-}
-
-// After a period, and nothing is ended for that.
-fn slow_after(period: ConfigDuration) -> SlowTimeout
-    ensures { result ≡ fallback.slow_after period }
-{
-    SlowTimeout {
-        period,
-        terminate_after: None,
-        grace_period: ConfigDuration::from_nanos(10_000_000_000),
-        on_timeout: SlowTimeoutResult::Fail,
-    }
 }

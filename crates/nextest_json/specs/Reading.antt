@@ -1,44 +1,20 @@
 -- How parts are read: in the written order, up to the first that is missing, ill-typed or not
 -- allowed.
-use Rattle.std.specs.Prelude.{ℕ, ◌+◌, List, [], ◌∷◌, Option, None, Some, Result, Ok, Err, decimal, is_some, if◌then◌else◌}
+use Rattle.std.specs.Prelude.{ℕ, ◌+◌, List, [], ◌∷◌, Option, None, Ok, Err, decimal, is_some, if◌then◌else◌}
 use Rattle.std.specs.Option.{option_map_or}
 use Rattle.serde_json.specs.Data.{Data}
 use Rattle.serde_json.specs.Find.{as_object, as_str, get}
+pub use Rattle.nextest_text.specs.Reading.{Path, Reading, ◌>>=◌, under, leaf, some}
 use Rattle.nextest_json.specs.Listed.{items}
 use Rattle.nextest_json.specs.Parts.{member, item_at, word}
 
--- where a part stands: names and list positions, the outermost first
-abbrev pub Path : Type 0
-Path = List (List ℕ)
-
--- a value, or where the first thing stands that is missing, ill-typed or not allowed
-abbrev pub Reading : Type 0 → Type 0
-Reading A = Result A Path
-
-infixl 10 ◌>>=◌
-abbrev pub ◌>>=◌ : {A B : Type 0} → Reading A → (A → Reading B) → Reading B
-Ok x >>= next = next x
-Err path >>= next = Err path
-
--- a part, read where it stands: what is wrong in it stands below its name or position
-abbrev pub under : {A : Type 0} → List ℕ → Reading A → Reading A
-under step (Ok x) = Ok x
-under step (Err path) = Err (step ∷ path)
-
--- the value of a part that has no parts
-abbrev pub leaf : {A : Type 0} → (Data → Option A) → Data → Reading A
-leaf value given = option_map_or Ok (value given) (Err [])
-
+-- a text
 abbrev pub text : Data → Reading (List ℕ)
 text = leaf as_str
 
 -- a member that must stand
 abbrev pub required : {A : Type 0} → List ℕ → (Data → Reading A) → Data → Reading A
 required name reads given = under name (option_map_or reads (member name given) (Err []))
-
-abbrev pub some : {A : Type 0} → Reading A → Reading (Option A)
-some (Ok x) = Ok (Some x)
-some (Err path) = Err path
 
 -- a member that may be absent
 abbrev pub optional : {A : Type 0} → List ℕ → (Data → Reading A) → Data → Reading (Option A)

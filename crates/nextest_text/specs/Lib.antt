@@ -1,1 +1,2 @@
 pub mod Clones
+pub mod Reading

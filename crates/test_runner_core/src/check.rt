@@ -1,5 +1,5 @@
 // The first line of a log that is refused whatever the plan.
-ghost use Rattle.std.specs.Prelude.{◌≡◌, ◌+◌, ◌^◌, ◌<◌, ◌≤◌, IfOk};
+ghost use Rattle.std.specs.Prelude.{◌+◌, ◌^◌, ◌<◌, ◌≤◌, IfOk};
 ghost use Rattle.test_runner_core_log_reader.specs.Limits.{log_reads};
 ghost use Rattle.test_runner_core_log_reader.specs.Items.{items};
 ghost use Rattle.test_runner_core_log_reader.specs.Calls.{TellsFailure};

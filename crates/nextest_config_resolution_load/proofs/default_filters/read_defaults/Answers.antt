@@ -3,7 +3,7 @@ use Rattle.nextest_config_resolution_load.specs.Checks.{default_check, default_c
 use Rattle.nextest_config_resolution_load.specs.Load.{IsReadAs, named_of}
 use Rattle.nextest_config_resolution_load.specs.Reading.{AreReadDefaults}
 use Rattle.nextest_config_resolution_load.specs.declared.languages.FilterPurpose.TheVariants as purpose
-use Rattle.nextest_config_resolution_load.proofs.Passing.{kept_all, kept_at, passes_on, refuses_at, seen_at, seen_over, seen_within, zip_at}
+use Rattle.nextest_config_resolution_load.proofs.Passing.{kept_at, passes_on, refuses_at, seen_at, seen_within, zip_at}
 use Rattle.nextest_config_resolution_load.proofs.default_filters.read_defaults.Goals as goal
 
 pub returns-in_err-filter : goal.returns-in_err-filter

@@ -1,7 +1,7 @@
-use Rattle.std.proofs.Common.{List, ◌++◌}
+use Rattle.std.proofs.Common.{◌++◌}
 use Rattle.std.specs.List.{flat_map}
 use Rattle.std.specs.Prelude.{⊤}
-use Rattle.nextest_config_resolution_load.specs.Checks.{Check, may_name, name_checks}
+use Rattle.nextest_config_resolution_load.specs.Checks.{may_name, name_checks}
 use Rattle.nextest_config_resolution_load.proofs.Passing.{passes_behind, passes_on, refuses_before, refuses_behind}
 use Rattle.nextest_config_resolution_load.proofs.defined.check_names.Goals as goal
 

@@ -1,4 +1,4 @@
-use Rattle.std.proofs.Common.{get_or, map, option_map}
+use Rattle.std.proofs.Common.{map, option_map}
 use Rattle.std.specs.List.{flat_map}
 use Rattle.toml.specs.View.{table_view}
 use Rattle.nextest_config_resolution_load.specs.Checks.{rules_of_source, source_checks}

@@ -1,4 +1,4 @@
-use Rattle.std.proofs.Common.{◌≡◌, ◌++◌, drop, filter_map, map, take}
+use Rattle.std.proofs.Common.{◌≡◌, filter_map, map, take}
 use Rattle.std.specs.List.{AllByRecursion, flat_map}
 use Rattle.nextest_config_resolution_load.specs.Checks.{file_of, source_checks}
 use Rattle.nextest_config_resolution_load.specs.Files.{members_in, warnings_of_file}

@@ -1,21 +1,35 @@
 use Rattle.std.proofs.Common.{map}
+use Rattle.nextest_config_resolution_load.specs.Checks.{config_in}
 use Rattle.nextest_config_resolution_load.specs.Load.{named_of}
+use Rattle.nextest_config_resolution_load.specs.Reading.{values_of}
 use Rattle.nextest_config_resolution_load.proofs.Configs.{groups_refused, profiles_refused, scripts_refused, store_refused}
+use Rattle.nextest_config_resolution_load.proofs.Tops.{handed_on}
 use Rattle.nextest_config_resolution_load.proofs.reading.read_config.Goals as goal
 
-pub returns-in-Err : goal.returns-in-Err
-returns-in-Err c = λ top it. profiles_refused top c.in-Err.error (c.in-Err.ensures top it)
+pub returns-in_err-profiles : goal.returns-in_err-profiles
+returns-in_err-profiles c = λ top it.
+    let told = c.in_err-profiles.field-0.0 in
+    handed_on values_of c.from_residual.result told (config_in top) c.from_residual.ensures.1 (profiles_refused top told (c.in_err-profiles.ensures top it))
 
-pub returns-in-Err-read_scripts : goal.returns-in-Err-read_scripts
-returns-in-Err-read_scripts c = λ top it.
-    scripts_refused top (map named_of c.in-Ok.profiles) c.in-Err-read_scripts.error (c.in-Ok.ensures top it) (c.in-Err-read_scripts.ensures top it)
+pub returns-in_err-scripts : goal.returns-in_err-scripts
+returns-in_err-scripts c = λ top it.
+    let told = c.in_err-scripts.field-0.0 in
+    let passed = c.from_residual-in_err-scripts in
+    handed_on values_of passed.result told (config_in top) passed.ensures.1
+    (scripts_refused top (map named_of c.in_ok-profiles.profiles) told (c.in_ok-profiles.ensures top it) (c.in_err-scripts.ensures top it))
 
-pub returns-in-Err-read_store_dir : goal.returns-in-Err-read_store_dir
-returns-in-Err-read_store_dir c = λ top it.
-    store_refused top (map named_of c.in-Ok.profiles) c.in-Ok-read_scripts.scripts c.in-Err-read_store_dir.error (c.in-Ok.ensures top it) (c.in-Ok-read_scripts.ensures top it)
-    (c.in-Err-read_store_dir.ensures top it)
+pub returns-in_err-store_dir : goal.returns-in_err-store_dir
+returns-in_err-store_dir c = λ top it.
+    let told = c.in_err-store_dir.field-0.0 in
+    let passed = c.from_residual-in_err-store_dir in
+    handed_on values_of passed.result told (config_in top) passed.ensures.1
+    (store_refused top (map named_of c.in_ok-profiles.profiles) c.in_ok-scripts.scripts told (c.in_ok-profiles.ensures top it) (c.in_ok-scripts.ensures top it)
+    (c.in_err-store_dir.ensures top it))
 
-pub returns-in-Err-read_groups : goal.returns-in-Err-read_groups
-returns-in-Err-read_groups c = λ top it.
-    groups_refused top (map named_of c.in-Ok.profiles) c.in-Ok-read_scripts.scripts c.in-Ok-read_store_dir.store_dir c.in-Err-read_groups.error (c.in-Ok.ensures top it)
-    (c.in-Ok-read_scripts.ensures top it) (c.in-Ok-read_store_dir.ensures top it) (c.in-Err-read_groups.ensures top it)
+pub returns-in_err-groups : goal.returns-in_err-groups
+returns-in_err-groups c = λ top it.
+    let told = c.in_err-groups.field-0.0 in
+    let passed = c.from_residual-in_err-groups in
+    handed_on values_of passed.result told (config_in top) passed.ensures.1
+    (groups_refused top (map named_of c.in_ok-profiles.profiles) c.in_ok-scripts.scripts c.in_ok-store_dir.store_dir told (c.in_ok-profiles.ensures top it)
+    (c.in_ok-scripts.ensures top it) (c.in_ok-store_dir.ensures top it) (c.in_err-groups.ensures top it))
