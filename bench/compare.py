@@ -131,7 +131,7 @@ def build_with_regex(room):
     folder = room / "with-regex"
     shutil.copytree(ROOT / "bench/plain", folder, dirs_exist_ok=True)
     (folder / "Cargo.toml").write_text(MANIFEST)
-    (folder / ".cargo").mkdir()
+    (folder / ".cargo").mkdir(exist_ok=True)
     (folder / ".cargo/config.toml").write_text(DEBIAN)
     command = ["cargo", "build", "--quiet", "--release", "--offline"]
     subprocess.run(command, cwd=folder, env={**os.environ, "RUSTFLAGS": "--cfg regex -Awarnings"}, check=True)
