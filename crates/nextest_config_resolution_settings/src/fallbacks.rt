@@ -3,8 +3,8 @@ ghost use Rattle.std.specs.Prelude.{◌≡◌};
 ghost use Rattle.nextest_config_resolution_settings.specs.Fallbacks as fallback;
 
 use nextest_config_elements_choices::{
-    FinalStatusLevel, FlakyResult, LeakTimeoutResult, MaxFail, NextestRunMode, SlowTimeoutResult,
-    StatusLevel, TestOutputDisplay,
+    FinalStatusLevel, FlakyResult, LeakTimeoutResult, MaxFail, NextestRunMode, StatusLevel,
+    TestOutputDisplay,
 };
 use nextest_config_elements_values::{
     ConfigDuration, GlobalTimeout, JunitFlakyFailStatus, LeakTimeout, ReportSkipPolicy,
