@@ -1,6 +1,6 @@
 pub mod Shapes
 pub mod Places
-pub mod Limits
-pub mod Texts
+pub mod Numbers
 pub mod Lists
+pub mod Texts
 pub mod Collected

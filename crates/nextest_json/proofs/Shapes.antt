@@ -1,9 +1,8 @@
 -- What is asked of a value as JSON has it, and of its data.
-use Rattle.std.proofs.Common.{◌≡◌, ℕ, ◌≤◌, List, Option, None, Some, option_map, option_and_then, is_some, Bool, true, false, cond, bytes_eq, refl, sym, ap, ◌∙◌, subst, arith}
+use Rattle.std.proofs.Common.{◌≡◌, ℕ, List, Option, None, Some, option_map, option_and_then, is_some, Bool, true, false, cond, bytes_eq, refl, sym, ap, ◌∙◌, subst}
 use Rattle.std.proofs.lemmas.Slice.Eq.{bytes_eq-Decides}
 use Rattle.json.specs.Json as json
 use Rattle.json.specs.Find as asked
-use Rattle.json.specs.Tree as tree
 use Rattle.serde_json.specs.Data.{Num, Data, null, boolean, number, string, array, object, Items, Members, no_members, put}
 use Rattle.serde_json.specs.Find.{get, get_member, as_null, as_bool, as_number, as_str, as_object}
 use Rattle.serde_json.specs.Read.{number_of, of_json, of_items, of_members}
@@ -83,7 +82,7 @@ abbrev pub Finds : Option json.Json → Option Data → Option Data → Type 0
 Finds None earlier out = out ≡ earlier
 Finds (Some j) earlier out = (d : Data) × (of_json j ≡ Some d) × (out ≡ Some d)
 
-one_more : {A B : Type 0} (o : Option A) (next : A → Option B) (b : B) → option_and_then next o ≡ Some b → (a : A) × (o ≡ Some a) × (next a ≡ Some b)
+pub one_more : {A B : Type 0} (o : Option A) (next : A → Option B) (b : B) → option_and_then next o ≡ Some b → (a : A) × (o ≡ Some a) × (next a ≡ Some b)
 one_more None next b e = absurd (cc)
 one_more (Some a) next b e = (a, refl, e)
 
@@ -112,23 +111,3 @@ get_read name (json.array js) d e = ap (get name) (shape (json.array js) d e).2
 get_read name (json.object ms) d e =
     let is = shape (json.object ms) d e in
     subst (λ o. Finds (asked.get_member name ms) None o) (ap (get name) (sym is.2)) (members_read name ms no_members is.0 is.1)
-
--- ---- parts nest no deeper than the whole
-
-deep_or : (o : Option json.Json) (j i : json.Json) (same : Bool) (n : ℕ) → ((k : json.Json) → o ≡ Some k → tree.depth k ≤ n) → tree.depth j ≤ n → asked.later_or o (cond same (Some j) None) ≡ Some i → tree.depth i ≤ n
-deep_or (Some k) j i same n within shallow e = within i e
-deep_or None j i true n within shallow e = let is : j ≡ i = cc in subst (λ k. tree.depth k ≤ n) is shallow
-deep_or None j i false n within shallow e = absurd (cc)
-
-member_depth : (name : List ℕ) (ms : json.Members) (i : json.Json) → asked.get_member name ms ≡ Some i → tree.depth i ≤ tree.members_depth ms
-member_depth name json.no_members i e = absurd (cc)
-member_depth name (json.member k j ms) i e =
-    deep_or (asked.get_member name ms) j i (bytes_eq k name) (tree.members_depth (json.member k j ms)) (λ l f. omega (arith, member_depth name ms l f)) (omega arith) e
-
-pub get_depth : (name : List ℕ) (j i : json.Json) → asked.get name j ≡ Some i → tree.depth i ≤ tree.depth j
-get_depth name json.null i e = absurd (cc)
-get_depth name (json.boolean b) i e = absurd (cc)
-get_depth name (json.number s) i e = absurd (cc)
-get_depth name (json.string s) i e = absurd (cc)
-get_depth name (json.array js) i e = absurd (cc)
-get_depth name (json.object ms) i e = omega (arith, member_depth name ms i e)

@@ -1,5 +1,4 @@
-pub mod Found
-pub mod Fits
+pub mod Range
 pub mod Place
 pub mod Seen
 pub mod Listed

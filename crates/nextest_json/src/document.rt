@@ -1,24 +1,34 @@
-// A text of JSON, as a flat list of places.
+// A text of JSON, as a tree of values.
 ghost use Rattle.std.specs.Prelude.{◌≡◌, is_some, true};
-ghost use Rattle.nextest_json.specs.Found.{found_at};
+ghost use Rattle.json.specs.Value.{value_view};
+ghost use Rattle.serde_json.specs.Read.{of_json};
 
 mod reading;
 
-use json::{Scratch, Tape};
-use std::alloc::Global;
+use json::{Scratch, Value};
+use std::alloc::{AllocError, Global};
 
 /// Why a text is no document.
 #[derive(Clone, Copy, Debug, PartialEq, Eq)]
 pub enum DocumentError {
     /// It is no JSON, nests deeper than 127, or has a number that is too large for a float.
     Syntax,
-    /// There was no memory, or the text is longer than 4,294,967,040 bytes, which says nothing of
-    /// what stands in it.
+    /// There was no memory, which says nothing of what stands in it.
     OutOfMemory,
 }
 
-/// The memory that a document is read into: up to 5 bytes for each byte of text. One serves one
-/// document.
+impl From<AllocError> for DocumentError {
+    ghost use Rattle.nextest_json.specs.declared.document.DocumentError.TheVariants.{OutOfMemory};
+
+    ghost from_gives = { λ _ error. error ≡ OutOfMemory };
+
+    fn from(_error: AllocError) -> DocumentError {
+        DocumentError::OutOfMemory
+    }
+}
+
+/// The memory that texts with escapes are read into: up to a byte for each byte of the document.
+/// One serves one document.
 #[derive(Drop)]
 pub struct JsonMemory {
     scratch: Scratch,
@@ -33,9 +43,10 @@ impl JsonMemory {
     }
 }
 
-/// A text of JSON, read: up to 24 bytes for each byte of text. In a clause it is `whole`: its data.
+/// A text of JSON, read. Its texts without escapes are lent from it. In a clause it is `whole`: its
+/// data.
 #[derive(Drop)]
 pub struct JsonDocument<'a> {
-    tape: Tape<'a>,
-    ghost there: { is_some (found_at tape) ≡ true },
+    root: Value<'a>,
+    ghost there: { is_some (of_json (value_view root)) ≡ true },
 }

@@ -4,14 +4,13 @@ ghost use Rattle.nextest_json.specs.Rest.{data_of_rest};
 
 mod next;
 
-use json::Items;
 use serde_json::Value;
 
 // Where the items stand that are left.
-#[derive(Drop)]
+#[derive(Clone, Copy, Drop)]
 enum Rest<'t, 'a> {
-    // at the places of a text
-    Places(Items<'t, 'a>),
+    // in a document
+    Document(&'t [json::Value<'a>]),
     // in trees
     Trees(&'t [Value]),
 }

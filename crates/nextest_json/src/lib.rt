@@ -1,5 +1,5 @@
-//! JSON, read with little memory: a text as one flat list of places, of which values are asked, and
-//! how the parts of a value are read, each fault with its path.
+//! JSON: a text as a tree of values that are lent from it, and how the parts of a value are read,
+//! each fault with its path.
 #![tactic(auto)]
 
 mod document;
@@ -7,6 +7,8 @@ mod fault;
 mod form;
 mod items;
 mod number;
+mod parts;
+mod range;
 mod steps;
 mod value;
 

@@ -4,14 +4,13 @@ ghost use Rattle.nextest_json.specs.Place.{data_at_place};
 
 mod asked;
 
-use json::Element;
 use serde_json::Value;
 
 // Where a value stands.
 #[derive(Drop)]
 enum Source<'t, 'a> {
-    // at a place of a text
-    Place(Element<'t, 'a>),
+    // in a document
+    Document(&'t json::Value<'a>),
     // in a tree
     Tree(&'t Value),
 }

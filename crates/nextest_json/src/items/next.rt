@@ -1,24 +1,22 @@
 // How the items of a list are handed out.
-ghost use Rattle.std.specs.Prelude.{◌≡◌, [], ◌∷◌, Some, IfNone, IfSome, is_some, map, option_and_then, true};
-ghost use Rattle.json.specs.Token.{begin_array};
+ghost use Rattle.std.specs.Prelude.{◌≡◌, [], ◌∷◌, Some, IfNone, IfSome, is_some, map, true};
 ghost use Rattle.serde_json.specs.View.{view};
-ghost use Rattle.nextest_json.specs.Rest.{items_at};
+ghost use Rattle.nextest_json.specs.Rest.{data_of_items};
 ghost use Rattle.nextest_json.specs.Left.{items_left};
 ghost use Rattle.nextest_json.specs.Seen.{data_of};
 
 use super::{JsonItems, Rest};
 use crate::value::JsonValue;
-use json::Items;
 use serde_json::Value;
 
 impl<'t, 'a> JsonItems<'t, 'a> {
-    // The items that stand at the places of a text.
-    pub(crate) fn of_places(items: Items<'t, 'a>) -> JsonItems<'t, 'a>
-        requires { is_some (items_at items) ≡ true }
-        ensures { Some (items_left result) ≡ items_at items.entry }
+    // The items of a list in a document.
+    pub(crate) fn of_document(items: &'t [json::Value<'a>]) -> JsonItems<'t, 'a>
+        requires { is_some (data_of_items items.now) ≡ true }
+        ensures { Some (items_left result) ≡ data_of_items items.now }
     {
         JsonItems {
-            rest: Rest::Places(items),
+            rest: Rest::Document(items),
         }
     }
 
@@ -37,14 +35,17 @@ impl<'t, 'a> JsonItems<'t, 'a> {
         ensures some { IfSome result
             (λ item. items_left self.old ≡ data_of item ∷ items_left self.new) }
     {
-        match &mut self.rest {
-            Rest::Places(items) => match items.next() {
-                Some(item) => Some(JsonValue::of_place(item)),
+        match self.rest {
+            Rest::Document(items) => match items.split_first() {
+                Some((first, more)) => {
+                    self.rest = Rest::Document(more);
+                    Some(JsonValue::of_document(first))
+                }
                 None => None,
             },
             Rest::Trees(values) => match values.split_first() {
                 Some((first, more)) => {
-                    *values = more;
+                    self.rest = Rest::Trees(more);
                     Some(JsonValue::of_tree(first))
                 }
                 None => None,

@@ -1,8 +1,9 @@
 // What a value is asked.
 ghost use Rattle.std.specs.Prelude.{◌≡◌, Some, is_some, option_and_then, option_map, true};
+ghost use Rattle.json.specs.Value.{value_view};
 ghost use Rattle.serde_json.specs.Find.{as_bool, as_i64, as_null, as_number, as_object, as_str, as_u64, get};
+ghost use Rattle.serde_json.specs.Read.{of_json};
 ghost use Rattle.serde_json.specs.View.{number_view, view};
-ghost use Rattle.nextest_json.specs.Found.{found_at};
 ghost use Rattle.nextest_json.specs.Left.{items_left};
 ghost use Rattle.nextest_json.specs.Listed.{items};
 ghost use Rattle.nextest_json.specs.Seen.{data_of};
@@ -10,7 +11,7 @@ ghost use Rattle.nextest_json.specs.Seen.{data_of};
 use super::{JsonValue, Source};
 use crate::items::JsonItems;
 use crate::number::number_in;
-use json::Element;
+use crate::parts::{is_object, items_of};
 use serde_json::{Number, Value};
 
 impl<'t, 'a> JsonValue<'t, 'a> {
@@ -23,13 +24,13 @@ impl<'t, 'a> JsonValue<'t, 'a> {
         }
     }
 
-    // The value at a place of a text.
-    pub(crate) fn of_place(element: Element<'t, 'a>) -> JsonValue<'t, 'a>
-        requires { is_some (found_at element) ≡ true }
-        ensures { Some (data_of result) ≡ found_at element.entry }
+    // A value of a document.
+    pub(crate) fn of_document(value: &'t json::Value<'a>) -> JsonValue<'t, 'a>
+        requires { is_some (of_json (value_view value.now)) ≡ true }
+        ensures { Some (data_of result) ≡ of_json (value_view value.now) }
     {
         JsonValue {
-            source: Source::Place(element),
+            source: Source::Document(value),
         }
     }
 
@@ -39,8 +40,8 @@ impl<'t, 'a> JsonValue<'t, 'a> {
         ensures { option_map data_of result ≡ get name.now (data_of self.now) }
     {
         match &self.source {
-            Source::Place(element) => match element.get(name) {
-                Some(found) => Some(JsonValue::of_place(found)),
+            Source::Document(value) => match value.get(name) {
+                Some(found) => Some(JsonValue::of_document(found)),
                 None => None,
             },
             Source::Tree(value) => match value.get(name) {
@@ -55,7 +56,7 @@ impl<'t, 'a> JsonValue<'t, 'a> {
         ensures { option_map (λ text. text.now) result ≡ as_str (data_of self.now) }
     {
         match &self.source {
-            Source::Place(element) => element.as_str(),
+            Source::Document(value) => value.as_str(),
             Source::Tree(value) => value.as_str(),
         }
     }
@@ -65,7 +66,7 @@ impl<'t, 'a> JsonValue<'t, 'a> {
         ensures { result ≡ as_bool (data_of self.now) }
     {
         match &self.source {
-            Source::Place(element) => element.as_bool(),
+            Source::Document(value) => value.as_bool(),
             Source::Tree(value) => value.as_bool(),
         }
     }
@@ -75,7 +76,7 @@ impl<'t, 'a> JsonValue<'t, 'a> {
         ensures { option_map number_view result ≡ as_number (data_of self.now) }
     {
         match &self.source {
-            Source::Place(element) => match element.as_number() {
+            Source::Document(value) => match value.as_number() {
                 Some(text) => number_in(text),
                 None => None,
             },
@@ -109,7 +110,7 @@ impl<'t, 'a> JsonValue<'t, 'a> {
         ensures { result ≡ is_some (as_null (data_of self.now)) }
     {
         match &self.source {
-            Source::Place(element) => element.is_null(),
+            Source::Document(value) => value.is_null(),
             Source::Tree(value) => value.is_null(),
         }
     }
@@ -119,17 +120,18 @@ impl<'t, 'a> JsonValue<'t, 'a> {
         ensures { result ≡ is_some (as_object (data_of self.now)) }
     {
         match &self.source {
-            Source::Place(element) => element.members().is_some(),
+            Source::Document(value) => is_object(value),
             Source::Tree(value) => value.is_object(),
         }
     }
+
     /// The items, where the value is a list.
     pub fn items(&self) -> Option<JsonItems<'t, 'a>>
         ensures { option_map items_left result ≡ items (data_of self.now) }
     {
         match &self.source {
-            Source::Place(element) => match element.items() {
-                Some(items) => Some(JsonItems::of_places(items)),
+            Source::Document(value) => match items_of(value) {
+                Some(items) => Some(JsonItems::of_document(items)),
                 None => None,
             },
             Source::Tree(value) => match value.as_array() {

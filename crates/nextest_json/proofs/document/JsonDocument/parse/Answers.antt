@@ -1,26 +1,25 @@
-use Rattle.std.proofs.Common.{Some, Err, ap, ◌∙◌, sym, unwrap_or, is_some}
-use Rattle.serde_json.specs.Data.{null}
+use Rattle.std.proofs.Common.{ap, ◌∙◌, sym}
+use Rattle.json.specs.Json as json
+use Rattle.json.specs.Reads.{token_of}
+use Rattle.json.specs.Value.{value_view}
 use Rattle.nextest_json.specs.Documents.{whole}
-use Rattle.nextest_json.specs.Fits.{fits}
-use Rattle.nextest_json.specs.Found.{found_at}
-use Rattle.nextest_json.proofs.Texts.{within_read, beyond_unread, invalid_unread}
+use Rattle.nextest_json.proofs.Numbers.{read_in_range}
+use Rattle.nextest_json.proofs.Places.{known}
+use Rattle.nextest_json.proofs.Texts.{no_more, nothing_follows, unread}
 use Rattle.nextest_json.proofs.document.JsonDocument.parse.Goals as goal
 
 pub invariant_of-result : goal.invariant_of-result
-invariant_of-result c =
-    let is = c.in-Ok.ensures.ok in
-    let read = within_read c.args.text.now is.1 (sym (c.if-is_within.ensures ∙ ap (fits 0) (c.nodes.ensures.tokens ∙ is.0))) in
-    record { there = ap (λ tokens. is_some (found_at tokens)) is.0 ∙ ap is_some read.2 }
+invariant_of-result c = record { there = read_in_range (value_view c.in-Ok.root) ∙ sym c.if-is_in_range.ensures }
 
-pub returns-then-is_within : goal.returns-then-is_within
+pub returns-then-is_in_range : goal.returns-then-is_in_range
 unfolding whole
-returns-then-is_within c =
-    let is = c.in-Ok.ensures.ok in
-    let read = within_read c.args.text.now is.1 (sym (c.if-is_within.ensures ∙ ap (fits 0) (c.nodes.ensures.tokens ∙ is.0))) in
-    read.1 ∙ ap Some (sym (ap (λ tokens. unwrap_or (found_at tokens) null) is.0 ∙ ap (λ o. unwrap_or o null) read.2))
+returns-then-is_in_range c =
+    nothing_follows c.args.text.now (value_view c.in-Ok.root) c.read.new.reader (ap (json.value 127) (sym c.in_ok-reader.ensures.ok) ∙ c.in-Ok.ensures.ok)
+    (no_more token_of c.next.result _ _ c.next.ensures.value (sym c.if-is_some.ensures))
+    ∙ known _ (read_in_range (value_view c.in-Ok.root) ∙ sym c.if-is_in_range.ensures)
 
-pub returns-in-Ok : goal.returns-in-Ok
-returns-in-Ok c = beyond_unread c.args.text.now (sym (c.if-is_within.ensures ∙ ap (fits 0) (c.nodes.ensures.tokens ∙ c.in-Ok.ensures.ok.0)))
-
-pub returns-in-Err-Invalid : goal.returns-in-Err-Invalid
-returns-in-Err-Invalid c = invalid_unread c.args.text.now (c.in-Err-Invalid.ensures.invalid (ap Err c.in-Err-Invalid.field-0-is))
+pub returns : goal.returns
+returns c =
+    nothing_follows c.args.text.now (value_view c.in-Ok.root) c.read.new.reader (ap (json.value 127) (sym c.in_ok-reader.ensures.ok) ∙ c.in-Ok.ensures.ok)
+    (no_more token_of c.next.result _ _ c.next.ensures.value (sym c.if-is_some.ensures))
+    ∙ unread _ (read_in_range (value_view c.in-Ok.root) ∙ sym c.if-is_in_range.ensures)

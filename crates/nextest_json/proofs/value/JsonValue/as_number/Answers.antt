@@ -1,21 +1,19 @@
-use Rattle.std.proofs.Common.{None, option_map, option_and_then, ap, ◌∙◌}
-use Rattle.json.specs.Find as asked
+use Rattle.std.proofs.Common.{option_map, option_and_then, ap, ◌∙◌}
 use Rattle.serde_json.specs.Find.{as_number}
 use Rattle.serde_json.specs.Read.{number_of}
 use Rattle.serde_json.specs.View.{number_view}
 use Rattle.nextest_json.proofs.Shapes.{as_number_read}
-use Rattle.nextest_json.proofs.Places.{asked_at, at_place, in_tree, copied_view}
+use Rattle.nextest_json.proofs.Places.{at_place, in_tree, copied_view}
 use Rattle.nextest_json.proofs.value.JsonValue.as_number.Goals as goal
 
 pub returns-in-Some : goal.returns-in-Some
 returns-in-Some c =
-    asked_at (λ j. option_and_then number_of (asked.as_number j)) as_number as_number_read c.in-Place.element _ (option_map number_view c.number_in.result) (at_place c.args.self.now c.in-Place.element c.in-Place.is)
-    (λ j begins. c.number_in.ensures ∙ ap (option_and_then number_of) (c.in-Some.ensures j begins))
+    c.number_in.ensures
+    ∙ ap (option_and_then number_of) c.in-Some.ensures
+    ∙ as_number_read _ _ (at_place c.args.self.now c.in-Document.value c.in-Document.is)
 
 pub returns-in-None : goal.returns-in-None
-returns-in-None c =
-    asked_at (λ j. option_and_then number_of (asked.as_number j)) as_number as_number_read c.in-Place.element _ None (at_place c.args.self.now c.in-Place.element c.in-Place.is)
-    (λ j begins. ap (option_and_then number_of) (c.in-None.ensures j begins))
+returns-in-None c = ap (option_and_then number_of) c.in-None.ensures ∙ as_number_read _ _ (at_place c.args.self.now c.in-Document.value c.in-Document.is)
 
 pub returns-in-Tree : goal.returns-in-Tree
 returns-in-Tree c =

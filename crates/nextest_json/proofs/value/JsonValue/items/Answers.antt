@@ -1,18 +1,19 @@
-use Rattle.std.proofs.Common.{Some, None, option_map, map, ap, ◌∙◌, sym}
+use Rattle.std.proofs.Common.{Some, None, option_map, map, ap, ◌∙◌, sym, Global}
+use Rattle.json.specs.Value.{value_view}
 use Rattle.serde_json.specs.View.{view}
 use Rattle.nextest_json.specs.Listed.{items, list_of_items}
 use Rattle.nextest_json.proofs.Places.{at_place, in_tree}
-use Rattle.nextest_json.proofs.Lists.{items_of_value, listed_items}
+use Rattle.nextest_json.proofs.Lists.{items_at, listed_items}
 use Rattle.nextest_json.proofs.value.JsonValue.items.Goals as goal
 
-pub of_places-requires : goal.of_places-requires
-of_places-requires c = (items_of_value c.in-Place.element _ (Some c.in-Some.items) (at_place c.args.self.now c.in-Place.element c.in-Place.is) c.in-Some.ensures).0
+pub of_document-requires : goal.of_document-requires
+of_document-requires c = (items_at (Some c.in-Some.items) (value_view c.in-Document.value.now) _ (at_place c.args.self.now c.in-Document.value c.in-Document.is) c.in-Some.ensures).0
 
 pub returns-in-Some : goal.returns-in-Some
-returns-in-Some c = c.of_places.ensures ∙ (items_of_value c.in-Place.element _ (Some c.in-Some.items) (at_place c.args.self.now c.in-Place.element c.in-Place.is) c.in-Some.ensures).1
+returns-in-Some c = c.of_document.ensures ∙ (items_at (Some c.in-Some.items) (value_view c.in-Document.value.now) _ (at_place c.args.self.now c.in-Document.value c.in-Document.is) c.in-Some.ensures).1
 
 pub returns-in-None : goal.returns-in-None
-returns-in-None c = sym (items_of_value c.in-Place.element _ None (at_place c.args.self.now c.in-Place.element c.in-Place.is) c.in-None.ensures)
+returns-in-None c = sym (items_at {A = Global} None (value_view c.in-Document.value.now) _ (at_place c.args.self.now c.in-Document.value c.in-Document.is) c.in-None.ensures)
 
 pub returns-in-Some-as_array : goal.returns-in-Some-as_array
 returns-in-Some-as_array c =
