@@ -1,2 +1,4 @@
 pub mod Clones
 pub mod Reading
+pub mod Parts
+pub mod Sources

@@ -1,5 +1,5 @@
 -- How what has parts is read: part by part, up to the first that may not stand where it does.
-use Rattle.std.specs.Prelude.{ℕ, List, [], ◌∷◌, Option, None, Some, Result, Ok, Err}
+use Rattle.std.specs.Prelude.{ℕ, List, [], ◌∷◌, Option, Some, Result, Ok, Err}
 use Rattle.std.specs.Option.{option_map_or}
 
 -- where a part stands below another: keys and list positions, the outermost first

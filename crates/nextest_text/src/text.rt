@@ -5,6 +5,7 @@ ghost use Rattle.std.specs.Cmp.Lexicographic.{pointwise, slice_cmp, nat_list_eq_
 ghost use Rattle.std.specs.Hash as fed;
 ghost use Rattle.std.specs.Ordering.{nat_cmp};
 
+use crate::part::Part;
 use std::alloc::{AllocError, Global};
 use std::cmp::Ordering;
 use std::convert::AsStr;
@@ -12,18 +13,36 @@ use std::fmt;
 use std::hash::{Hash, Hasher};
 use std::marker::Model;
 
-/// Owned text, UTF-8 as a `String`. In a clause it is the list of its bytes.
-#[derive(Drop)]
+// Where a text stands.
+#[derive(Clone, Drop)]
+enum Source {
+    // in memory of its own
+    Own(String),
+    // in memory that others share
+    Shared(Part),
+}
+
+/// Owned text, UTF-8 as a `String`. It has memory of its own, or shares it with the others of a
+/// list (`Listing::shared`) and with copies, which then take none. In a clause it is the list of
+/// its bytes.
 pub struct Text {
-    string: String,
+    source: Source,
 }
 
 impl Model for Text {
-    ghost use Rattle.std.specs.Prelude.{List, ℕ, string_bytes};
+    ghost use Rattle.std.specs.Prelude.{List, ℕ};
+    ghost use Rattle.nextest_text.specs.Sources.{bytes_of};
 
     ghost Value = { List ℕ };
 
-    ghost view = { λ t. string_bytes t.string };
+    ghost view = { λ text. bytes_of text.source };
+}
+
+// One call drops it, whoever holds it.
+impl Drop for Text {
+    fn drop(self) {
+        let Self { source: _ } = self;
+    }
 }
 
 impl Text {
@@ -31,39 +50,58 @@ impl Text {
     pub fn new(alloc: Global) -> Self
         ensures { result ≡ [] }
     {
-        Text {
-            string: String::new(alloc),
-        }
+        Text::from(String::new(alloc))
     }
 
     /// A copy of `text`. It fails only on allocation.
     pub fn from_str(alloc: Global, text: &str) -> Result<Self, AllocError>
         ensures { IfOk result (λ copy. copy ≡ text.now) }
     {
-        Ok(Text {
-            string: String::from_str(alloc, text)?,
-        })
+        Ok(Text::from(String::from_str(alloc, text)?))
+    }
+
+    // A part of a text whose memory others share.
+    pub(crate) fn of_part(part: Part) -> Text
+        ensures { result ≡ part }
+    {
+        Text {
+            source: Source::Shared(part),
+        }
     }
 
     /// The text, lent.
     pub fn as_str(&self) -> &str
         ensures { result.now ≡ self.now }
     {
-        self.string.as_str()
+        match &self.source {
+            Source::Own(string) => string.as_str(),
+            Source::Shared(part) => part.as_str(),
+        }
     }
 
     /// How many bytes it has.
     pub fn len(&self) -> usize
         ensures { result ≡ length self.now }
     {
-        self.string.len()
+        self.as_str().len()
     }
 
     /// Whether it has none.
     pub fn is_empty(&self) -> bool
         ensures { result ≡ nat_eq (length self.now) 0 }
     {
-        self.string.is_empty()
+        self.as_str().is_empty()
+    }
+
+    /// The text as a `String`; one that shares its memory is copied. It fails only on allocation.
+    pub fn into_string(self, alloc: Global) -> Result<String, AllocError>
+        ensures { IfOk result (λ string. string_bytes string ≡ self) }
+    {
+        let Self { source } = self;
+        match source {
+            Source::Own(string) => Ok(string),
+            Source::Shared(part) => String::from_str(alloc, part.as_str()),
+        }
     }
 }
 
@@ -71,16 +109,9 @@ impl From<String> for Text {
     ghost from_gives = { λ string text. text ≡ string_bytes string };
 
     fn from(string: String) -> Text {
-        Text { string }
-    }
-}
-
-impl From<Text> for String {
-    ghost from_gives = { λ text string. string_bytes string ≡ text };
-
-    fn from(text: Text) -> String {
-        let Text { string } = text;
-        string
+        Text {
+            source: Source::Own(string),
+        }
     }
 }
 
@@ -97,7 +128,7 @@ impl Clone for Text {
 
     fn clone(&self) -> Result<Text, AllocError> {
         Ok(Text {
-            string: self.string.clone()?,
+            source: self.source.clone()?,
         })
     }
 }
@@ -108,7 +139,7 @@ impl PartialEq for Text {
     ghost laws = { partial_equiv_from_equiv nat_list_eq_equiv };
 
     fn eq(&self, other: &Text) -> bool {
-        self.string == other.string
+        self.as_str() == other.as_str()
     }
 }
 
@@ -136,7 +167,7 @@ impl Ord for Text {
     ghost matches_eq = { texts_ties };
 
     fn cmp(&self, other: &Text) -> Ordering {
-        self.string.cmp(&other.string)
+        self.as_str().cmp(other.as_str())
     }
 }
 
@@ -149,7 +180,7 @@ impl Hash for Text {
     ghost respects_eq = { Prim.search (hashing, rules) };
 
     fn hash<H: Hasher>(&self, state: &mut H) {
-        self.string.hash(state);
+        self.as_str().hash(state);
     }
 }
 
@@ -157,12 +188,12 @@ impl fmt::Display for Text {
     ghost output = { Some };
 
     fn fmt<W: fmt::Write>(&self, f: &mut fmt::Formatter<W>) -> fmt::Result {
-        fmt::Display::fmt(&self.string, f)
+        f.pad(self.as_str())
     }
 }
 
 impl fmt::Debug for Text {
     fn fmt<W: fmt::Write>(&self, f: &mut fmt::Formatter<W>) -> fmt::Result {
-        fmt::Debug::fmt(&self.string, f)
+        fmt::Debug::fmt(&self.as_str(), f)
     }
 }
