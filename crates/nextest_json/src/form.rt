@@ -2,7 +2,7 @@
 ghost use Rattle.std.specs.Prelude.{◌≡◌, ◌==◌, length, option_map, slice_get};
 ghost use Rattle.serde_json.specs.Data.{Data};
 ghost use Rattle.serde_json.specs.Find.{as_bool};
-ghost use Rattle.nextest_json.specs.Calls.{Gives};
+ghost use Rattle.nextest_json.specs.Calls.{as_texts, Gives};
 ghost use Rattle.nextest_json.specs.Left.{items_left};
 ghost use Rattle.nextest_json.specs.Parts as given;
 ghost use Rattle.nextest_json.specs.Paths.{step_text};
@@ -200,6 +200,30 @@ pub fn each<Whole, T: Form<Whole>>(
     while let Some(item) = more.next() {
         let position = found.len();
         found.push(part(alloc, &item, PathStep::Position(position))?)?;
+    }
+    Ok(found)
+}
+
+/// The items, each a text, in their order; the texts share their memory. An `Err` tells of the
+/// first item that is no text, or that there was no memory.
+pub fn shared_texts(alloc: Global, items: JsonItems<'_, '_>) -> Result<Listing<Text>, Fault>
+    ensures { Gives result (read.each read.text 0 (items_left items.entry)) }
+{
+    let texts = lent_texts(alloc, items)?;
+    Ok(Listing::shared(alloc, texts.as_slice())?)
+}
+
+// The items, each a text, lent.
+fn lent_texts<'t>(alloc: Global, items: JsonItems<'t, '_>) -> Result<Vec<&'t str>, Fault>
+    ensures { Gives (as_texts result) (read.each read.text 0 (items_left items.entry)) }
+{
+    let mut more = items;
+    let mut found = Vec::new(alloc);
+    while let Some(item) = more.next() {
+        match item.as_str() {
+            Some(text) => found.push(text)?,
+            None => return Err(Fault::here(alloc).below(PathStep::Position(found.len()))),
+        }
     }
     Ok(found)
 }

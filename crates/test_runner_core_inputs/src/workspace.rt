@@ -2,7 +2,7 @@
 ghost use Rattle.test_runner_core_inputs.specs.Reading as read;
 
 use crate::inputs::Inputs;
-use nextest_json::{Fault, Form, JsonValue, each, element, has_items, required};
+use nextest_json::{Fault, Form, JsonValue, element, has_items, required, shared_texts};
 use std::alloc::Global;
 use test_runner_core_workspace::{Binary, BinaryTests, Link, Package, WorkspaceRecord};
 
@@ -39,7 +39,7 @@ impl Form<Inputs> for BinaryTests {
 
     fn from_value(alloc: Global, value: &JsonValue<'_, '_>) -> Result<BinaryTests, Fault> {
         if let Some(items) = value.items() {
-            return Ok(BinaryTests::Names(each(alloc, items)?));
+            return Ok(BinaryTests::Names(shared_texts(alloc, items)?));
         }
         if !value.is_object() {
             return Err(Fault::here(alloc));
