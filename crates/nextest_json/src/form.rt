@@ -188,11 +188,8 @@ fn nth<'t, 'a>(items: JsonItems<'t, 'a>, count: usize) -> Option<JsonValue<'t, '
     more.next()
 }
 
-/// The items in their order. An `Err` as of `from_value`, for the first item that has one.
-pub fn each<Whole, T: Form<Whole>>(
-    alloc: Global,
-    items: JsonItems<'_, '_>,
-) -> Result<Listing<T>, Fault>
+// The items in their order. An `Err` as of `from_value`, for the first item that has one.
+fn each<Whole, T: Form<Whole>>(alloc: Global, items: JsonItems<'_, '_>) -> Result<Listing<T>, Fault>
     ensures { Gives result (read.each T.reading 0 (items_left items.entry)) }
 {
     let mut more = items;

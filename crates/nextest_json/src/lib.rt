@@ -15,7 +15,7 @@ mod value;
 pub use document::{DocumentError, JsonDocument, JsonMemory};
 pub use fault::Fault;
 pub use form::{
-    Form, defaulted, each, element, has_items, has_member, listed_member, optional, required,
+    Form, defaulted, element, has_items, has_member, listed_member, optional, required,
     shared_texts, text, truth, word,
 };
 pub use items::JsonItems;
