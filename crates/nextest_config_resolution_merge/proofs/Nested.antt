@@ -108,7 +108,7 @@ mutual
       ∙ ap (with_member key value) behind_it ∙ set_before key value more sorted.0
 
 -- what stands somewhere, by its ends
-abbrev is_none : List End → Bool
+abbrev pub is_none : List End → Bool
 is_none [] = true
 is_none (end ∷ more) = false
 
@@ -120,7 +120,7 @@ pub none_found : (path : Path) (found : Option Data) → [] ≡ map (along path)
 none_found path None e = refl
 none_found path (Some tree) e = absurd (begun path (ends tree) (some_end tree) e)
 
-abbrev first_or : End → List End → End
+abbrev pub first_or : End → List End → End
 first_or otherwise [] = otherwise
 first_or otherwise (end ∷ more) = end
 
@@ -129,7 +129,7 @@ longer_path path way key =
     let sum : length (path ++ key ∷ way) ≡ length path + suc (length way) = length-append path (key ∷ way) in
     grind (arith, nat_tests)
 
-same_length : (path : Path) → nat_le (length path) (length path) ≡ true
+pub same_length : (path : Path) → nat_le (length path) (length path) ≡ true
 same_length path = grind (arith, nat_tests)
 
 deep_first : (path : Path) (all : List End) (first : End) (rest : List End) → AreDeep all → Begins all → first ∷ rest ≡ map (along path) all

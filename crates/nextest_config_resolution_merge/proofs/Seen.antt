@@ -1,12 +1,11 @@
 -- What is seen of a place, by the ends there.
-use Rattle.std.proofs.Common.{◌≡◌, ◌&&◌, Bool, true, false, List, [], ◌∷◌, ◌++◌, map, length, nat_le, append-nil, Option, None, Some, is_some, cond, refl, sym, ap, ◌∙◌, arith}
+use Rattle.std.proofs.Common.{◌≡◌, ◌&&◌, Bool, true, false, List, [], ◌∷◌, ◌++◌, map, length, nat_le, append-nil, Option, None, Some, is_some, cond, refl, sym, ap, ◌∙◌}
 use Rattle.std.proofs.lemmas.Bool.{false≢true, true≢false}
-use Rattle.std.proofs.lemmas.Bool.Decides.{nat_tests}
 use Rattle.toml.specs.Data.{Data, string, integer, float, boolean, datetime, array, table, Members}
 use Rattle.nextest_config_elements_toml.specs.Reading.{Path}
 use Rattle.nextest_config_resolution_merge.specs.Nesting.{OfSorted, leaf_at, value_by}
 use Rattle.nextest_config_resolution_merge.specs.Tree.{End, along, ends_at, is_leaf}
-use Rattle.nextest_config_resolution_merge.proofs.Nested.{some_found}
+use Rattle.nextest_config_resolution_merge.proofs.Nested.{first_or, is_none, same_length, some_found}
 
 -- an end that is a leaf at so many keys is all that stands there
 abbrev data_or : Data → Option Data → Data
@@ -27,17 +26,6 @@ leaf_found path found sorted first rest whole leaf e =
       by_tests false leafy f g e is = absurd (false≢true (ap is_some e))
 
 -- where the first end is none, something else than a leaf stands there
-abbrev first_or : End → List End → End
-first_or otherwise [] = otherwise
-first_or otherwise (end ∷ more) = end
-
-abbrev is_none : List End → Bool
-is_none [] = true
-is_none (end ∷ more) = false
-
-same_length : (path : Path) → nat_le (length path) (length path) ≡ true
-same_length path = grind (arith, nat_tests)
-
 one_leaf : (path : Path) (leaf : Data) → is_leaf leaf ≡ true → (first : End) (rest : List End) → first ∷ rest ≡ (path ++ [], leaf) ∷ [] → leaf_at (length path) first ≡ None → ⊥
 one_leaf path leaf e first rest whole none =
     let one : first ≡ (path, leaf) = ap (first_or first) whole ∙ ap (λ way. (way, leaf)) (append-nil path) in

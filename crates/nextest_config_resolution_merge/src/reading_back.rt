@@ -70,10 +70,10 @@ pub(crate) fn standing_in<'a>(
 fn leaf_at<'a>(entry: &Entry<'a>, depth: usize) -> Option<&'a Value>
     ensures { option_map (λ it. view it.now) result ≡ words.leaf_at depth (end_of entry.now) }
 {
-    let is_above = !entry.path.way().behind(depth).is_empty();
+    let is_below = !entry.path.way().behind(depth).is_empty();
     match &entry.ending {
         Ending::Leaf(Value::Table(_)) | Ending::EmptyTable => None,
-        Ending::Leaf(_) if is_above => None,
+        Ending::Leaf(_) if is_below => None,
         Ending::Leaf(value) => Some(*value),
     }
 }
