@@ -7,12 +7,12 @@ use Rattle.nextest_config_resolution_merge.specs.Meeting.{meet, by_meeting, choo
 use Rattle.nextest_config_resolution_merge.specs.Merging.{Joins, stack, going_on, taken_by, higher_by, lower_by}
 use Rattle.nextest_config_resolution_merge.specs.Tree.{End, ends, over, is_leaf}
 use Rattle.nextest_config_resolution_merge.specs.declared.choice.Choice.{Choice}
-use Rattle.nextest_config_resolution_merge.specs.declared.choice.Choice.TheVariants.{TakeHigher, TakeLower, PassHigher, PassLower, Done}
+use Rattle.nextest_config_resolution_merge.specs.declared.choice.Choice.TheVariants.{TakeHigher, TakeLower, PassHigher, PassLower, TakeOver, Done}
 use Rattle.nextest_config_resolution_merge.specs.declared.entry.Entry.{Entry}
 use Rattle.nextest_config_resolution_merge.specs.declared.meeting.Meeting.{Meeting}
 use Rattle.nextest_config_resolution_merge.specs.declared.meeting.Meeting.TheVariants.{Before, Above, Same, Below, After}
-use Rattle.nextest_config_resolution_merge.proofs.Walk.{Walks, done, take_higher, take_lower, pass_higher, pass_lower, walks_over, walks_once, is_taken, is_higher}
-use Rattle.nextest_config_resolution_merge.proofs.Rising.{before_after, rising_less, rising_between, ComesBefore}
+use Rattle.nextest_config_resolution_merge.proofs.Walk.{Walks, done, take_higher, take_lower, pass_higher, pass_lower, take_over, walks_over, walks_once, is_taken, is_higher, is_lower}
+use Rattle.nextest_config_resolution_merge.proofs.Rising.{before_after, same_path, rising_instead, rising_less, rising_between, ComesBefore}
 
 -- what was taken, and what is left of both lists
 pub record Going (all beside taken higher lower : List End) : Type 0 where
@@ -29,11 +29,12 @@ is_done TakeHigher = false
 is_done TakeLower = false
 is_done PassHigher = false
 is_done PassLower = false
+is_done TakeOver = false
 
 took_higher : (meeting : Meeting) (leaf : Bool) → by_meeting meeting leaf ≡ TakeHigher → is_before meeting ≡ true
 took_higher Before leaf e = refl
 took_higher After leaf e = absurd (false≢true (ap is_higher e))
-took_higher Same leaf e = absurd (false≢true (ap is_taken e))
+took_higher Same leaf e = absurd (true≢false (ap is_lower e))
 took_higher Below leaf e = absurd (false≢true (ap is_taken e))
 took_higher Above true e = absurd (false≢true (ap is_taken e))
 took_higher Above false e = absurd (false≢true (ap is_taken e))
@@ -41,10 +42,18 @@ took_higher Above false e = absurd (false≢true (ap is_taken e))
 took_lower : (meeting : Meeting) (leaf : Bool) → by_meeting meeting leaf ≡ TakeLower → meeting ≡ After
 took_lower Before leaf e = absurd (true≢false (ap is_higher e))
 took_lower After leaf e = refl
-took_lower Same leaf e = absurd (false≢true (ap is_taken e))
+took_lower Same leaf e = absurd (true≢false (ap is_higher e))
 took_lower Below leaf e = absurd (false≢true (ap is_taken e))
 took_lower Above true e = absurd (false≢true (ap is_taken e))
 took_lower Above false e = absurd (false≢true (ap is_taken e))
+
+took_over : (meeting : Meeting) (leaf : Bool) → by_meeting meeting leaf ≡ TakeOver → meeting ≡ Same
+took_over Before leaf e = absurd (false≢true (ap is_lower e))
+took_over After leaf e = absurd (false≢true (ap is_higher e))
+took_over Same leaf e = refl
+took_over Below leaf e = absurd (false≢true (ap is_taken e))
+took_over Above true e = absurd (false≢true (ap is_taken e))
+took_over Above false e = absurd (false≢true (ap is_taken e))
 
 not_done : (meeting : Meeting) (leaf : Bool) → is_done (by_meeting meeting leaf) ≡ false
 not_done Before leaf = refl
@@ -100,6 +109,17 @@ goes PassLower all beside taken higher (first ∷ lower) e going = record {
   walks = λ more walk. going.walks more (pass_lower e walk);
   rises = λ above below. ((going.rises above below).0, rising_less taken first lower (going.rises above below).1);
 }
+goes TakeOver all beside taken [] [] e going = absurd (true≢false (ap is_done e))
+goes TakeOver all beside taken [] (hidden ∷ lower) e going = absurd (false≢true (ap is_higher e))
+goes TakeOver all beside taken (first ∷ higher) [] e going = absurd (false≢true (ap is_lower e))
+goes TakeOver all beside taken (first ∷ higher) (hidden ∷ lower) e going = record {
+  walks = λ more walk. subst (Walks all beside) (sym (append_assoc taken (first ∷ []) more)) (going.walks (first ∷ more) (take_over e walk));
+  rises = λ above below. (
+    subst (λ it. is_rising it ≡ true) (sym (append_assoc taken (first ∷ []) higher)) (going.rises above below).0,
+    subst (λ it. is_rising it ≡ true) (sym (append_assoc taken (first ∷ []) lower))
+        (rising_instead taken first hidden lower (same_path first.0 hidden.0 (took_over (meet first.0 hidden.0) (is_leaf first.1) e)) (going.rises above below).1),
+  );
+}
 
 -- and comes to an end
 pub shrinks : (choice : Choice) (higher lower : List End) → choose higher lower ≡ choice → is_done choice ≡ false
@@ -117,6 +137,10 @@ shrinks TakeLower higher (first ∷ lower) e goes_on = omega arith
 shrinks PassLower [] [] e goes_on = absurd (true≢false (ap is_done e))
 shrinks PassLower (other ∷ higher) [] e goes_on = absurd (true≢false (ap is_taken e))
 shrinks PassLower higher (first ∷ lower) e goes_on = omega arith
+shrinks TakeOver [] [] e goes_on = absurd (true≢false (ap is_done e))
+shrinks TakeOver [] (hidden ∷ lower) e goes_on = absurd (false≢true (ap is_higher e))
+shrinks TakeOver (first ∷ higher) [] e goes_on = absurd (false≢true (ap is_lower e))
+shrinks TakeOver (first ∷ higher) (hidden ∷ lower) e goes_on = omega arith
 
 pub ended : (all beside taken higher lower : List End) → choose higher lower ≡ Done → Going all beside taken higher lower → Joins all beside taken
 ended all beside taken [] [] e going = record {
@@ -142,6 +166,7 @@ going_some TakeHigher choice e = (ap of_some e, ap is_done (sym (ap of_some e)))
 going_some TakeLower choice e = (ap of_some e, ap is_done (sym (ap of_some e)))
 going_some PassHigher choice e = (ap of_some e, ap is_done (sym (ap of_some e)))
 going_some PassLower choice e = (ap of_some e, ap is_done (sym (ap of_some e)))
+going_some TakeOver choice e = (ap of_some e, ap is_done (sym (ap of_some e)))
 
 pub going_none : (given : Choice) → going_on given ≡ None → given ≡ Done
 going_none Done e = refl
@@ -149,6 +174,7 @@ going_none TakeHigher e = absurd (true≢false (ap is_some e))
 going_none TakeLower e = absurd (true≢false (ap is_some e))
 going_none PassHigher e = absurd (true≢false (ap is_some e))
 going_none PassLower e = absurd (true≢false (ap is_some e))
+going_none TakeOver e = absurd (true≢false (ap is_some e))
 
 map_reverse : (entries : List Entry) → map end_of (reverse entries) ≡ reverse (map end_of entries)
 map_reverse [] = refl

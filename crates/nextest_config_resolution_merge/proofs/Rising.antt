@@ -1,5 +1,5 @@
 -- Lists of ends whose paths rise.
-use Rattle.std.proofs.Common.{◌≡◌, ℕ, Bool, true, false, List, [], ◌∷◌, ◌++◌, map, refl, ap, Ordering, Less, Equal, Greater}
+use Rattle.std.proofs.Common.{◌≡◌, ℕ, Bool, true, false, List, [], ◌∷◌, ◌++◌, map, refl, ap, ◌∙◌, Ordering, Less, Equal, Greater}
 use Rattle.std.specs.Bool.{⊤}
 use Rattle.std.specs.Ordering.{match_ordering}
 use Rattle.std.proofs.lemmas.Bool.{and_parts, false≢true}
@@ -11,7 +11,7 @@ use Rattle.nextest_config_resolution_merge.specs.Meeting.{meet}
 use Rattle.nextest_config_resolution_merge.specs.Tree.{End, behind, ends, members_ends, IsSorted, AreSorted}
 use Rattle.nextest_config_resolution_merge.specs.declared.meeting.Meeting.{Meeting}
 use Rattle.nextest_config_resolution_merge.specs.declared.meeting.Meeting.TheVariants.{Before, Above, Same, Below, After}
-use Rattle.nextest_config_resolution_merge.proofs.Keys.{key_cmp, same_key, turned_back}
+use Rattle.nextest_config_resolution_merge.proofs.Keys.{key_cmp, same_key, turned_back, equal_keys}
 use Rattle.nextest_config_resolution_merge.proofs.Walk.{BeginsAfter, begins_after}
 
 -- the other comes first
@@ -54,6 +54,36 @@ before_after (key ∷ one) (beside ∷ other) e = by_key (key_cmp key beside) re
   by_key Less a e deeper = absurd (false≢true (ap is_after e))
   by_key Equal a e deeper = rw (nat_list_cmp_total.antisymm beside key, a) (deeper e)
   by_key Greater a e deeper = rw (turned_back key beside a) refl
+
+-- two paths that don't part are one
+abbrev is_same : Meeting → Bool
+is_same Same = true
+is_same Before = false
+is_same Above = false
+is_same Below = false
+is_same After = false
+
+pub same_path : (one other : Path) → meet one other ≡ Same → one ≡ other
+same_path [] [] e = refl
+same_path [] (key ∷ other) e = absurd (false≢true (ap is_same e))
+same_path (key ∷ one) [] e = absurd (false≢true (ap is_same e))
+same_path (key ∷ one) (beside ∷ other) e = by_key (key_cmp key beside) refl e (same_path one other) where
+  by_key : (order : Ordering) → key_cmp key beside ≡ order → match_ordering order Before (meet one other) After ≡ Same
+      → (meet one other ≡ Same → one ≡ other) → key ∷ one ≡ beside ∷ other
+  by_key Less a e deeper = absurd (false≢true (ap is_same e))
+  by_key Equal a e deeper = ap (λ k. k ∷ one) (equal_keys key beside a) ∙ ap (λ path. beside ∷ path) (deeper e)
+  by_key Greater a e deeper = absurd (false≢true (ap is_same e))
+
+-- with another end at the same path
+pub rising_instead : (front : List End) (end other : End) (more : List End) → end.0 ≡ other.0 → is_rising (front ++ other ∷ more) ≡ true
+    → is_rising (front ++ end ∷ more) ≡ true
+rising_instead [] end other [] same rises = refl
+rising_instead [] end other (next ∷ more) same rises = rw same rises
+rising_instead (first ∷ []) end other [] same rises = rw same rises
+rising_instead (first ∷ []) end other (next ∷ more) same rises = rw same rises
+rising_instead (first ∷ second ∷ front) end other more same rises =
+    let (here, behind_it) = and_parts (is_before (meet first.0 second.0)) (is_rising (second ∷ (front ++ other ∷ more))) rises in
+    rw here (rising_instead (second ∷ front) end other more same behind_it)
 
 -- with an end less
 pub rising_less : (front : List End) (end : End) (more : List End) → is_rising (front ++ end ∷ more) ≡ true → is_rising (front ++ more) ≡ true

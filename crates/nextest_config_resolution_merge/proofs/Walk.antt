@@ -7,7 +7,7 @@ use Rattle.toml.specs.Data.{Data, string, integer, float, boolean, datetime, arr
 use Rattle.nextest_config_resolution_merge.specs.Meeting.{choose}
 use Rattle.nextest_config_resolution_merge.specs.Tree.{End, behind, ends, members_ends, is_leaf, with_member, over, merge, IsBefore, IsSorted, AreSorted}
 use Rattle.nextest_config_resolution_merge.specs.declared.choice.Choice.{Choice}
-use Rattle.nextest_config_resolution_merge.specs.declared.choice.Choice.TheVariants.{TakeHigher, TakeLower, PassHigher, PassLower, Done}
+use Rattle.nextest_config_resolution_merge.specs.declared.choice.Choice.TheVariants.{TakeHigher, TakeLower, PassHigher, PassLower, TakeOver, Done}
 use Rattle.nextest_config_resolution_merge.proofs.Keys.{key_cmp, same_key, turned, turned_back, equal_keys, before_less}
 use Rattle.nextest_config_resolution_merge.proofs.Joined.{merge_before, merge_first, merge_both}
 
@@ -18,6 +18,8 @@ pub data Walks : List End → List End → List End → Type 0 where
   take_lower : {first : End} {higher lower taken : List End} → choose higher (first ∷ lower) ≡ TakeLower → Walks higher lower taken → Walks higher (first ∷ lower) (first ∷ taken)
   pass_higher : {first : End} {higher lower taken : List End} → choose (first ∷ higher) lower ≡ PassHigher → Walks higher lower taken → Walks (first ∷ higher) lower taken
   pass_lower : {first : End} {higher lower taken : List End} → choose higher (first ∷ lower) ≡ PassLower → Walks higher lower taken → Walks higher (first ∷ lower) taken
+  take_over : {first hidden : End} {higher lower taken : List End} → choose (first ∷ higher) (hidden ∷ lower) ≡ TakeOver → Walks higher lower taken
+      → Walks (first ∷ higher) (hidden ∷ lower) (first ∷ taken)
 
 -- an end is taken
 abbrev pub is_taken : Choice → Bool
@@ -25,6 +27,7 @@ is_taken TakeHigher = true
 is_taken TakeLower = true
 is_taken PassHigher = false
 is_taken PassLower = false
+is_taken TakeOver = true
 is_taken Done = false
 
 -- what is left of one list
@@ -90,6 +93,8 @@ together key {higher = higher} {lower = lower} (pass_lower {first = first} {high
     absurd (true≢false (ap is_taken e))
 together key {higher = higher} {lower = lower} (pass_lower {first = first} {higher = one ∷ above} {lower = beside} e more) high low walk =
     pass_lower (chosen_behind key one first (map (behind key) above ++ higher) (map (behind key) beside ++ lower) above beside ∙ e) (together key more high low walk)
+together key {higher = higher} {lower = lower} (take_over {first = first} {hidden = other} {higher = above} {lower = beside} e more) high low walk =
+    take_over (chosen_behind key first other (map (behind key) above ++ higher) (map (behind key) beside ++ lower) above beside ∙ e) (together key more high low walk)
 
 -- the ends of a tree begin below its first key
 abbrev pub Begins : List End → Type 0
@@ -123,16 +128,34 @@ begins_after key no_members before = tt
 begins_after key (member other value more) before = after_key key other (ends value) (members_ends more) before.0 (some_end value)
 
 -- a leaf hides all that is below it
-pass_all : (leaf : Data) (lower : List End) → is_leaf leaf ≡ true → Walks (([], leaf) ∷ []) lower (([], leaf) ∷ [])
-pass_all leaf [] e = rest_higher (([], leaf) ∷ [])
-pass_all leaf (([], value) ∷ lower) e = pass_lower refl (pass_all leaf lower e)
-pass_all leaf ((key ∷ path, value) ∷ lower) e = pass_lower (rw e refl) (pass_all leaf lower e)
+pass_key : (leaf : Data) (key : List ℕ) (front more : List End) → is_leaf leaf ≡ true → Walks (([], leaf) ∷ []) more (([], leaf) ∷ [])
+    → Walks (([], leaf) ∷ []) (map (behind key) front ++ more) (([], leaf) ∷ [])
+pass_key leaf key [] more e walk = walk
+pass_key leaf key (end ∷ front) more e walk = pass_lower (rw e refl) (pass_key leaf key front more e walk)
+
+pass_members : (leaf : Data) (lower : Members) → is_leaf leaf ≡ true → Walks (([], leaf) ∷ []) (members_ends lower) (([], leaf) ∷ [])
+pass_members leaf no_members e = rest_higher (([], leaf) ∷ [])
+pass_members leaf (member key value more) e = pass_key leaf key (ends value) (members_ends more) e (pass_members leaf more e)
+
+pass_all : (leaf lower : Data) → is_leaf leaf ≡ true → Walks (([], leaf) ∷ []) (ends lower) (([], leaf) ∷ [])
+pass_all leaf (table (member key value more)) e = pass_members leaf (member key value more) e
+pass_all leaf (table no_members) e = take_over refl done
+pass_all leaf (string text) e = take_over refl done
+pass_all leaf (integer number) e = take_over refl done
+pass_all leaf (float number) e = take_over refl done
+pass_all leaf (boolean truth) e = take_over refl done
+pass_all leaf (datetime time) e = take_over refl done
+pass_all leaf (array items) e = take_over refl done
 
 -- nothing is left of one end that stands where a table is
-pass_one : (value : Data) (higher : List End) → Begins higher → Walks (higher) (([], value) ∷ []) higher
-pass_one value [] begins = absurd begins
-pass_one value (([], one) ∷ higher) begins = pass_lower refl (rest_higher (([], one) ∷ higher))
-pass_one value ((key ∷ path, one) ∷ higher) begins = pass_lower refl (rest_higher ((key ∷ path, one) ∷ higher))
+pass_above : (value : Data) (key : List ℕ) (front more : List End) → Begins front
+    → Walks (map (behind key) front ++ more) (([], value) ∷ []) (map (behind key) front ++ more)
+pass_above value key [] more begins = absurd begins
+pass_above value key (first ∷ front) more begins = pass_lower refl (rest_higher (behind key first ∷ (map (behind key) front ++ more)))
+
+pass_one : (value : Data) (higher : Members) → Walks (ends (table higher)) (([], value) ∷ []) (ends (table higher))
+pass_one value no_members = take_over refl done
+pass_one value (member key given more) = pass_above value key (ends given) (members_ends more) (some_end given)
 
 merge_none : (higher : Members) → AreSorted higher → merge higher no_members ≡ higher
 merge_none no_members sorted = refl
@@ -195,29 +218,29 @@ some_table (member key value more) begins = refl
 -- a walk over the ends of two trees comes to those of one over the other
 mutual
   pub walks_over : (higher lower : Data) → IsSorted higher → IsSorted lower → Walks (ends higher) (ends lower) (ends (over higher (Some lower)))
-  walks_over (table no_members) (table no_members) above below = pass_lower refl (rest_higher (([], table no_members) ∷ []))
+  walks_over (table no_members) (table no_members) above below = take_over refl done
   walks_over (table no_members) (table (member other given lower)) above below = pass_empty other (ends given) (members_ends lower) (some_end given)
   walks_over (table (member key value more)) (table no_members) above below =
       subst (λ taken. Walks (members_ends (member key value more)) (([], table no_members) ∷ []) (ends (table taken)))
       (sym (merge_none (member key value more) above))
-      (pass_one (table no_members) (members_ends (member key value more)) (some_end (table (member key value more))))
+      (pass_one (table no_members) (member key value more))
   walks_over (table (member key value more)) (table (member other given lower)) above below =
       subst (Walks (members_ends (member key value more)) (members_ends (member other given lower)))
       (sym (some_table (merge (member key value more) (member other given lower))
       (some_set key (over value (get_member key (member other given lower))) (merge more (member other given lower)))))
       (walks_merge (member key value more) (member other given lower) above below)
-  walks_over (table members) (string text) above below = pass_one (string text) (ends (table members)) (some_end (table members))
-  walks_over (table members) (integer number) above below = pass_one (integer number) (ends (table members)) (some_end (table members))
-  walks_over (table members) (float number) above below = pass_one (float number) (ends (table members)) (some_end (table members))
-  walks_over (table members) (boolean truth) above below = pass_one (boolean truth) (ends (table members)) (some_end (table members))
-  walks_over (table members) (datetime time) above below = pass_one (datetime time) (ends (table members)) (some_end (table members))
-  walks_over (table members) (array items) above below = pass_one (array items) (ends (table members)) (some_end (table members))
-  walks_over (string text) lower above below = pass_all (string text) (ends lower) refl
-  walks_over (integer number) lower above below = pass_all (integer number) (ends lower) refl
-  walks_over (float number) lower above below = pass_all (float number) (ends lower) refl
-  walks_over (boolean truth) lower above below = pass_all (boolean truth) (ends lower) refl
-  walks_over (datetime time) lower above below = pass_all (datetime time) (ends lower) refl
-  walks_over (array items) lower above below = pass_all (array items) (ends lower) refl
+  walks_over (table members) (string text) above below = pass_one (string text) members
+  walks_over (table members) (integer number) above below = pass_one (integer number) members
+  walks_over (table members) (float number) above below = pass_one (float number) members
+  walks_over (table members) (boolean truth) above below = pass_one (boolean truth) members
+  walks_over (table members) (datetime time) above below = pass_one (datetime time) members
+  walks_over (table members) (array items) above below = pass_one (array items) members
+  walks_over (string text) lower above below = pass_all (string text) lower refl
+  walks_over (integer number) lower above below = pass_all (integer number) lower refl
+  walks_over (float number) lower above below = pass_all (float number) lower refl
+  walks_over (boolean truth) lower above below = pass_all (boolean truth) lower refl
+  walks_over (datetime time) lower above below = pass_all (datetime time) lower refl
+  walks_over (array items) lower above below = pass_all (array items) lower refl
 
   pub walks_merge : (higher lower : Members) → AreSorted higher → AreSorted lower → Walks (members_ends higher) (members_ends lower) (members_ends (merge higher lower))
   walks_merge no_members lower above below = rest_lower (members_ends lower)
@@ -230,7 +253,17 @@ is_higher TakeHigher = true
 is_higher PassHigher = true
 is_higher TakeLower = false
 is_higher PassLower = false
+is_higher TakeOver = true
 is_higher Done = false
+
+-- an end of the lower list
+abbrev pub is_lower : Choice → Bool
+is_lower TakeHigher = false
+is_lower PassHigher = false
+is_lower TakeLower = true
+is_lower PassLower = true
+is_lower TakeOver = true
+is_lower Done = false
 
 -- there is one such walk
 pub walks_once : {higher lower one other : List End} → Walks higher lower one → Walks higher lower other → one ≡ other
@@ -239,15 +272,24 @@ walks_once (take_higher {first = first} e walk) (take_higher f other) = ap (λ m
 walks_once (take_higher e walk) (take_lower f other) = absurd (true≢false (ap is_higher (sym e ∙ f)))
 walks_once (take_higher e walk) (pass_higher f other) = absurd (true≢false (ap is_taken (sym e ∙ f)))
 walks_once (take_higher e walk) (pass_lower f other) = absurd (true≢false (ap is_taken (sym e ∙ f)))
+walks_once (take_higher e walk) (take_over f other) = absurd (false≢true (ap is_lower (sym e ∙ f)))
 walks_once (take_lower e walk) (take_higher f other) = absurd (false≢true (ap is_higher (sym e ∙ f)))
 walks_once (take_lower {first = first} e walk) (take_lower f other) = ap (λ more. first ∷ more) (walks_once walk other)
 walks_once (take_lower e walk) (pass_higher f other) = absurd (true≢false (ap is_taken (sym e ∙ f)))
 walks_once (take_lower e walk) (pass_lower f other) = absurd (true≢false (ap is_taken (sym e ∙ f)))
+walks_once (take_lower e walk) (take_over f other) = absurd (false≢true (ap is_higher (sym e ∙ f)))
 walks_once (pass_higher e walk) (take_higher f other) = absurd (false≢true (ap is_taken (sym e ∙ f)))
 walks_once (pass_higher e walk) (take_lower f other) = absurd (false≢true (ap is_taken (sym e ∙ f)))
 walks_once (pass_higher e walk) (pass_higher f other) = walks_once walk other
 walks_once (pass_higher e walk) (pass_lower f other) = absurd (true≢false (ap is_higher (sym e ∙ f)))
+walks_once (pass_higher e walk) (take_over f other) = absurd (false≢true (ap is_taken (sym e ∙ f)))
 walks_once (pass_lower e walk) (take_higher f other) = absurd (false≢true (ap is_taken (sym e ∙ f)))
 walks_once (pass_lower e walk) (take_lower f other) = absurd (false≢true (ap is_taken (sym e ∙ f)))
 walks_once (pass_lower e walk) (pass_higher f other) = absurd (false≢true (ap is_higher (sym e ∙ f)))
 walks_once (pass_lower e walk) (pass_lower f other) = walks_once walk other
+walks_once (pass_lower e walk) (take_over f other) = absurd (false≢true (ap is_taken (sym e ∙ f)))
+walks_once (take_over e walk) (take_higher f other) = absurd (true≢false (ap is_lower (sym e ∙ f)))
+walks_once (take_over e walk) (take_lower f other) = absurd (true≢false (ap is_higher (sym e ∙ f)))
+walks_once (take_over e walk) (pass_higher f other) = absurd (true≢false (ap is_taken (sym e ∙ f)))
+walks_once (take_over e walk) (pass_lower f other) = absurd (true≢false (ap is_taken (sym e ∙ f)))
+walks_once (take_over {first = first} e walk) (take_over f other) = ap (λ more. first ∷ more) (walks_once walk other)

@@ -5,7 +5,7 @@ use Rattle.std.specs.Cmp.Lexicographic.{slice_cmp}
 use Rattle.nextest_config_elements_toml.specs.Reading.{Path}
 use Rattle.nextest_config_resolution_merge.specs.Tree.{End, is_leaf}
 use Rattle.nextest_config_resolution_merge.specs.declared.choice.Choice.{Choice}
-use Rattle.nextest_config_resolution_merge.specs.declared.choice.Choice.TheVariants.{TakeHigher, TakeLower, PassHigher, PassLower, Done}
+use Rattle.nextest_config_resolution_merge.specs.declared.choice.Choice.TheVariants.{TakeHigher, TakeLower, PassHigher, PassLower, TakeOver, Done}
 use Rattle.nextest_config_resolution_merge.specs.declared.meeting.Meeting.{Meeting}
 use Rattle.nextest_config_resolution_merge.specs.declared.meeting.Meeting.TheVariants.{Before, Above, Same, Below, After}
 
@@ -37,10 +37,11 @@ abbrev pub by_ending : Bool → Choice
 by_ending true = PassLower
 by_ending false = PassHigher
 
+-- at one path the higher end hides the lower one
 abbrev pub by_meeting : Meeting → Bool → Choice
 by_meeting Before is_leaf = TakeHigher
 by_meeting After is_leaf = TakeLower
-by_meeting Same is_leaf = PassLower
+by_meeting Same is_leaf = TakeOver
 by_meeting Below is_leaf = PassLower
 by_meeting Above is_leaf = by_ending is_leaf
 

@@ -5,7 +5,7 @@ use Rattle.nextest_config_resolution_merge.specs.Entries.{end_of, is_rising}
 use Rattle.nextest_config_resolution_merge.specs.Meeting.{choose}
 use Rattle.nextest_config_resolution_merge.specs.Tree.{End, ends, over, IsSorted}
 use Rattle.nextest_config_resolution_merge.specs.declared.choice.Choice.{Choice}
-use Rattle.nextest_config_resolution_merge.specs.declared.choice.Choice.TheVariants.{TakeHigher, TakeLower, PassHigher, PassLower, Done}
+use Rattle.nextest_config_resolution_merge.specs.declared.choice.Choice.TheVariants.{TakeHigher, TakeLower, PassHigher, PassLower, TakeOver, Done}
 use Rattle.nextest_config_resolution_merge.specs.declared.entry.Entry.{Entry}
 
 -- the ends of two trees are those of one over the other
@@ -20,6 +20,7 @@ going_on TakeHigher = Some TakeHigher
 going_on TakeLower = Some TakeLower
 going_on PassHigher = Some PassHigher
 going_on PassLower = Some PassLower
+going_on TakeOver = Some TakeOver
 
 -- the first end, and those behind it
 abbrev pub front : List End → List End
@@ -34,16 +35,19 @@ rest (first ∷ more) = more
 abbrev pub taken_by : Choice → List End → List End → List End → List End
 taken_by TakeHigher taken higher lower = taken ++ front higher
 taken_by TakeLower taken higher lower = taken ++ front lower
+taken_by TakeOver taken higher lower = taken ++ front higher
 taken_by other taken higher lower = taken
 
 abbrev pub higher_by : Choice → List End → List End
 higher_by TakeHigher higher = rest higher
 higher_by PassHigher higher = rest higher
+higher_by TakeOver higher = rest higher
 higher_by other higher = higher
 
 abbrev pub lower_by : Choice → List End → List End
 lower_by TakeLower lower = rest lower
 lower_by PassLower lower = rest lower
+lower_by TakeOver lower = rest lower
 lower_by other lower = lower
 
 -- the ends of entries whose last is the first one

@@ -19,6 +19,8 @@ pub(crate) enum Choice {
     PassHigher,
     // The lower one's is hidden.
     PassLower,
+    // The higher one's is the next, and hides the lower one's, which is at the same path.
+    TakeOver,
     // Both are gone through.
     Done,
 }
@@ -42,7 +44,8 @@ fn chosen(higher: &Entry<'_>, lower: &Entry<'_>) -> Choice
     match meet(higher.path.way(), lower.path.way()) {
         Meeting::Before => Choice::TakeHigher,
         Meeting::After => Choice::TakeLower,
-        Meeting::Same | Meeting::Below => Choice::PassLower,
+        Meeting::Same => Choice::TakeOver,
+        Meeting::Below => Choice::PassLower,
         Meeting::Above => {
             if is_leaf(&higher.ending) {
                 Choice::PassLower

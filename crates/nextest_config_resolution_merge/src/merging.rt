@@ -35,7 +35,7 @@ fn next_choice(higher: &[Entry<'_>], lower: &[Entry<'_>]) -> Option<Choice>
     }
 }
 
-// Takes an end, or passes it.
+// Takes an end, passes one, or both.
 fn take<'a>(
     entries: &mut Vec<Entry<'a>>,
     higher: &mut Vec<Entry<'a>>,
@@ -59,6 +59,10 @@ fn take<'a>(
         Choice::PassLower => {
             pass_last(lower);
             Ok(())
+        }
+        Choice::TakeOver => {
+            pass_last(lower);
+            move_last(entries, higher)
         }
         Choice::Done => Ok(()),
     }
