@@ -24,10 +24,10 @@ last_text (key ∷ next ∷ all) last e =
     let deeper : suc (length all) - 1 ≡ length all = omega arith in
     last_text (next ∷ all) last (rw deeper (subst (λ n. slice_get (key ∷ next ∷ all) n ≡ Some last) count e))
 
-same_bytes : (key : List ℕ) → bytes_eq key key ≡ true
+pub same_bytes : (key : List ℕ) → bytes_eq key key ≡ true
 same_bytes key = sym (is_eq-slice_cmp key key) ∙ ap is_eq (same_key key)
 
-other_bytes : (key other : List ℕ) → key_cmp key other ≡ Less → bytes_eq key other ≡ false
+pub other_bytes : (key other : List ℕ) → key_cmp key other ≡ Less → bytes_eq key other ≡ false
 other_bytes key other less = sym (is_eq-slice_cmp key other) ∙ ap is_eq less
 
 last_pushed : (all : List (List ℕ)) (key : List ℕ) → last_key (all ++ key ∷ []) ≡ Some key

@@ -59,20 +59,6 @@ get_set key other value (member first old more) = by_first (key_cmp other first)
       rw behind (set_behind (key_cmp key other) (key_cmp key first) (get_member key more) old value
       (λ same. ap (λ k. key_cmp k first) (equal_keys key other same) ∙ e))
 
-pub get_set_same : (key : List ℕ) (value : Data) (members : Members) → get_member key (with_member key value members) ≡ Some value
-get_set_same key value members = get_set key key value members ∙ rw (same_key key) refl
-
--- what was set last stands
-pub set_set : (key : List ℕ) (former value : Data) (members : Members) → with_member key value (with_member key former members) ≡ with_member key value members
-set_set key former value no_members = rw (same_key key) refl
-set_set key former value (member first old more) = by_first (key_cmp key first) refl (set_set key former value more) where
-  by_first : (order : Ordering) → key_cmp key first ≡ order → with_member key value (with_member key former more) ≡ with_member key value more
-      → with_member key value (match_ordering order (member key former (member first old more)) (member key former more) (member first old (with_member key former more)))
-      ≡ match_ordering order (member key value (member first old more)) (member key value more) (member first old (with_member key value more))
-  by_first Less e behind = rw (same_key key) refl
-  by_first Equal e behind = rw (same_key key) refl
-  by_first Greater e behind = rw (e, behind) refl
-
 -- a key before all others
 pub before_less : (key other : List ℕ) (members : Members) → key_cmp key other ≡ Less → IsBefore other members → IsBefore key members
 before_less key other no_members less before = tt

@@ -1,7 +1,6 @@
 pub mod Keys
 pub mod Joined
 pub mod Walk
-pub mod Written
 pub mod Rising
 pub mod Going
 pub mod Parting
@@ -10,5 +9,6 @@ pub mod Runs
 pub mod Nested
 pub mod Gathered
 pub mod Seen
+pub mod Rebuilt
 pub mod Looked
 pub mod Standings

@@ -1,31 +1,37 @@
 -- What is seen of a place, by the ends there.
-use Rattle.std.proofs.Common.{◌≡◌, ◌&&◌, Bool, true, false, List, [], ◌∷◌, ◌++◌, map, length, nat_le, append-nil, Option, None, Some, is_some, cond, refl, sym, ap, ◌∙◌}
-use Rattle.std.proofs.lemmas.Bool.{false≢true, true≢false}
+use Rattle.std.proofs.Common.{◌≡◌, ◌&&◌, Bool, true, false, List, [], ◌∷◌, ◌++◌, map, length, drop, nat_le, append-nil, Option, None, Some, is_some, cond, refl, sym, ap, ◌∙◌, arith}
+use Rattle.std.proofs.lemmas.Bool.{false≢true, true≢false, leb-true}
+use Rattle.std.proofs.lemmas.Bool.Decides.{nat_tests}
+use Rattle.std.proofs.lemmas.List.{drop_all}
 use Rattle.toml.specs.Data.{Data, string, integer, float, boolean, datetime, array, table, Members}
 use Rattle.nextest_config_elements_toml.specs.Reading.{Path}
-use Rattle.nextest_config_resolution_merge.specs.Nesting.{OfSorted, leaf_at, value_by}
+use Rattle.nextest_config_resolution_merge.specs.Nesting.{leaf_at}
 use Rattle.nextest_config_resolution_merge.specs.Tree.{End, along, ends_at, is_leaf}
-use Rattle.nextest_config_resolution_merge.proofs.Nested.{first_or, is_none, same_length, some_found}
+use Rattle.nextest_config_resolution_merge.proofs.Nested.{first_or, is_none, alone_at}
 
 -- an end that is a leaf at so many keys is all that stands there
 abbrev data_or : Data → Option Data → Data
 data_or otherwise None = otherwise
 data_or otherwise (Some it) = it
 
-pub leaf_found : (path : Path) (found : Option Data) → OfSorted found → (first : End) (rest : List End) → first ∷ rest ≡ map (along path) (ends_at found)
+pub leaf_found : (path : Path) (found : Option Data) (first : End) (more : List End) → first ∷ more ≡ map (along path) (ends_at found)
     → (leaf : Data) → leaf_at (length path) first ≡ Some leaf → (found ≡ Some leaf) × (is_leaf leaf ≡ true)
-leaf_found path found sorted first rest whole leaf e =
-    by_tests (nat_le (length first.0) (length path)) (is_leaf first.1) refl refl e (some_found path found sorted first rest whole) where
+leaf_found path None first more whole leaf e = absurd (false≢true (ap is_none whole))
+leaf_found path (Some tree) first more whole leaf e =
+    by_tests (nat_le (length first.0) (length path)) (is_leaf first.1) refl refl e where
       by_tests : (short leafy : Bool) → nat_le (length first.0) (length path) ≡ short → is_leaf first.1 ≡ leafy → cond (short && leafy) (Some first.1) None ≡ Some leaf
-          → Some (value_by (length path) first (first ∷ rest)) ≡ found → (found ≡ Some leaf) × (is_leaf leaf ≡ true)
-      by_tests true true f g e is =
+          → (Some tree ≡ Some leaf) × (is_leaf leaf ≡ true)
+      by_tests true true f g e =
           let same : first.1 ≡ leaf = ap (data_or leaf) e in
-          let one : value_by (length path) first (first ∷ rest) ≡ first.1 = rw f refl in
-          (sym is ∙ ap Some (one ∙ same), sym (ap is_leaf same) ∙ g)
-      by_tests true false f g e is = absurd (false≢true (ap is_some e))
-      by_tests false leafy f g e is = absurd (false≢true (ap is_some e))
+          let none : drop (length path) first.0 ≡ [] = drop_all (length path) first.0 (leb-true (length first.0) (length path) f) in
+          (sym (ap Some (alone_at path tree first more whole none)) ∙ ap Some same, sym (ap is_leaf same) ∙ g)
+      by_tests true false f g e = absurd (false≢true (ap is_some e))
+      by_tests false leafy f g e = absurd (false≢true (ap is_some e))
 
 -- where the first end is none, something else than a leaf stands there
+same_length : (path : Path) → nat_le (length path) (length path) ≡ true
+same_length path = grind (arith, nat_tests)
+
 one_leaf : (path : Path) (leaf : Data) → is_leaf leaf ≡ true → (first : End) (rest : List End) → first ∷ rest ≡ (path ++ [], leaf) ∷ [] → leaf_at (length path) first ≡ None → ⊥
 one_leaf path leaf e first rest whole none =
     let one : first ≡ (path, leaf) = ap (first_or first) whole ∙ ap (λ way. (way, leaf)) (append-nil path) in

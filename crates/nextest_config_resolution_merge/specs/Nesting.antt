@@ -1,39 +1,20 @@
--- The table that ends make up.
-use Rattle.std.specs.Prelude.{ℕ, Bool, false, ◌&&◌, List, [], ◌∷◌, ◌++◌, length, drop, map, nat_le, Option, None, Some, ⊤, if◌then◌else◌}
+-- What some ends make up below so many keys.
+use Rattle.std.specs.Prelude.{◌≡◌, ℕ, suc, ◌≤◌, Bool, true, false, ◌&&◌, not, List, [], ◌∷◌, ◌++◌, length, drop, nat_le, Option, None, Some, ⊤, if◌then◌else◌}
+use Rattle.std.specs.List.{list_all}
 use Rattle.std.specs.Option.{option_map_or}
 use Rattle.std.specs.Str.{bytes_eq}
-use Rattle.toml.specs.Data.{Data, table, Members, no_members, get_member}
+use Rattle.toml.specs.Data.{Data}
 use Rattle.nextest_config_elements_toml.specs.Reading.{Path}
-use Rattle.nextest_config_resolution_merge.specs.Tree.{End, with_member, is_leaf, IsSorted}
+use Rattle.nextest_config_resolution_merge.specs.Tree.{End, is_leaf, IsSorted}
 
 -- an end without the first keys of its path
 abbrev pub shorter : ℕ → End → End
 shorter depth end = (drop depth end.0, end.1)
 
--- the members of a table that stands somewhere
-abbrev pub inside : Option Data → Members
-inside (Some (table members)) = members
-inside other = no_members
-
--- a table with a value at a path
-abbrev pub with_value_at : Path → Data → Members → Members
-with_value_at [] value members = members
-with_value_at (key ∷ []) value members = with_member key value members
-with_value_at (key ∷ next ∷ path) value members = with_member key (table (with_value_at (next ∷ path) value (inside (get_member key members)))) members
-
--- the ends, each put at its path
-abbrev pub nest : List End → Members
-nest [] = no_members
-nest (end ∷ more) = with_value_at end.0 end.1 (nest more)
-
 -- what stands somewhere is in order
 abbrev pub OfSorted : Option Data → Type 0
 OfSorted None = ⊤
 OfSorted (Some tree) = IsSorted tree
-
--- what some ends stand for below so many keys, by the first of them
-abbrev pub value_by : ℕ → End → List End → Data
-value_by depth first all = if nat_le (length first.0) depth then first.1 else table (nest (map (shorter depth) all))
 
 -- what an end stands for below so many keys, if its path has no more and it is no table
 abbrev pub leaf_at : ℕ → End → Option Data
@@ -56,6 +37,17 @@ with_key keys (Some key) = if is_last keys key then keys else keys ++ key ∷ []
 abbrev pub head_of : Path → Option (List ℕ)
 head_of [] = None
 head_of (key ∷ path) = Some key
+
+-- an end has a key behind so many
+abbrev pub has_key : ℕ → List ℕ → End → Bool
+has_key depth key end = option_map_or (bytes_eq key) (head_of (drop depth end.0)) false
+
+-- so many of the first ends have a key, where the first has it, those that have it stand in front of
+-- those that don't, and the first alone has it if its path has no more
+abbrev pub Counts : ℕ → List ℕ → List End → ℕ → Type 0
+Counts depth key all count = (first : End) (front back : List End) → all ≡ first ∷ (front ++ back)
+    → list_all (has_key depth key) front ≡ true → list_all (λ end. not (has_key depth key end)) back ≡ true
+    → (length first.0 ≤ suc depth → front ≡ []) → count ≡ suc (length front)
 
 -- the first keys of some ends, each once
 abbrev pub first_keys_of : List (List ℕ) → List End → List (List ℕ)

@@ -10,7 +10,7 @@ ghost use Rattle.nextest_config_resolution_merge.specs.Tree.{along, ends_at};
 ghost use Rattle.nextest_config_resolution_merge.specs.Whole.{IsSeenAs};
 
 use crate::entry::{Ending, Entry};
-use crate::rebuilding::{rebuilt, value_of};
+use crate::rebuilding::value_from;
 use crate::stands_at::StandsAt;
 use std::alloc::{AllocError, Global};
 use toml::Value;
@@ -29,22 +29,6 @@ pub(crate) fn value_in(
         None => Ok(None),
         Some((first, _)) => Ok(Some(value_from(alloc, first, run, depth)?)),
     }
-}
-
-// The value that some entries end in: the first one's, if nothing stands below it.
-fn value_from(
-    alloc: Global,
-    first: &Entry<'_>,
-    run: &[Entry<'_>],
-    depth: usize,
-) -> Result<Value, AllocError>
-    ensures { IfOk result
-        (λ it. view it ≡ words.value_by depth (end_of first.now) (map end_of run.now)) }
-{
-    if first.path.way().behind(depth).is_empty() {
-        return value_of(alloc, &first.ending);
-    }
-    Ok(Value::Table(rebuilt(alloc, run, depth)?))
 }
 
 // What the entries stand for whose paths lead to it by so many keys.

@@ -18,7 +18,7 @@ returns-in-Some-leaf_at c = λ path found count sorted whole.
     let one : map end_of c.args.run.now ≡ first ∷ map end_of c.in-Some.field-0-1.now = ap (map end_of) c.in-Some.ensures.cases.0 in
     let is : leaf_at c.args.depth first ≡ Some (view c.in-Some-leaf_at.value.now) =
     sym c.leaf_at.ensures ∙ ap (option_map (λ it. view it.now)) c.in-Some-leaf_at.is in
-    leaf_found path found sorted first (map end_of c.in-Some.field-0-1.now) (sym one ∙ whole) (view c.in-Some-leaf_at.value.now)
+    leaf_found path found first (map end_of c.in-Some.field-0-1.now) (sym one ∙ whole) (view c.in-Some-leaf_at.value.now)
     (ap (λ depth. leaf_at depth first) count ∙ is)
 
 pub returns-in_ok-keys_in-in-None : goal.returns-in_ok-keys_in-in-None

@@ -1,6 +1,6 @@
-use Rattle.std.proofs.Common.{◌≡◌, ◌∷◌, Some, length, map, sym, ap, ◌∙◌, subst}
+use Rattle.std.proofs.Common.{◌≡◌, ◌∷◌, map, sym, ap, ◌∙◌}
+use Rattle.toml.specs.View.{view}
 use Rattle.nextest_config_resolution_merge.specs.Entries.{end_of}
-use Rattle.nextest_config_resolution_merge.specs.Nesting.{value_by}
 use Rattle.nextest_config_resolution_merge.proofs.Nested.{nothing, none_found, some_found}
 use Rattle.nextest_config_resolution_merge.proofs.reading_back.value_in.Goals as goal
 
@@ -10,8 +10,7 @@ returns-in-None c = λ path found count sorted whole. none_found path found (sym
 pub returns-in_ok-value_from-in-Some : goal.returns-in_ok-value_from-in-Some
 returns-in_ok-value_from-in-Some c = λ path found count sorted whole.
     let first = end_of c.in-Some.first.now in
-    let one : map end_of c.args.run.now ≡ first ∷ map end_of c.in-Some.field-0-1.now = ap (map end_of) c.in-Some.ensures.cases.0 in
-    ap Some c.in_ok-value_from-in-Some.ensures
-    ∙ subst (λ depth. Some (value_by depth first (map end_of c.args.run.now)) ≡ found) count
-    (subst (λ all. Some (value_by (length path) first all) ≡ found) (sym one)
-    (some_found path found sorted first (map end_of c.in-Some.field-0-1.now) (sym one ∙ whole)))
+    let more = map end_of c.in-Some.field-0-1.now in
+    let one : map end_of c.args.run.now ≡ first ∷ more = ap (map end_of) c.in-Some.ensures.cases.0 in
+    some_found path found sorted first more (sym one ∙ whole) (view c.in_ok-value_from-in-Some.field-0)
+    (λ tree in_order ends_are. c.in_ok-value_from-in-Some.ensures path tree more count in_order one (one ∙ ends_are))
