@@ -1,7 +1,7 @@
 // The features that sources ask for.
 ghost use Rattle.std.specs.Prelude.{◌≡◌, [], ◌∷◌, ◌++◌, IfOk};
 ghost use Rattle.nextest_config_elements_versions.specs.Features.{unknown_in};
-ghost use Rattle.nextest_config_elements_versions.specs.Sources.{experimental_of, merged_features, no_experimental};
+ghost use Rattle.nextest_config_elements_versions.specs.Sources.{experimental_of, merged_features, no_experimental, unknown_features_of};
 
 use crate::feature::{ConfigExperimental, FeatureSet, UnknownFeature, known_in};
 use crate::features::push_text;
@@ -68,17 +68,10 @@ impl ExperimentalConfig {
     ) -> Result<ExperimentalConfig, AllocError>
         ensures { IfOk result (λ it. it ≡ experimental_of names.now source.now) }
     {
-        let mut unknown = Listing::new(alloc);
-        let strange = unknown_in(alloc, names)?;
-        if !strange.is_empty() {
-            unknown.push(UnknownFeatures {
-                source: source.clone()?,
-                names: strange,
-            })?;
-        }
+        let unknown = unknown_in(alloc, names)?;
         Ok(ExperimentalConfig {
             known: known_in(names),
-            unknown,
+            unknown: unknown_of(alloc, source, unknown)?,
         })
     }
 
@@ -92,6 +85,23 @@ impl ExperimentalConfig {
             unknown: joined(unknown, other.unknown)?,
         })
     }
+}
+
+// A source with the names of features that it asks for and that aren't known, if there are any.
+fn unknown_of(
+    alloc: Global,
+    source: &VersionOrigin,
+    names: Listing<Text>,
+) -> Result<Listing<UnknownFeatures>, AllocError>
+    ensures { IfOk result (λ it. it ≡ unknown_features_of source.now names) }
+{
+    let mut unknown = Listing::new(alloc);
+    if names.is_empty() {
+        return Ok(unknown);
+    }
+    let source = source.clone()?;
+    unknown.push(UnknownFeatures { source, names })?;
+    Ok(unknown)
 }
 
 // Two lists in a row.
