@@ -1,4 +1,4 @@
--- The ends of a tree make it up again.
+-- What the first of some ends tells of the tree that they are of.
 use Rattle.std.proofs.Common.{◌≡◌, arith, Bool, true, false, List, [], ◌∷◌, ◌++◌, map, drop, length, Option, None, Some, refl, sym, ap, ◌∙◌, Ordering, Less, Equal, Greater, String, Global, string_bytes}
 use Rattle.std.proofs.lemmas.Bool.{false≢true, true≢false}
 use Rattle.std.specs.BTreeMap.{insert_entry}
@@ -67,14 +67,14 @@ first_or otherwise [] = otherwise
 first_or otherwise (end ∷ more) = end
 
 -- the first end of a tree, below a path
-pub record FirstOf (path : Path) (tree : Data) (first : End) (more : List End) : Type 0 where
+record FirstOf (path : Path) (tree : Data) (first : End) (more : List End) : Type 0 where
   pub one : End
   pub front : List End
   pub whole : ends tree ≡ one ∷ front
   pub here : first ≡ along path one
   pub there : more ≡ map (along path) front
 
-pub first_of : (path : Path) (tree : Data) (first : End) (more : List End) → first ∷ more ≡ map (along path) (ends tree) → FirstOf path tree first more
+first_of : (path : Path) (tree : Data) (first : End) (more : List End) → first ∷ more ≡ map (along path) (ends tree) → FirstOf path tree first more
 first_of path tree first more e = by_ends (ends tree) refl (some_end tree) e where
   by_ends : (all : List End) → ends tree ≡ all → Begins all → first ∷ more ≡ map (along path) all → FirstOf path tree first more
   by_ends [] whole begins e = absurd begins
@@ -106,7 +106,7 @@ first_path : (tree : Data) (first : End) (more : List End) → ([], tree) ∷ []
 first_path tree first more e = ap (λ ends. (first_or first ends).0) (sym e)
 
 -- any other tree is a table that isn't empty
-pub some_members : (tree : Data) (first : End) (more : List End) → ends tree ≡ first ∷ more → (first.0 ≡ [] → ⊥)
+some_members : (tree : Data) (first : End) (more : List End) → ends tree ≡ first ∷ more → (first.0 ≡ [] → ⊥)
     → (members : Members) × (tree ≡ table members) × (ends tree ≡ members_ends members)
 some_members (table (member key value others)) first more e some = (member key value others, refl, refl)
 some_members (table no_members) first more e some = absurd (some (first_path (table no_members) first more e))
@@ -118,7 +118,7 @@ some_members (datetime time) first more e some = absurd (some (first_path (datet
 some_members (array items) first more e some = absurd (some (first_path (array items) first more e))
 
 -- the same below a path
-pub left_path : (path : Path) (one first : End) → first ≡ along path one → drop (length path) first.0 ≡ one.0
+left_path : (path : Path) (one first : End) → first ≡ along path one → drop (length path) first.0 ≡ one.0
 left_path path one first e = ap (λ (end : End). drop (length path) end.0) e ∙ drop_path path one.0
 
 pub alone_at : (path : Path) (tree : Data) (first : End) (more : List End) → first ∷ more ≡ map (along path) (ends tree)

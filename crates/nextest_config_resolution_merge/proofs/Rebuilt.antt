@@ -24,7 +24,7 @@ abbrev pub followed : Members → Members → Members
 followed no_members more = more
 followed (member key value made) more = member key value (followed made more)
 
-pub followed_none : (made : Members) → followed made no_members ≡ made
+followed_none : (made : Members) → followed made no_members ≡ made
 followed_none no_members = refl
 followed_none (member key value made) = ap (member key value) (followed_none made)
 
@@ -123,7 +123,7 @@ one_longer [] key = refl
 one_longer (first ∷ path) key = ap suc (one_longer path key)
 
 -- all that stands at one key is a member
-pub next_member : (path : Path) (whole made : Members) → AreSorted whole → (first : End) (behind_it : List End) → Left path whole made (first ∷ behind_it)
+next_member : (path : Path) (whole made : Members) → AreSorted whole → (first : End) (behind_it : List End) → Left path whole made (first ∷ behind_it)
     → (key : List ℕ) → Some key ≡ head_of (drop (length path) first.0) → (count : ℕ) → Counts (length path) key (first ∷ behind_it) count
     → (value : Data) → ((way : Path) (tree : Data) (more : List End) → length way ≡ suc (length path) → IsSorted tree → take count (first ∷ behind_it) ≡ first ∷ more
     → take count (first ∷ behind_it) ≡ map (along way) (ends tree) → value ≡ tree)
@@ -161,7 +161,7 @@ none_left_of path whole made left = by_others left.others left.parted left.of_ot
   by_others (member key value more) parted e = absurd (some_ends path key (ends value) (members_ends more) (some_end value) e)
 
 -- an end that is left has a key
-pub some_key : (path : Path) (whole made : Members) (first : End) (behind_it : List End) → Left path whole made (first ∷ behind_it)
+some_key : (path : Path) (whole made : Members) (first : End) (behind_it : List End) → Left path whole made (first ∷ behind_it)
     → None ≡ head_of (drop (length path) first.0) → ⊥
 some_key path whole made first behind_it left none = by_others left.others left.of_others where
   by_others : (others : Members) → first ∷ behind_it ≡ map (along path) (members_ends others) → ⊥

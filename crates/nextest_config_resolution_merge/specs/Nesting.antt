@@ -3,13 +3,18 @@ use Rattle.std.specs.Prelude.{◌≡◌, ℕ, suc, ◌≤◌, Bool, true, false,
 use Rattle.std.specs.List.{list_all}
 use Rattle.std.specs.Option.{option_map_or}
 use Rattle.std.specs.Str.{bytes_eq}
-use Rattle.toml.specs.Data.{Data}
+use Rattle.toml.specs.Data.{Data, table, Members, no_members}
 use Rattle.nextest_config_elements_toml.specs.Reading.{Path}
 use Rattle.nextest_config_resolution_merge.specs.Tree.{End, is_leaf, IsSorted}
 
 -- an end without the first keys of its path
 abbrev pub shorter : ℕ → End → End
 shorter depth end = (drop depth end.0, end.1)
+
+-- the members of a table that stands somewhere
+abbrev pub inside : Option Data → Members
+inside (Some (table members)) = members
+inside other = no_members
 
 -- what stands somewhere is in order
 abbrev pub OfSorted : Option Data → Type 0
