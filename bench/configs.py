@@ -1,17 +1,19 @@
 #!/usr/bin/env python3
-"""Times the load of three files of 200 profiles each, some 480 kB a file, beside the reading of the same bytes by `toml` alone.
+"""Times the load of three files of 200 profiles each, some 430 kB a file, beside the reading of the same bytes by `toml` alone.
 
     python3 bench/configs.py
 
 It copies the repository with what is built in it, adds the program below, proves and builds it (some minutes, where the libraries
-are built), and prints the least of nine runs of each. The program has no place in the repository: the gate would prove it again.
+are built), and prints processor seconds, the least of 21 runs of each in turns, with the system's share and the page faults of that run.
+`read` drops the table of each file before it reads the next one, `kept` has all three at the end, as a load needs them. The program has
+no place in the repository: the gate would prove it again.
 """
+import os
 import pathlib
 import random
 import shutil
 import subprocess
 import tempfile
-import time
 
 ROOT = pathlib.Path(__file__).resolve().parent.parent
 LINE = (
@@ -34,6 +36,7 @@ use std::alloc::Global;
 use std::fs;
 use std::process::ExitCode;
 use test_runner_core_platforms::PlatformSpec;
+use toml::Table;
 
 // Whether the sources come to a configuration.
 fn is_loaded(alloc: Global, sources: &[ConfigSource]) -> Result<bool> {
@@ -49,11 +52,15 @@ fn main(rt: HostRuntime) -> Result<ExitCode> {
     let alloc = rt.alloc();
     let mode = fs::read_to_string(&rt, "mode.txt")?;
     let mut sources: Vec<ConfigSource> = Vec::new(alloc);
+    let mut tables: Vec<Table> = Vec::new(alloc);
     for name in ["a.toml", "b.toml", "c.toml"] {
         let text = fs::read_to_string(&rt, name)?;
-        if mode.as_str() == "read" {
+        if mode.as_str() != "load" {
             let table = toml::table_from_str(alloc, text.as_str())?;
             println!(rt; "{}", table.len())?;
+            if mode.as_str() == "kept" {
+                tables.push(table)?;
+            }
         } else {
             sources.push(ConfigSource {
                 kind: ConfigSourceKind::Tool(ToolName::new(alloc, "t")?),
@@ -94,15 +101,15 @@ def file():
     return "".join(text)
 
 
-def least(program, folder, mode):
-    """The least seconds of nine runs."""
+def run(program, folder, mode):
+    """The processor seconds of a run, the system's among them, and its page faults."""
     (folder / "mode.txt").write_text(mode)
-    times = []
-    for _ in range(9):
-        began = time.perf_counter()
-        subprocess.run([program], cwd=folder, check=True, stdout=subprocess.DEVNULL)
-        times.append(time.perf_counter() - began)
-    return min(times)
+    child = subprocess.Popen([program], cwd=folder, stdout=subprocess.DEVNULL)
+    _, status, used = os.wait4(child.pid, 0)
+    child.returncode = os.waitstatus_to_exitcode(status)
+    if child.returncode:
+        raise SystemExit(f"{mode} ended with {child.returncode}")
+    return used.ru_utime + used.ru_stime, used.ru_stime, used.ru_minflt
 
 
 def main():
@@ -122,8 +129,14 @@ def main():
         (data / "mode.txt").write_text("read")
         subprocess.run(["rt", "run"], cwd=source.parent, stdin=subprocess.DEVNULL, stdout=subprocess.DEVNULL, stderr=subprocess.DEVNULL)
         size = sum((data / f"{name}.toml").stat().st_size for name in "abc")
-        read, load = (least(source.parent / "out/time_load", data, mode) for mode in ("read", "load"))
-        print(f"{size} bytes: read {read:.3f} s, loaded {load:.3f} s, {load / read:.2f} times")
+        runs = {mode: [] for mode in ("read", "kept", "load")}
+        for _ in range(21):
+            for mode in runs:
+                runs[mode].append(run(source.parent / "out/time_load", data, mode))
+        print(f"{size} bytes")
+        for mode in runs:
+            whole, system, faults = min(runs[mode])
+            print(f"{mode}: {whole:.3f} s ({system:.3f} the system's, {faults} page faults), {whole / min(runs['read'])[0]:.2f} times read")
 
 
 if __name__ == "__main__":
