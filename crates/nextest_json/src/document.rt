@@ -43,8 +43,9 @@ impl JsonMemory {
     }
 }
 
-/// A text of JSON, read. Its texts without escapes are lent from it. In a clause it is `whole`: its
-/// data.
+/// A text of JSON, read: a tree of values, whose texts without escapes are lent from it. A value
+/// takes 32 bytes, and a list or an object that isn't empty takes room for at least four. In a
+/// clause it is `whole`: its data.
 #[derive(Drop)]
 pub struct JsonDocument<'a> {
     root: Value<'a>,
