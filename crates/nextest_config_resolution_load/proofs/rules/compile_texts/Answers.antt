@@ -8,6 +8,24 @@ use Rattle.nextest_config_resolution_load.specs.declared.load_fault.PlatformSide
 use Rattle.nextest_config_resolution_load.proofs.Passing.{passes_on, refuses_before, refuses_behind}
 use Rattle.nextest_config_resolution_load.proofs.rules.compile_texts.Goals as goal
 
+pub returns-in_err-target : goal.returns-in_err-target
+returns-in_err-target g c =
+    let Is = g.R.Languages.is_filter c.args.cx.now in
+    let IsSpec = g.R.Languages.is_spec in
+    let IsTooDeep = g.R.Languages.is_too_deep in
+    let id = rule_of c.args.id in
+    let texts = texts_of c.args.texts.now in
+    let host = spec_checks id side.Host texts.host in
+    let target = spec_checks id side.Target texts.target in
+    let own = filter_checks id purpose.Override texts.filter in
+    let default = filter_checks id purpose.Default texts.default_filter in
+    let listing = listing_checks c.args.wraps id texts.filter in
+    let told = c.in_err-target.field-0.0 in
+    passes_on Is IsSpec IsTooDeep (IsCompiledRule Is IsSpec texts) (text_checks c.args.wraps id texts) told c.from_residual-in_err-target.result
+    (refuses_behind Is IsSpec IsTooDeep host (target ++ (own ++ (default ++ listing))) told c.in_ok-host.ensures.0
+    (refuses_before Is IsSpec IsTooDeep target (own ++ (default ++ listing)) told c.in_err-target.ensures))
+    c.from_residual-in_err-target.ensures.1
+
 pub returns-in_err-filter : goal.returns-in_err-filter
 returns-in_err-filter g c =
     let Is = g.R.Languages.is_filter c.args.cx.now in
