@@ -339,10 +339,13 @@ def deep_inputs(program, row):
     inputs = json.loads(PLAN(""))
     if key == "filterset":
         inputs["filterset"] = text
-    else:
+    if key == "platform":
         rule = f"[[profile.default.overrides]]\nplatform = '{text}'\nfilter = 'all()'\n"
         inputs["sources"] = [{"kind": "explicit", "path": "n", "text": rule}]
-    run = program.run_on_small_stack(json.dumps(inputs, ensure_ascii=False) + "\n" + with_tabs(BOTH_PASS))
+    line = json.dumps(inputs, ensure_ascii=False)
+    if key == "member":
+        line = f'{{"x":{text},{line[1:]}'
+    run = program.run_on_small_stack(line + "\n" + with_tabs(BOTH_PASS))
     fields = run.fields()
     told = f"refused {fields[1]}" if fields[0] == "refused" else f"{counter('initial-run-count', run)} tests"
     return f"status {run.status}, {told}"
