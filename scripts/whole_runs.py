@@ -391,6 +391,7 @@ TABLES = {
     "inputs_other": inputs,
     "refused_lines": refused_lines,
     "deep_inputs": deep_inputs,
+    "json_members": deep_inputs,
 }
 
 # Those whose rows take up to some 2 GB of memory, so that few are run side by side.
