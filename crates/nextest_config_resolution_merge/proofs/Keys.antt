@@ -1,11 +1,11 @@
 -- Tables by their keys: what a look-up finds where a value was set, and that keys stay in order.
-use Rattle.std.proofs.Common.{◌≡◌, ℕ, List, Option, None, Some, refl, sym, ap, ◌∙◌, subst, Ordering, Less, Equal, Greater, nat_cmp}
+use Rattle.std.proofs.Common.{◌≡◌, ℕ, List, Option, None, Some, refl, ap, ◌∙◌, Ordering, Less, Equal, Greater, nat_cmp}
 use Rattle.std.proofs.lemmas.Cmp.{nat_list_cmp_total, tied_itself, alike_right}
 use Rattle.std.proofs.lemmas.Map.Lookups.{exact_bytes}
 use Rattle.std.specs.Cmp.Lexicographic.{slice_cmp}
 use Rattle.std.specs.Ordering.{match_ordering, ordering_reverse}
 use Rattle.toml.specs.Data.{Data, Members, no_members, member, get_member}
-use Rattle.nextest_config_resolution_merge.specs.Tree.{with_member, IsBefore, IsSorted, AreSorted}
+use Rattle.nextest_config_resolution_merge.specs.Tree.{with_member, IsBefore}
 
 -- how keys compare
 abbrev pub key_cmp : List ℕ → List ℕ → Ordering
@@ -68,28 +68,3 @@ before_less key other (member first value more) less before =
 pub get_before : (key : List ℕ) (members : Members) → IsBefore key members → get_member key members ≡ None
 get_before key no_members before = refl
 get_before key (member first value more) before = rw before.0 (get_before key more before.1)
-
-pub set_before : (key : List ℕ) (value : Data) (members : Members) → IsBefore key members → with_member key value members ≡ member key value members
-set_before key value no_members before = refl
-set_before key value (member first old more) before = rw before.0 refl
-
-pub before_set : (key other : List ℕ) (value : Data) (members : Members) → key_cmp key other ≡ Less → IsBefore key members → IsBefore key (with_member other value members)
-before_set key other value no_members less before = (less, tt)
-before_set key other value (member first old more) less before =
-    by_first (key_cmp other first) (before_set key other value more less before.1) where
-      by_first : (order : Ordering) → IsBefore key (with_member other value more)
-          → IsBefore key (match_ordering order (member other value (member first old more)) (member other value more) (member first old (with_member other value more)))
-      by_first Less behind = (less, before)
-      by_first Equal behind = (less, before.1)
-      by_first Greater behind = (before.0, behind)
-
--- a value that is set leaves keys in order
-pub sorted_set : (key : List ℕ) (value : Data) (members : Members) → IsSorted value → AreSorted members → AreSorted (with_member key value members)
-sorted_set key value no_members here sorted = (tt, (here, tt))
-sorted_set key value (member first old more) here sorted =
-    by_first (key_cmp key first) refl (sorted_set key value more here sorted.1.1) where
-      by_first : (order : Ordering) → key_cmp key first ≡ order → AreSorted (with_member key value more)
-          → AreSorted (match_ordering order (member key value (member first old more)) (member key value more) (member first old (with_member key value more)))
-      by_first Less e behind = ((e, before_less key first more e sorted.0), (here, sorted))
-      by_first Equal e behind = (subst (λ k. IsBefore k more) (sym (equal_keys key first e)) sorted.0, (here, sorted.1.1))
-      by_first Greater e behind = (before_set first key value more (turned_back key first e) sorted.0, (sorted.1.0, behind))

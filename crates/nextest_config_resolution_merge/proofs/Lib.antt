@@ -1,14 +1,3 @@
 pub mod Keys
-pub mod Joined
-pub mod Walk
-pub mod Rising
-pub mod Going
-pub mod Parting
-pub mod Flattened
-pub mod Runs
-pub mod Nested
-pub mod Gathered
-pub mod Seen
-pub mod Rebuilt
-pub mod Looked
+pub mod Tables
 pub mod Standings

@@ -8,8 +8,8 @@ use Rattle.nextest_config_elements_toml.specs.Reading.{Path}
 use Rattle.nextest_config_resolution_merge.specs.Laws.{MergedByOver, OneStanding}
 use Rattle.nextest_config_resolution_merge.specs.Merged.{Standing, a_table, a_leaf, standing_of, stands, HasLeafAbove, StandsIn, merge_of_files}
 use Rattle.nextest_config_resolution_merge.specs.Tree.{get_path, over, merge}
-use Rattle.nextest_config_resolution_merge.proofs.Joined.{over_none}
 use Rattle.nextest_config_resolution_merge.proofs.Keys.{key_cmp, after_set, equal_keys, get_set}
+use Rattle.nextest_config_resolution_merge.proofs.Tables.{over_none}
 
 -- what two tables have at a key
 abbrev pub joint : Option Data → Option Data → Option Data

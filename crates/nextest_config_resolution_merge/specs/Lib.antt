@@ -1,10 +1,3 @@
-pub mod Entries
 pub mod Laws
-pub mod LookUp
-pub mod Meeting
 pub mod Merged
-pub mod Merging
-pub mod Nesting
 pub mod Tree
-pub mod Ways
-pub mod Whole

@@ -1,5 +1,5 @@
--- Trees of tables: what stands at a path, the list of what a tree ends in, and a tree over another.
-use Rattle.std.specs.Prelude.{◌≡◌, ℕ, Bool, true, false, List, [], ◌∷◌, ◌++◌, map, Option, None, Some, option_and_then, ⊤}
+-- Trees of tables: what stands at a path, and a tree over another.
+use Rattle.std.specs.Prelude.{◌≡◌, ℕ, List, [], ◌∷◌, Option, Some, option_and_then, ⊤}
 use Rattle.std.specs.declared.cmp.Ordering.TheVariants.{Less}
 use Rattle.std.specs.Ordering.{nat_cmp, match_ordering}
 use Rattle.std.specs.Cmp.Lexicographic.{slice_cmp}
@@ -10,37 +10,6 @@ use Rattle.nextest_config_elements_toml.specs.Reading.{Path}
 abbrev pub get_path : Path → Data → Option Data
 get_path [] tree = Some tree
 get_path (key ∷ path) tree = option_and_then (get_path path) (get key tree)
-
--- anything but a table is a leaf, an array too
-abbrev pub is_leaf : Data → Bool
-is_leaf (table _) = false
-is_leaf _ = true
-
--- what a tree ends in: a leaf or an empty table, and the path that leads to it
-abbrev pub End : Type 0
-End = Path × Data
-
-abbrev pub behind : List ℕ → End → End
-behind key end = (key ∷ end.0, end.1)
-
--- an end below a path
-abbrev pub along : Path → End → End
-along path end = (path ++ end.0, end.1)
-
--- the ends of a tree, by the bytes of the keys, an array being a leaf
-abbrev mutual
-  pub ends : Data → List End
-  ends (table (member key value more)) = members_ends (member key value more)
-  ends leaf = ([], leaf) ∷ []
-
-  pub members_ends : Members → List End
-  members_ends no_members = []
-  members_ends (member key value more) = map (behind key) (ends value) ++ members_ends more
-
--- the ends of what stands somewhere, if anything does
-abbrev pub ends_at : Option Data → List End
-ends_at (Some tree) = ends tree
-ends_at None = []
 
 -- the keys of a table
 abbrev pub keys : Members → List (List ℕ)

@@ -1,89 +1,66 @@
-// One list of entries over another.
-ghost use Rattle.std.specs.Prelude.{◌≡◌, ◌++◌, map, reverse, option_map, IfOk};
-ghost use Rattle.nextest_config_resolution_merge.specs.Entries.{end_of};
-ghost use Rattle.nextest_config_resolution_merge.specs.Merging as words;
+// A table over another.
+ghost use Rattle.std.specs.Prelude.{◌≡◌, Some, IfOk, OnOk, string_bytes};
+ghost use Rattle.toml.specs.Data.{get_member, table};
+ghost use Rattle.toml.specs.View.{table_view, view};
+ghost use Rattle.nextest_config_resolution_merge.specs.Tree.{merge, over, with_member};
 
-use crate::choice::{Choice, choose};
-use crate::entry::Entry;
-use std::alloc::{AllocError, Global};
+use std::alloc::AllocError;
+use std::mem;
+use toml::{Table, Value};
 
-// The entries of one tree over another.
-pub(crate) fn joined<'a>(
-    alloc: Global,
-    mut higher: Vec<Entry<'a>>,
-    mut lower: Vec<Entry<'a>>,
-) -> Result<Vec<Entry<'a>>, AllocError>
-    ensures { IfOk result (λ it. words.Joins (map end_of higher.entry.items)
-        (map end_of lower.entry.items) (map end_of it.items)) }
+/// The table of `higher` over `lower`: tables that both have at a key are joined likewise, and
+/// else what `higher` has there hides what `lower` has. Values move, and no text is copied. It
+/// takes a look-up in `lower` for each key of `higher`.
+///
+/// # Errors
+///
+/// It fails only on allocation, and both tables are gone then.
+#[cycle(merge)]
+pub fn merge(higher: Table, lower: Table) -> Result<Table, AllocError>
+    ensures { IfOk result (λ it. table_view it ≡ merge (table_view higher) (table_view lower)) }
 {
-    higher.reverse();
-    lower.reverse();
-    let mut entries = Vec::with_capacity(alloc, higher.len().saturating_add(lower.len()))?;
-    while let Some(choice) = next_choice(higher.as_slice(), lower.as_slice()) {
-        take(&mut entries, &mut higher, &mut lower, choice)?;
+    let mut left = higher;
+    let mut merged = lower;
+    while let Some((key, value)) = left.pop_last() {
+        put_over(&mut merged, key, value)?;
     }
-    Ok(entries)
+    Ok(merged)
 }
 
-// Which list goes on, if any does.
-fn next_choice(higher: &[Entry<'_>], lower: &[Entry<'_>]) -> Option<Choice>
-    ensures { result ≡ words.going_on (words.choice_of higher.now lower.now) }
+// Puts a value at a key of a table, over what stands there.
+#[cycle(merge)]
+fn put_over(table: &mut Table, key: String, value: Value) -> Result<(), AllocError>
+    ensures { OnOk result (table_view table.new ≡ with_member (string_bytes key)
+        (over (view value) (get_member (string_bytes key) (table_view table.old)))
+        (table_view table.old)) }
 {
-    match choose(higher, lower) {
-        Choice::Done => None,
-        choice => Some(choice),
-    }
+    let Some(below) = table.get_mut(&key) else {
+        table.insert(key, value)?;
+        return Ok(());
+    };
+    let lower = mem::replace(below, Value::Boolean(false));
+    *below = value_over(value, lower)?;
+    Ok(())
 }
 
-// Takes an end, passes one, or both.
-fn take<'a>(
-    entries: &mut Vec<Entry<'a>>,
-    higher: &mut Vec<Entry<'a>>,
-    lower: &mut Vec<Entry<'a>>,
-    choice: Choice,
-) -> Result<(), AllocError>
-    ensures taken { IfOk result (λ _. map end_of entries.new.items ≡ words.taken_by choice (map
-        end_of entries.old.items) (words.stack higher.old.items) (words.stack lower.old.items)) }
-    ensures higher { IfOk result (λ _.
-        words.stack higher.new.items ≡ words.higher_by choice (words.stack higher.old.items)) }
-    ensures lower { IfOk result
-        (λ _. words.stack lower.new.items ≡ words.lower_by choice (words.stack lower.old.items)) }
+// A value over another.
+#[cycle(merge)]
+fn value_over(higher: Value, lower: Value) -> Result<Value, AllocError>
+    ensures { IfOk result (λ it. view it ≡ over (view higher) (Some (view lower))) }
 {
-    match choice {
-        Choice::TakeHigher => move_last(entries, higher),
-        Choice::TakeLower => move_last(entries, lower),
-        Choice::PassHigher => {
-            pass_last(higher);
-            Ok(())
-        }
-        Choice::PassLower => {
-            pass_last(lower);
-            Ok(())
-        }
-        Choice::TakeOver => {
-            pass_last(lower);
-            move_last(entries, higher)
-        }
-        Choice::Done => Ok(()),
+    match higher {
+        Value::Table(higher) => table_over(higher, lower),
+        leaf => Ok(leaf),
     }
 }
 
-// Moves the last entry to the end of the others.
-fn move_last<'a>(entries: &mut Vec<Entry<'a>>, from: &mut Vec<Entry<'a>>) -> Result<(), AllocError>
-    ensures taken { IfOk result (λ _. map end_of entries.new.items
-        ≡ map end_of entries.old.items ++ words.front (words.stack from.old.items)) }
-    ensures left { IfOk result
-        (λ _. words.stack from.new.items ≡ words.rest (words.stack from.old.items)) }
+// A table over a value.
+#[cycle(merge)]
+fn table_over(higher: Table, lower: Value) -> Result<Value, AllocError>
+    ensures { IfOk result (λ it. view it ≡ over (table (table_view higher)) (Some (view lower))) }
 {
-    match from.pop() {
-        None => Ok(()),
-        Some(entry) => Ok(entries.push(entry)?),
+    match lower {
+        Value::Table(lower) => Ok(Value::Table(merge(higher, lower)?)),
+        _ => Ok(Value::Table(higher)),
     }
-}
-
-// Drops the last entry.
-fn pass_last(from: &mut Vec<Entry<'_>>)
-    ensures { words.stack from.new.items ≡ words.rest (words.stack from.old.items) }
-{
-    drop(from.pop());
 }
