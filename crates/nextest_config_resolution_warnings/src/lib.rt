@@ -4,6 +4,7 @@
 
 mod config_warning;
 mod default_warnings;
+mod kept_warnings;
 mod keys;
 mod place;
 mod reserved;
@@ -18,6 +19,7 @@ mod warnings;
 
 pub use config_warning::ConfigWarning;
 pub use default_warnings::DefaultConfigWarnings;
+pub use kept_warnings::KeptWarnings;
 pub use place::Place;
 pub use reserved::unknown_reserved_profiles;
 pub use shown::Shown;
