@@ -34,7 +34,6 @@ pub use Rattle.nextest_config_resolution_profiles.specs.Whole as WholeConfig
 pub use Rattle.nextest_config_resolution_merge.specs.Laws as TreeLaws
 pub use Rattle.nextest_config_resolution_merge.specs.Merged
 pub use Rattle.nextest_config_resolution_merge.specs.Tree
-pub use Rattle.nextest_config_resolution_merge.specs.Whole
 -- what files and profiles say, and how profiles inherit
 pub use Rattle.nextest_config_resolution_values.specs.Accepted as AcceptedProfiles
 pub use Rattle.nextest_config_resolution_values.specs.File
@@ -164,8 +163,6 @@ pub use Rattle.nextest_config_resolution_settings.specs.declared.test_settings.T
 pub use Rattle.nextest_config_resolution_sources.specs.declared.paths.ConfigPaths
 pub use Rattle.nextest_config_resolution_sources.specs.declared.source.ConfigSource
 pub use Rattle.nextest_config_resolution_sources.specs.declared.source.ConfigSourceOutcome
-pub use Rattle.nextest_config_resolution_merge.specs.declared.merged_tree.MergedTree
-pub use Rattle.nextest_config_resolution_merge.specs.declared.stands_at.StandsAt
 pub use Rattle.nextest_config_resolution_values.specs.declared.bench.ProfileBench
 pub use Rattle.nextest_config_resolution_values.specs.declared.profile_config.ProfileConfig
 pub use Rattle.nextest_config_resolution_values.specs.declared.junit.ProfileJunit

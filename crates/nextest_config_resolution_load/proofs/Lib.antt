@@ -11,5 +11,4 @@ pub mod ProfileReading
 pub mod Profiles
 pub mod SomeLoad
 pub mod Sources
-pub mod Told
 pub mod Tops

@@ -1,17 +1,20 @@
 -- The files of some sources, one after another.
-use Rattle.std.proofs.Common.{◌≡◌, ℕ, ◌+◌, ◌<◌, ◌≤◌, length, get_or, take, map, List, [], ◌∷◌, ◌++◌, Option, None, Some, flat_map, filter_map, refl, sym, ap, ◌∙◌, subst, append-nil}
-use Rattle.std.proofs.lemmas.List.{take_all}
+use Rattle.std.proofs.Common.{◌≡◌, ℕ, ◌+◌, ◌<◌, ◌≤◌, length, get_or, take, map, List, [], ◌∷◌, ◌++◌, Option, None, Some, flat_map, filter_map, refl, sym, ap, ◌∙◌, subst, append-nil, append_assoc, String, Global, string_bytes, Result, Ok, Err, MatchResult, IfOk}
+use Rattle.std.proofs.lemmas.List.{map-append, take_all}
 use Rattle.std.proofs.lemmas.List.Elements.{filter_map-append}
 use Rattle.std.proofs.lemmas.Grind.{flat_map-append}
+use Rattle.std.specs.BTreeMap.{BTreeMap}
 use Rattle.std.specs.Borrow.{Bor}
-use Rattle.std.specs.List.{cons_option}
-use Rattle.std.specs.Option.{option_to_list}
-use Rattle.toml.specs.Data.{Members}
-use Rattle.nextest_config_resolution_load.specs.Checks.{file_of}
-use Rattle.nextest_config_resolution_load.specs.Files.{members_in, warnings_of_file}
+use Rattle.std.specs.List.{AllZip, cons_option}
+use Rattle.std.specs.Option.{option_map, option_to_list, unwrap_or}
+use Rattle.toml.specs.Data.{Data, table, Members}
+use Rattle.toml.specs.View.{members_view, table_view, view}
+use Rattle.toml.specs.declared.value.Value.{Value}
+use Rattle.nextest_config_resolution_merge.specs.Tree.{over}
+use Rattle.nextest_config_resolution_load.specs.Checks.{file_of, file_with_setup, tree_of_files}
 use Rattle.nextest_config_resolution_load.specs.Load.{IsFilterBy, IsSpecBy}
 use Rattle.nextest_config_resolution_load.specs.Reading.{AreReadFiles, AreRulesOf}
-use Rattle.nextest_config_resolution_load.specs.Warn.{warnings_at, warnings_for}
+use Rattle.nextest_config_resolution_load.specs.Warn.{AreKept, warnings_at, warnings_for}
 use Rattle.nextest_config_resolution_load.specs.declared.placed_file.ReadFiles.{ReadFiles}
 use Rattle.nextest_config_resolution_load.proofs.Passing.{taken_more}
 use Rattle.nextest_config_resolution_sources.specs.declared.source.ConfigSource.{ConfigSource}
@@ -47,14 +50,74 @@ told_more told added all place path source file within is here stands so adds =
     ∙ sym (flat_map-append warnings_for (take place all) (source ∷ []))
     ∙ ap (flat_map warnings_for) (sym (taken_more all place source within is))
 
+-- entries that are clones are the same members
+same_entries : (from to : List (String Global × Value)) → AllZip (λ one other. (string_bytes other.0 ≡ string_bytes one.0) × (view other.1 ≡ view one.1)) from to → members_view to ≡ members_view from
+same_entries [] [] all = refl
+same_entries [] (other ∷ to) all = absurd all
+same_entries (one ∷ from) [] all = absurd all
+same_entries (one ∷ from) (other ∷ to) all = rw (all.0.0, all.0.1, same_entries from to all.1) refl
+
+pub same_table : {E : Type 0} (Fails : E → Type 0) (from : BTreeMap (String Global) Value) (result : Result (BTreeMap (String Global) Value) E)
+    → MatchResult result (λ to. AllZip (λ one other. (string_bytes other.0 ≡ string_bytes one.0) × (view other.1 ≡ view one.1)) from.entries to.entries) Fails
+    → IfOk result (λ it. table_view it ≡ table_view from)
+same_table Fails from (Ok to) all = same_entries from.entries to.entries all
+same_table Fails from (Err error) all = tt
+
+-- files over others
+tree_both : (tree : Data) (front back : List Members) → tree_of_files tree (front ++ back) ≡ tree_of_files (tree_of_files tree front) back
+tree_both tree [] back = refl
+tree_both tree (file ∷ front) back = tree_both (over (table file) (Some tree)) front back
+
+-- what one more comes to over them
+pub tree_more : (built_in tree added : Members) (all : List ConfigSource) (place : ℕ) (source : ConfigSource) (file : Option Members) → place < length all → source ≡ get_or all place source
+    → file_of source ≡ file → table tree ≡ tree_of_files (table built_in) (map file_with_setup (filter_map file_of (take place all)))
+    → table added ≡ tree_of_files (table tree) (map file_with_setup (option_to_list file))
+    → table added ≡ tree_of_files (table built_in) (map file_with_setup (filter_map file_of (take (place + 1) all)))
+tree_more built_in tree added all place source file within is here so adds =
+    let front = filter_map file_of (take place all) in
+    let last = option_to_list file in
+    adds
+    ∙ ap (λ (lower : Data). tree_of_files lower (map file_with_setup last)) so
+    ∙ sym (tree_both (table built_in) (map file_with_setup front) (map file_with_setup last))
+    ∙ ap (tree_of_files (table built_in))
+    (sym (map-append file_with_setup front last) ∙ ap (map file_with_setup) (files_more front (front ++ last) all place source file within is here refl refl))
+
+-- what is kept behind what was kept
+kept_both : (old now new : Option (List ConfigWarning)) (front last : List ConfigWarning) → AreKept old now front → AreKept now new last → AreKept old new (front ++ last)
+kept_both old now new front last first second = second ∙ ap (option_map (λ (told : List ConfigWarning). told ++ last)) first ∙ behind old where
+  behind : (it : Option (List ConfigWarning)) → option_map (λ (told : List ConfigWarning). told ++ last) (option_map (λ (told : List ConfigWarning). told ++ front) it) ≡ option_map (λ (told : List ConfigWarning). told ++ (front ++ last)) it
+  behind None = refl
+  behind (Some told) = ap Some (append_assoc told front last)
+
+pub kept_none : (old : Option (List ConfigWarning)) → AreKept old old []
+kept_none None = refl
+kept_none (Some told) = ap Some (sym (append-nil told))
+
+pub kept_more : (old now new : Option (List ConfigWarning)) (all : List ConfigSource) (place : ℕ) (path : List ℕ) (source : ConfigSource) (file : Option Members) → place < length all
+    → source ≡ get_or all place source → file_of source ≡ file → path ≡ source.path → AreKept old now (flat_map warnings_for (take place all)) → AreKept now new (warnings_at path file)
+    → AreKept old new (flat_map warnings_for (take (place + 1) all))
+kept_more old now new all place path source file within is here stands so adds =
+    let front = flat_map warnings_for (take place all) in
+    subst (AreKept old new) (told_more front (front ++ warnings_at path file) all place path source file within is here stands refl refl)
+    (kept_both old now new front (warnings_at path file) so adds)
+
 -- all of them
-pub files_read : {F S : Type 0} (Is : IsFilterBy F) (IsSpec : IsSpecBy S) (all : List ConfigSource) (place : ℕ) (it : ReadFiles F S) → length all ≤ place
-    → map members_in it.files.items ≡ filter_map file_of (take place all) → flat_map warnings_of_file it.files.items ≡ flat_map warnings_for (take place all)
-    → AreRulesOf Is IsSpec (take place all) it.rules.items → AreReadFiles Is IsSpec all it
-files_read Is IsSpec all place it over files told rules =
+pub files_read : {F S : Type 0} (Is : IsFilterBy F) (IsSpec : IsSpecBy S) (built_in : Members) (all : List ConfigSource) (place : ℕ) (it : ReadFiles F S) → length all ≤ place
+    → table (table_view it.tree) ≡ tree_of_files (table built_in) (map file_with_setup (filter_map file_of (take place all)))
+    → AreRulesOf Is IsSpec (take place all) it.rules.items → AreReadFiles Is IsSpec built_in all it
+files_read Is IsSpec built_in all place it over tree rules =
     let whole = take_all place all over in
     record {
-      files = files ∙ ap (filter_map file_of) whole;
-      told = told ∙ ap (flat_map warnings_for) whole;
+      tree = tree ∙ ap (λ (sources : List ConfigSource). tree_of_files (table built_in) (map file_with_setup (filter_map file_of sources))) whole;
       rules = subst (λ (sources : List ConfigSource). AreRulesOf Is IsSpec sources it.rules.items) whole rules;
     }
+
+pub kept_whole : (old new : Option (List ConfigWarning)) (all : List ConfigSource) (place : ℕ) → length all ≤ place → AreKept old new (flat_map warnings_for (take place all))
+    → AreKept old new (flat_map warnings_for all)
+kept_whole old new all place over kept = subst (λ (sources : List ConfigSource). AreKept old new (flat_map warnings_for sources)) (take_all place all over) kept
+
+-- all that was kept
+pub told_all : (first : List ConfigWarning) (new : Option (List ConfigWarning)) (told otherwise further : List ConfigWarning) → first ≡ [] → AreKept (Some first) new further → told ≡ unwrap_or new otherwise
+    → told ≡ further
+told_all first new told otherwise further none kept is =
+    is ∙ ap (λ (it : Option (List ConfigWarning)). unwrap_or it otherwise) kept ∙ ap (λ (it : List ConfigWarning). it ++ further) none

@@ -1,6 +1,5 @@
 pub mod Checks
 pub mod File
-pub mod Files
 pub mod Kinds
 pub mod Languages
 pub mod Laws

@@ -5,18 +5,16 @@ use Rattle.std.specs.Cmp.Lexicographic.{slice_cmp}
 use Rattle.std.specs.List.{AllZip, flat_map}
 use Rattle.std.specs.Ordering.{nat_cmp}
 use denote.Ref.{Bor}
-use Rattle.toml.specs.Data.{Data, Members}
+use Rattle.toml.specs.Data.{Data, table, Members}
 use Rattle.toml.specs.View.{table_view}
 use Rattle.nextest_config_elements_toml.specs.Reading.{Path, Reading, ◌>>=◌, under}
 use Rattle.nextest_config_elements_toml.specs.declared.value_error.ValueError.{ValueError}
 use Rattle.nextest_config_elements_toml.specs.declared.value_error.ValueError.TheVariants as error
 use Rattle.nextest_config_resolution_inheritance.specs.Inheritance.{Rise}
-use Rattle.nextest_config_resolution_load.specs.Checks.{Check, FileRules, must_hold, repeated_script, MergedConfig, bad_merged, config_in, file_of, merged_in, no_toml, parents_of, rules_in, rules_of_source, source_checks, value_checks}
-use Rattle.nextest_config_resolution_load.specs.Files.{members_in, warnings_of_file}
+use Rattle.nextest_config_resolution_load.specs.Checks.{Check, FileRules, must_hold, repeated_script, MergedConfig, bad_merged, config_in, file_of, file_with_setup, merged_in, no_toml, parents_of, rules_in, rules_of_source, source_checks, tree_of_files, value_checks}
 use Rattle.nextest_config_resolution_load.specs.Load.{AreReadRules, AreReadScriptRules, IsFilterBy, IsReadAs, IsSpecBy, LoadedOverride, LoadedScriptRule, named_of, reason_of, merged_of}
 use Rattle.nextest_config_resolution_load.specs.Rules.{rules_at, script_placed_in, script_rules_at}
 use Rattle.nextest_config_resolution_load.specs.Rules as words
-use Rattle.nextest_config_resolution_load.specs.Warn.{warnings_for, warnings_in}
 use Rattle.nextest_config_resolution_load.specs.declared.file_config.ProfileRules.{ProfileRules}
 use Rattle.nextest_config_resolution_load.specs.declared.languages.FilterPurpose.TheVariants as purpose
 use Rattle.nextest_config_resolution_load.specs.declared.load_error.LoadError.{LoadError}
@@ -92,7 +90,7 @@ refused_values path = Err path
 
 -- a call parses the text of a file, or it is no TOML; want of memory says nothing
 abbrev pub ParsesText : {T : Type 0} → (T → Members) → List ℕ → Option Members → Result T LoadError → Type 0
-ParsesText view path given (Ok table) = given ≡ Some (view table)
+ParsesText view path given (Ok it) = given ≡ Some (view it)
 ParsesText view path given (Err (told_error.Refused told)) = (given ≡ None) × (reason_of told ≡ no_toml path)
 ParsesText view path given (Err told_error.OutOfMemory) = ⊤
 
@@ -101,10 +99,9 @@ pub record IsReadFile {F S : Type 0} (Is : IsFilterBy F) (IsSpec : IsSpecBy S) (
   pub table : given ≡ option_map table_view it.table
   pub rules : AreReadInFile Is IsSpec (rules_in path given) it.rules
 
--- what was read of some sources
-pub record AreReadFiles {F S : Type 0} (Is : IsFilterBy F) (IsSpec : IsSpecBy S) (sources : List ConfigSource) (it : ReadFiles F S) : Type 0 where
-  pub files : map members_in it.files.items ≡ filter_map file_of sources
-  pub told : flat_map warnings_of_file it.files.items ≡ flat_map warnings_for sources
+-- what was read of some sources: what their files come to over what is built in, and their rules
+pub record AreReadFiles {F S : Type 0} (Is : IsFilterBy F) (IsSpec : IsSpecBy S) (built_in : Members) (sources : List ConfigSource) (it : ReadFiles F S) : Type 0 where
+  pub tree : table (table_view it.tree) ≡ tree_of_files (table built_in) (map file_with_setup (filter_map file_of sources))
   pub rules : AreRulesOf Is IsSpec sources it.rules.items
 
 -- ---- names
@@ -147,7 +144,6 @@ early_checks features built_in sources = flat_map (source_checks features) (coun
 pub record AreReadSources {F S : Type 0} (Is : IsFilterBy F) (IsSpec : IsSpecBy S) (built_in : Members) (sources : List ConfigSource) (it : ReadSources F S) : Type 0 where
   pub values : config_in (merged_in built_in sources) ≡ read_as it.config
   pub rises : Rise (parents_of (values_of it.config).profiles)
-  pub told : flat_map warnings_of_file it.files.items ≡ warnings_in sources
   pub rules : AreRulesOf Is IsSpec (counting_sources sources) it.rules.items
 
 -- a configuration is what was read, with its default filters and the overrides of all sources

@@ -1,5 +1,5 @@
 -- What is told of the sources that count.
-use Rattle.std.specs.Prelude.{ℕ, List, [], Option, None, Some, Result, Ok, Err}
+use Rattle.std.specs.Prelude.{◌≡◌, ℕ, List, [], ◌++◌, Option, None, Some, option_map, Result, Ok, Err}
 use Rattle.std.specs.List.{flat_map}
 use Rattle.toml.specs.Data.{Members}
 use Rattle.nextest_config_resolution_sources.specs.Counting.{counting_sources}
@@ -22,6 +22,10 @@ warnings_for source = warnings_at source.path (file_of source)
 -- what is told of sources: of each that counts, the lowest first
 abbrev pub warnings_in : List ConfigSource → List ConfigWarning
 warnings_in sources = flat_map warnings_for (counting_sources sources)
+
+-- what is kept, if anything is, has these behind what it had
+abbrev pub AreKept : Option (List ConfigWarning) → Option (List ConfigWarning) → List ConfigWarning → Type 0
+AreKept old new further = new ≡ option_map (λ told. told ++ further) old
 
 -- what a load tells, by its result: all of these; none if it is refused; a front of them if there
 -- was no memory

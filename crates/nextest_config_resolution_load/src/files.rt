@@ -1,67 +1,86 @@
 // The files of sources.
-ghost use Rattle.std.specs.Prelude.{◌≡◌, ◌++◌, [], None, Some, Ok, map, option_map, option_to_list, IfOk};
+ghost use Rattle.std.specs.Prelude.{◌≡◌, [], None, Some, Ok, map, option_map, option_to_list, IfOk, OnOk};
 ghost use Rattle.std.specs.List.{flat_map};
+ghost use Rattle.toml.specs.Data.{table};
 ghost use Rattle.toml.specs.Parse.{parse_document};
 ghost use Rattle.toml.specs.View.{table_view};
-ghost use Rattle.nextest_config_resolution_load.specs.Checks.{document_checks, file_checks, file_of, missing_checks, rules_in_file, source_checks};
+ghost use Rattle.nextest_config_resolution_load.specs.Checks.{document_checks, file_checks, file_of, file_with_setup, missing_checks, rules_in_file, source_checks, tree_of_files};
 ghost use Rattle.nextest_config_resolution_load.specs.File.{file_in};
-ghost use Rattle.nextest_config_resolution_load.specs.Files.{members_in, warnings_of_file};
 ghost use Rattle.nextest_config_resolution_load.specs.Reading.{AreReadFiles, AreReadInFile, IsReadFile, ParsesText};
 ghost use Rattle.nextest_config_resolution_load.specs.Refusing.{Passes};
-ghost use Rattle.nextest_config_resolution_load.specs.Warn.{warnings_at};
+ghost use Rattle.nextest_config_resolution_load.specs.Warn.{AreKept, warnings_at, warnings_for};
 
 use crate::defined::check_defined;
 use crate::file_config::FileConfig;
 use crate::file_reading::read_file;
 use crate::languages::Languages;
 use crate::load_error::LoadError;
-use crate::placed_file::{PlacedFile, ReadFile, ReadFiles, SourceRules};
+use crate::merging::file_over;
+use crate::placed_file::{ReadFile, ReadFiles, SourceRules};
 use crate::profile_rules::load_profiles;
 use crate::refusing::{bad_value, no_toml, unread};
+use crate::warn::keep_warnings;
 use nextest_config_elements_identifiers::ConfigSourceKind;
 use nextest_config_elements_toml::ValueError;
 use nextest_config_elements_versions::FeatureSet;
 use nextest_config_resolution_sources::{ConfigSource, ConfigSourceOutcome};
+use nextest_config_resolution_warnings::KeptWarnings;
 use nextest_text::{Listing, Text};
 use std::alloc::{AllocError, Global};
 use toml::Table;
 
-// The files of some sources, in their order, each at the path of its source, and the rules of each
-// source.
-pub(crate) fn read_files<'s, R: Languages>(
+// What the files of some sources come to, each over the lower ones and over what is built in, and
+// the rules of each source. What is told of the files is kept, if anything is.
+pub(crate) fn read_files<R: Languages>(
     alloc: Global,
+    built_in: &Table,
     cx: &R::Cx,
     features: FeatureSet,
-    sources: &[&'s ConfigSource],
-) -> Result<ReadFiles<'s, R::Filter, R::Spec>, LoadError>
-    ensures { let all = map (λ it. it.now) sources.now in Passes
+    sources: &[&ConfigSource],
+    kept: &mut Option<KeptWarnings>,
+) -> Result<ReadFiles<R::Filter, R::Spec>, LoadError>
+    ensures read { let all = map (λ it. it.now) sources.now in Passes
         (R.is_filter cx.now) R.is_spec R.is_too_deep (flat_map (source_checks features) all)
-        (AreReadFiles (R.is_filter cx.now) R.is_spec all) result }
+        (AreReadFiles (R.is_filter cx.now) R.is_spec (table_view built_in.now) all) result }
+    ensures kept { OnOk result (AreKept kept.old kept.new
+        (flat_map warnings_for (map (λ it. it.now) sources.now))) }
 {
-    let mut files = Vec::new(alloc);
+    let mut tree = copied(built_in)?;
     let mut rules = Vec::new(alloc);
     for source in sources {
         let read = read_source::<R>(alloc, cx, features, source)?;
-        push_file(&mut files, source.path.as_str(), read.table)?;
+        tree = with_file(alloc, tree, kept, source.path.as_str(), read.table)?;
         rules.push(read.rules)?;
     }
-    Ok(ReadFiles { files, rules })
+    Ok(ReadFiles { tree, rules })
 }
 
-// Adds a file, if there is one.
-fn push_file<'s>(
-    files: &mut Vec<PlacedFile<'s>>,
-    path: &'s str,
+// A copy of a table.
+fn copied(table: &Table) -> Result<Table, AllocError>
+    ensures { IfOk result (λ it. table_view it ≡ table_view table.now) }
+{
+    table.clone()
+}
+
+// A file over a tree, if there is one, and what is told of it is kept, if anything is.
+fn with_file(
+    alloc: Global,
+    tree: Table,
+    kept: &mut Option<KeptWarnings>,
+    path: &str,
     file: Option<Table>,
-) -> Result<(), AllocError>
-    ensures files { IfOk result (λ _. map members_in files.new.items
-        ≡ map members_in files.old.items ++ option_to_list (option_map table_view file)) }
-    ensures told { IfOk result (λ _. flat_map warnings_of_file files.new.items ≡ flat_map
-        warnings_of_file files.old.items ++ warnings_at path.now (option_map table_view file)) }
+) -> Result<Table, AllocError>
+    ensures tree { IfOk result (λ it. table (table_view it) ≡ tree_of_files
+        (table (table_view tree)) (map file_with_setup (option_to_list (option_map table_view file)))) }
+    ensures kept { OnOk result
+        (AreKept kept.old kept.new (warnings_at path.now (option_map table_view file))) }
 {
     match file {
-        Some(table) => Ok(files.push(PlacedFile { path, table })?),
-        None => Ok(()),
+        None => Ok(tree),
+        Some(file) => {
+            keep_warnings(alloc, kept, path, &file)?;
+            file_over(alloc, file, tree)
+        }
     }
 }
 

@@ -1,14 +1,12 @@
 // What the sources of a configuration come to.
-ghost use Rattle.std.specs.Prelude.{◌≡◌, ⊤, [], ◌∷◌, map, IfOk};
-ghost use Rattle.toml.specs.Data.{table};
+ghost use Rattle.std.specs.Prelude.{◌≡◌, ⊤, [], ◌∷◌, IfOk, OnOk};
 ghost use Rattle.toml.specs.View.{table_view};
 ghost use Rattle.nextest_config_resolution_inheritance.specs.Inheritance.{Rise};
-ghost use Rattle.nextest_config_resolution_load.specs.Checks.{bad_merged, config_in, inheritance, members_of, merged_checks, file_with_setup, named_checks, parents_of, tree_of_files, value_checks};
-ghost use Rattle.nextest_config_resolution_load.specs.Files.{members_in};
+ghost use Rattle.nextest_config_resolution_load.specs.Checks.{bad_merged, config_in, inheritance, merged_checks, named_checks, parents_of, value_checks};
 ghost use Rattle.nextest_config_resolution_load.specs.Load.{IsLoaded, merged_of};
 ghost use Rattle.nextest_config_resolution_load.specs.Reading.{AreReadSources, IsCompleted, all_placed, downward, early_checks, overrides_of, read_as, scripts_of, values_of};
 ghost use Rattle.nextest_config_resolution_load.specs.Refusing.{Passes};
-ghost use Rattle.nextest_config_resolution_load.specs.Warn.{WarnsAs, warnings_in};
+ghost use Rattle.nextest_config_resolution_load.specs.Warn.{AreKept, WarnsAs, warnings_in};
 
 use crate::default_filters::read_defaults;
 use crate::files::read_files;
@@ -17,17 +15,15 @@ use crate::languages::Languages;
 use crate::load_error::LoadError;
 use crate::load_fault::LoadFault;
 use crate::loaded_config::{LoadedConfig, ReadConfig};
-use crate::merging::{layered, merge_files};
 use crate::named_scripts::check_scripts;
-use crate::placed_file::{PlacedFile, ReadSources, SourceRules};
+use crate::placed_file::{ReadSources, SourceRules};
 use crate::reading::read_config;
-use crate::warn::warn_files;
 use nextest_config_elements_toml::ValueError;
 use nextest_config_elements_versions::FeatureSet;
 use nextest_config_resolution_inheritance::{InheritanceError, check_inheritance};
 use nextest_config_resolution_scripts::ScriptType;
 use nextest_config_resolution_sources::{ConfigSource, counted};
-use nextest_config_resolution_warnings::ConfigWarnings;
+use nextest_config_resolution_warnings::{ConfigWarnings, KeptWarnings};
 use nextest_text::Listing;
 use std::alloc::{AllocError, Global};
 use toml::Table;
@@ -65,7 +61,8 @@ pub fn load<R: Languages>(
         (table_view built_in.now) sources.now result }
     ensures rises { IfOk result (λ it. Rise (parents_of (merged_of it).profiles)) }
 {
-    let read = read_sources::<R>(alloc, built_in, cx, sources, features)?;
+    let mut kept = None;
+    let read = read_sources::<R>(alloc, built_in, cx, sources, features, &mut kept)?;
     accepted::<R>(alloc, cx, read.config, read.rules)
 }
 
@@ -91,54 +88,50 @@ pub fn load_with_warnings<R: Languages, W: ConfigWarnings>(
     ensures warnings { WarnsAs W.has_warned warnings.old warnings.new
         (warnings_in sources.now) result }
 {
-    let read = read_sources::<R>(alloc, built_in, cx, sources, features)?;
+    let mut kept = Some(KeptWarnings::new(alloc));
+    let read = read_sources::<R>(alloc, built_in, cx, sources, features, &mut kept)?;
     match accepted::<R>(alloc, cx, read.config, read.rules) {
         Ok(config) => {
-            warn_files(alloc, warnings, read.files.as_slice())?;
+            let told = kept.unwrap_or(KeptWarnings::new(alloc));
+            told.tell(warnings)?;
             Ok(config)
         }
         Err(error) => Err(error),
     }
 }
 
-// What sources come to, before it is asked what their rules name and how profiles inherit.
-fn read_sources<'s, R: Languages>(
+// What sources come to, before it is asked what their rules name and how profiles inherit. What is
+// told of their files is kept, if anything is.
+fn read_sources<R: Languages>(
     alloc: Global,
     built_in: &Table,
     cx: &R::Cx,
-    sources: &'s [ConfigSource],
+    sources: &[ConfigSource],
     features: FeatureSet,
-) -> Result<ReadSources<'s, R::Filter, R::Spec>, LoadError>
-    ensures { let lowest = table_view built_in.now in Passes
+    kept: &mut Option<KeptWarnings>,
+) -> Result<ReadSources<R::Filter, R::Spec>, LoadError>
+    ensures read { let lowest = table_view built_in.now in Passes
         (R.is_filter cx.now) R.is_spec R.is_too_deep (early_checks features lowest sources.now)
         (AreReadSources (R.is_filter cx.now) R.is_spec lowest sources.now) result }
+    ensures kept { OnOk result (AreKept kept.old kept.new (warnings_in sources.now)) }
 {
     let counted = counted(alloc, sources)?;
-    let read = read_files::<R>(alloc, cx, features, counted.as_slice())?;
-    let config = read_merged::<R>(alloc, built_in, cx, read.files.as_slice())?;
+    let read = read_files::<R>(alloc, built_in, cx, features, counted.as_slice(), kept)?;
+    let config = read_tree::<R>(alloc, cx, &read.tree)?;
     Ok(ReadSources {
         config,
-        files: read.files,
         rules: read.rules,
     })
 }
 
-// What files come to, over what is built in.
-fn read_merged<R: Languages>(
-    alloc: Global,
-    built_in: &Table,
-    cx: &R::Cx,
-    files: &[PlacedFile],
-) -> Result<ReadConfig, LoadError>
-    ensures read { let given = config_in (members_of (tree_of_files
-        (table (table_view built_in.now)) (map file_with_setup (map members_in files.now))))
+// What a merged tree says, whose values are all such as their keys can have.
+fn read_tree<R: Languages>(alloc: Global, cx: &R::Cx, tree: &Table) -> Result<ReadConfig, LoadError>
+    ensures read { let given = config_in (table_view tree.now)
         in Passes (R.is_filter cx.now) R.is_spec R.is_too_deep (value_checks bad_merged given)
         (λ it. given ≡ read_as it) result }
     ensures rises { IfOk result (λ it. Rise (parents_of (values_of it).profiles)) }
 {
-    let layers = layered(alloc, files)?;
-    let tree = merge_files(alloc, built_in, layers.as_slice())?;
-    match read_config(alloc, &tree) {
+    match read_config(alloc, tree) {
         Ok(config) => Ok(config),
         Err(ValueError::Refused(value)) => {
             Err(LoadError::Refused(LoadFault::BadMergedValue { value }))

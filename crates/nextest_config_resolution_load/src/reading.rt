@@ -1,33 +1,28 @@
 // What a merged tree says.
-ghost use Rattle.std.specs.Prelude.{◌≡◌, [], ◌∷◌, codes, map, option_map, Some};
-ghost use Rattle.toml.specs.Data.{Data, table, get_member, Members};
-ghost use Rattle.toml.specs.View.{view};
-ghost use Rattle.nextest_config_elements_toml.specs.Paths.{texts};
+ghost use Rattle.std.specs.Prelude.{codes, map, IfOk};
+ghost use Rattle.toml.specs.View.{table_view, view};
 ghost use Rattle.nextest_config_elements_toml.specs.Reading.{under};
+ghost use Rattle.nextest_config_resolution_inheritance.specs.Inheritance.{Rise};
 ghost use Rattle.nextest_config_resolution_overrides.specs.Groups.{groups_at};
 ghost use Rattle.nextest_config_resolution_scripts.specs.Scripts.{scripts_at};
-ghost use Rattle.nextest_config_resolution_merge.specs.Tree.{get_path, keys};
-ghost use Rattle.nextest_config_resolution_merge.specs.Whole.{IsTree};
 ghost use Rattle.nextest_config_resolution_values.specs.File.{profiles_at, profiles_in, store_dir_at};
-ghost use Rattle.nextest_config_elements_deserialize.specs.Paths.{profile_path};
-ghost use Rattle.nextest_config_resolution_load.specs.Checks.{config_in};
+ghost use Rattle.nextest_config_resolution_load.specs.Checks.{config_in, parents_of};
 ghost use Rattle.nextest_config_resolution_load.specs.Load.{named_of};
 ghost use Rattle.nextest_config_resolution_load.specs.Reading.{GivesSeen, profile_at, values_of};
 
 use crate::loaded_config::{NamedProfile, ReadConfig};
-use nextest_config_elements_toml::{ValueError, refused};
-use nextest_config_resolution_merge::{MergedTree, StandsAt};
+use nextest_config_elements_toml::{ValueError, member, refused};
 use nextest_config_resolution_overrides::{NamedGroup, deserialize_test_groups};
 use nextest_config_resolution_scripts::{ScriptConfig, deserialize_scripts};
 use nextest_config_resolution_values::{deserialize_profile_value, deserialize_store_dir};
 use nextest_text::{Listing, Text};
 use std::alloc::Global;
-use toml::Value;
+use toml::{Table, Value};
 
 // What a tree says of profiles, scripts, the store and groups.
-pub(crate) fn read_config(alloc: Global, tree: &MergedTree<'_>) -> Result<ReadConfig, ValueError>
-    ensures { (top : Members) → IsTree tree.now (table top)
-        → GivesSeen values_of result (config_in top) }
+pub(crate) fn read_config(alloc: Global, tree: &Table) -> Result<ReadConfig, ValueError>
+    ensures read { GivesSeen values_of result (config_in (table_view tree.now)) }
+    ensures rises { IfOk result (λ it. Rise (parents_of (values_of it).profiles)) }
 {
     let profiles = read_profiles(alloc, tree)?;
     let scripts = read_scripts(alloc, tree)?;
@@ -42,89 +37,50 @@ pub(crate) fn read_config(alloc: Global, tree: &MergedTree<'_>) -> Result<ReadCo
 }
 
 // The scripts.
-fn read_scripts(alloc: Global, tree: &MergedTree<'_>) -> Result<ScriptConfig, ValueError>
-    ensures { (top : Members) → IsTree tree.now (table top)
-        → GivesSeen (λ it. it) result (scripts_at top) }
+fn read_scripts(alloc: Global, tree: &Table) -> Result<ScriptConfig, ValueError>
+    ensures { GivesSeen (λ it. it) result (scripts_at (table_view tree.now)) }
 {
-    let scripts = tree.value_at(alloc, &["scripts"])?;
-    deserialize_scripts(alloc, scripts.as_ref())
+    deserialize_scripts(alloc, member(tree, "scripts"))
 }
 
 // The groups of tests.
-fn read_groups(alloc: Global, tree: &MergedTree<'_>) -> Result<Listing<NamedGroup>, ValueError>
-    ensures { (top : Members) → IsTree tree.now (table top)
-        → GivesSeen (λ it. it) result (groups_at top) }
+fn read_groups(alloc: Global, tree: &Table) -> Result<Listing<NamedGroup>, ValueError>
+    ensures { GivesSeen (λ it. it) result (groups_at (table_view tree.now)) }
 {
-    let groups = tree.value_at(alloc, &["test-groups"])?;
-    deserialize_test_groups(alloc, groups.as_ref())
+    deserialize_test_groups(alloc, member(tree, "test-groups"))
 }
 
 // The directory of the store.
-fn read_store_dir(alloc: Global, tree: &MergedTree<'_>) -> Result<Option<Text>, ValueError>
-    ensures { (top : Members) → IsTree tree.now (table top)
-        → GivesSeen (λ it. it) result (store_dir_at top) }
+fn read_store_dir(alloc: Global, tree: &Table) -> Result<Option<Text>, ValueError>
+    ensures { GivesSeen (λ it. it) result (store_dir_at (table_view tree.now)) }
 {
-    let store = tree.value_at(alloc, &["store"])?;
-    deserialize_store_dir(alloc, store.as_ref())
+    deserialize_store_dir(alloc, member(tree, "store"))
 }
 
 // The profiles, by the bytes of their names.
-fn read_profiles(alloc: Global, tree: &MergedTree<'_>) -> Result<Listing<NamedProfile>, ValueError>
-    ensures { (top : Members) → IsTree tree.now (table top)
-        → GivesSeen (map named_of) result (profiles_at top) }
+fn read_profiles(alloc: Global, tree: &Table) -> Result<Listing<NamedProfile>, ValueError>
+    ensures read { GivesSeen (map named_of) result (profiles_at (table_view tree.now)) }
+    ensures rises { IfOk result (λ it. Rise (parents_of (map named_of it))) }
 {
-    match tree.at(alloc, &["profile"])? {
-        StandsAt::Nothing => Ok(Listing::new(alloc)),
-        StandsAt::Leaf(other) => Err(refused(alloc, &["profile"], Some(other), "a table")),
-        StandsAt::Table(names) => read_each(alloc, tree, names.as_slice()),
+    match member(tree, "profile") {
+        None => Ok(Listing::new(alloc)),
+        Some(Value::Table(profiles)) => read_each(alloc, profiles),
+        Some(other) => Err(refused(alloc, &["profile"], Some(other), "a table")),
     }
 }
 
-// The profiles of a table, which has them under these names.
-fn read_each(
-    alloc: Global,
-    tree: &MergedTree<'_>,
-    names: &[&str],
-) -> Result<Listing<NamedProfile>, ValueError>
-    ensures { (top all : Members) → IsTree tree.now (table top)
-        → get_member (codes "profile") top ≡ Some (table all) → texts names.now ≡ keys all
-        → GivesSeen (map named_of) result (under (codes "profile") (profiles_in all)) }
+// The profiles of a table.
+fn read_each(alloc: Global, profiles: &Table) -> Result<Listing<NamedProfile>, ValueError>
+    ensures read { GivesSeen (map named_of) result
+        (under (codes "profile") (profiles_in (table_view profiles.now))) }
+    ensures rises { IfOk result (λ it. Rise (parents_of (map named_of it))) }
 {
-    let mut profiles = Listing::new(alloc);
-    for name in names {
-        let profile = read_profile(alloc, tree, name)?;
-        profiles.push(profile)?;
+    let mut found = Listing::new(alloc);
+    for (name, given) in profiles {
+        let profile = named_profile(alloc, name.as_str(), given)?;
+        found.push(profile)?;
     }
-    Ok(profiles)
-}
-
-// The profile of a name.
-fn read_profile(
-    alloc: Global,
-    tree: &MergedTree<'_>,
-    name: &str,
-) -> Result<NamedProfile, ValueError>
-    ensures { (top : Members) → IsTree tree.now (table top)
-        → (given : Data) → get_path (profile_path name.now) (table top) ≡ Some given
-        → GivesSeen named_of result (profile_at name.now given) }
-{
-    let found = tree.value_at(alloc, &["profile", name])?;
-    found_profile(alloc, name, found.as_ref())
-}
-
-// The profile of a name, by what stands there, if anything does.
-fn found_profile(
-    alloc: Global,
-    name: &str,
-    found: Option<&Value>,
-) -> Result<NamedProfile, ValueError>
-    ensures { (given : Data) → option_map (λ it. view it.now) found.entry ≡ Some given
-        → GivesSeen named_of result (profile_at name.now given) }
-{
-    match found {
-        None => Err(refused(alloc, &["profile", name], None, "a table")),
-        Some(value) => named_profile(alloc, name, value),
-    }
+    Ok(found)
 }
 
 // The profile of a name, by what stands there.

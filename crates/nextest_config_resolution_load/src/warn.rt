@@ -1,26 +1,25 @@
-// How files are told of.
-ghost use Rattle.std.specs.Prelude.{OnErr, OnOk};
-ghost use Rattle.std.specs.List.{flat_map};
-ghost use Rattle.nextest_config_resolution_load.specs.Files.{warnings_of_file};
-ghost use Rattle.nextest_config_resolution_warnings.specs.Warn.{Warns, WarnsPrefix};
+// What is told of files once they are accepted.
+ghost use Rattle.std.specs.Prelude.{OnOk};
+ghost use Rattle.toml.specs.View.{table_view};
+ghost use Rattle.nextest_config_resolution_load.specs.Warn.{AreKept};
+ghost use Rattle.nextest_config_resolution_warnings.specs.Warn.{warnings_of};
 
-use crate::placed_file::PlacedFile;
-use nextest_config_resolution_warnings::{ConfigWarnings, warn_file};
+use nextest_config_resolution_warnings::{KeptWarnings, warn_file};
 use std::alloc::{AllocError, Global};
+use toml::Table;
 
-// Warns of each file, in their order. It fails only on allocation, and then a front was told.
-pub(crate) fn warn_files<W: ConfigWarnings>(
+// Keeps what is told of the file at a path, if anything is kept.
+pub(crate) fn keep_warnings(
     alloc: Global,
-    warnings: &mut W,
-    files: &[PlacedFile],
+    kept: &mut Option<KeptWarnings>,
+    path: &str,
+    file: &Table,
 ) -> Result<(), AllocError>
-    ensures ok { OnOk result
-        (Warns W.has_warned warnings.old warnings.new (flat_map warnings_of_file files.now)) }
-    ensures err { OnErr result
-        (WarnsPrefix W.has_warned warnings.old warnings.new (flat_map warnings_of_file files.now)) }
+    ensures { OnOk result
+        (AreKept kept.old kept.new (warnings_of path.now (table_view file.now))) }
 {
-    for file in files {
-        warn_file(alloc, warnings, file.path, &file.table)?;
+    match kept {
+        Some(warnings) => warn_file(alloc, warnings, path, file),
+        None => Ok(()),
     }
-    Ok(())
 }

@@ -13,7 +13,7 @@ use Rattle.nextest_config_resolution_scripts.specs.declared.script_config.Script
 use Rattle.nextest_config_resolution_scripts.specs.declared.script_rule.ScriptRuleConfig.{ScriptRuleConfig}
 use Rattle.nextest_config_resolution_overrides.specs.declared.groups.NamedGroup.{NamedGroup}
 use Rattle.nextest_config_resolution_overrides.specs.declared.override_config.OverrideConfig.{OverrideConfig}
-use Rattle.nextest_config_resolution_merge.specs.Nesting.{inside}
+use Rattle.nextest_config_resolution_profiles.specs.Agreeing.{inside}
 use Rattle.nextest_config_resolution_merge.specs.Tree.{merge}
 use Rattle.nextest_config_resolution_merge.proofs.Standings.{joint, get_merge}
 use Rattle.nextest_config_elements_deserialize.specs.Tables.{IsTable}

@@ -3,7 +3,7 @@
 use Rattle.std.specs.Prelude.{◌≡◌, ◌≢◌, ℕ, Bool, List, [], ◌∷◌, Option, None, Some, Ok, All, codes, ⊤, if◌then◌else◌}
 use Rattle.std.specs.List.{AllZip, list_any}
 use Rattle.std.specs.Str.{bytes_eq}
-use Rattle.toml.specs.Data.{Data, Members, no_members, member, get_member}
+use Rattle.toml.specs.Data.{Data, table, Members, no_members, member, get_member}
 use Rattle.nextest_config_elements_versions.specs.declared.feature.FeatureSet.{FeatureSet}
 use Rattle.nextest_config_resolution_inheritance.specs.Inheritance.{Name}
 use Rattle.nextest_config_resolution_load.specs.Checks.{file_of, rules_downward, script_rules_downward}
@@ -12,7 +12,6 @@ use Rattle.nextest_config_resolution_profiles.specs.Config.{IsConfig, profiles_o
 use Rattle.nextest_config_resolution_profiles.specs.Whole.{Whole}
 use Rattle.nextest_config_resolution_settings.specs.Rules.{profile_of, rules_of, script_profile_of}
 use Rattle.nextest_config_resolution_sources.specs.declared.source.ConfigSource.{ConfigSource}
-use Rattle.nextest_config_resolution_merge.specs.Nesting.{inside}
 
 -- a key is one of some names
 abbrev pub is_one_of : List Name → List ℕ → Bool
@@ -22,6 +21,11 @@ is_one_of names key = list_any (bytes_eq key) names
 abbrev pub named_members : List Name → Members → List (List ℕ × Data)
 named_members names no_members = []
 named_members names (member key value more) = if is_one_of names key then (key, value) ∷ named_members names more else named_members names more
+
+-- the members of a table that stands somewhere
+abbrev pub inside : Option Data → Members
+inside (Some (table members)) = members
+inside other = no_members
 
 -- the table of the profiles of a file, by name
 abbrev pub profiles_below : Members → Members

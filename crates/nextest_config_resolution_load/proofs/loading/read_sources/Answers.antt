@@ -2,20 +2,18 @@ use Rattle.std.proofs.Common.{◌≡◌, Bor, List, filter_map, map, ap, ◌∙�
 use Rattle.std.specs.List.{AllByRecursion, flat_map}
 use Rattle.toml.specs.Data.{table, Members}
 use Rattle.toml.specs.View.{table_view}
-use Rattle.nextest_config_resolution_load.specs.Checks.{bad_merged, config_in, file_of, members_of, merged_in, file_with_setup, tree_of_files, source_checks, value_checks}
-use Rattle.nextest_config_resolution_load.specs.Files.{members_in}
+use Rattle.nextest_config_resolution_load.specs.Checks.{bad_merged, config_in, file_of, file_with_setup, members_of, merged_in, source_checks, tree_of_files, value_checks}
 use Rattle.nextest_config_resolution_load.specs.Load.{IsKept}
 use Rattle.nextest_config_resolution_load.specs.Reading.{AreReadSources, AreRulesOf, early_checks, read_as}
 use Rattle.nextest_config_resolution_load.specs.Refusing.{RefusesFor}
-use Rattle.nextest_config_resolution_load.specs.Warn.{warnings_for}
-use Rattle.nextest_config_resolution_load.specs.declared.placed_file.PlacedFile.{PlacedFile}
+use Rattle.nextest_config_resolution_load.specs.Warn.{AreKept, warnings_for}
 use Rattle.nextest_config_resolution_load.proofs.Passing.{kept_both, passes_on, refuses_before, refuses_behind}
 use Rattle.nextest_config_resolution_load.proofs.loading.read_sources.Goals as goal
 use Rattle.nextest_config_resolution_sources.specs.Counting.{counting_sources}
 use Rattle.nextest_config_resolution_sources.specs.declared.source.ConfigSource.{ConfigSource}
 
-pub returns-in_err-read : goal.returns-in_err-read
-returns-in_err-read g c =
+pub returns-in_err-read-clause-read : goal.returns-in_err-read-clause-read
+returns-in_err-read-clause-read g c =
     let Is = g.R.Languages.is_filter c.args.cx.now in
     let IsSpec = g.R.Languages.is_spec in
     let IsTooDeep = g.R.Languages.is_too_deep in
@@ -27,11 +25,11 @@ returns-in_err-read g c =
     ap (λ (lent : List (Bor ConfigSource)). map (λ it. it.now) lent) c.as_slice.ensures.value ∙ c.in_ok-counted.ensures in
     passes_on Is IsSpec IsTooDeep (AreReadSources Is IsSpec built_in sources) (early_checks features built_in sources) told c.from_residual-in_err-read.result
     (refuses_before Is IsSpec IsTooDeep (flat_map (source_checks features) (counting_sources sources)) (value_checks bad_merged (config_in (merged_in built_in sources))) told
-    (subst (λ (all : List ConfigSource). RefusesFor Is IsSpec IsTooDeep (flat_map (source_checks features) all) told) same c.in_err-read.ensures))
+    (subst (λ (all : List ConfigSource). RefusesFor Is IsSpec IsTooDeep (flat_map (source_checks features) all) told) same c.in_err-read.ensures.read))
     c.from_residual-in_err-read.ensures.1
 
-pub returns-in_err-config : goal.returns-in_err-config
-returns-in_err-config g c =
+pub returns-in_err-config-clause-read : goal.returns-in_err-config-clause-read
+returns-in_err-config-clause-read g c =
     let Is = g.R.Languages.is_filter c.args.cx.now in
     let IsSpec = g.R.Languages.is_spec in
     let IsTooDeep = g.R.Languages.is_too_deep in
@@ -41,16 +39,16 @@ returns-in_err-config g c =
     let told = c.in_err-config.field-0.0 in
     let same : map (λ it. it.now) c.as_slice.result.now ≡ counting_sources sources =
     ap (λ (lent : List (Bor ConfigSource)). map (λ it. it.now) lent) c.as_slice.ensures.value ∙ c.in_ok-counted.ensures in
-    let files : map members_in c.as_slice-2.result.now ≡ filter_map file_of (counting_sources sources) =
-    ap (λ (them : List PlacedFile). map members_in them) c.as_slice-2.ensures.value ∙ c.in_ok-read.ensures.1.files ∙ ap (filter_map file_of) same in
+    let tree : table_view c.in_ok-read.read.tree ≡ merged_in built_in sources =
+    ap members_of (c.in_ok-read.ensures.read.1.tree ∙ ap (λ (all : List ConfigSource). tree_of_files (table built_in) (map file_with_setup (filter_map file_of all))) same) in
     passes_on Is IsSpec IsTooDeep (AreReadSources Is IsSpec built_in sources) (early_checks features built_in sources) told c.from_residual-in_err-config.result
     (refuses_behind Is IsSpec IsTooDeep (flat_map (source_checks features) (counting_sources sources)) (value_checks bad_merged (config_in (merged_in built_in sources))) told
-    (subst (λ (all : List ConfigSource). AllByRecursion (IsKept Is IsSpec) (flat_map (source_checks features) all)) same c.in_ok-read.ensures.0)
-    (subst (λ (given : List Members). RefusesFor Is IsSpec IsTooDeep (value_checks bad_merged (config_in (members_of (tree_of_files (table built_in) (map file_with_setup given))))) told) files c.in_err-config.ensures.read))
+    (subst (λ (all : List ConfigSource). AllByRecursion (IsKept Is IsSpec) (flat_map (source_checks features) all)) same c.in_ok-read.ensures.read.0)
+    (subst (λ (top : Members). RefusesFor Is IsSpec IsTooDeep (value_checks bad_merged (config_in top)) told) tree c.in_err-config.ensures.read))
     c.from_residual-in_err-config.ensures.1
 
-pub returns : goal.returns
-returns g c =
+pub returns-clause-read : goal.returns-clause-read
+returns-clause-read g c =
     let Is = g.R.Languages.is_filter c.args.cx.now in
     let IsSpec = g.R.Languages.is_spec in
     let features = c.args.features in
@@ -60,15 +58,20 @@ returns g c =
     let read = c.in_ok-read.read in
     let same : map (λ it. it.now) c.as_slice.result.now ≡ counting_sources sources =
     ap (λ (lent : List (Bor ConfigSource)). map (λ it. it.now) lent) c.as_slice.ensures.value ∙ c.in_ok-counted.ensures in
-    let files : map members_in c.as_slice-2.result.now ≡ filter_map file_of (counting_sources sources) =
-    ap (λ (them : List PlacedFile). map members_in them) c.as_slice-2.ensures.value ∙ c.in_ok-read.ensures.1.files ∙ ap (filter_map file_of) same in (
+    let tree : table_view read.tree ≡ merged_in built_in sources =
+    ap members_of (c.in_ok-read.ensures.read.1.tree ∙ ap (λ (all : List ConfigSource). tree_of_files (table built_in) (map file_with_setup (filter_map file_of all))) same) in (
       kept_both Is IsSpec g.R.Languages.is_too_deep (flat_map (source_checks features) (counting_sources sources)) (value_checks bad_merged (config_in (merged_in built_in sources)))
-          (subst (λ (all : List ConfigSource). AllByRecursion (IsKept Is IsSpec) (flat_map (source_checks features) all)) same c.in_ok-read.ensures.0)
-          (subst (λ (given : List Members). AllByRecursion (IsKept Is IsSpec) (value_checks bad_merged (config_in (members_of (tree_of_files (table built_in) (map file_with_setup given)))))) files c.in_ok-config.ensures.read.0),
+          (subst (λ (all : List ConfigSource). AllByRecursion (IsKept Is IsSpec) (flat_map (source_checks features) all)) same c.in_ok-read.ensures.read.0)
+          (subst (λ (top : Members). AllByRecursion (IsKept Is IsSpec) (value_checks bad_merged (config_in top))) tree c.in_ok-config.ensures.read.0),
       record {
-        values = subst (λ (given : List Members). config_in (members_of (tree_of_files (table built_in) (map file_with_setup given))) ≡ read_as config) files c.in_ok-config.ensures.read.1;
+        values = subst (λ (top : Members). config_in top ≡ read_as config) tree c.in_ok-config.ensures.read.1;
         rises = c.in_ok-config.ensures.rises;
-        told = c.in_ok-read.ensures.1.told ∙ ap (flat_map warnings_for) same;
-        rules = subst (λ (all : List ConfigSource). AreRulesOf Is IsSpec all read.rules.items) same c.in_ok-read.ensures.1.rules;
+        rules = subst (λ (all : List ConfigSource). AreRulesOf Is IsSpec all read.rules.items) same c.in_ok-read.ensures.read.1.rules;
       },
     )
+
+pub returns-clause-kept : goal.returns-clause-kept
+returns-clause-kept g c =
+    let same : map (λ it. it.now) c.as_slice.result.now ≡ counting_sources c.args.sources.now =
+    ap (λ (lent : List (Bor ConfigSource)). map (λ it. it.now) lent) c.as_slice.ensures.value ∙ c.in_ok-counted.ensures in
+    subst (λ (all : List ConfigSource). AreKept c.args.kept.now c.read_files.new.kept (flat_map warnings_for all)) same c.in_ok-read.ensures.kept

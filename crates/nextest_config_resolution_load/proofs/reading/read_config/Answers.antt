@@ -1,4 +1,5 @@
 use Rattle.std.proofs.Common.{map}
+use Rattle.toml.specs.View.{table_view}
 use Rattle.nextest_config_resolution_load.specs.Checks.{config_in}
 use Rattle.nextest_config_resolution_load.specs.Load.{named_of}
 use Rattle.nextest_config_resolution_load.specs.Reading.{values_of}
@@ -6,30 +7,34 @@ use Rattle.nextest_config_resolution_load.proofs.Configs.{groups_refused, profil
 use Rattle.nextest_config_resolution_load.proofs.Tops.{handed_on}
 use Rattle.nextest_config_resolution_load.proofs.reading.read_config.Goals as goal
 
-pub returns-in_err-profiles : goal.returns-in_err-profiles
-returns-in_err-profiles c = λ top it.
+pub returns-in_err-profiles-clause-read : goal.returns-in_err-profiles-clause-read
+returns-in_err-profiles-clause-read c =
+    let top = table_view c.args.tree.now in
     let told = c.in_err-profiles.field-0.0 in
-    handed_on values_of c.from_residual.result told (config_in top) c.from_residual.ensures.1 (profiles_refused top told (c.in_err-profiles.ensures top it))
+    handed_on values_of c.from_residual.result told (config_in top) c.from_residual.ensures.1 (profiles_refused top told (c.in_err-profiles.ensures.read))
 
-pub returns-in_err-scripts : goal.returns-in_err-scripts
-returns-in_err-scripts c = λ top it.
+pub returns-in_err-scripts-clause-read : goal.returns-in_err-scripts-clause-read
+returns-in_err-scripts-clause-read c =
+    let top = table_view c.args.tree.now in
     let told = c.in_err-scripts.field-0.0 in
     let passed = c.from_residual-in_err-scripts in
     handed_on values_of passed.result told (config_in top) passed.ensures.1
-    (scripts_refused top (map named_of c.in_ok-profiles.profiles) told (c.in_ok-profiles.ensures top it) (c.in_err-scripts.ensures top it))
+    (scripts_refused top (map named_of c.in_ok-profiles.profiles) told (c.in_ok-profiles.ensures.read) (c.in_err-scripts.ensures))
 
-pub returns-in_err-store_dir : goal.returns-in_err-store_dir
-returns-in_err-store_dir c = λ top it.
+pub returns-in_err-store_dir-clause-read : goal.returns-in_err-store_dir-clause-read
+returns-in_err-store_dir-clause-read c =
+    let top = table_view c.args.tree.now in
     let told = c.in_err-store_dir.field-0.0 in
     let passed = c.from_residual-in_err-store_dir in
     handed_on values_of passed.result told (config_in top) passed.ensures.1
-    (store_refused top (map named_of c.in_ok-profiles.profiles) c.in_ok-scripts.scripts told (c.in_ok-profiles.ensures top it) (c.in_ok-scripts.ensures top it)
-    (c.in_err-store_dir.ensures top it))
+    (store_refused top (map named_of c.in_ok-profiles.profiles) c.in_ok-scripts.scripts told (c.in_ok-profiles.ensures.read) (c.in_ok-scripts.ensures)
+    (c.in_err-store_dir.ensures))
 
-pub returns-in_err-groups : goal.returns-in_err-groups
-returns-in_err-groups c = λ top it.
+pub returns-in_err-groups-clause-read : goal.returns-in_err-groups-clause-read
+returns-in_err-groups-clause-read c =
+    let top = table_view c.args.tree.now in
     let told = c.in_err-groups.field-0.0 in
     let passed = c.from_residual-in_err-groups in
     handed_on values_of passed.result told (config_in top) passed.ensures.1
-    (groups_refused top (map named_of c.in_ok-profiles.profiles) c.in_ok-scripts.scripts c.in_ok-store_dir.store_dir told (c.in_ok-profiles.ensures top it)
-    (c.in_ok-scripts.ensures top it) (c.in_ok-store_dir.ensures top it) (c.in_err-groups.ensures top it))
+    (groups_refused top (map named_of c.in_ok-profiles.profiles) c.in_ok-scripts.scripts c.in_ok-store_dir.store_dir told (c.in_ok-profiles.ensures.read)
+    (c.in_ok-scripts.ensures) (c.in_ok-store_dir.ensures) (c.in_err-groups.ensures))
