@@ -14,6 +14,7 @@ pub mod Leasts
 pub mod Names
 pub mod OneProfile
 pub mod PutOn
+pub mod RowNumbers
 pub mod Ruled
 pub mod RulesRead
 pub mod SameChain

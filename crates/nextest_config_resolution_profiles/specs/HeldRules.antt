@@ -1,5 +1,5 @@
 -- Which rules of a profile hold on the tests of a binary, found at once for all of them.
-use Rattle.std.specs.Prelude.{◌≡◌, ℕ, Bool, true, false, List, [], ◌∷◌, ◌++◌, Some, map, slice_get, unwrap_or}
+use Rattle.std.specs.Prelude.{◌≡◌, ℕ, zero, suc, nat_lt, ◌+◌, ◌*◌, ◌^◌, ◌%◌, ◌<◌, Bool, true, false, List, [], ◌∷◌, ◌++◌, Some, if◌then◌else◌, length, map, slice_get, slice_index, unwrap_or}
 use Rattle.std.specs.List.{AllZip}
 use Rattle.nextest_config_resolution_profiles.specs.Evaluatable.{Evaluatable}
 use Rattle.nextest_config_resolution_profiles.specs.Held.{Holds}
@@ -64,3 +64,41 @@ pub record AreHeldColumns {F S : Type 0} (OnTest : F → F → Test → Bool →
 -- what they say of the test at a place
 abbrev pub held_row : ℕ → Columns → List Bool
 held_row place it = row_at place it.overrides ++ row_at place it.scripts
+
+-- how many rules they are of
+abbrev pub rule_count : Columns → ℕ
+rule_count it = length it.overrides + length it.scripts
+
+-- ---- rows as numbers
+
+-- the weight of the rule behind one of this weight: twice as much, and behind 2 ^ 63 again one
+abbrev pub next_weight : ℕ → ℕ
+next_weight weight = if nat_lt weight (2 ^ 63) then weight * 2 else 1
+
+-- the weight of the rule that stands so many places behind it
+abbrev pub weight_behind : ℕ → ℕ → ℕ
+weight_behind weight zero = weight
+weight_behind weight (suc count) = weight_behind (next_weight weight) count
+
+-- the weights of the rules at which a row is true, where the first rule has this one
+abbrev pub row_weight : ℕ → List Bool → ℕ
+row_weight weight [] = 0
+row_weight weight (holds ∷ row) = (if holds then weight else 0) + row_weight (next_weight weight) row
+
+-- a row as a number: what its rules weigh, modulo 2 ^ 64
+abbrev pub row_number : List Bool → ℕ
+row_number row = row_weight 1 row % 2 ^ 64
+
+-- numbers of the rows at the first places
+pub record AreNumbers (row_of : ℕ → List Bool) (count : ℕ) (numbers : List ℕ) : Type 0 where
+  pub counted : length numbers ≡ count
+  pub each : (place : ℕ) → place < count → slice_index numbers place ≡ row_number (row_of place)
+
+-- the number of a row with one more rule, of this weight
+abbrev pub number_with : ℕ → Bool → ℕ → ℕ
+number_with weight holds number = if holds then (number + weight) % 2 ^ 64 else number
+
+-- what a loop over columns has made: numbers of what those so far say, and the weight of the rule behind them
+pub record AreCarried (columns : List (List Bool)) (count weight : ℕ) (carried : List ℕ) : Type 0 where
+  pub numbers : AreNumbers (λ place. row_at place columns) count carried
+  pub weighs : weight ≡ weight_behind 1 (length columns)

@@ -1,9 +1,9 @@
 // Which rules of a profile hold on the tests of a binary, found at once for all of them.
-ghost use Rattle.std.specs.Prelude.{◌≡◌, ◌++◌, ◌∷◌, [], Some, All, IfOk, OnOk, drop, false, if◌then◌else◌, length, map, true};
+ghost use Rattle.std.specs.Prelude.{◌≡◌, ◌<◌, ◌++◌, ◌∷◌, ℕ, Bool, List, [], Some, All, IfOk, OnOk, drop, false, if◌then◌else◌, length, map, slice_index, true};
 ghost use Rattle.nextest_config_resolution_profiles.specs.Asking.{IsAskable};
 ghost use Rattle.nextest_config_resolution_profiles.specs.ChainRules.{rule_in, rules_in, seen_rule, seen_rules};
 ghost use Rattle.nextest_config_resolution_profiles.specs.Held.{AreSettingsFor, placed_of};
-ghost use Rattle.nextest_config_resolution_profiles.specs.HeldRules.{AreColumns, AreHeldColumns, IsColumn, IsHeldRow, TellsEach, held_row, rules_at, row_at, value_at};
+ghost use Rattle.nextest_config_resolution_profiles.specs.HeldRules.{AreCarried, AreColumns, AreHeldColumns, AreNumbers, IsColumn, IsHeldRow, TellsEach, held_row, next_weight, number_with, rule_count, rules_at, row_at, value_at};
 ghost use Rattle.nextest_config_resolution_settings.specs.Nearest.{lent_layers};
 ghost use Rattle.nextest_config_resolution_settings.specs.Tracking.{TellsNothing};
 ghost use Rattle.nextest_filtering_filters.specs.Query.{Test, binary_of};
@@ -61,6 +61,30 @@ impl HeldRules {
         push_row(&self.scripts, place, row)
     }
 
+    /// The number of the row of each of the first tests, as many as `count`. Rows of at most 64
+    /// rules are one where their numbers are; of more rules, other rows may have the same number.
+    ///
+    /// # Errors
+    ///
+    /// It fails only on allocation.
+    pub fn numbers(&self, alloc: Global, count: usize) -> Result<Vec<u64>, AllocError>
+        ensures { IfOk result
+            (λ it. AreNumbers (λ place. held_row place self.now) count it.items) }
+    {
+        let mut numbers = vec![in alloc; 0u64; count]?;
+        let so_far = numbers.as_mut_slice();
+        let weight = add_columns(self.overrides.as_slice(), 1, so_far);
+        add_columns(self.scripts.as_slice(), weight, so_far);
+        Ok(numbers)
+    }
+
+    /// How many rules there are, each of which has a value in a row.
+    pub fn count(&self) -> usize
+        ensures { result ≡ rule_count self.now }
+    {
+        self.overrides.len() + self.scripts.len()
+    }
+
     // The columns of the script rules.
     pub(crate) fn scripts(&self) -> &[Vec<bool>]
         ensures { map (λ column. column.items) result.now ≡ self.now.scripts }
@@ -78,6 +102,51 @@ fn push_row(columns: &Vec<Vec<bool>>, place: usize, row: &mut Vec<bool>) -> Resu
         row.push(value_at(column.as_slice(), place))?;
     }
     Ok(())
+}
+
+// Adds to numbers what columns say, of which the first has this weight, and answers the weight of
+// the column behind them. An empty column takes no time.
+fn add_columns(columns: &[Vec<bool>], weight: u64, numbers: &mut [u64]) -> u64
+    ensures { (before : List (List Bool)) (count : ℕ)
+        → AreCarried before count weight numbers.old
+        → AreCarried (before ++ map (λ column. column.items) columns.now) count result numbers.new }
+{
+    let mut next = weight;
+    for column in columns {
+        add_column(column.as_slice(), next, numbers);
+        next = next_weight(next);
+    }
+    next
+}
+
+// Adds the weight of a column to the number at each place where it is true. It goes by index, since
+// a proof knows nothing of what a `zip` of `iter_mut` wrote.
+fn add_column(column: &[bool], weight: u64, numbers: &mut [u64])
+    ensures count { length numbers.new ≡ length numbers.old }
+    ensures numbers { (place : ℕ) → place < length numbers.old → slice_index numbers.new place
+        ≡ number_with weight (value_at place column.now) (slice_index numbers.old place) }
+{
+    for place in 0..column.len().min(numbers.len()) {
+        numbers[place] = number_with(weight, column[place], numbers[place]);
+    }
+}
+
+// A number with the weight of a rule, if that holds.
+fn number_with(weight: u64, holds: bool, number: u64) -> u64
+    ensures { result ≡ number_with weight holds number }
+{
+    if holds {
+        number.wrapping_add(weight)
+    } else {
+        number
+    }
+}
+
+// The weight behind one. Up to 64 rules each has a bit of its own.
+fn next_weight(weight: u64) -> u64
+    ensures { result ≡ next_weight weight }
+{
+    if weight < 1 << 63 { weight * 2 } else { 1 }
 }
 
 // The value at a place; past the end it is false.

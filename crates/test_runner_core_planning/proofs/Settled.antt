@@ -1,20 +1,20 @@
 -- The settings that are shared by rows, and the places of names.
-use Rattle.std.proofs.Common.{◌≡◌, ℕ, ◌+◌, ◌<◌, Bool, true, false, true≢false, not, List, [], ◌∷◌, ◌++◌, Option, Some, IfSome, Result, Ok, Err, MatchResult, IfOk, Ordering, nat_cmp, length, map, get_or, slice_get, All, refl, sym, ap, ◌∙◌, subst, zero-add, append_assoc}
-use Rattle.std.specs.BTreeMap.{BTreeMap, get_by, insert_entry, is_at}
+use Rattle.std.proofs.Common.{◌≡◌, ℕ, ◌+◌, ◌<◌, ◌≤◌, Bool, true, false, cond, List, [], ◌∷◌, ◌++◌, Option, Some, IfSome, Result, Ok, Err, MatchResult, IfOk, Ordering, nat_cmp, length, map, get_or, slice_get, refl, sym, ap, ◌∙◌, subst, zero-add, append_assoc}
+use Rattle.std.specs.BTreeMap.{BTreeMap, Updates, get, is_at}
 use Rattle.std.specs.List.{enumerate_from}
-use Rattle.std.specs.Map.{values_of}
 use Rattle.std.proofs.lemmas.Grind.{flat_map-append}
 use Rattle.std.proofs.lemmas.List.{append-nil, map-append, map_push}
-use Rattle.std.proofs.lemmas.Map.Views.{All-values-insert_entry, IfSome-lookup_from_All}
+use Rattle.std.proofs.lemmas.Map.Lookups.{exact_unsigned}
 use Rattle.std.proofs.lemmas.Slice.Eq.{slice_eq-Decides}
 use Rattle.std.specs.Bool.{beq}
-use Rattle.std.specs.Cmp.{booleans_Decides}
+use Rattle.std.specs.Cmp.{Equal-is, booleans_Decides}
 use Rattle.std.specs.Cmp.Lexicographic.{pointwise}
 use Rattle.std.proofs.lemmas.List.FromFn.{get_or-enumerate_from, length-enumerate_from}
 use Rattle.std.proofs.lemmas.Option.{slice_get_read}
 use Rattle.nextest_config_elements_choices.specs.declared.run_mode.NextestRunMode.{NextestRunMode}
 use Rattle.nextest_config_resolution_profiles.specs.Evaluatable.{Evaluatable}
-use Rattle.nextest_config_resolution_profiles.specs.HeldRules.{AreHeldColumns, Columns}
+use Rattle.nextest_config_resolution_profiles.specs.HeldRules.{AreHeldColumns, Columns, held_row, row_number, rule_count}
+use Rattle.nextest_config_resolution_profiles.proofs.RowNumbers.{held_length, one_numbered}
 use Rattle.nextest_filtering_compiling.specs.declared.filterset.Filterset.{Filterset}
 use Rattle.nextest_filtering_filters.specs.Query as query
 use Rattle.nextest_filtering_filters.specs.Query.{Test}
@@ -24,7 +24,7 @@ use Rattle.test_runner_core_listing.specs.declared.selection.SelectedTests.{Sele
 use Rattle.test_runner_core_plan.specs.declared.plan.PlanTest.{PlanTest}
 use Rattle.test_runner_core_plan.specs.declared.plan_settings.PlanSettings.{PlanSettings}
 use Rattle.test_runner_core_planning.specs.Plan.{with_settings}
-use Rattle.test_runner_core_planning.specs.Tests.{AreShared, HasForRow}
+use Rattle.test_runner_core_planning.specs.Tests.{AreShared, HasForRow, IsShared}
 use Rattle.test_runner_core_planning.specs.declared.settled_tests.RowSettings.{RowSettings}
 use Rattle.test_runner_core_platforms.specs.declared.platform_spec.PlatformSpec.{PlatformSpec}
 use Rattle.test_runner_core_workspace.specs.declared.record.Binary.{Binary}
@@ -42,31 +42,35 @@ placed names index it within is =
 
 -- ---- what is shared
 
--- with what is shared for a row
-abbrev HasOwn : Evaluatable Filterset PlatformSpec → NextestRunMode → RowSettings → Type 0
-HasOwn profile mode it = HasForRow profile mode it.row.items it.settings
-
-pub shared_found : (profile : Evaluatable Filterset PlatformSpec) (mode : NextestRunMode) (shared : BTreeMap ℕ RowSettings) (query : ℕ → Ordering) (it : RowSettings)
-    → AreShared profile mode shared → get_by query shared ≡ Some it → HasForRow profile mode it.row.items it.settings
-shared_found profile mode shared query it are is =
-    subst (λ (found : Option RowSettings). IfSome found (HasOwn profile mode)) is (IfSome-lookup_from_All (HasOwn profile mode) (is_at query) shared.entries are)
+pub shared_found : (profile : Evaluatable Filterset PlatformSpec) (mode : NextestRunMode) (shared : BTreeMap ℕ RowSettings) (number : ℕ) (it : RowSettings)
+    → AreShared profile mode shared → get nat_cmp shared number ≡ Some it → IsShared profile mode number it
+shared_found profile mode shared number it are is = subst (λ (found : Option RowSettings). IfSome found (IsShared profile mode number)) is (are number)
 
 pub shared_more : (profile : Evaluatable Filterset PlatformSpec) (mode : NextestRunMode) (before after : BTreeMap ℕ RowSettings) (number : ℕ) (row : List Bool) (settings : PlanSettings) (it : RowSettings)
-    → AreShared profile mode before → HasForRow profile mode row settings → it.row.items ≡ row → it.settings ≡ settings
-    → after.entries ≡ insert_entry nat_cmp before.entries number it → AreShared profile mode after
-shared_more profile mode before after number row settings it are has under same is =
-    let has_it : HasOwn profile mode it
-    = subst (λ (under : List Bool). HasForRow profile mode under it.settings) (sym under) (subst (HasForRow profile mode row) (sym same) has) in
-    subst (λ (entries : List (ℕ × RowSettings)). All (HasOwn profile mode) (values_of entries)) (sym is) (All-values-insert_entry nat_cmp number it (HasOwn profile mode) before.entries are has_it)
+    → AreShared profile mode before → length row ≡ length profile.rules + length profile.script_rules → number ≡ row_number row → HasForRow profile mode row settings → it.row.items ≡ row → it.settings ≡ settings
+    → Updates nat_cmp before after number (Some it) → AreShared profile mode after
+shared_more profile mode before after number row settings it are counted numbered has under same updates key =
+    subst (λ (found : Option RowSettings). IfSome found (IsShared profile mode key)) (sym (updates.0 key)) (by_test (is_at (nat_cmp number) key) refl)
+  where
+    own : IsShared profile mode number it
+    own = record {
+      has = subst (λ (row' : List Bool). HasForRow profile mode row' it.settings) (sym under) (subst (HasForRow profile mode row) (sym same) has);
+      counted = ap length under ∙ counted;
+      numbered = numbered ∙ ap row_number (sym under);
+    }
 
--- what isn't denied is so
-affirmed : (value : Bool) → not value ≡ false → value ≡ true
-affirmed true is = refl
-affirmed false is = absurd (true≢false is)
+    by_test : (here : Bool) → is_at (nat_cmp number) key ≡ here → IfSome (cond here (Some it) (get nat_cmp before key)) (IsShared profile mode key)
+    by_test true is = subst (λ (n : ℕ). IsShared profile mode n it) (exact_unsigned number key ((Equal-is (nat_cmp number key)).0 is)) own
+    by_test false is = are key
 
--- rows of which it isn't true that they differ are one
-pub one_row : (row other : List Bool) (differ : Bool) → differ ≡ not (pointwise beq row other) → differ ≡ false → row ≡ other
-one_row row other differ is same = (slice_eq-Decides booleans_Decides row other (pointwise beq row other) refl).0 (affirmed (pointwise beq row other) (sym is ∙ same))
+-- rows that are compared are one
+pub one_row : (row other : List Bool) → pointwise beq row other ≡ true → row ≡ other
+one_row row other same = (slice_eq-Decides booleans_Decides row other (pointwise beq row other) refl).0 same
+
+-- and so are those of at most 64 rules of which the numbers are
+pub numbered_row : (row : List Bool) (place : ℕ) (held : Columns) → rule_count held ≤ 64 → length row ≡ rule_count held → row_number row ≡ row_number (held_row place held) → row ≡ held_row place held
+numbered_row row place held few long same =
+    one_numbered row (held_row place held) (long ∙ sym (held_length place held)) (subst (λ (n : ℕ). n ≤ 64) (sym long) few) same
 
 -- a copy is what it is a copy of
 pub copied : {X E : Type 0} (Fails : E → Type 0) (P : X → Type 0) (it : X) (result : Result X E) → MatchResult result (λ (copy : X). copy ≡ it) Fails → P it → IfOk result P

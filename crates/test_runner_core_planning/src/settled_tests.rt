@@ -1,9 +1,9 @@
 // The selected tests with their settings, and the setup scripts that are enabled for them.
-ghost use Rattle.std.specs.Prelude.{◌≡◌, [], ◌∷◌, ◌++◌, List, IfOk, IfSome, OnOk, map};
+ghost use Rattle.std.specs.Prelude.{◌≡◌, ◌+◌, [], ◌∷◌, ◌++◌, List, IfOk, IfSome, OnOk, length, map, true};
 ghost use Rattle.nextest_config_elements_choices.specs.declared.run_mode.NextestRunMode.{NextestRunMode};
 ghost use Rattle.nextest_config_resolution_profiles.specs.Enabled.{AreNamesOf, HasEnabled, IsEnabled};
 ghost use Rattle.nextest_config_resolution_profiles.specs.Evaluatable.{Evaluatable};
-ghost use Rattle.nextest_config_resolution_profiles.specs.HeldRules.{AreHeldColumns};
+ghost use Rattle.nextest_config_resolution_profiles.specs.HeldRules.{AreHeldColumns, held_row, row_number, rule_count};
 ghost use Rattle.nextest_config_resolution_settings.specs.Nearest.{lent_layers};
 ghost use Rattle.nextest_filtering_compiling.specs.Filtersets.{HasOnTest};
 ghost use Rattle.nextest_filtering_compiling.specs.declared.filterset.Filterset.{Filterset};
@@ -120,11 +120,11 @@ fn push_tests(
     let SelectedTests { binary, names } = of_binary;
     let held = held_rules_of(alloc, profile, binary, names.as_slice())?;
     profile.add_scripts(alloc, &held, names.len(), scripts)?;
+    let numbers = held.numbers(alloc, names.len())?;
     let id = RustBinaryId::new(alloc, binary.id.as_str())?;
-    let mut row = Vec::new(alloc);
     for (place, name) in Vec::from(names).into_iter().enumerate() {
-        held.row(place, &mut row)?;
-        let settings = settings_of_row(alloc, profile, mode, row.as_slice(), shared)?;
+        let number = numbers[place];
+        let settings = settings_at(alloc, profile, mode, &held, place, number, shared)?;
         push_test(&id, name, settings, tests)?;
     }
     Ok(())
@@ -155,53 +155,81 @@ fn texts_of<'n>(alloc: Global, names: &'n [Text]) -> Result<Vec<&'n str>, AllocE
     Ok(texts)
 }
 
-// The settings of each test on which just the rules of a row hold: what is shared has them, or gets
-// them.
-fn settings_of_row(
+// The settings of each test on which just those rules hold that hold on the one at a place: what is
+// shared has them, under the number of its row, or gets them.
+fn settings_at(
     alloc: Global,
     profile: &EvaluatableProfile<'_, Filterset, PlatformSpec>,
     mode: NextestRunMode,
-    row: &[bool],
+    held: &HeldRules,
+    place: usize,
+    number: u64,
     shared: &mut SettingsByRow,
 ) -> Result<SharedSettings, AllocError>
-    requires { AreShared profile.now mode shared.old }
+    requires shared { AreShared profile.now mode shared.old }
+    requires counted { rule_count held.now
+        ≡ length profile.now.rules + length profile.now.script_rules }
+    requires numbered { number ≡ row_number (held_row place held.now) }
     ensures shared { OnOk result (AreShared profile.now mode shared.new) }
-    ensures settings { IfOk result (HasForRow profile.now mode row.now) }
+    ensures settings { IfOk result (HasForRow profile.now mode (held_row place held.now)) }
 {
-    let number = number_of(row);
-    match shared_under(number, row, shared)? {
-        Some(settings) => Ok(settings),
-        None => new_settings(alloc, profile, mode, row, number, shared),
+    if let Some(settings) = shared_at(alloc, held, place, number, shared)? {
+        return Ok(settings);
     }
+    let row = row_at(alloc, held, place)?;
+    new_settings(alloc, profile, mode, row.as_slice(), number, shared)
 }
 
-// A number of a row. Up to 64 rules each row has its own; of more rules rows may have one number,
-// which costs time and memory.
-fn number_of(row: &[bool]) -> u64 {
-    let mut number: u64 = 0;
-    for holds in row {
-        number = number.rotate_left(1) ^ u64::from(*holds);
-    }
-    number
-}
-
-// The settings that are shared for a row, which has this number.
-fn shared_under(
+// The settings that are shared for the row of the test at a place, which has this number.
+fn shared_at(
+    alloc: Global,
+    held: &HeldRules,
+    place: usize,
     number: u64,
-    row: &[bool],
     shared: &SettingsByRow,
 ) -> Result<Option<SharedSettings>, AllocError>
     ensures { (profile : Evaluatable Filterset PlatformSpec) (mode : NextestRunMode)
         → AreShared profile mode shared.now
-        → IfOk result (λ found. IfSome found (HasForRow profile mode row.now)) }
+        → rule_count held.now ≡ length profile.rules + length profile.script_rules
+        → number ≡ row_number (held_row place held.now)
+        → IfOk result (λ found. IfSome found (HasForRow profile mode (held_row place held.now))) }
 {
     let Some(found) = shared.get(&number) else {
         return Ok(None);
     };
-    if found.row.as_slice() != row {
+    if !is_row_at(alloc, found.row.as_slice(), held, place)? {
         return Ok(None);
     }
     Ok(Some(found.settings.clone()?))
+}
+
+// Whether a row that has as many values, and the number, of that of the test at a place is this
+// one. Up to 64 rules each row has its own number; of more rules rows may have one number, and then
+// that of the test is built, which costs time and memory.
+fn is_row_at(
+    alloc: Global,
+    row: &[bool],
+    held: &HeldRules,
+    place: usize,
+) -> Result<bool, AllocError>
+    ensures { IfOk result (λ is. is ≡ true → length row.now ≡ rule_count held.now
+        → row_number row.now ≡ row_number (held_row place held.now)
+        → row.now ≡ held_row place held.now) }
+{
+    if held.count() <= 64 {
+        return Ok(true);
+    }
+    let other = row_at(alloc, held, place)?;
+    Ok(row == other.as_slice())
+}
+
+// The row of the rules that hold on the test at a place.
+fn row_at(alloc: Global, held: &HeldRules, place: usize) -> Result<Vec<bool>, AllocError>
+    ensures { IfOk result (λ it. it.items ≡ held_row place held.now) }
+{
+    let mut row = Vec::with_capacity(alloc, held.count())?;
+    held.row(place, &mut row)?;
+    Ok(row)
 }
 
 // The settings of each test on which just the rules of a row hold, found now, and added to what is
@@ -214,7 +242,10 @@ fn new_settings(
     number: u64,
     shared: &mut SettingsByRow,
 ) -> Result<SharedSettings, AllocError>
-    requires { AreShared profile.now mode shared.old }
+    requires shared { AreShared profile.now mode shared.old }
+    requires counted { length row.now
+        ≡ length profile.now.rules + length profile.now.script_rules }
+    requires numbered { number ≡ row_number row.now }
     ensures shared { OnOk result (AreShared profile.now mode shared.new) }
     ensures settings { IfOk result (HasForRow profile.now mode row.now) }
 {

@@ -2,14 +2,19 @@ use Rattle.std.proofs.Common.{ℕ, ◌++◌, List, length, map, sym, ap, ◌∙�
 use Rattle.std.proofs.lemmas.Iterator.Adapters.{YieldsList-from_vec}
 use Rattle.std.proofs.lemmas.Iterator.Consumers.{YieldsList-end, YieldsList-from_enumerate, YieldsList-turn}
 use Rattle.std.proofs.lemmas.List.{map-id}
-use Rattle.nextest_config_resolution_profiles.specs.HeldRules.{IsHeldRow}
+use Rattle.nextest_config_resolution_profiles.specs.HeldRules.{IsHeldRow, held_row}
 use Rattle.nextest_config_resolution_profiles.proofs.Columns.{held_at}
+use Rattle.nextest_config_resolution_profiles.proofs.RowNumbers.{held_count}
 use Rattle.nextest_filtering_compiling.specs.Filtersets.{HasOnTest}
 use Rattle.test_runner_core_listing.specs.Answers.{query_of, seen_test}
 use Rattle.test_runner_core_plan.specs.declared.plan.PlanTest.{PlanTest}
 use Rattle.test_runner_core_planning.specs.Plan.{with_settings}
 use Rattle.test_runner_core_planning.proofs.Settled.{all_settled, held_names, placed, test_more}
 use Rattle.test_runner_core_planning.proofs.settled_tests.push_tests.Goals as goal
+
+pub settings_at-requires-clause-counted : goal.settings_at-requires-clause-counted
+settings_at-requires-clause-counted c =
+    held_count HasOnTest c.args.profile.now (query_of c.args.of_binary.binary.now) c.as_slice.result.now c.in_ok-held.held c.in_ok-held.ensures
 
 pub loop-place-preserved : goal.loop-place-preserved
 loop-place-preserved c =
@@ -22,8 +27,8 @@ loop-place-preserved c =
     let turn = YieldsList-turn numbered c.loop-place.yielded c.loop-place.place-iterator c.loop-place.yielded_by c.next.result c.next.new.self (c.in-Some.place, c.in-Some.name) c.in-Some.is c.next.ensures.steps in
     let stands = placed names (length c.loop-place.yielded) (c.in-Some.place, c.in-Some.name) turn.0 turn.1 in
     let held = held_names HasOnTest profile (query_of binary) c.as_slice.result.now names c.in_ok-held.held c.as_slice.ensures c.in_ok-held.ensures in
-    let row : IsHeldRow HasOnTest profile (seen_test binary c.in-Some.name) c.as_slice-in-loop-place.result.now
-    = rw (c.as_slice-in-loop-place.ensures.value ∙ c.in_ok-row.ensures) (held_at HasOnTest profile (query_of binary) names c.in_ok-held.held held c.in-Some.place c.in-Some.name stands) in
+    let row : IsHeldRow HasOnTest profile (seen_test binary c.in-Some.name) (held_row c.in-Some.place c.in_ok-held.held)
+    = held_at HasOnTest profile (query_of binary) names c.in_ok-held.held held c.in-Some.place c.in-Some.name stands in
     record {
       shared = c.in_ok-settings.ensures.shared;
       tests = λ of_test has.
