@@ -1,4 +1,4 @@
-use Rattle.std.proofs.Common.{ℕ, ◌+◌, ◌<◌, ◌≤◌, ◌≡◌, length, get_or, ◌++◌, List, Bool, map, take, refl, rules, sym, subst, ap, arith, ◌∙◌}
+use Rattle.std.proofs.Common.{◌++◌, ◌∙◌, Bool, List, ap, get_or, map, subst}
 use Rattle.std.proofs.lemmas.List.{take_all}
 use Rattle.nextest_config_resolution_profiles.specs.HeldRules.{AreCarried, number_with, value_at}
 use Rattle.nextest_config_resolution_profiles.proofs.RowNumbers.{carried_next}
