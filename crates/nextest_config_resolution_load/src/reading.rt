@@ -75,12 +75,12 @@ fn read_each(alloc: Global, profiles: &Table) -> Result<Listing<NamedProfile>, V
         (under (codes "profile") (profiles_in (table_view profiles.now))) }
     ensures rises { IfOk result (λ it. Rise (parents_of (map named_of it))) }
 {
-    let mut found = Listing::new(alloc);
+    let mut found = Vec::with_capacity(alloc, profiles.len())?;
     for (name, given) in profiles {
         let profile = named_profile(alloc, name.as_str(), given)?;
         found.push(profile)?;
     }
-    Ok(found)
+    Ok(Listing::from(found))
 }
 
 // The profile of a name, by what stands there.

@@ -1,19 +1,20 @@
 -- Tables as maps of their keys: a value that is set, and a table over another, its last key first.
-use Rattle.std.proofs.Common.{arith, suc, le_trans, ◌≡◌, ◌≤◌, true, List, [], ◌∷◌, ◌++◌, None, Some, refl, sym, ap, ◌∙◌, cond, Ordering, Less, Equal, Greater, String, Global, string_bytes}
-use Rattle.std.proofs.Math.Nat.{le-max_left, le-max_right, max-le}
+use Rattle.std.proofs.Common.{ℕ, ◌≡◌, ◌≤◌, true, List, [], ◌∷◌, None, Some, refl, sym, ap, ◌∙◌, cond, Ordering, Less, Equal, Greater, String, Global, string_bytes}
+use Rattle.std.proofs.Math.Nat.{le-max_left, le-max_right}
 use Rattle.std.proofs.lemmas.Bool.{false≢true}
+use Rattle.std.proofs.lemmas.Cmp.{nat_list_cmp_total}
 use Rattle.std.specs.BTreeMap.{insert_entry, is_at}
-use Rattle.std.specs.List.{All, AllByRecursion}
+use Rattle.std.specs.List.{AllByRecursion}
 use Rattle.std.specs.List.Sorted.{IsStrictlySortedBy}
 use Rattle.std.specs.Map.{keys_of, set_value}
 use Rattle.std.specs.Option.{is_some}
 use Rattle.std.specs.Ordering.{is_eq, match_ordering}
 use Rattle.std.specs.String.{string_cmp}
-use Rattle.toml.specs.Data.{Data, string, integer, float, boolean, datetime, array, table, Members, member, get_member, depth, members_depth}
+use Rattle.toml.specs.Data.{Data, string, integer, float, boolean, datetime, array, table, Members, no_members, member, get_member, depth, members_depth}
 use Rattle.toml.specs.View.{view, members_view}
 use Rattle.toml.specs.declared.value.Value.{Value}
 use Rattle.nextest_config_resolution_merge.specs.Tree.{over, merge, with_member, IsBefore}
-use Rattle.nextest_config_resolution_merge.proofs.Keys.{key_cmp, equal_keys, before_less, get_before, get_set}
+use Rattle.nextest_config_resolution_merge.proofs.Keys.{key_cmp, equal_keys, before_less, get_before, get_set, turned, turned_back}
 
 abbrev pub Pair : Type 0
 Pair = String Global × Value
@@ -74,26 +75,35 @@ module _ (key : String Global) (value : Value) where
   set_there (pair ∷ pairs) rise there =
       set_in (key_cmp (string_bytes key) (string_bytes pair.0)) pair pairs refl (before_keys pair.0 pairs rise.0) there (set_there pairs rise.1)
 
--- the last pair is taken over the lower table first
-pub last_over : (pairs : List Pair) (pair : Pair) (lower : Members) → All (λ key. string_cmp key pair.0 ≡ Less) (keys_of pairs)
-    → merge (members_view (pairs ++ pair ∷ [])) lower
-    ≡ merge (members_view pairs) (with_member (string_bytes pair.0) (over (view pair.1) (get_member (string_bytes pair.0) lower)) lower)
-last_over [] pair lower below = refl
-last_over (first ∷ pairs) pair lower below =
-    let put = with_member (string_bytes pair.0) (over (view pair.1) (get_member (string_bytes pair.0) lower)) lower in
-    let same : get_member (string_bytes first.0) put ≡ get_member (string_bytes first.0) lower =
-    get_set (string_bytes first.0) (string_bytes pair.0) (over (view pair.1) (get_member (string_bytes pair.0) lower)) lower
-    ∙ rw (below 0 first.0 (omega arith)) refl in
-    rw (last_over pairs pair lower (λ k d within. below (suc k) d (omega (arith, within))), same) refl
+-- two values are set in either order
+module _ (one other : List ℕ) (value given : Data) (less : key_cmp one other ≡ Less) where
+  set_both : (first : List ℕ) (old : Data) (more : Members) (order behind : Ordering) → key_cmp one first ≡ order → key_cmp other first ≡ behind
+      → with_member other given (with_member one value more) ≡ with_member one value (with_member other given more)
+      → with_member other given (with_member one value (member first old more)) ≡ with_member one value (with_member other given (member first old more))
+  set_both first old more Less Less e f deeper = rw (e, f, turned one other less, less) refl
+  set_both first old more Less Equal e f deeper = rw (e, f, turned one other less, less) refl
+  set_both first old more Less Greater e f deeper = rw (e, f, turned one other less, e) refl
+  set_both first old more Equal behind e f deeper =
+      let after : key_cmp other first ≡ Greater = ap (key_cmp other) (sym (equal_keys one first e)) ∙ turned one other less in
+      rw (e, turned one other less, after, e) refl
+  set_both first old more Greater behind e f deeper =
+      let after : key_cmp other first ≡ Greater = turned first other (nat_list_cmp_total.trans first one other (turned_back one first e) less) in
+      rw (e, after, e) (ap (member first old) deeper)
+
+  pub set_either : (members : Members) → with_member other given (with_member one value members) ≡ with_member one value (with_member other given members)
+  set_either no_members = rw (turned one other less, less) refl
+  set_either (member first old more) = set_both first old more (key_cmp one first) (key_cmp other first) refl refl (set_either more)
+
+-- a value that is set before all of a table is set over it
+pub first_over : (key : List ℕ) (value : Data) (higher lower : Members) → IsBefore key higher → merge higher (with_member key value lower) ≡ with_member key value (merge higher lower)
+first_over key value no_members lower before = refl
+first_over key value (member other given more) lower before =
+    let same : get_member other (with_member key value lower) ≡ get_member other lower = get_set other key value lower ∙ rw (turned key other before.0) refl in
+    rw (same, first_over key value more lower before.1) (set_either key other value (over given (get_member other lower)) before.0 (merge more lower))
 
 -- a part of a table is no deeper
-pub last_depth : (pairs : List Pair) (pair : Pair) → depth (view pair.1) ≤ members_depth (members_view (pairs ++ pair ∷ []))
-last_depth [] pair = le-max_left (depth (view pair.1)) 0
-last_depth (first ∷ pairs) pair =
-    le_trans (last_depth pairs pair) (le-max_right (depth (view first.1)) (members_depth (members_view (pairs ++ pair ∷ []))))
+pub first_depth : (pair : Pair) (pairs : List Pair) → depth (view pair.1) ≤ members_depth (members_view (pair ∷ pairs))
+first_depth pair pairs = le-max_left (depth (view pair.1)) (members_depth (members_view pairs))
 
-pub front_depth : (pairs : List Pair) (pair : Pair) → members_depth (members_view pairs) ≤ members_depth (members_view (pairs ++ pair ∷ []))
-front_depth [] pair = omega arith
-front_depth (first ∷ pairs) pair =
-    max-le (le-max_left (depth (view first.1)) (members_depth (members_view (pairs ++ pair ∷ []))))
-    (le_trans (front_depth pairs pair) (le-max_right (depth (view first.1)) (members_depth (members_view (pairs ++ pair ∷ [])))))
+pub rest_depth : (pair : Pair) (pairs : List Pair) → members_depth (members_view pairs) ≤ members_depth (members_view (pair ∷ pairs))
+rest_depth pair pairs = le-max_right (depth (view pair.1)) (members_depth (members_view pairs))

@@ -19,9 +19,8 @@ use toml::{Table, Value};
 pub fn merge(higher: Table, lower: Table) -> Result<Table, AllocError>
     ensures { IfOk result (λ it. table_view it ≡ merge (table_view higher) (table_view lower)) }
 {
-    let mut left = higher;
     let mut merged = lower;
-    while let Some((key, value)) = left.pop_last() {
+    for (key, value) in higher {
         put_over(&mut merged, key, value)?;
     }
     Ok(merged)

@@ -1,18 +1,19 @@
-use Rattle.std.proofs.Common.{◌≡◌, ◌+◌, ◌*◌, ◌≤◌, length}
+use Rattle.std.proofs.Common.{◌≡◌, ◌+◌, ◌*◌, ◌≤◌}
+use Rattle.std.specs.List.Sorted.{IsStrictlySortedBy}
+use Rattle.std.specs.Map.{keys_of}
+use Rattle.std.specs.String.{string_cmp}
 use Rattle.toml.specs.Data.{depth, members_depth}
-use Rattle.toml.specs.View.{table_view, view}
+use Rattle.toml.specs.View.{members_view, table_view, view}
 use Rattle.nextest_config_resolution_merge.specs.Tree.{merge}
 use Rattle.nextest_config_resolution_merge.proofs.merging.+merge.Given as goal
 
--- what is left of the higher table, over what was merged; and it is no deeper
+-- what is left of the higher table, over what was merged; its keys rise, and it is no deeper
 abbrev pub invariant-merge-loop-key : goal.invariant-merge-loop-key
 invariant-merge-loop-key l = record {
-  whole : merge (table_view l.left) (table_view l.merged) ≡ merge (table_view l.initial.left) (table_view l.initial.merged);
-  shallow : members_depth (table_view l.left) ≤ members_depth (table_view l.initial.left);
+  whole : merge (members_view l.key-iterator) (table_view l.merged) ≡ merge (table_view l.fn.higher) (table_view l.fn.lower);
+  rises : IsStrictlySortedBy string_cmp (keys_of l.key-iterator);
+  shallow : members_depth (members_view l.key-iterator) ≤ members_depth (table_view l.fn.higher);
 }
-
-abbrev pub decreases-merge-loop-key : goal.decreases-merge-loop-key
-decreases-merge-loop-key l = length l.left.entries
 
 -- by how deep the higher one is
 abbrev pub decreases-merge : goal.decreases-merge
