@@ -7,7 +7,6 @@ ghost use Rattle.test_runner_core_plan.specs.Order.{plan_cmp};
 use crate::plan::PlanTest;
 use nextest_config_elements_values::TestPriority;
 use nextest_text::Listing;
-use std::alloc::{AllocError, Global};
 use std::cmp::Ordering;
 
 /// Tests in the order in which a plan has them: by greater priority, then by binary id, then by
@@ -35,95 +34,16 @@ pub fn in_order(mut tests: Vec<PlanTest>) -> Listing<PlanTest>
     Listing::from(tests)
 }
 
-// Puts tests in the order of their priorities, and leaves those of one priority in their order, in
-// linear time. So they are in the order of a plan then where they were listed by their binary ids
-// and names. Where there is no memory, all stay as they were.
+// Puts tests in the order of their priorities, and leaves those of one priority in their order. So
+// they are in the order of a plan then where they were listed by their binary ids and names. Where
+// there is no memory, all stay as they were.
 fn sort_by_priority(tests: &mut Vec<PlanTest>)
     ensures { IsPermutation tests.old.items tests.new.items }
 {
     if have_one_priority(tests.as_slice()) {
         return;
     }
-    if let Ok(mut places) = places_by_priority(*tests.allocator(), tests.as_slice()) {
-        put_at_places(tests.as_mut_slice(), places.as_mut_slice());
-    }
-}
-
-// The place of each test where those of greater priorities come first, and those of one priority in
-// their order.
-fn places_by_priority(alloc: Global, tests: &[PlanTest]) -> Result<Vec<usize>, AllocError> {
-    let mut next = counts_by_priority(tests);
-    add_up(&mut next);
-    let mut places = Vec::with_capacity(alloc, tests.len())?;
-    for test in tests {
-        if let Some(place) = next.get_mut(rank_of(test)) {
-            places.push(*place)?;
-            *place = place.wrapping_add(1);
-        }
-    }
-    Ok(places)
-}
-
-// How many priorities there are.
-const PRIORITIES: usize = 201;
-
-// How many tests there are of each priority, the greatest first.
-fn counts_by_priority(tests: &[PlanTest]) -> [usize; PRIORITIES] {
-    let mut counts = [0usize; PRIORITIES];
-    for test in tests {
-        if let Some(count) = counts.get_mut(rank_of(test)) {
-            *count = count.wrapping_add(1);
-        }
-    }
-    counts
-}
-
-// How many greater priorities than that of a test there are.
-fn rank_of(test: &PlanTest) -> usize {
-    let below = 100 - i32::from(test.settings.priority.to_i8());
-    usize::try_from(below).unwrap_or(0)
-}
-
-// Puts in the place of each number what those before it come to.
-fn add_up(counts: &mut [usize]) {
-    let mut sum: usize = 0;
-    for count in counts {
-        let own = *count;
-        *count = sum;
-        sum = sum.wrapping_add(own);
-    }
-}
-
-// Exchanges tests until each is at its place, with no more than two steps a test. Nothing but time
-// depends on the places: whatever they are, the tests are only exchanged.
-fn put_at_places(tests: &mut [PlanTest], places: &mut [usize])
-    ensures { IsPermutation tests.old tests.new }
-{
-    let mut now = 0;
-    for _ in 0..tests.len().saturating_mul(2) {
-        if now >= tests.len() {
-            return;
-        }
-        now = after_exchange(tests, places, now);
-    }
-}
-
-// Exchanges the test at a place for the one that stands where it belongs, and tells which place is
-// next: the same, or the one behind it where the test is right already.
-fn after_exchange(tests: &mut [PlanTest], places: &mut [usize], now: usize) -> usize
-    ensures { IsPermutation tests.old tests.new }
-{
-    let count = tests.len().min(places.len());
-    if now >= count {
-        return now.saturating_add(1);
-    }
-    let place = places[now];
-    if place == now || place >= count {
-        return now.saturating_add(1);
-    }
-    tests.swap(now, place);
-    places.swap(now, place);
-    now
+    let _ = tests.sort_by_cached_key(|test: &PlanTest| test.settings.priority);
 }
 
 // Whether tests all have the priority of the first.
