@@ -1,5 +1,5 @@
 -- The settings that are shared by rows, and the places of names.
-use Rattle.std.proofs.Common.{◌≡◌, ℕ, ◌+◌, ◌<◌, ◌≤◌, Bool, true, false, cond, List, [], ◌∷◌, ◌++◌, Option, Some, IfSome, Result, Ok, Err, MatchResult, IfOk, Ordering, nat_cmp, length, map, get_or, slice_get, refl, sym, ap, ◌∙◌, subst, zero-add, append_assoc}
+use Rattle.std.proofs.Common.{◌≡◌, ℕ, ◌+◌, ◌<◌, ◌≤◌, Bool, true, false, cond, List, [], ◌∷◌, ◌++◌, Option, Some, IfSome, Result, Ok, Err, MatchResult, IfOk, nat_cmp, length, map, get_or, slice_get, refl, sym, ap, ◌∙◌, subst, zero-add, append_assoc}
 use Rattle.std.specs.BTreeMap.{BTreeMap, Updates, get, is_at}
 use Rattle.std.specs.List.{enumerate_from}
 use Rattle.std.proofs.lemmas.Grind.{flat_map-append}
