@@ -5,8 +5,8 @@
 
 It copies the repository with what is built in it, adds the program below, proves and builds it (some minutes, where the libraries
 are built), and prints processor seconds, the least of 21 runs of each in turns, with the system's share and the page faults of that run.
-`read` drops the table of each file before it reads the next one, `kept` has all three at the end, as a load needs them. The program has
-no place in the repository: the gate would prove it again.
+Each run has the three texts in memory first, as a load needs them; `read` drops the table of each before it reads the next one, `kept`
+has all three at the end. The program has no place in the repository: the gate would prove it again.
 """
 import os
 import pathlib
@@ -48,29 +48,45 @@ fn is_loaded(alloc: Global, sources: &[ConfigSource]) -> Result<bool> {
     Ok(config.is_ok())
 }
 
+// How many keys the tables of some texts have. They are dropped one by one, or all at the end.
+fn keys_in(alloc: Global, texts: &[String], is_kept: bool) -> Result<usize> {
+    let mut tables: Vec<Table> = Vec::new(alloc);
+    let mut count: usize = 0;
+    for text in texts {
+        let table = toml::table_from_str(alloc, text.as_str())?;
+        count = count.saturating_add(table.len());
+        if is_kept {
+            tables.push(table)?;
+        }
+    }
+    Ok(count)
+}
+
+// The sources of some texts, the first the highest.
+fn sources_of(alloc: Global, texts: Vec<String>) -> Result<Vec<ConfigSource>> {
+    let mut sources: Vec<ConfigSource> = Vec::new(alloc);
+    for text in texts {
+        sources.push(ConfigSource {
+            kind: ConfigSourceKind::Tool(ToolName::new(alloc, "t")?),
+            path: Text::from_str(alloc, "path")?,
+            outcome: ConfigSourceOutcome::Text(Text::from(text)),
+        })?;
+    }
+    Ok(sources)
+}
+
 fn main(rt: HostRuntime) -> Result<ExitCode> {
     let alloc = rt.alloc();
     let mode = fs::read_to_string(&rt, "mode.txt")?;
-    let mut sources: Vec<ConfigSource> = Vec::new(alloc);
-    let mut tables: Vec<Table> = Vec::new(alloc);
+    let mut texts: Vec<String> = Vec::new(alloc);
     for name in ["a.toml", "b.toml", "c.toml"] {
-        let text = fs::read_to_string(&rt, name)?;
-        if mode.as_str() != "load" {
-            let table = toml::table_from_str(alloc, text.as_str())?;
-            println!(rt; "{}", table.len())?;
-            if mode.as_str() == "kept" {
-                tables.push(table)?;
-            }
-        } else {
-            sources.push(ConfigSource {
-                kind: ConfigSourceKind::Tool(ToolName::new(alloc, "t")?),
-                path: Text::from_str(alloc, name)?,
-                outcome: ConfigSourceOutcome::Text(Text::from(text)),
-            })?;
-        }
+        texts.push(fs::read_to_string(&rt, name)?)?;
     }
     if mode.as_str() == "load" {
+        let sources = sources_of(alloc, texts)?;
         println!(rt; "{}", is_loaded(alloc, sources.as_slice())?)?;
+    } else {
+        println!(rt; "{}", keys_in(alloc, texts.as_slice(), mode.as_str() == "kept")?)?;
     }
     Ok(ExitCode::SUCCESS)
 }

@@ -7,6 +7,7 @@ use Rattle.std.proofs.lemmas.Nat.{pow_below}
 use Rattle.std.proofs.lemmas.List.{get_or-replicate, length-append, length-map, length-replicate, map-append, map_push, take_more}
 use Rattle.std.proofs.lemmas.Slice.Zip.{AllZip-long}
 use Rattle.nextest_config_resolution_profiles.specs.Evaluatable.{Evaluatable}
+use Rattle.nextest_config_resolution_profiles.specs.RuleLaws.{NumberedRows}
 use Rattle.nextest_config_resolution_profiles.specs.HeldRules.{AreCarried, AreHeldColumns, AreNumbers, Columns, held_row, number_with, next_weight, row_at, row_number, row_weight, rule_count, value_at, weight_behind}
 use Rattle.nextest_filtering_filters.specs.Query.{Binary, Test}
 
@@ -78,7 +79,7 @@ one_of_digits (true ∷ row) (false ∷ other) long same = absurd (omega (arith,
 one_of_digits (false ∷ row) (true ∷ other) long same = absurd (omega (arith, same))
 
 -- rows of at most 64 values have their own numbers
-pub one_numbered : (row other : List Bool) → length row ≡ length other → length row ≤ 64 → row_number row ≡ row_number other → row ≡ other
+pub one_numbered : NumberedRows
 one_numbered row other long few same = one_of_digits row other long (sym (whole row few) ∙ same ∙ whole other (omega (arith, long, few)))
   where
     whole : (it : List Bool) → length it ≤ 64 → row_number it ≡ row_digits it

@@ -1,5 +1,5 @@
 -- What the laws say of rules.
-use Rattle.std.specs.Prelude.{◌≡◌, ℕ, Bool, List, [], Option, Ok, Contains}
+use Rattle.std.specs.Prelude.{◌≡◌, ℕ, ◌≤◌, Bool, List, [], length, Option, Ok, Contains}
 use Rattle.nextest_config_elements_identifiers.specs.declared.test_group.TestGroup.{TestGroup}
 use Rattle.nextest_config_elements_choices.specs.declared.run_mode.NextestRunMode.{NextestRunMode}
 use Rattle.nextest_config_resolution_load.specs.Load.{IsFilterBy, IsSpecBy}
@@ -8,6 +8,7 @@ use Rattle.nextest_config_resolution_profiles.specs.Early.{Early}
 use Rattle.nextest_config_resolution_profiles.specs.Evaluatable.{Evaluatable, IsPutOn}
 use Rattle.nextest_config_resolution_profiles.specs.Enabled.{IsEnabled}
 use Rattle.nextest_config_resolution_profiles.specs.Held.{AreHeldOn, AreScriptsHeldOn, AreSettingsFor, IsGroupFor, layers_of}
+use Rattle.nextest_config_resolution_profiles.specs.HeldRules.{row_number}
 use Rattle.nextest_config_resolution_profiles.specs.Platforms.{ForTarget, IsChosenDefault, OverrideOn, ScriptRuleOn, default_set}
 use Rattle.nextest_config_resolution_settings.specs.Nearest.{Source}
 use Rattle.nextest_config_resolution_settings.specs.Rules.{NoneHoldsAndSets}
@@ -71,3 +72,7 @@ SomeGroupFor {F} {S} {Facts} Is IsSpec IsTooDeep value_on OnTest =
     (features : FeatureSet) (root : List ℕ) (sources : List ConfigSource) (config : Whole F S) (name : List ℕ) (early : Early F S) (host target : Facts) (profile : Evaluatable F S) (test : Test)
     → IsConfig Is IsSpec IsTooDeep features root sources (Ok config) → IsEarly config name early → IsPutOn value_on host target early profile
     → (group : TestGroup) × IsGroupFor OnTest profile test group
+
+-- rows of as many rules, at most 64, are one where their numbers are
+abbrev pub NumberedRows : Type 0
+NumberedRows = (row other : List Bool) → length row ≡ length other → length row ≤ 64 → row_number row ≡ row_number other → row ≡ other

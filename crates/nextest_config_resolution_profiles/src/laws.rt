@@ -5,7 +5,7 @@ ghost use Rattle.nextest_config_resolution_profiles.specs.BuiltInLaws.{Accepted,
 ghost use Rattle.nextest_config_resolution_profiles.specs.Kept.{KeptProfile};
 ghost use Rattle.nextest_config_resolution_profiles.specs.Languages.{IsFilterIn};
 ghost use Rattle.nextest_config_resolution_profiles.specs.Laws.{DefaultIsRead, NeverFallsBack, NothingIsUndefined, OneProfile, RulesAreRead, SameChain, ScriptRulesAreRead, SomeChain, SomeConfig};
-ghost use Rattle.nextest_config_resolution_profiles.specs.RuleLaws.{EarlyDefault, GroupOfSettings, MoreEnableNoFewer, NoRules, OneHeld, OneScriptsHeld, SameSettingsFor, SameSourcesFor, SomeGroupFor, SomeSettingsFor};
+ghost use Rattle.nextest_config_resolution_profiles.specs.RuleLaws.{EarlyDefault, GroupOfSettings, MoreEnableNoFewer, NoRules, NumberedRows, OneHeld, OneScriptsHeld, SameSettingsFor, SameSourcesFor, SomeGroupFor, SomeSettingsFor};
 
 use crate::default_config::DEFAULT_CONFIG;
 use nextest_config_resolution_filters::{Filters, Specs};
@@ -141,4 +141,9 @@ pub fn group_of_settings<'p, F: Filters, S: Specs, T: TrackSource<'p>>()
 /// A profile without rules has the settings of its chain, whatever the test.
 pub fn no_rules<'p, F: Filters, S: Specs, T: TrackSource<'p>>()
     ensures { NoRules F.on_test S T.tells }
+{}
+
+/// Rows of as many rules, at most 64, are one where their numbers are.
+pub fn numbered_rows()
+    ensures { NumberedRows }
 {}
