@@ -42,6 +42,8 @@ impl<'g> GlobMatcher<'g> {
 
     /// Whether the glob matches the whole text. It fails only on allocation. It takes at most about
     /// the time of the text's characters times the glob's.
+    // A call of its own, so that callers that rarely come here don't make room for it.
+    #[inline(never)]
     pub fn is_match(&mut self, text: &str) -> Result<bool, AllocError>
         ensures exact { IfOk result
             (λ answer. IsTrue answer ↔ Matches self.old.tokens (chars text.now)) }
