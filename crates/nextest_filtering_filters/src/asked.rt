@@ -1,6 +1,8 @@
 // What a predicate is on a binary, and who is asked of the binary's tests.
-ghost use Rattle.std.specs.Prelude.{◌≡◌, ℕ, Bool, false, List, IfOk};
+ghost use Rattle.std.specs.Prelude.{◌≡◌, ℕ, Bool, false, List, IfOk, IfSome};
 ghost use Rattle.std.specs.List.{AllZip};
+ghost use Rattle.nextest_filtering_ast.specs.Meaning.{Compares};
+ghost use Rattle.nextest_filtering_ast.specs.Tree.{contains};
 ghost use Rattle.nextest_filtering_filters.specs.Filter.{leaf_at};
 ghost use Rattle.nextest_filtering_filters.specs.Formula.{AreValues};
 ghost use Rattle.nextest_filtering_filters.specs.Values.{IsSome, may_by};
@@ -118,6 +120,19 @@ impl<'f> Asked<'f> {
             Asked::Default => Ok(default),
         }
     }
+
+    // The text that a test's name has to contain, where nothing else is asked.
+    fn contained(&self) -> Option<&'f str>
+        ensures { IfSome result (λ text. (binary : Binary) (leaf : FiltersetLeaf) (name : List ℕ)
+            (answer : Bool) → IsFor binary leaf self.now
+            → IsLeafValue binary name (λ m. ⊥) false leaf answer
+            → Tells (Compares contains text.now name) answer) }
+    {
+        match self {
+            Asked::Name(NameMatching::Contains(text)) => Some(*text),
+            _ => None,
+        }
+    }
 }
 
 // Whether the predicate of a number is so on a test of this name, whose groups nobody knows.
@@ -172,9 +187,27 @@ pub(crate) fn answer(
     }
 }
 
+// What a formula comes to on tests of these names, where it decides whether they contain a text.
+fn contained_answers(
+    alloc: Global,
+    decision: Decision,
+    text: &str,
+    names: &[&str],
+) -> Result<Vec<bool>, AllocError>
+    ensures { IfOk result (λ values. AllZip (λ name value. (answer : Bool)
+        → Tells (Compares contains text.now name.now) answer
+        → value ≡ decided decision answer) names.now values.items) }
+{
+    let mut values = Vec::with_capacity(alloc, names.len())?;
+    for name in names {
+        values.push(decision.of(name.contains(text)))?;
+    }
+    Ok(values)
+}
+
 // What a formula comes to on tests of these names, whose groups nobody knows, where the answer of
 // one predicate decides it and the default filter holds nowhere.
-fn decided_answers(
+fn asked_answers(
     alloc: Global,
     decision: Decision,
     asked: &mut Asked<'_>,
@@ -192,6 +225,26 @@ fn decided_answers(
         values.push(decision.of(asked.on_name(name, false)?))?;
     }
     Ok(values)
+}
+
+// The same. Mostly a name just has to contain a text.
+fn decided_answers(
+    alloc: Global,
+    decision: Decision,
+    asked: &mut Asked<'_>,
+    names: &[&str],
+) -> Result<Vec<bool>, AllocError>
+    ensures values { IfOk result (λ values. AllZip (λ name value.
+        (binary : Binary) (leaf : FiltersetLeaf) (answer : Bool) → IsFor binary leaf asked.old
+        → IsLeafValue binary name.now (λ m. ⊥) false leaf answer
+        → value ≡ decided decision answer) names.now values.items) }
+    ensures stays { (binary : Binary) (leaf : FiltersetLeaf) → IsFor binary leaf asked.old
+        → IsFor binary leaf asked.new }
+{
+    match asked.contained() {
+        Some(text) => contained_answers(alloc, decision, text, names),
+        None => asked_answers(alloc, decision, asked, names),
+    }
 }
 
 // What a formula that is asked question by question comes to on tests of these names, whose groups

@@ -4,7 +4,7 @@ use Rattle.nextest_filtering_filters.specs.Asking.{IsFor, IsLeafValue}
 use Rattle.nextest_filtering_filters.specs.Query.{Binary}
 use Rattle.nextest_filtering_filters.specs.Questions.{decided}
 use Rattle.nextest_filtering_filters.specs.declared.leaf.FiltersetLeaf.{FiltersetLeaf}
-use Rattle.nextest_filtering_filters.proofs.asked.decided_answers.Given as goal
+use Rattle.nextest_filtering_filters.proofs.asked.asked_answers.Given as goal
 
 abbrev pub invariant-loop-name : goal.invariant-loop-name
 invariant-loop-name l = record {
