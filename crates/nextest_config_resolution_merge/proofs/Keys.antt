@@ -2,10 +2,11 @@
 use Rattle.std.proofs.Common.{◌≡◌, ℕ, List, Option, None, Some, refl, ap, ◌∙◌, Ordering, Less, Equal, Greater, nat_cmp}
 use Rattle.std.proofs.lemmas.Cmp.{nat_list_cmp_total, tied_itself, alike_right}
 use Rattle.std.proofs.lemmas.Map.Lookups.{exact_bytes}
+use Rattle.std.specs.Bool.{⊤}
 use Rattle.std.specs.Cmp.Lexicographic.{slice_cmp}
 use Rattle.std.specs.Ordering.{match_ordering, ordering_reverse}
 use Rattle.toml.specs.Data.{Data, Members, no_members, member, get_member}
-use Rattle.nextest_config_resolution_merge.specs.Tree.{with_member, IsBefore}
+use Rattle.nextest_config_resolution_merge.specs.Tree.{with_member}
 
 -- how keys compare
 abbrev pub key_cmp : List ℕ → List ℕ → Ordering
@@ -59,7 +60,11 @@ get_set key other value (member first old more) = by_first (key_cmp other first)
       rw behind (set_behind (key_cmp key other) (key_cmp key first) (get_member key more) old value
       (λ same. ap (λ k. key_cmp k first) (equal_keys key other same) ∙ e))
 
--- a key before all others
+-- a key comes before each key of a table
+abbrev pub IsBefore : List ℕ → Members → Type 0
+IsBefore key no_members = ⊤
+IsBefore key (member other value more) = (key_cmp key other ≡ Less) × IsBefore key more
+
 pub before_less : (key other : List ℕ) (members : Members) → key_cmp key other ≡ Less → IsBefore other members → IsBefore key members
 before_less key other no_members less before = tt
 before_less key other (member first value more) less before =

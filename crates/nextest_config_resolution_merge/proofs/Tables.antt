@@ -13,8 +13,8 @@ use Rattle.std.specs.String.{string_cmp}
 use Rattle.toml.specs.Data.{Data, string, integer, float, boolean, datetime, array, table, Members, no_members, member, get_member, depth, members_depth}
 use Rattle.toml.specs.View.{view, members_view}
 use Rattle.toml.specs.declared.value.Value.{Value}
-use Rattle.nextest_config_resolution_merge.specs.Tree.{over, merge, with_member, IsBefore}
-use Rattle.nextest_config_resolution_merge.proofs.Keys.{key_cmp, equal_keys, before_less, get_before, get_set, turned, turned_back}
+use Rattle.nextest_config_resolution_merge.specs.Tree.{over, merge, with_member}
+use Rattle.nextest_config_resolution_merge.proofs.Keys.{IsBefore, key_cmp, equal_keys, before_less, get_before, get_set, turned, turned_back}
 
 abbrev pub Pair : Type 0
 Pair = String Global × Value

@@ -1,6 +1,5 @@
 -- Trees of tables: what stands at a path, and a tree over another.
-use Rattle.std.specs.Prelude.{◌≡◌, ℕ, List, [], ◌∷◌, Option, Some, option_and_then, ⊤}
-use Rattle.std.specs.declared.cmp.Ordering.TheVariants.{Less}
+use Rattle.std.specs.Prelude.{ℕ, List, [], ◌∷◌, Option, Some, option_and_then}
 use Rattle.std.specs.Ordering.{nat_cmp, match_ordering}
 use Rattle.std.specs.Cmp.Lexicographic.{slice_cmp}
 use Rattle.toml.specs.Data.{Data, table, Members, no_members, member, get, get_member}
@@ -31,18 +30,3 @@ abbrev mutual
   pub merge : Members → Members → Members
   merge no_members lower = lower
   merge (member key value more) lower = with_member key (over value (get_member key lower)) (merge more lower)
-
--- a key comes before each key of a table
-abbrev pub IsBefore : List ℕ → Members → Type 0
-IsBefore key no_members = ⊤
-IsBefore key (member other value more) = (slice_cmp nat_cmp key other ≡ Less) × IsBefore key more
-
--- the keys of each table rise by their bytes
-abbrev mutual
-  pub IsSorted : Data → Type 0
-  IsSorted (table members) = AreSorted members
-  IsSorted leaf = ⊤
-
-  pub AreSorted : Members → Type 0
-  AreSorted no_members = ⊤
-  AreSorted (member key value more) = IsBefore key more × (IsSorted value × AreSorted more)
